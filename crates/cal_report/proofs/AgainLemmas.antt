@@ -67,7 +67,8 @@ instants_shown (suc n) [] h i there = absurd there
 instants_shown (suc n) (x ∷ xs) h i (inl e) = h i (inl e)
 instants_shown (suc n) (x ∷ xs) h i (inr there) = instants_shown n xs (λ j k. h j (inr k)) i there
 
--- the request `begun_again` continues the old one
+-- the request that `begun_again` returns continues `asked` after the first `k` elapse times shown, as `IsBegunAgain`
+-- says
 pub is_begun_again : (asked : Request) (base : ℤ) (s : Schedule) (shown : List ℤ) (k : ℕ) → IsInstant asked.now → base_in asked ≡ Ok base
     → AreShown asked base s shown → k ≤ length shown → IsBegunAgain asked base shown k (begun_again asked shown k)
 is_begun_again asked base s shown k now sought these few =
@@ -85,7 +86,8 @@ is_begun_again asked base s shown k now sought these few =
       after = found.after;
     }
 
--- so it shows exactly the remaining elapse times
+-- if a prefix of the report can be continued as `Resumes` says, the request that `begun_again` returns shows exactly
+-- the remaining elapse times
 pub shows_others_again : (asked : Request) (base : ℤ) (s : Schedule) (read : Result (List ℕ) WholeFault) (front : List ℕ) → IsInstant asked.now → base_in asked ≡ Ok base
     → (r : Resumes asked base s read front) → (report (begun_again asked r.shown r.number) read).out ≡ showing asked s (drop r.number r.shown)
 shows_others_again asked base s read front now sought r =

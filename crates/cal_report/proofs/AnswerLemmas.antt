@@ -13,8 +13,8 @@ use Rattle.cal_request.specs.Status.{is_fine, status_and}
 use Rattle.cal_request.specs.declared.request.Status.{Status}
 use Rattle.cal_request.specs.declared.request.Status.TheVariants.{Fine, Refused}
 
--- the text of the remaining reports; the flag says whether a report was already written, which an empty line then
--- follows
+-- the text of the remaining reports, with an empty line between consecutive reports; if a report was already written,
+-- as the flag says, an empty line also comes before the first remaining report
 pub left_of : Bool → List (List ℕ) → List ℕ
 left_of true reports = flat_map (λ report. codes "\n" ++ report) reports
 left_of false reports = join_by (λ report. report) (codes "\n") reports
@@ -103,7 +103,7 @@ pub status_next : (answer : List ℕ → Answer) (s answered whole : Status) (te
 status_next answer s answered whole text texts rest e i h =
     rw i (sym (status_left-next s answer text rest) ∙ ap (status_left s answer) (sym e) ∙ h)
 
--- a call that wrote nothing has written the empty text, whatever it returned
+-- if a call wrote nothing, then `Writes` holds for the empty text, whatever the call returned
 pub writes_nothing : {T E : Type 0} (a : Option (List ℕ)) (r : Result T E) → Writes a a r []
 writes_nothing a (Ok x) = Appends-nil a
 writes_nothing a (Err e) = record { front = []; rest = []; whole = refl; written = Appends-nil a }
@@ -157,7 +157,8 @@ pub err_none : (a : Option (List ℕ)) (answer : List ℕ → Answer) → Append
 unfolding error_lines
 err_none a answer = Appends-nil a
 
--- the run stopped at the text with index `i`
+-- if exactly the answers to the first `i` texts are written, then the run stopped at the text with index `i`, as
+-- `IsAnsweredBefore` says
 pub answered_before : {A : Type 0} (bytes_of : A → List ℕ) (xs : List A) (i : ℕ) (answer : List ℕ → Answer) (a b c d e f : Option (List ℕ)) → i < length xs
     → Appends a b (reports_text answer (map bytes_of (take i xs))) → Appends d e (error_lines answer (map bytes_of (take i xs))) → c ≡ b → f ≡ e
     → IsAnsweredBefore answer (map bytes_of xs) a c d f

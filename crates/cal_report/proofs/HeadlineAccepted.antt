@@ -138,7 +138,8 @@ fine_spelled some all fine before a after split = grind (arith, joining_spelled,
 abbrev IsSpelled : Assignment → Type 0
 IsSpelled a = (fields : Fields) × Spells a.value fields
 
--- the induction step of `each_spelled`: one assignment more, which is kept if it passes the test
+-- if all assignments of `rest` that pass the test `adds` have a valid expression as their value, and `a` has one if it
+-- passes (`is`), then all assignments of `a ∷ rest` that pass have one
 kept_spelled : (adds : Assignment → Bool) (a : Assignment) (rest : List Assignment) (is : Bool) → (is ≡ true → IsSpelled a) → AllByRecursion IsSpelled (filter adds rest)
     → AllByRecursion IsSpelled (cond is (a ∷ filter adds rest) (filter adds rest))
 kept_spelled adds a rest true here later = (here refl, later)

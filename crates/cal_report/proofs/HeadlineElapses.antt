@@ -1,5 +1,5 @@
--- Lemmas for the main theorem: elapse times are instants, how they continue after one of them, and what the clock of
--- the zone shows at them.
+-- Lemmas for the main theorem: that elapse times are instants, how a list of elapse times continues after one of its
+-- elements, and what the clock of the zone shows at an elapse time.
 use Rattle.std.proofs.Common.{◌≡◌, ◌<◌, ◌+◌, ◌++◌, ◌∙◌, ℕ, suc, ℤ, pos, ◌≤ℤ◌, ◌<ℤ◌, ◌-ℤ◌, true, List, Option, None, Some, Result, Ok, Err, map, take, drop, refl, sym, ap, subst, arith}
 use Rattle.std.proofs.Math.Seq.{take-add}
 use Rattle.std.proofs.lemmas.Int.{ints}
@@ -81,7 +81,8 @@ none_shown tz local (Some second) never e = absurd (never second (place_of-Some 
 pub gap_has_no_place : (tz : TimeZone) (local : ℤ) → ((second : ℤ) → local_shown_at tz second ≡ local → ⊥) → place_of tz local ≡ None
 gap_has_no_place tz local never = none_shown tz local (place_of tz local) never refl
 
--- a smaller offset makes a local second a later instant
+-- if the UTC offset `after` is smaller than `before`, then a local second is a later instant at `after` than at
+-- `before`
 later_by : (local i before after : ℤ) → i ≡ local -ℤ before → after <ℤ before → i <ℤ (local -ℤ after)
 later_by local i before after is less = omega (arith, signed_arith)
 

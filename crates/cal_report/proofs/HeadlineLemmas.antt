@@ -1,4 +1,5 @@
--- Lemmas for the main theorem: what is printed for accepted expressions and timer files, and that nothing else can be.
+-- Lemmas for the main theorem: what is printed for accepted expressions and timer files, and that nothing else can be
+-- printed.
 use Rattle.std.proofs.Common.{◌≡◌, ◌<◌, ◌++◌, ◌∙◌, ℕ, ℤ, Bool, true, false, List, [], ◌∷◌, Option, None, Some, Result, Ok, map, take, length, codes, refl, sym, ap, subst, arith, append-nil}
 use Rattle.std.specs.Prelude.{is_err, nat_le, if◌then◌else◌}
 use Rattle.std.specs.Io.KnownBytes.{Appends}
@@ -69,7 +70,7 @@ is_answered one asked base e verb h =
     ∙ ap (answer_with asked base e.text) (spelled_is_read one e.text e.fields h.spelled)
     ∙ ap (answer_in asked base e.text e.fields) (zone_is_found asked e.fields.zone e.tz h.zone)
 
--- without exceptions, the elapse times of an expression are the ones that `elapses_after` computes
+-- if there are no exceptions, `elapses_after` computes exactly the elapse times of an expression
 alone_elapses : (t : Timed) (base : ℤ) → AreElapses (t ∷ []) [] base (elapses_after (t ∷ []) base)
 alone_elapses t base = subst (AreElapses (t ∷ []) [] base) (elapses_except-none (t ∷ []) base) (AreElapses-elapses_except (t ∷ []) [] base)
 
@@ -109,7 +110,7 @@ none_fails one asked base [] verb all = refl
 none_fails one asked base (e ∷ es) verb all =
     rw (is_answered one asked base e verb all.0) (none_fails one asked base es verb all.1)
 
--- the report of a request for expressions, if the base time is valid
+-- if the base time is valid, the report of a request for calendar expressions is `texts_report`
 pub report_of_texts : (asked : Request) (read : Result (List ℕ) WholeFault) (base : ℤ) → asked.verb ≡ verb.Calendar → base_in asked ≡ Ok base
     → report asked read ≡ texts_report asked base
 unfolding report
@@ -163,7 +164,8 @@ no_fault one before a false false e f h = rw (e, f) refl
 all_fine : HaveOneNormalForm → (all : List Assignment) → AreSpelled all → AreFine expr_in all
 all_fine one all h before a after split = no_fault one before a (is_expression a) (is_exception a) refl refl (h before a after split)
 
--- the entry of a list has the text and the fields of the expression `e`
+-- the entry, a line of a parsed timer file, has the text and the fields of the expression `e`, and `e` is in the zone
+-- of its zone suffix
 record IsEntryOf (asked : Request) (entry : TimerLine Fields) (e : Expression) : Type 0 where
   text : entry.text ≡ e.text
   expr : entry.expr ≡ e.fields
@@ -244,7 +246,8 @@ unfolding unzoned
 all_there asked lists s h =
     rw (none_lacks asked lists.expressions s.expressions h.expressions, none_lacks asked lists.exceptions s.exceptions h.exceptions) refl
 
--- the report of a request for a timer file, if the base time is valid
+-- if the base time is valid, and the answer to the timer file is the report `text`, then the run writes only `text`, to
+-- standard output, and its status is `Fine`
 report_of_file : (asked : Request) (bytes : List ℕ) (base : ℤ) (text : List ℕ) → asked.verb ≡ verb.Timer → base_in asked ≡ Ok base
     → timer_answer asked base (file_name asked) (Ok bytes) ≡ Ok text → report asked (Ok bytes) ≡ record { out = text; err = []; status = Fine }
 unfolding report
@@ -258,7 +261,7 @@ unfolding timer_answer
 file_is_answered one asked bytes name base s file all =
     rw (file_is_read one asked bytes s file all, all_there asked (entries_in bytes) s (file_entries one asked bytes s file all)) refl
 
--- three texts joined
+-- joining the joined texts `a` and `b` with `c` concatenates all three
 layout_is : (a b c : List ℕ) → joined (joined (a ∷ b ∷ []) ∷ c ∷ []) ≡ (a ++ b) ++ c
 layout_is a b c = rw (append-nil b, append-nil c) refl
 

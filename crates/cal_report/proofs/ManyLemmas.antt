@@ -70,7 +70,8 @@ cut_among c xs (ys ∷ lists) front rest e =
           })
     ]
 
--- there is only one way to divide a prefix like that
+-- if `b` and `last` are the complete lists and the last prefix of a division as in `CutAmong`, and so are `d` and
+-- `more` of a division of the same prefix, then `b` is `d` and `last` is `more`
 one_cut : {A : Type 0} (c : A) (lists b d : List (List A)) (x y : List A) (a e : List (List A)) (last rest more others : List A)
     → lists ≡ b ++ (x ∷ a) → lists ≡ d ++ (y ∷ e) → x ≡ last ++ rest → y ≡ more ++ others
     → flat_map (λ xs. xs ++ (c ∷ [])) b ++ last ≡ flat_map (λ xs. xs ++ (c ∷ [])) d ++ more → (b ≡ d) × (last ≡ more)
@@ -99,7 +100,8 @@ one_cut c (v ∷ lists) (z ∷ b) (w ∷ d) x y a e last rest more others p q cu
     let later = one_cut c lists b d x y a e last rest more others left right cut cut_again parts in
     (ap (λ zs. z ∷ zs) later.0 ∙ ap (λ front. front ∷ d) heads, later.1)
 
--- the parts of `xs` that `f` maps to `before`, `y` and `after`
+-- `xs` consists of elements `first` that `f` maps to `before`, an element `x` that `f` maps to `y`, and further
+-- elements
 record MapAmong {A B : Type 0} (f : A → B) (xs : List A) (before : List B) (y : B) (after : List B) : Type 0 where
   first : List A
   x : A
@@ -194,7 +196,8 @@ module _ (one : HaveOneNormalForm) (asked : Request) (read : Result (List ℕ) W
             (accepted_alone asked parts.x.text parts.x accepted) begins;
       }
 
-  -- a prefix of standard output resumes, if the output consists of the reports of these expressions
+  -- if standard output consists of the reports of these expressions, at least one, then each prefix `front` of it can
+  -- be continued as `ResumesAmong` says
   reports_resume : (es : List Expression) (front rest : List ℕ) → AllByRecursion (IsAccepted asked) es → AreReportsOf asked base es (report asked read).out
       → 0 < length es → (report asked read).out ≡ front ++ rest → ResumesAmong asked base es read front
   reports_resume [] front rest all reports some cut = absurd (omega arith)
@@ -209,7 +212,8 @@ module _ (one : HaveOneNormalForm) (asked : Request) (read : Result (List ℕ) W
   texts_resume some es front rest among any cut =
       reports_resume es front rest (all_accepted asked asked.texts es among) (reports_are_among one some asked read base es verb sought among) any cut
 
--- there is only one place at which the prefix ends
+-- if `front` is divided in two ways as in `ResumesAmong`, both ways have the same complete reports `before` and the
+-- same prefix `last` of the next report
 pub one_place : (asked : Request) (base : ℤ) (es : List Expression) (read : Result (List ℕ) WholeFault) (front : List ℕ) (p q : ResumesAmong asked base es read front)
     → (p.before ≡ q.before) × (p.last ≡ q.last)
 one_place asked base es read front p q =
@@ -220,7 +224,7 @@ one_place asked base es read front p q =
     (ap (λ (t : List ℕ). t ++ p.last) (flat_map-map line r p.before) ∙ sym p.layout ∙ q.layout ∙ ap (λ (t : List ℕ). t ++ q.last) (sym (flat_map-map line r q.before))) in
     (same_front es p.before q.before (p.e ∷ p.after) (q.e ∷ q.after) p.texts q.texts (sym (length-map p.before r) ∙ ap length cut.0 ∙ length-map q.before r), cut.1)
 
--- whatever a run for several texts returns, what it wrote is a prefix that resumes
+-- whatever a run for several texts returns, what it wrote to standard output can be continued as `ResumesAmong` says
 pub texts_cut : HaveOneNormalForm → AreNormalForms → (asked : Request) (base : ℤ) (es : List Expression) (result : Result Status RunFault) (old new : Option (List ℕ))
     (failed : Bool) (out_old out_new err_old err_new : Option (List ℕ)) → asked.verb ≡ Calendar → base_in asked ≡ Ok base → AreAcceptedAmong asked asked.texts es
     → 0 < length es → (run : ByReading asked old new failed (IsReported result out_old out_new err_old err_new))

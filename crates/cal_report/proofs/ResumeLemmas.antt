@@ -82,7 +82,7 @@ end_of_later local now number start x before elapse =
     = ap (λ (n : ℕ). length (first_line local n elapse)) (omega arith) in
     omega (arith, same, length-append (elapse_text local now number x) (elapse_texts local now (number + 1) before))
 
--- no first line ends before that of the first elapse time
+-- of the first lines of all elapse times, the one of the first elapse time `x` ends first
 end_low : (local : Zone) (now : ℤ) (number start : ℕ) (x : ℤ) (xs before : List ℤ) (elapse : ℤ) (after : List ℤ)
     → x ∷ xs ≡ before ++ (elapse ∷ after) → start + length (first_line local number x) ≤ line_end local now number start before elapse
 end_low local now number start x xs [] elapse after split =
@@ -175,7 +175,7 @@ some_shown : (local : Zone) (now : ℤ) (before : List ℤ) (elapse : ℤ) (afte
 some_shown local now [] elapse after = refl
 some_shown local now (x ∷ before) elapse after = refl
 
--- what follows the first line of an elapse time in a report
+-- the part of a report after the first line of `elapse`
 abbrev after_line : Request → List ℤ → ℤ → List ℤ → List ℕ
 after_line asked before elapse after =
     more_lines asked.local asked.now elapse ++ elapse_texts asked.local asked.now (length before + 1 + 1) after
@@ -254,8 +254,8 @@ split_at (x ∷ xs) (suc k) within =
       number = ap suc later.number;
     }
 
--- two different numbers of complete first lines contradict each other: the line with index `k` would be complete by
--- `m`, but not by `k`
+-- the number of complete first lines can't be both `k` and a greater number `m`: the first line of the elapse time with
+-- index `k` would be complete according to `m`, but not according to `k`
 not_fewer : (asked : Request) (s : Schedule) (shown : List ℤ) (front : List ℕ) (k m : ℕ)
     → Stand asked s shown front k → Stand asked s shown front m → k < m → ⊥
 not_fewer asked s shown front k m h g less =
@@ -273,7 +273,8 @@ one_stands asked s shown front k m h g =
 
 -- The continuing request
 
--- the elapse times after the base time of the continuing request are those after the first `k`
+-- if `from` is the base time of a request that continues after the first `k` elapse times of `xs`, then the elapse
+-- times after `from` are those of `xs` without the first `k`
 elapses_from : (ts exceptions : List Timed) (base from : ℤ) (n : ℕ) (xs : List ℤ) (k : ℕ) → AreElapses ts exceptions base xs → IsBaseAfter base (take n xs) k from
     → AreElapses ts exceptions from (drop k xs)
 elapses_from ts exceptions base from n xs zero h after = subst (λ (b : ℤ). AreElapses ts exceptions b xs) (sym after) h

@@ -30,7 +30,7 @@ none_mapped (Some e) h = cc
 pub shown_more : (lines : List declared_line.TimerLine) (i : ℕ) (d : declared_line.TimerLine) → i < length lines → map shown (take (i + 1) lines) ≡ map shown (take i lines) ++ shown (get_or lines i d) ∷ []
 shown_more lines i d h = rw (take_more lines i d h) (map-append shown (take i lines) (get_or lines i d ∷ []))
 
--- if some line has a missing zone, then there is a first such line
+-- if a line of `es` passes the test `p`, then a line of `e ∷ es` does too
 found_there : (p : TimerLine Fields → Bool) (e : TimerLine Fields) (es : List (TimerLine Fields)) (here : Bool) → p e ≡ here → (find p es ≢ None) → find p (e ∷ es) ≢ None
 found_there p e es true is h = rw is (λ never. cc)
 found_there p e es false is h = rw is h
@@ -46,7 +46,7 @@ pub zoned_at : (asked : Request) (lines : List declared_line.TimerLine) (i : ℕ
 zoned_at asked lines i line h is none =
     false_from_ne_true (lacks_zone asked (shown line)) (λ lacks. line_found (lacks_zone asked) lines i line h is lacks (none_mapped (find (lacks_zone asked) (map shown lines)) none))
 
--- if no line number is found in the two lists together, none is found in either list
+-- if the smaller of two line numbers is missing, then both are missing
 lesser_none : (a b : Option ℕ) → lesser_line a b ≡ None → (a ≡ None) × (b ≡ None)
 lesser_none None b h = (refl, h)
 lesser_none (Some x) None h = cc
@@ -57,12 +57,13 @@ pub all_zoned : (asked : Request) (lists : Timer Fields) → unzoned asked lists
 unfolding unzoned
 all_zoned asked lists h = lesser_none (first_unzoned asked lists.expressions) (first_unzoned asked lists.exceptions) h
 
--- the merge yields the elapse times of the timer file
+-- if `merge` is the merge of a timer file, as `IsMergeOf` says, then it yields the elapse times of the file
 pub merge_whole : (asked : Request) (base : ℤ) (lists : Timer Fields) (merge : Merge) → IsMergeOf asked base lists merge
     → merged merge ≡ elapses_of_lists asked base lists
 merge_whole asked base lists merge m = m.is
 
--- the elapse times that the merge yields are instants
+-- if `merge` is the merge of a timer file, and the base time isn't negative, then the elapse times that it yields are
+-- instants
 pub merge_instants : (asked : Request) (base : ℤ) (lists : Timer Fields) (merge : Merge) → IsMergeOf asked base lists merge → pos 0 ≤ℤ base → AreInstants (merged merge)
 unfolding timed_entry elapses_of_lists
 merge_instants asked base lists merge m low i h =
@@ -82,7 +83,8 @@ pub headings-all : (label : List ℕ) (lines : List declared_line.TimerLine) →
 unfolding headings_text
 headings-all label lines = flat_map-map (λ e. heading_text label e.text e.expr) shown lines
 
--- the report of the parsed timer file is the answer to what was read
+-- if a timer file was parsed to `lists`, and `merge` is the merge of `lists`, then the answer is their report,
+-- `plan_text`
 pub plan_answers : (asked : Request) (base : ℤ) (read : Result (List ℕ) WholeFault) (lists : Timer Fields) (merge : Merge) → timer_text expr_in read ≡ Ok lists
     → IsMergeOf asked base lists merge → (name : List ℕ) → timer_answer asked base name read ≡ Ok (plan_text asked (record { timer = lists; merge = merge }))
 unfolding timer_answer timer_report

@@ -126,7 +126,7 @@ noon_thirty-matches_again : matches (sets_of noon_thirty) 1_704_198_600 ≡ true
 unfolding matches
 noon_thirty-matches_again = rw (inside 1_704_198_600 (omega arith), day_after-is, noon_thirty-on_again, noon_thirty-at) refl
 
--- every matching local second is an elapse time in UTC
+-- every local second that matches `*-*-* 12:30:00` is an elapse time in UTC
 elapse_at : (local : ℕ) → local < 7_258_118_400 → matches (sets_of noon_thirty) local ≡ true → IsElapse (timed noon_thirty UTC ∷ []) (pos local)
 unfolding timed
 elapse_at local h is =
@@ -214,13 +214,14 @@ every-elapses =
 next_is_least : (j : ℤ) → pos 1_704_112_200 <ℤ j → pos 1_704_112_201 ≤ℤ j
 next_is_least j h = omega (arith, ints)
 
--- so the first elapse time is a second after the present, in every list that has exactly the elapse times
+-- in every list that holds exactly the elapse times of `*:*:*` after the present, the first elapse time is one second
+-- after the present
 every-first : (xs : List ℤ) → AreElapsesOf (alone every) (pos 1_704_112_200) xs → slice_get xs 0 ≡ Some (pos 1_704_112_201)
 every-first xs h =
     rw (AreElapses-only (map meaning (every ∷ [])) [] (pos 1_704_112_200) xs h, elapses_except-none (map meaning (every ∷ [])) (pos 1_704_112_200))
     (first_elapse-least (map meaning (every ∷ [])) (pos 1_704_112_200) (pos 1_704_112_201) (omega (arith, ints)) every-elapses (λ j above _. next_is_least j above))
 
--- A timer file with this one expression
+-- A timer file whose only expression is `*:*:*`
 every_file : List ℕ
 every_file = codes "[Timer]\nOnCalendar=*:*:*\n"
 
@@ -272,7 +273,7 @@ every_file-is = record {
   some = omega arith;
 }
 
--- The request that continues after the first elapse time, which is its base time
+-- The request that continues `two_seconds` after its first elapse time, which is the new base time
 
 one_second : Request
 one_second = record { verb = Calendar; texts = codes "*:*:*" ∷ []; iterations = 1; base = Some (codes "@1704112201"); now = pos 1_704_112_200; local = utc; zones = empty }

@@ -11,7 +11,7 @@ use Rattle.cal_request.specs.declared.request.Status.TheVariants.{Fine, Refused}
 abbrev pub Answer : Type 0
 Answer = Result (List ℕ) (List ℕ)
 
--- the report of an answer as a list, which is empty for an error message
+-- a list with the report of a valid argument, or the empty list for an invalid argument
 abbrev pub report_in : Answer → List (List ℕ)
 report_in (Ok report) = report ∷ []
 report_in (Err message) = []
@@ -34,7 +34,7 @@ abbrev pub later_text : Bool → Answer → List ℕ
 later_text is_later (Ok report) = joined (lead_text is_later ∷ report ∷ [])
 later_text is_later (Err message) = []
 
--- the status after one argument
+-- `Refused` if the argument is invalid, and otherwise `Fine`
 abbrev pub status_in : Answer → Status
 status_in (Ok report) = Fine
 status_in (Err message) = Refused

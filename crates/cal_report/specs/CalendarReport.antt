@@ -28,14 +28,15 @@ report_of_elapses asked text fields elapses =
 unfoldable pub calendar_report : Request → ℤ → List ℕ → Fields → TimeZone → List ℕ
 calendar_report asked base text fields tz = report_of_elapses asked text fields (elapses_after (timed fields tz ∷ []) base)
 
--- The zone in which an expression is evaluated. Without a zone of its own, it is the local zone; with a UTC offset, the
--- fixed zone with that offset; with a name, the zone that the table has for it, or `None` if it has none.
+-- The zone in which an expression is evaluated: the local zone if the expression has no zone suffix, the fixed zone
+-- with its UTC offset if it has one, and otherwise the zone of its name in the table, or `None` if the table doesn't
+-- have it.
 unfoldable pub zone_for : Request → Option ZoneSuffix → Option TimeZone
 zone_for asked None = Some (zone_of asked.local)
 zone_for asked (Some (of_name name)) = zone_named asked.zones name
 zone_for asked (Some (ahead seconds)) = Some (fixed_offset_zone seconds)
 
--- the report of an expression in its zone, or the error message if the zone is missing
+-- the report of an expression in its zone, or the error message if its zone isn't in the table
 abbrev pub answer_in : Request → ℤ → List ℕ → Fields → Option TimeZone → Answer
 answer_in asked base text fields None = Err (codes "no such zone")
 answer_in asked base text fields (Some tz) = Ok (calendar_report asked base text fields tz)

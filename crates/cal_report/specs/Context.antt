@@ -1,8 +1,8 @@
--- The request of a run, as contracts see it.
+-- The request of a run, as contracts describe it.
 use Rattle.cal_request.specs.RequestView.{asked}
 use Rattle.cal_request.specs.headline.Request.{Request}
 use Rattle.cal_report.specs.declared.context.Context.{Context}
 
--- the request of a context, with the present and the zones of the run
+-- the request of a context, together with the present and the zones of the context
 abbrev pub asked_by : Context → Request
 asked_by context = asked context.request.now context.now.secs context.local context.table.now

@@ -1,4 +1,4 @@
--- The range of elapse times.
+-- A condition on lists of elapse times: that all are instants.
 use Rattle.std.specs.Prelude.{ℤ, List}
 use Rattle.cal_zone.specs.Instant.{IsInstant}
 use Rattle.cal_rising.specs.headline.Elements.{Has}

@@ -23,8 +23,8 @@ use Rattle.cal_request.specs.declared.request.Verb.{Verb}
 use Rattle.cal_request.specs.declared.request.Verb.TheVariants.{Calendar, Timer, Timestamp, Timespan}
 use Rattle.cal_report.specs.headline.Report.{Report}
 
--- the answer to one argument of this verb, for this base time; the argument of `timer` is the name of a file, whose
--- report `timer_answer` defines
+-- the answer to one argument of this verb, for this base time; not meant for `timer`, whose argument is the name of a
+-- file: `timer_answer` defines the answer to it
 abbrev pub answer_by : Verb → Request → ℤ → List ℕ → Answer
 answer_by Calendar asked base text = calendar_answer asked base text
 answer_by Timestamp asked base text = timestamp_answer asked text
@@ -35,7 +35,7 @@ answer_by Timer asked base text = Err []
 abbrev pub answer_to : Request → ℤ → List ℕ → Answer
 answer_to asked base = answer_by asked.verb asked base
 
--- the second of a timestamp, or why the timestamp is invalid
+-- the second in which the moment of a timestamp lies, or why the timestamp is invalid
 abbrev pub second_or_fault : Result ℤ StampFault → Result ℤ StampFault
 second_or_fault = result_map_both second_at (λ fault. fault)
 
@@ -60,7 +60,7 @@ texts_report asked base = record {
   status = texts_status (answer_to asked base) asked.texts;
 }
 
--- the report of a run that writes either one report or one error line
+-- what a run writes and returns if it writes either one report or one error line
 abbrev pub whole_report : Result (List ℕ) (List ℕ) → Report
 whole_report (Ok text) = record { out = text; err = []; status = Fine }
 whole_report (Err line) = record { out = []; err = line; status = Refused }
@@ -102,8 +102,8 @@ pub record IsReported (result : Result Status RunFault) (out_old out_new err_old
   pub err : Writes err_old err_new result report.err
   pub unread : read ≡ Err NoMemory → (out_new ≡ out_old) × (err_new ≡ err_old)
 
--- `holds_of` is true of some result of reading the input and of the report for this result. The input has failed if and
--- only if reading it failed.
+-- `holds_of` is true of some result of reading the input, together with the report of the request for this result.
+-- `failed`, whether the input has failed, is true if and only if reading it failed.
 pub record ByReading (asked : Request) (old new : Option (List ℕ)) (failed : Bool) (holds_of : Result (List ℕ) WholeFault → Report → Type 0) : Type 0 where
   pub read : Result (List ℕ) WholeFault
   pub input : ReadsIf (reads_input asked) old new read
@@ -111,7 +111,7 @@ pub record ByReading (asked : Request) (old new : Option (List ℕ)) (failed : B
   pub holds : holds_of read (report asked read)
 
 -- What a run has written if it returns `NoMemory`: the complete answers to the arguments before the one for which
--- allocation failed, and nothing more. The verb `timer` has one argument, so it has written nothing.
+-- allocation failed, and nothing more. A run of `timer`, which has only one argument, has then written nothing.
 pub record IsCut (asked : Request) (out_old out_new err_old err_new : Option (List ℕ)) : Type 0 where
   pub base : ℤ
   pub sought : base_in asked ≡ Ok base

@@ -21,8 +21,8 @@ pub record AreShown (asked : Request) (base : ℤ) (s : Schedule) (shown : List 
 abbrev pub showing : Request → Schedule → List ℤ → List ℕ
 showing asked s shown = headings s ++ elapses_text asked.local asked.now shown
 
--- the report up to the end of the first line of `elapse`, including the line feed; the elapse times in `before` come
--- before it
+-- the report up to and including the line feed of the first line of `elapse`, if exactly the elapse times `before` come
+-- before `elapse`
 abbrev pub up_to_line : Request → Schedule → List ℤ → ℤ → List ℕ
 up_to_line asked s before elapse =
     headings s ++ (elapse_texts asked.local asked.now 1 before ++ (label_text (length before + 1) ++ (instant_text asked.local elapse ++ codes "\n")))
@@ -63,12 +63,12 @@ abbrev pub base_after : Option (List ℕ) → List ℤ → ℕ → Option (List 
 base_after base shown zero = base
 base_after base shown (suc before) = option_map base_text (slice_get shown before)
 
--- the request that continues `asked` after the first `k` elapse times shown, for `k` elapse times fewer
+-- the request that continues `asked` after the first `k` elapse times shown, and asks for `k` elapse times fewer
 abbrev pub begun_again : Request → List ℤ → ℕ → Request
 begun_again asked shown k = record asked { iterations = asked.iterations - k; base = base_after asked.base shown k }
 
--- How to continue a prefix `front` of the report: exactly one number says how many elapse times have a complete first
--- line in it, and a request that continues after these elapse times shows exactly the remaining ones.
+-- How to continue a prefix `front` of the report: exactly one `number` is the number of elapse times whose first line
+-- is complete in `front`, and every request that continues after these elapse times shows exactly the remaining ones.
 pub record Resumes (asked : Request) (base : ℤ) (s : Schedule) (read : Result (List ℕ) WholeFault) (front : List ℕ) : Type 0 where
   pub shown : List ℤ
   pub these : AreShown asked base s shown
@@ -79,7 +79,7 @@ pub record Resumes (asked : Request) (base : ℤ) (s : Schedule) (read : Result 
   pub others : (again : Request) → IsBegunAgain asked base shown number again
       → (report again read).out ≡ showing asked s (drop number shown)
 
--- how a text is read: as this accepted expression, or, without an expression, as a rejected text
+-- whether a text is rejected (`None`), or is the text of this accepted expression (`Some`)
 abbrev pub IsReadAs : Request → List ℕ → Option Expression → Type 0
 IsReadAs asked text None = IsRejected asked text
 IsReadAs asked text (Some e) = (text ≡ e.text) × IsAccepted asked e

@@ -34,8 +34,8 @@ timer_error_line (errors.Timer fault) = line_of fault
 timer_error_line (errors.NoSuchZone line) = Some line
 timer_error_line errors.NoMemory = None
 
--- the error is that the line with this number names a zone missing from the zone table; without a number, this never
--- holds
+-- the error says that the line with this number names a zone missing from the zone table; if there is no number, no
+-- error does
 abbrev pub IsUnzoned : Option ℕ → TimerError → Type 0
 IsUnzoned None error = ⊥
 IsUnzoned (Some number) error = error ≡ errors.NoSuchZone number
@@ -44,7 +44,7 @@ IsUnzoned (Some number) error = error ≡ errors.NoSuchZone number
 abbrev pub each_of : Request → ℤ → List (TimerLine Fields) → List (List ℤ)
 each_of asked base list = each_after (map (timed_entry asked) list) base
 
--- for each field of the expression on this line, the values that it matches
+-- for each field of the expression on this line, the values that the field matches
 abbrev pub entry_sets : TimerLine Fields → Sets
 entry_sets e = sets_of e.expr
 
@@ -59,7 +59,8 @@ pub record IsAdded (asked : Request) (base : ℤ) (list exceptions : List (Timer
   pub are_kept : AreKept (map (timed_entry asked) list) (map (timed_entry asked) exceptions) kept
   pub is : new ≡ record { started = false; lists = old.lists ++ each_after kept base; exceptions = old.exceptions }
 
--- no zone is missing, and the merge yields the elapse times of all expressions without those of the exceptions
+-- no line names a zone missing from the zone table, and the merge yields the elapse times of all expressions without
+-- those of the exceptions
 pub record IsMergeOf (asked : Request) (base : ℤ) (lists : Timer Fields) (merge : Merge) : Type 0 where
   pub found : unzoned asked lists ≡ None
   pub is : merged merge ≡ elapses_of_lists asked base lists

@@ -30,11 +30,13 @@ error_line_at name (Some line) message = joined (name ∷ codes ":" ∷ decimal 
 abbrev pub lacks_zone : Request → TimerLine Fields → Bool
 lacks_zone asked e = is_none (zone_for asked e.expr.zone)
 
--- the expression in its zone; UTC stands in for a missing zone, and `unzoned` reports those first
+-- the expression in its zone, or in UTC if its zone is missing from the zone table; `answer_unless` gives no report of
+-- a file with a missing zone
 unfoldable pub timed_entry : Request → TimerLine Fields → Timed
 timed_entry asked e = timed e.expr (unwrap_or (zone_for asked e.expr.zone) UTC)
 
--- the headings of a list: of each line, the label with the text as written in the file, and the normal form
+-- the headings of a list of lines: for each line, the label, the expression as it is written in the file, and its
+-- normal form
 unfoldable pub headings_text : List ℕ → List (TimerLine Fields) → List ℕ
 headings_text label = flat_map (λ e. heading_text label e.text e.expr)
 
@@ -56,13 +58,13 @@ timer_report asked base lists =
 abbrev pub first_unzoned : Request → List (TimerLine Fields) → Option ℕ
 first_unzoned asked list = option_map (λ (e : TimerLine Fields). e.number) (find (lacks_zone asked) list)
 
--- the smaller of two line numbers, or the only one if the other is missing
+-- the smaller of two line numbers, either of which may be missing
 abbrev pub lesser_line : Option ℕ → Option ℕ → Option ℕ
 lesser_line None b = b
 lesser_line (Some x) None = Some x
 lesser_line (Some x) (Some y) = Some (min x y)
 
--- the number of the first line, among the expressions and the exceptions, that names a missing zone
+-- the number of the first line, among the expressions and the exceptions, that names a zone missing from the zone table
 unfoldable pub unzoned : Request → Timer Fields → Option ℕ
 unzoned asked lists = lesser_line (first_unzoned asked lists.expressions) (first_unzoned asked lists.exceptions)
 

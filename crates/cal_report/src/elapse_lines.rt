@@ -96,7 +96,7 @@ fn put_elapse<W: Sink>(
     put_all(out, text.as_slice())
 }
 
-/// Appends the lines of one elapse time, which take at most `SPAN_ROOM` and 240 bytes.
+/// Appends the lines of one elapse time, at most `SPAN_ROOM` + 240 bytes.
 #[tactic(auto, unfolding(crate::specs::headline::ElapseLines::elapse_text))]
 fn push_elapse(
     text: &mut ShortText,
@@ -118,8 +118,8 @@ fn push_elapse(
     push(text, b"\n");
 }
 
-/// Appends the label of an elapse time: `Next elapse:` for number 1, and otherwise `Iter. #` and the number, aligned on
-/// the right with the other labels.
+/// Appends the label of an elapse time: `Next elapse:` for number 1, and otherwise `Iter. #` and the number,
+/// right-aligned like the other labels.
 #[tactic(auto, unfolding(crate::specs::headline::ElapseLines::label_text))]
 fn push_label(text: &mut ShortText, number: u32)
     requires room { length text.old.items + 30 ≤ SHORT_TEXT_ROOM }

@@ -50,8 +50,8 @@ pub fn headline()
         → asked.verb ≡ Timer → base_in asked ≡ Ok base → IsFileOf bytes s → AreAllAccepted asked s
         → IsReportOf asked base s (report asked (Ok bytes)).out × IsFine (report asked (Ok bytes)) }
 
-    // The same three statements about the bytes that a run appends to its writers, if the run returns `Ok`: then no
-    // allocation and no write failed. The premise `ByReading` is what the contract of `run` promises.
+    // The three statements above, for the bytes that a run appends to its writers if it returns `Ok`, which means that
+    // no allocation and no write failed. The premise `ByReading` is what the contract of `run` promises.
     ensures written { (asked : Request) (base : ℤ) (es : List Expression) (old new : Option (List ℕ)) (failed : Bool)
         (status : Status) (out_old out_new err_old err_new : Option (List ℕ)) → asked.verb ≡ Calendar
         → base_in asked ≡ Ok base → asked.texts ≡ map (λ (e : Expression). e.text) es → AllByRecursion (IsAccepted asked) es
@@ -76,8 +76,8 @@ pub fn headline()
     ensures accepted_file { (asked : Request) (bytes : List ℕ) (base : ℤ) → asked.verb ≡ Timer
         → base_in asked ≡ Ok base → (report asked (Ok bytes)).status ≡ Fine → IsAcceptedFile asked bytes }
 
-    // The statements above leave no choice: an expression has one meaning, and a report and a list of elapse times are
-    // unique.
+    // The statements above leave no choice: a text is accepted as at most one expression, and reports and lists of
+    // elapse times are unique.
     ensures one_meaning { (asked : Request) (e f : Expression) → IsAccepted asked e → IsAccepted asked f
         → e.text ≡ f.text → e ≡ f }
     ensures one_text { (asked : Request) (base : ℤ) (es : List Expression) (a b : List ℕ)
@@ -88,7 +88,8 @@ pub fn headline()
         → AreElapses ts exceptions base xs → AreElapses ts exceptions base ys → xs ≡ ys }
 
     // Each elapse time is an instant, and `@` with the seconds of an instant is a valid base time for the same instant.
-    // The elapse times after this base time are exactly the remaining ones, so a list can be printed in parts.
+    // If an elapse time is the next base time, the elapse times after it are exactly those that follow it in the list,
+    // so a list can be printed in parts.
     ensures instants { (asked : Request) (base : ℤ) (s : Schedule) (xs : List ℤ) → IsInstant asked.now
         → base_in asked ≡ Ok base → AreElapsesOf s base xs → AreInstants xs }
     ensures based { (asked : Request) (secs : ℤ) → IsInstant secs → base_in (started_at asked secs) ≡ Ok secs }
@@ -97,15 +98,16 @@ pub fn headline()
     ensures in_parts { (ts exceptions : List Timed) (base e : ℤ) (xs ys : List ℤ) (k m : ℕ) → AreElapses ts exceptions base xs
         → slice_get xs k ≡ Some e → AreElapses ts exceptions e ys → take (suc k) xs ++ take m ys ≡ take (suc k + m) xs }
 
-    // At an elapse time, the clock of the zone shows a matching local second, and it shows a different one at every
-    // other elapse time.
+    // At an elapse time, the clock of the zone shows a matching local second, and it shows a different local second at
+    // every other elapse time.
     ensures shown { (fields : Fields) (tz : TimeZone) (i : ℤ) → IsPlace (timed fields tz) i
         → (local : ℕ) × (local < 7_258_118_400) × (matches (sets_of fields) local ≡ true)
         × (local_shown_at tz i ≡ pos local) }
     ensures alone { (fields : Fields) (tz : TimeZone) (i j : ℤ) → IsPlace (timed fields tz) i
         → IsPlace (timed fields tz) j → local_shown_at tz i ≡ local_shown_at tz j → i ≡ j }
-    // A local second that the clock never shows (in a gap) has no instant. If `jiff` finds that the clock shows it
-    // twice (in a fold), then its instant, if it has one, is the first occurrence.
+    // A local second that the clock never shows (in a gap) has no instant. If `jiff` finds that the clock shows a local
+    // second twice (in a fold), then its instant, if it has one, is computed with the UTC offset before the transition.
+    // It is the earlier of the two instants if this offset is the larger one.
     ensures gap { (tz : TimeZone) (local : ℤ) → ((second : ℤ) → local_shown_at tz second ≡ local → ⊥)
         → place_of tz local ≡ None }
     ensures fold { (tz : TimeZone) (local i : ℤ) (before after : Offset)
@@ -116,11 +118,11 @@ pub fn headline()
 }
 
 /// States how to continue a report of which only a prefix was written. Count the elapse times whose first line is
-/// complete in the prefix. The same request, with the last of these elapse times as its base time and with
-/// `iterations` reduced by their number, prints exactly the remaining ones, with labels that count from 1 again. If no
-/// line is complete, the original request has to be run again.
+/// complete in the prefix. The same request, with the last of these elapse times as its base time and with `iterations`
+/// reduced by their number, prints exactly the remaining ones, with labels that count from 1 again. If no elapse time
+/// has a complete first line, the original request has to be run again.
 pub fn cut_output_resumes()
-    // For one calendar expression, if its report begins with `front`.
+    // For a request of one calendar expression whose report begins with `front`.
     ensures calendar { (asked : Request) (read : Result (List ℕ) WholeFault) (base : ℤ) (e : Expression)
         (front rest : List ℕ) → asked.verb ≡ Calendar → base_in asked ≡ Ok base → asked.texts ≡ e.text ∷ []
         → IsAccepted asked e → (report asked read).out ≡ front ++ rest → Resumes asked base (alone e) read front }
@@ -139,18 +141,19 @@ pub fn cut_output_resumes()
         → AreAcceptedAmong asked texts es → AreAcceptedAmong asked texts fs → es ≡ fs }
     ensures nothing { (asked : Request) (read : Result (List ℕ) WholeFault) (base : ℤ) → asked.verb ≡ Calendar
         → base_in asked ≡ Ok base → AreAcceptedAmong asked asked.texts [] → (report asked read).out ≡ [] }
-    // For a timer file, if its report begins with `front`.
+    // For a timer file whose report begins with `front`.
     ensures timer { (asked : Request) (bytes : List ℕ) (base : ℤ) (s : Schedule) (front rest : List ℕ)
         → asked.verb ≡ Timer → base_in asked ≡ Ok base → IsFileOf bytes s → AreAllAccepted asked s
         → (report asked (Ok bytes)).out ≡ front ++ rest → Resumes asked base s (Ok bytes) front }
 
-    // The second request can always be written down: its base time is `@` with the seconds of the last elapse time
-    // whose line is complete.
+    // The request that continues a report can always be written down. Its base time is `@` with the seconds of the last
+    // elapse time whose first line is complete, or the original base time if there is none.
     ensures again { (asked : Request) (read : Result (List ℕ) WholeFault) (base : ℤ) (s : Schedule) (front : List ℕ)
         → IsInstant asked.now → base_in asked ≡ Ok base → (r : Resumes asked base s read front)
         → (report (begun_again asked r.shown r.number) read).out ≡ showing asked s (drop r.number r.shown) }
 
-    // Whatever a run returns, the bytes that it appended to its writer are such a prefix, by the contract of `run`.
+    // Whatever a run returns, the bytes that it appended to its writer `out` are a prefix of the report that can be
+    // continued as stated above. The premise `ByReading` is what the contract of `run` promises.
     ensures written { (asked : Request) (base : ℤ) (e : Expression) (result : Result Status RunFault)
         (old new : Option (List ℕ)) (failed : Bool) (out_old out_new err_old err_new : Option (List ℕ))
         → asked.verb ≡ Calendar → base_in asked ≡ Ok base → asked.texts ≡ e.text ∷ [] → IsAccepted asked e

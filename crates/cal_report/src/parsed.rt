@@ -27,7 +27,7 @@ use cal_spec::{Expr, SpecFault, read_expr};
 use cal_zone::{Moment, Zone};
 use std::alloc::{AllocError, Global};
 
-/// A valid argument after parsing, with one variant for each verb that takes such arguments.
+/// A parsed argument of one of the verbs `calendar`, `timestamp` and `timespan`.
 #[derive(Drop)]
 pub enum Parsed<'a> {
     /// A calendar expression, and the iterator over its elapse times.
@@ -140,9 +140,9 @@ fn read_calendar<'a>(
     }
 }
 
-/// Returns the zone in which an expression is evaluated: the zone that it names, a fixed zone for its UTC offset, or
-/// the local zone if it has neither. Returns `None` if the table doesn't have the named zone. An offset isn't looked
-/// up.
+/// Returns the zone in which an expression is evaluated: the local zone if the expression has no zone suffix, the fixed
+/// zone with its UTC offset if it has one, and otherwise the zone of its name in the table, or `None` if the table
+/// doesn't have it.
 #[tactic(auto, unfolding(crate::specs::CalendarReport::zone_for))]
 pub fn zone_for<'a>(context: Context<'a>, expr: &Expr) -> Option<Zone<'a>>
     ensures { option_map zone_of result ≡ zone_for (asked_by context.entry) expr.now.zone }

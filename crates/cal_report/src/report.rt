@@ -38,11 +38,11 @@ use std::alloc::Global;
 /// expression is evaluated in the zone that it names, which has to be in `table`, or in the local zone if it doesn't
 /// name one. Instants are printed in the local zone, and also in UTC if the local zone isn't UTC.
 ///
-/// Fails with [`RunFault::OutFailed`] or [`RunFault::ErrFailed`] if and only if that writer failed in this call; each
-/// writer then has a prefix of what it should have received. Fails with [`RunFault::NoMemory`] if allocation fails. All
-/// allocations for an argument happen before the first byte of its report is written. So if one of them fails, the
-/// arguments before this one are answered completely, and nothing is written for this one and those after it.
-/// Timestamps and time spans allocate nothing.
+/// Fails with [`RunFault::OutFailed`] if and only if `out` failed in this call, and with [`RunFault::ErrFailed`] if and
+/// only if `err` did; each writer then has a prefix of what it should have received. Fails with [`RunFault::NoMemory`]
+/// if allocation fails. All allocations for an argument happen before the first byte of its report is written. So if
+/// one of these allocations fails, the earlier arguments are answered completely, and nothing is written for this
+/// argument and the later ones. Timestamps and time spans allocate nothing.
 #[tactic(auto, unfolding(crate::specs::Report::report))]
 pub fn run<R: Source, O: Sink, E: Sink>(
     alloc: Global,
@@ -140,7 +140,7 @@ fn answer_all<O: Sink, E: Sink>(
 }
 
 /// Writes the report of one argument, or its error line if it is invalid. `is_later` says whether `out` already has a
-/// report, from which this one is separated by an empty line.
+/// report; if so, an empty line is written before the new report.
 fn answer_one<O: Sink, E: Sink>(
     alloc: Global,
     context: Context<'_>,
@@ -216,8 +216,8 @@ pub fn file_name(request: &Request) -> &str
     }
 }
 
-/// Writes an error line about `text`, an argument or the name of a file. `line` is the line of the file that is
-/// invalid, if the error concerns one line.
+/// Writes an error line about `text`, an argument or the name of a file. `line` is the number of the invalid line of
+/// the file, if the error concerns one line.
 fn report_error<E: Sink>(
     err: &mut E,
     text: &str,

@@ -11,10 +11,10 @@ use cal_bytes::{ShortText, Sink, WriteFault, push, put_pieces};
 use cal_span::{Span, push_span};
 use cal_zone::{Instant, Moment};
 
-/// The label of an expression or a timestamp as the user gave it.
+/// The label before an expression or a timestamp, which is shown as the user gave it.
 pub const ORIGINAL_LABEL: &[u8] = b"  Original form: ";
 
-/// The label of an exception of a timer file, as it is written in the file.
+/// The label before an exception of a timer file, which is shown as it is written in the file.
 pub const EXCEPT_LABEL: &[u8] = b"    Except form: ";
 
 /// Writes `label` and the text as the user gave it, and begins the next line with the label `Normalized form:`.
@@ -38,7 +38,7 @@ pub fn push_distance(text: &mut ShortText, now: Instant, moment: Moment)
     push(text, direction(now, moment));
 }
 
-/// Returns the moment at the beginning of an instant, which is a whole second.
+/// Returns the first microsecond of an instant, which is a whole second.
 pub fn first_moment(instant: Instant) -> Moment
     ensures { result.micros ≡ micros_of instant.secs }
 {

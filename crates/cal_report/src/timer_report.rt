@@ -168,8 +168,8 @@ fn first_unzoned(context: Context<'_>, lines: &[TimerLine]) -> Option<u32>
 /// Adds the elapse times of expressions to a merge. The zones of all expressions must be known, and nothing may have
 /// been removed from the merge yet.
 ///
-/// Skips an expression if an exception covers it completely: all its elapse times would be suppressed anyway, one by
-/// one, and that could take very long.
+/// Skips an expression that an exception covers: the merge would suppress all its elapse times anyway, but one by one,
+/// which could take very long.
 fn add_expressions<'a>(
     alloc: Global,
     context: Context<'a>,
@@ -205,8 +205,9 @@ fn masks_of_lines(alloc: Global, lines: &[TimerLine]) -> Result<Vec<Masks>, Allo
     Ok(masks)
 }
 
-/// Checks whether one exception suppresses every elapse time of an expression, because it is in the same zone and every
-/// field of the exception matches all values that the field of the expression matches.
+/// Checks whether one of the exceptions covers an expression: the exception is in the same zone, and each of its fields
+/// matches all values that the same field of the expression matches. Such an exception suppresses every elapse time of
+/// the expression.
 ///
 /// `masks` are the masks of the exceptions, in the same order. Returns `false` if the expression is covered only by
 /// several exceptions together.

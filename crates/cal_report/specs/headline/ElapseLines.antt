@@ -6,7 +6,8 @@ use Rattle.cal_zone.specs.declared.zone.Zone.{Zone}
 use Rattle.cal_zone.specs.headline.Moment.{micros_of}
 use Rattle.cal_report.specs.headline.ReportLines.{distance_text, utc_line}
 
--- the label of an elapse time, whose number counts from 1, right-aligned in 15 columns
+-- the label of the elapse time with this number, counted from 1; its part before the colon is right-aligned in 15
+-- columns
 unfoldable pub label_text : ℕ → List ℕ
 label_text number =
     if number == 1 then codes "    Next elapse: "

@@ -41,7 +41,8 @@ IsZoneFor asked None tz = tz ≡ zone_of asked.local
 IsZoneFor asked (Some (of_name name)) tz = zone_named asked.zones name ≡ Some tz
 IsZoneFor asked (Some (ahead seconds)) tz = tz ≡ fixed_offset_zone seconds
 
--- the text is an expression according to the grammar, and `fields` is the normal form of what the grammar assigns to it
+-- the text is an expression according to the grammar, and `fields` is the normal form of the fields that the grammar
+-- assigns to the text
 pub record Spells (text : List ℕ) (fields : Fields) : Type 0 where
   pub raw : Fields
   pub valid : IsValid text raw

@@ -7,11 +7,11 @@ use Rattle.cal_span.specs.headline.SpanText.{span_text}
 use Rattle.cal_zone.specs.headline.Zone.{is_utc, utc}
 use Rattle.cal_zone.specs.declared.zone.Zone.{Zone}
 
--- the label of an expression or a timestamp as the user gave it
+-- the label before an expression or a timestamp, which is shown as the user gave it
 abbrev pub original_label : List ℕ
 original_label = codes "  Original form: "
 
--- the label of an exception of a timer file
+-- the label before an exception of a timer file
 abbrev pub except_label : List ℕ
 except_label = codes "    Except form: "
 

@@ -1,4 +1,5 @@
--- The writer hasn't failed, and the remaining elapse times remain to be written, with labels that count from `number`.
+-- The writer hasn't failed, and the elapse times that the source still has are left to be written, with labels that
+-- count from `number`.
 use Rattle.std.proofs.Common.{◌≡◌, ◌+◌, ◌-◌, take}
 use Rattle.cal_bytes.proofs.PutLemmas.{PutsUpTo}
 use Rattle.cal_report.specs.ElapseLines.{AreInstants}
