@@ -32,7 +32,8 @@ among p kind [] at holds = absurd at
 among p kind (k ∷ ks) (inl same) holds = grind (arith, ap p same)
 among p kind (k ∷ ks) (inr later) holds = grind (arith, among p kind ks later holds)
 
--- the error that is reported for an error of `clap` is right for the arguments
+-- if `clap` returns an error of a kind that it may report for the arguments, or out of memory, then the error that is
+-- reported for it is right for the arguments, as `IsFaultOf` says
 pub reported_fault : (arguments : List Text) (kind : ErrorKind) (fault : CommandFault) → (takes_arguments arguments ≡ true → kind ≡ OutOfMemory)
     → (kind ≡ OutOfMemory) ⊎ IsAmong kind (faults_in arguments) → IsReportedOf kind fault → IsFaultOf arguments fault
 reported_fault arguments kind (usage text) passes kinds reported =
@@ -44,7 +45,8 @@ reported_fault arguments kind bad_now passes kinds reported = absurd reported
 reported_fault arguments kind bad_zones passes kinds reported = absurd reported
 reported_fault arguments kind bad_local passes kinds reported = absurd reported
 
--- the result of checking the values that `clap` parsed is right for the arguments
+-- if `clap` parses the arguments, then the result of checking the values that it found is right for the arguments, as
+-- `IsAskOf` says
 pub read_answer : (arguments : List Text) (option_texts : OptionTexts) (answer : Result Ask CommandFault) → faults_in arguments ≡ [] → Some option_texts ≡ parsed_in arguments
     → IsOrNoMemory answer (read_options option_texts) → IsAskOf arguments answer
 unfolding asked_in

@@ -36,7 +36,8 @@ abbrev pub within : {E : Type 0} → ℕ → ℕ → Result ℕ E → Option ℕ
 within least most (Ok n) = cond (nat_le least n && nat_le n most) (Some n) None
 within least most (Err e) = None
 
--- checking the result of `parse` against the range is `number_between`
+-- if `text` doesn't begin with `+`, and `most` fits 64 bits, then `number_between` returns the result `r` of `parse`,
+-- checked against the range
 pub number_between-parsed : (E : Type 0) (least most : ℕ) (text : List ℕ) (r : Result ℕ E) → ParsesUnsigned 64 10 text r → get_or text 0 0 ≢ 43
     → most < 2 ^ 64 → number_between least most text ≡ within least most r
 unfolding number_between
@@ -45,7 +46,7 @@ number_between-parsed E least most text (Ok n) read unsigned small =
 number_between-parsed E least most text (Err e) refused unsigned small =
     grind (arith, nat_tests, parse_plain own {E = E} 64 text (Err e) refused unsigned)
 
--- the result of `number_between` is in range
+-- if `number_between` returns `n`, then `n` is from `least` to `most`
 pub number_between-range : (least most n : ℕ) (text : List ℕ) → Some n ≡ number_between least most text → (least ≤ n) × (n ≤ most)
 unfolding number_between
 number_between-range least most n text is = grind (arith, nat_tests)
@@ -63,7 +64,7 @@ pub instant_some : (made : Option Instant) (secs : ℤ) → IsSome made ↔ IsIn
     → option_map (λ instant. instant.secs) made ≡ Some secs
 instant_some made secs variant value inside = grind (arith, variant)
 
--- `split_once` at an ASCII character returns the parts before and after it
+-- if `c` is ASCII, then `split_once` at `c` returns the same parts of the text as `parts_at`
 pub parts_at-split : (c : ℕ) (text : List ℕ) (r : Option (Bor (List ℕ) × Bor (List ℕ))) → IsSplitOnceResult c text r → c < 128
     → option_map (λ parts. (parts.0.now, parts.1.now)) r ≡ parts_at (λ byte. byte == c) text
 parts_at-split c text None h small =
@@ -73,7 +74,8 @@ parts_at-split c text (Some x) h small =
     let cut = split_once_first c text (Some x) h small in
     rw (any_below (λ byte. byte == c) text cut.0, cut.1, cut.2) refl
 
--- a text with a comma has the part before it as its first item, and the rest are the items of the part after it
+-- if a text has a comma, then its first item is the part before the first comma, and its other items are the items of
+-- the part after it
 pub item_some : (text : List ℕ) (x : Bor (List ℕ) × Bor (List ℕ)) → IsSplitOnceResult 44 text (Some x)
     → slice_split is_comma text ≡ x.0.now ∷ slice_split is_comma x.1.now
 item_some text x h =

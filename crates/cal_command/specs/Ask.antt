@@ -1,5 +1,5 @@
--- What arguments ask for, independent of where it is in memory: systemd-analyze(1), and this project's own options for
--- the present and for zones.
+-- What arguments ask for, with each string as the list of its bytes: systemd-analyze(1), and this project's own options
+-- for the present and for zones.
 use Rattle.std.specs.Prelude.{ℕ, ℤ, List, Option, Result, Ok, Err, map}
 use Rattle.std.specs.Borrow.{Bor}
 use Rattle.std.specs.String.{string_bytes}
@@ -58,7 +58,7 @@ shown_ask ask = record {
   zones = map shown_item ask.zones.items;
 }
 
--- the errors for arguments: usage and help with the text of `clap`, an invalid value, or no memory
+-- the errors for arguments: usage and help with the text of `clap`, an invalid option value, or a failed allocation
 pub data CommandFault : Type 0 where
   usage : List ℕ → CommandFault
   help : List ℕ → CommandFault

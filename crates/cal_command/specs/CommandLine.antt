@@ -1,4 +1,5 @@
--- The command line: what arguments ask for, given what `clap` parses: systemd-analyze(1).
+-- The command line (systemd-analyze(1)): the command that is described to `clap`, and what arguments ask for, given
+-- what `clap` finds in them.
 use Rattle.std.specs.Prelude.{◌≡◌, ◌≢◌, ⊤, Bool, true, false, not, List, [], ◌∷◌, ◌++◌, take, Option, None, Some, Result, Ok, Err, codes, if◌then◌else◌, option_and_then, option_map}
 use Rattle.std.specs.List.{list_any}
 use Rattle.std.specs.Option.{option_map_or}
@@ -27,7 +28,8 @@ texts_rule = record (new_rule (codes "text")) { action = Some Append; value_name
 abbrev pub file_rule : Rule
 file_rule = record (new_rule (codes "text")) { action = Some Set; value_names = 1; required = true }
 
--- the options of the verbs that read or print instants, and of those that compute elapses
+-- `zone_rules` are the options of the verbs that read or print instants, and `elapse_rules` are the options of the
+-- verbs that compute elapses
 abbrev pub zone_rules : List Rule
 zone_rules = option_rule (codes "local") ∷ option_rule (codes "zones") ∷ option_rule (codes "now") ∷ []
 
@@ -81,7 +83,7 @@ pub record OptionTexts : Type 0 where
 abbrev pub option_text : Bool → Text → List Row → Option Text
 option_text has name rows = if has then first_of name rows else None
 
--- the texts, of which `timer` has only one
+-- the texts that are used: for `timer` only the first one, and for other verbs all
 abbrev pub texts_kept : Verb → List Text → List Text
 texts_kept verb texts = if is_timer verb then take 1 texts else texts
 
@@ -102,7 +104,7 @@ option_texts_with verb rows texts = record {
 abbrev pub option_texts_for : Verb → List Row → Option OptionTexts
 option_texts_for verb rows = option_map (option_texts_with verb rows) (texts_for verb rows)
 
--- the verb with the name that was found, and the values found for it
+-- the verb whose name `clap` found, and the values that `clap` found for this verb
 unfoldable pub option_texts_in : Option (Text × List Row) → Option OptionTexts
 option_texts_in = option_and_then (λ found. option_and_then (λ verb. option_texts_for verb found.1) (verb_named found.0))
 
@@ -167,7 +169,7 @@ abbrev pub IsAskOf : List Text → Result Ask CommandFault → Type 0
 IsAskOf arguments (Ok ask) = HasRead arguments (Ok ask)
 IsAskOf arguments (Err fault) = IsFaultOf arguments fault
 
--- the error that is reported if `clap` returns an error of this kind
+-- if `clap` returns an error of this kind, this error may be reported
 abbrev pub IsReportedOf : ErrorKind → CommandFault → Type 0
 IsReportedOf kind (usage text) = (is_of_help kind ≡ false) × (kind ≢ OutOfMemory)
 IsReportedOf kind (help text) = (is_of_help kind ≡ true) × (kind ≢ OutOfMemory)

@@ -1,4 +1,4 @@
--- The offset of a local zone of the command line.
+-- The UTC offset of a local zone that is given on the command line.
 use Rattle.std.specs.Prelude.{ℤ, pos}
 use Rattle.jiff.specs.Words.{IsOffsetSeconds}
 use Rattle.cal_command.specs.declared.ask.LocalZone.{LocalZone}
@@ -11,6 +11,6 @@ seconds_ahead (Offset seconds) = seconds
 seconds_ahead (Posix rule) = pos 0
 seconds_ahead (Name name) = pos 0
 
--- the offset of a local zone is in range
+-- if the local zone is given by its UTC offset, the offset is in the range of `IsOffsetSeconds`
 abbrev pub IsLocalOffset : LocalZone → Type 0
 IsLocalOffset local = IsOffsetSeconds (seconds_ahead local)

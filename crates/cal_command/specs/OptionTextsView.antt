@@ -1,4 +1,4 @@
--- The values that `clap` found, independent of where they are in memory, and results of checking them.
+-- The values that `clap` found, each as the list of its bytes, and what checking them may return.
 use Rattle.std.specs.Prelude.{◌≡◌, ⊤, Result, Ok, Err}
 use Rattle.std.specs.Option.{option_copied}
 use Rattle.cal_command.specs.Ask.{CommandFault, usage, help, bad_iterations, bad_now, bad_zones, bad_local, no_memory, Ask, texts_of}

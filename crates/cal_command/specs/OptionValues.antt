@@ -18,7 +18,7 @@ number_between least most text =
     if nat_lt 0 (length text) && all_ascii_digits text && nat_le least number && nat_le number most
     then Some number else None
 
--- `--iterations`: a number of elapses
+-- `--iterations`: a number of elapses, from 1 to `max_iterations`
 unfoldable pub count_in : List ℕ → Option ℕ
 count_in = number_between 1 max_iterations
 
@@ -32,7 +32,7 @@ abbrev pub parts_at : (ℕ → Bool) → List ℕ → Option (List ℕ × List �
 parts_at is_separator text =
     if list_any is_separator text then Some (before_first is_separator text, after_first is_separator text) else None
 
--- an item of `--zones`, if its name has the form of a zone's name and its path is not empty
+-- the item of `--zones` with this name and path, if the name has the form of a zone's name and the path is not empty
 abbrev pub named_file : List ℕ × List ℕ → Option ZoneItem
 named_file parts =
     if is_zone_name parts.0 && nat_lt 0 (length parts.1) then Some (record { name = parts.0; path = parts.1 }) else None

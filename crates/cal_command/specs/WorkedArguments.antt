@@ -37,7 +37,7 @@ options_ask = record {
 abbrev pub none_arguments : List (List ℕ)
 none_arguments = codes "calendar" ∷ codes "--iterations=0" ∷ codes "daily" ∷ []
 
--- a call for help, and an unknown verb
+-- `--help`, and `daily` where a verb is expected
 abbrev pub help_arguments : List (List ℕ)
 help_arguments = codes "--help" ∷ []
 

@@ -20,7 +20,7 @@ use std::alloc::AllocError;
 /// | 7 | `NoMemory` |
 #[derive(Debug, Drop)]
 pub enum CommandFault {
-    /// `clap` can't parse the arguments. Its text says why, and how to get help.
+    /// `clap` can't parse the arguments. The text is the one of `clap`, which says why and how to get help.
     Usage(String),
     /// Help or the version is asked for; this is the text to print.
     Help(String),

@@ -1,4 +1,4 @@
-//! Laws of the command line: one for all arguments, and some for examples that are written out.
+//! Laws of the command line: one for all arguments, and two for worked examples.
 //!
 //! A law is a function that does nothing at run time: its contract states a fact.
 
@@ -8,15 +8,15 @@ ghost use Rattle.cal_command.specs.CommandLine.{IsAskOf, asked_in, parsed_in, ta
 ghost use Rattle.cal_command.specs.WorkedArguments.{daily_option_texts, daily_ask, daily_arguments, help_arguments};
 ghost use Rattle.cal_command.specs.WorkedArguments.{none_arguments, options_ask, options_arguments, stray_arguments};
 
-/// If `clap` accepts the arguments, the result is what they ask for, unless allocation fails. It is neither usage nor
-/// help.
+/// If `clap` accepts the arguments, the result is what they ask for, unless allocation fails. It is neither `Usage` nor
+/// `Help`.
 pub fn taken_arguments_are_answered()
     ensures { (arguments : List (List ℕ)) (answer : Result Ask CommandFault) → IsAskOf arguments answer → takes_arguments arguments ≡ true
         → (answer ≡ Err no_memory) ⊎ (answer ≡ asked_in arguments) }
 {}
 
-/// `clap` accepts `calendar daily`, and an example with every option. The requests that they result in are written out
-/// in the definitions.
+/// `clap` accepts `calendar daily`, and an example with every option. What they ask for is written out in the
+/// definitions `daily_ask` and `options_ask`.
 pub fn worked_arguments_are_taken()
     ensures daily_taken { takes_arguments daily_arguments ≡ true }
     ensures daily_found { parsed_in daily_arguments ≡ Some daily_option_texts }
@@ -25,8 +25,8 @@ pub fn worked_arguments_are_taken()
     ensures options_asked { IsAskOf options_arguments (Ok options_ask) }
 {}
 
-/// `--iterations=0`, `--help` and an unknown verb are reported as bad iterations, help and usage. The law says nothing
-/// about the texts of `clap`.
+/// `--iterations=0` is reported as `BadIterations`, `--help` as `Help`, and an unknown verb as `Usage`. The law says
+/// nothing about the texts of `clap` in the last two.
 pub fn worked_arguments_are_refused()
     ensures none { IsAskOf none_arguments (Err bad_iterations) }
     ensures help { (text : List ℕ) → IsAskOf help_arguments (Err (help text)) }

@@ -31,9 +31,9 @@ impl Ask {
     /// - `--now=@N`: `@` and a number from 0 to 7,258,211,998, in digits only. Anything else is
     ///   [`CommandFault::BadNow`].
     /// - `--zones=NAME=FILE,..`: 1 to 64 items, each with a name that has the form of a zone's name and a path that
-    ///   isn't empty, or else [`CommandFault::BadZones`].
+    ///   isn't empty. Anything else is [`CommandFault::BadZones`].
     /// - `--local=Z`: `UTC` in any case, `+hh:mm` or `-hh:mm` up to 25:59, `posix:` and a rule, or a name that has the
-    ///   form of a zone's name, or else [`CommandFault::BadLocal`]; UTC by default.
+    ///   form of a zone's name; UTC by default. Anything else is [`CommandFault::BadLocal`].
     ///
     /// Fails with [`CommandFault::Usage`] if `clap` can't parse the arguments, for example because an option is given
     /// twice, and with [`CommandFault::Help`] if help or the version is asked for. If several values are invalid, the
@@ -118,7 +118,7 @@ fn option_texts_for<'b, 'a>(verb: Verb, values: &'b ArgMatches<'a>) -> Option<Op
     })
 }
 
-/// Returns the texts that `clap` found. For `timer` there is at most one.
+/// Returns the texts that `clap` found, at most one for `timer`, or `None` if it found no texts.
 fn texts_for<'b, 'a>(verb: Verb, values: &'b ArgMatches<'a>) -> Option<&'b [&'a str]>
     ensures file { IfSome result (λ texts. is_timer verb ≡ true → length texts.now ≤ 1) }
     ensures value { option_map (λ texts. texts_of texts.now) result ≡ texts_for verb (rows_of (found_of values.now)) }
@@ -127,7 +127,7 @@ fn texts_for<'b, 'a>(verb: Verb, values: &'b ArgMatches<'a>) -> Option<&'b [&'a 
     Some(texts_kept(verb, texts))
 }
 
-/// Shortens the texts of `timer` to one. `clap` never finds more, but shortening them here spares a proof of that.
+/// Keeps only the first text of `timer`. `clap` never finds more than one, but this function saves proving it.
 fn texts_kept<'b, 'a>(verb: Verb, texts: &'b [&'a str]) -> &'b [&'a str]
     ensures file { is_timer verb ≡ true → length result.now ≤ 1 }
     ensures value { texts_of result.now ≡ texts_kept verb (texts_of texts.entry.now) }
@@ -139,7 +139,7 @@ fn texts_kept<'b, 'a>(verb: Verb, texts: &'b [&'a str]) -> &'b [&'a str]
     }
 }
 
-/// Returns the value of an option, if the verb has this option and it was given.
+/// Returns the value of an option if the verb has the option, which `has` says, and the option was given.
 fn option_text<'a>(values: &ArgMatches<'a>, has: bool, name: &str) -> Option<&'a str>
     ensures { option_copied result ≡ option_text has name.now (rows_of (found_of values.now)) }
 {
@@ -170,7 +170,7 @@ fn parse<'a, S: AsStr>(alloc: Global, arguments: &'a [S]) -> Result<ArgMatches<'
     }
 }
 
-/// Converts an error of `clap`, which is also how it returns help and the version.
+/// Converts an error of `clap`. Help and the version are such errors too.
 fn convert_error(alloc: Global, error: &Error) -> CommandFault
     ensures { IsReportedOf (kind_of error.now) (shown_fault result) }
 {
@@ -187,8 +187,8 @@ fn convert_error(alloc: Global, error: &Error) -> CommandFault
     }
 }
 
-/// Returns the text of an error of `clap`. It always ends in a line feed, which is added for the version, whose text
-/// has none. Returns `None` if allocation fails.
+/// Returns the text of an error of `clap`, with a line feed added if the text doesn't end in one, as that of the
+/// version. Returns `None` if allocation fails.
 fn error_text(alloc: Global, error: &Error) -> Option<String> {
     let Ok(mut text) = error.to_string(alloc) else {
         return None;

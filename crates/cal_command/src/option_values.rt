@@ -87,7 +87,7 @@ pub(crate) fn local_zone_of(
     }
 }
 
-/// Parses a number of elapses: digits for 1 to [`MAX_ITERATIONS`].
+/// Parses a number of elapses, from 1 to [`MAX_ITERATIONS`], in digits only.
 pub(crate) fn count_in(value: &str) -> Option<u32>
     ensures value { result ≡ count_in value.now }
     ensures range { IfSome result IsCount }
@@ -96,7 +96,7 @@ pub(crate) fn count_in(value: &str) -> Option<u32>
     Some(number as u32)
 }
 
-/// Parses an instant: `@` and digits for 0 to [`Instant::LAST`].
+/// Parses an instant: `@` and a number from 0 to [`Instant::LAST`], in digits only.
 pub(crate) fn present_in(value: &str) -> Option<Instant>
     ensures { option_map (λ instant. instant.secs) result ≡ present_in value.now }
 {
@@ -137,8 +137,8 @@ fn zones_in(alloc: Global, text: &str) -> Result<Option<Vec<ZoneItem>>, AllocErr
     Ok(Some(items))
 }
 
-/// Splits the text at its first comma. The second part is `None` if there is no comma, which is different from an empty
-/// part after one.
+/// Splits the text at its first comma. The second part is `None` if there is no comma, and empty if nothing follows the
+/// comma.
 fn first_item(text: &str) -> (&str, Option<&str>)
     ensures items { slice_split is_comma text.now ≡ result.0.now ∷ pieces_after is_comma (option_copied result.1) }
     ensures shorter { left (option_copied result.1) ≤ length text.now }
@@ -200,7 +200,7 @@ fn local_zone_in(alloc: Global, text: &str) -> Result<Option<LocalZone>, AllocEr
     Ok(offset.map(LocalZone::Offset))
 }
 
-/// Copies the texts.
+/// Copies the texts, so that the request owns them.
 pub(crate) fn to_owned(alloc: Global, texts: &[&str]) -> Result<Vec<String>, AllocError>
     ensures texts { IfOk result (λ all. map string_bytes all.items ≡ texts_of texts.now) }
     ensures count { IfOk result (λ all. vec_len all ≡ length texts.now) }

@@ -6,7 +6,7 @@ use Rattle.cal_text.specs.headline.Separators.{is_comma}
 use Rattle.cal_command.proofs.OptionLemmas.{ZonesRead}
 use Rattle.cal_command.proofs.option_values.zones_in.Given as goal
 
--- the items collected so far and those still to be parsed are the items of the text
+-- the items collected so far and the items still to be parsed are together the items of the text
 abbrev pub invariant-loop-rest : goal.invariant-loop-rest
 invariant-loop-rest l = ZonesRead (map shown_item l.items.items) (vec_len l.items) (pieces_after is_comma (option_copied l.rest)) l.fn.text
 
