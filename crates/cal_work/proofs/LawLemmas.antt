@@ -46,7 +46,7 @@ seen_known limit (Some (Some all)) (Some (Err whole.ReadFailed)) some h sure = a
 seen_known limit (Some (Some all)) (Some (Err whole.TooLarge)) some h sure = inl (rw (past_limit (nat_le (length all) limit) all limit refl h) refl)
 seen_known limit (Some (Some all)) (Some (Err whole.NoMemory)) some h sure = inr refl
 
--- if a file could be opened, `known_seen` has some result of reading it as well
+-- if something is known about a file, and the file could be opened, then `known_seen` has a result of reading it too
 known_open : (limit : ℕ) (known : Option (Option (List ℕ))) (came : Result (List ℕ) WholeFault) → IsSome known → SeesBytes known limit (Some came) → (c : Result (List ℕ) WholeFault) × (known_seen limit known ≡ Some c)
 unfolding known_seen
 known_open limit None came some h = absurd (false≢true some)
@@ -69,8 +69,9 @@ after_load : (known : Known) (items : List ZoneItem) (found : List ZoneFound) (n
 after_load known items found name later (Ok more) h = later more h
 after_load known items found name later (Err fault) h = inl refl
 
--- Allocation failed while the file was read. With a bad zone name the file would not have been read at all, so then the
--- outcome is that of the bad name.
+-- If allocation failed while a zone file was read, then the outcome is either the known outcome or the stop for running
+-- out of memory. It is the known outcome if the name of the zone is bad, because the name is checked before the file is
+-- read.
 zone_unread : {A : Type 0} (next other : ZoneMap → Result A Stop) (table : ZoneMap) (item : ZoneItem) (f : ZoneFound) (c : Result (List ℕ) WholeFault) (seen : Seen) (b : Bool) → is_zone_name item.name ≡ b → f.seen ≡ Some (Err whole.NoMemory) → seen ≡ Some c
     → IsOr (and_then next (or_load_stop item.name (loaded table item f))) (and_then other (or_load_stop item.name (loaded table item (record { seen = seen; zone = f.zone }))))
 unfolding loaded

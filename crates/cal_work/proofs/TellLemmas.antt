@@ -28,7 +28,7 @@ use Rattle.cal_text.proofs.General.{append_known-nil}
 
 -- What was written for a stop
 
--- what was written if an output or an allocation failed during the run
+-- if an output or an allocation failed during the run, which then wrote a prefix of each text, `WritesOf` holds
 fault_written : (fault : RunFault) (expected : Result Report Stop) (out out' err err' : Option (List ℕ)) → ended_status {T = Unit} (Err fault) expected ≡ 1 → AppendsFront out out' (out_text expected) → AppendsFront err err' (err_text expected)
     → WritesOf {T = Unit} (Err fault) (fault_stop fault).status expected out out' err err'
 fault_written OutFailed expected out out' err err' status o e = record { by_status = refl; out_bytes = o; err_bytes = e }
@@ -38,7 +38,8 @@ fault_written NoMemory expected out out' err err' status o e = record { by_statu
 same_status : (r : Result Unit RunFault) (shown : Stop) → ended_status r (Err shown) ≡ status_by r shown.status
 same_status r shown = grind arith
 
--- the text written for a stop is all that the stop reports, and goes to the output that it belongs on
+-- `stop_text` is all that the stop reports, and is reported on this output; nothing is required of a stop that is
+-- reported later
 TextsFit : Outlet → declared_stop.Stop → Type 0
 TextsFit OnOut stop = ((shown_stop stop).out ≡ stop_text stop) × ((shown_stop stop).err ≡ [])
 TextsFit OnErr stop = ((shown_stop stop).out ≡ []) × ((shown_stop stop).err ≡ stop_text stop)
@@ -71,7 +72,8 @@ texts_fit (Open path) = (refl, refl)
 texts_fit (Run fault) = tt
 
 module _ (stop : declared_stop.Stop) (r : Result Unit RunFault) (expected : Result Report Stop) (out out1 out' err err1 err' : Option (List ℕ)) (s : StopsAs stop expected) (at_out : out1 ≡ out) (at_err : err1 ≡ err) where
-  -- what was written for a stop before any run, for each output that it can be reported on
+  -- if a stop before any run was reported on the output where it belongs, then what was written agrees with the
+  -- definitions, as `WritesOf` says
   early_written : (outlet : Outlet) → outlet_of stop ≡ outlet → TextsFit outlet stop → TellsOn outlet (stop_text stop) r out1 out' err1 err' → WritesOf r (shown_stop stop).status expected out out' err err'
   unfolding TextsFit
   early_written OnOut is fits (w, same) =
@@ -129,7 +131,8 @@ reaches_unflushed before written reached text w s = reaches_front before written
 
 -- The whole work
 
--- the bytes on standard error before the final error line, also if the flush failed
+-- if `Writes` holds on standard error for the result before the flush, then it also holds for the result after the
+-- flush
 err_before : (r flushed : Result Unit RunFault) (a b : Option (List ℕ)) (text : List ℕ) → IsFlushed r flushed → Writes a b r text → Writes a b flushed text
 err_before r flushed a b text is w = grind (arith, whole_front a b text)
 

@@ -1,4 +1,5 @@
--- What it is to load a zone file (RFC 8536). The option `--zones` is this project's own.
+-- When loading a zone file (RFC 8536) succeeds, what it adds to the zone table, and why it fails. The option `--zones`
+-- is this project's own.
 use Rattle.std.specs.Prelude.{◌≡◌, ℕ, Bool, true, false, List, Option, Result, Ok, Err}
 use Rattle.std.specs.FinMap.{insert}
 use Rattle.jiff.specs.Types.{TimeZone}

@@ -1,4 +1,4 @@
--- What the program's arguments come to in a world: a report, or the first stop.
+-- The outcome of the program's work in a world: a report, or the first stop.
 use Rattle.std.specs.Prelude.{ℕ, ℤ, pos, Bool, true, false, not, ◌&&◌, int_lt, List, [], ◌∷◌, Option, None, Some, is_some, Result, Ok, Err, if◌then◌else◌}
 use Rattle.std.specs.FinMap.{insert, empty}
 use Rattle.jiff.specs.Types.{TimeZone}
@@ -39,7 +39,7 @@ pub record World : Type 0 where
   pub clock : Option ℤ
   pub file : Seen
 
--- the next step, unless the one before it stopped
+-- the result of the step `next` if the step before it returned a value, and otherwise the stop of the step before it
 abbrev pub and_then : {A B F : Type 0} → (A → Result B F) → Result A F → Result B F
 and_then next (Ok value) = next value
 and_then next (Err stop) = Err stop
@@ -57,7 +57,8 @@ with_bytes table name read (Err whole.ReadFailed) = Err ReadFailed
 with_bytes table name read (Err whole.TooLarge) = Err (Zone TooLarge)
 with_bytes table name read (Err whole.NoMemory) = Err (Zone NoMemory)
 
--- the name is checked before the file is read
+-- the table with the zone of the file added, or why the file can't be loaded; the name is checked after the file is
+-- opened, but before it is read
 abbrev pub with_file : ZoneMap → List ℕ → Option TimeZone → Seen → Result ZoneMap LoadFault
 with_file table name read None = Err ReadFailed
 with_file table name read (Some came) = if is_zone_name name then with_bytes table name read came else Err (Zone BadName)
@@ -98,14 +99,14 @@ abbrev pub clock_by : Option ℤ → Result ℤ Stop
 clock_by None = Err clock_stop
 clock_by (Some secs) = or_clock_stop (instant_in secs)
 
--- the instant given by the arguments, or else the clock's
+-- the present instant: the instant that the arguments give, or else the time of the clock
 unfoldable pub present_by : Option ℤ → Option ℤ → Result ℤ Stop
 present_by (Some now) clock = Ok now
 present_by None clock = clock_by clock
 
 -- The run
 
--- what is read from the timer file
+-- the result of reading the timer file, or the stop if the file can't be opened or memory runs out
 abbrev pub input_by : List ℕ → Seen → Result (Result (List ℕ) WholeFault) Stop
 input_by path None = Err (unopened_stop path)
 input_by path (Some (Ok bytes)) = Ok (Ok bytes)
@@ -113,7 +114,7 @@ input_by path (Some (Err whole.ReadFailed)) = Ok (Err whole.ReadFailed)
 input_by path (Some (Err whole.TooLarge)) = Ok (Err whole.TooLarge)
 input_by path (Some (Err whole.NoMemory)) = Err memory_stop
 
--- other verbs read no file
+-- for the verb `timer`, the result of reading the timer file; for other verbs, which read no file, no bytes
 abbrev pub input_if : Bool → List ℕ → Seen → Result (Result (List ℕ) WholeFault) Stop
 input_if true path seen = input_by path seen
 input_if false path seen = Ok (Ok [])
@@ -165,7 +166,7 @@ abbrev pub outcome_status : Result Report Stop → ℕ
 outcome_status (Ok report) = exit_status report.status
 outcome_status (Err stop) = stop.status
 
--- The status if standard error failed: 1 for a report, while a stop keeps its own status.
+-- The status if standard error failed: 1 if the outcome is a report, and the status of the stop if it is a stop.
 abbrev pub cut_status : Result Report Stop → ℕ
 cut_status (Ok report) = 1
 cut_status (Err stop) = stop.status

@@ -4,8 +4,9 @@ use Rattle.cal_streams.specs.Whole.{is_read_failed}
 use Rattle.cal_streams.specs.declared.whole.WholeFault.{WholeFault}
 use Rattle.cal_streams.specs.declared.whole.WholeFault.TheVariants.{ReadFailed, TooLarge, NoMemory}
 
--- What is known about a system; an outer `None` says that nothing is known. For each path: the bytes of the file, or that it can't be
--- opened, and whether reading it may fail. For the clock: its seconds of Unix time, or that it has none.
+-- What is known about a system. For each path: `Some (Some bytes)` if the file has these bytes, `Some None` if it can't
+-- be opened, and `None` if nothing is known; and whether reading the file may fail. For the clock: `Some (Some
+-- seconds)` if it shows this Unix time, `Some None` if it has no time, and `None` if nothing is known.
 pub record Known : Type 0 where
   pub file : List ℕ → Option (Option (List ℕ))
   pub may_fail : List ℕ → Bool
@@ -19,25 +20,27 @@ abbrev pub GivesTime : Option (Option ℤ) → Option ℤ → Type 0
 GivesTime None came = Unit {0}
 GivesTime (Some time) came = came ≡ time
 
--- Opening a file agrees with what is known about it: it fails, or succeeds with these bytes still to be read. The inner
--- `None` of `opened` says that the bytes are not known.
+-- Opening a file agrees with what is known about the file: it fails if the file can't be opened, and succeeds with all
+-- bytes still to be read if the bytes are known. If `opened` is `Some None`, the file was opened, and its bytes are not
+-- known.
 abbrev pub Opens : Option (Option (List ℕ)) → Option (Option (List ℕ)) → Type 0
 Opens None opened = Unit {0}
 Opens (Some None) opened = opened ≡ None
 Opens (Some (Some bytes)) opened = opened ≡ Some (Some bytes)
 
--- What is seen of a file: `None` if it can't be opened, and else its bytes or why they could not be read.
+-- What is seen of a file: `None` if it can't be opened, and otherwise its bytes or why they could not be read.
 abbrev pub Seen : Type 0
 Seen = Option (Result (List ℕ) WholeFault)
 
--- the possible results of reading an open file to its end, with at most `limit` bytes
+-- the possible results of reading an open file to its end, with at most `limit` bytes; `known` are its bytes, if they
+-- are known
 abbrev pub Comes : Option (List ℕ) → ℕ → Result (List ℕ) WholeFault → Type 0
 Comes known limit (Ok bytes) = (length bytes ≤ limit) × IfSome known (λ all. bytes ≡ all)
 Comes known limit (Err ReadFailed) = Unit {0}
 Comes known limit (Err TooLarge) = IfSome known (λ all. limit < length all)
 Comes known limit (Err NoMemory) = Unit {0}
 
--- what is seen agrees with what is known
+-- what is seen of a file agrees with what is known about it
 abbrev pub SeesBytes : Option (Option (List ℕ)) → ℕ → Seen → Type 0
 SeesBytes None limit None = Unit {0}
 SeesBytes None limit (Some came) = Comes None limit came

@@ -53,6 +53,6 @@ abbrev pub known_outcome : Known → Result Ask CommandFault → World → Resul
 known_outcome known (Ok ask) world = outcome (known_world known ask world)
 known_outcome known (Err fault) world = Err (command_stop fault)
 
--- the known outcome, or running out of memory
+-- `expected` is the outcome `known`, or the stop for running out of memory
 abbrev pub IsOr : {T : Type 0} → Result T Stop → Result T Stop → Type 0
 IsOr expected known = (expected ≡ known) ⊎ (expected ≡ Err memory_stop)

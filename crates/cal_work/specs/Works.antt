@@ -49,7 +49,7 @@ SeesZones known table (item ∷ items) [] = ⊥
 SeesZones known table (item ∷ items) (f ∷ found) =
     SeesZone known item f × IfOk (loaded table item f) (λ more. SeesZones known more items found)
 
--- the local zone is the one that the arguments name, as `jiff` has it
+-- the local zone is the zone that the arguments ask for, as `jiff` has it
 abbrev pub IsLocal : LocalZone → ZoneMap → ClockZone → Type 0
 IsLocal in_utc table zone = zone ≡ utc
 IsLocal (ahead seconds) table zone =
@@ -57,7 +57,7 @@ IsLocal (ahead seconds) table zone =
 IsLocal (by_rule rule) table zone = (is_utc zone ≡ false) × IsPosixZone rule (zone_of zone)
 IsLocal (of_name name) table zone = (is_utc zone ≡ is_utc_name name) × (zone_named table name ≡ Some (zone_of zone))
 
--- what is seen of the timer file
+-- for the verb `timer`, what is seen of the timer file agrees with what is known about it
 abbrev pub SeesIf : Bool → Known → List ℕ → Seen → Type 0
 SeesIf true known path seen = Sees known timer_file_limit path seen
 SeesIf false known path seen = Unit {0}
@@ -82,25 +82,27 @@ pub record FitsArguments (known : Known) (arguments : List (List ℕ)) (world : 
 
 -- What is written
 
--- All of a text. If something failed, the bytes that reached the output and those left in a buffer that could not be
--- flushed (`held`) make a prefix of the text.
+-- The whole text reached the output, unless something failed. In that case the bytes that reached the output and the
+-- bytes left in a buffer that could not be flushed (`held`) are together a prefix of the text.
 abbrev pub Reaches : {T : Type 0} → Option (List ℕ) → Option (List ℕ) → Result T RunFault → List ℕ → Type 0
 Reaches old reached (Ok all) text = Appends old reached text
 Reaches old reached (Err fault) text = (held : List ℕ) × AppendsFront old (append_known reached held) text
 
--- the final error line, or a prefix of it if standard error fails
+-- if an output or an allocation failed, the final error line is written, or a prefix of it if standard error fails;
+-- otherwise nothing is written
 abbrev pub TellsFault : {T : Type 0} → Option (List ℕ) → Option (List ℕ) → Bool → Result T RunFault → Type 0
 TellsFault old new failed (Ok all) = Keeps old new
 TellsFault old new false (Err fault) = Appends old new (fault_stop fault).err
 TellsFault old new true (Err fault) = AppendsFront old new (fault_stop fault).err
 
--- a text, or a prefix of it followed by the final error line
+-- the text is written to standard error, or a prefix of the text followed by the final error line
 pub record Tells {T : Type 0} (old new : Option (List ℕ)) (failed : Bool) (written : Result T RunFault) (text : List ℕ) : Type 0 where
   pub before : Option (List ℕ)
   pub text_bytes : Writes old before written text
   pub line : TellsFault before new failed written
 
--- the program's whole work
+-- the status and the bytes that the program wrote are those of the outcome in a world that fits the arguments and what
+-- is known
 pub record Works (known : Known) (arguments : List (List ℕ)) (out reached err err' : Option (List ℕ)) (err_failed : Bool) (ended : Ended) : Type 0 where
   pub world : World
   pub fits : FitsArguments known arguments world

@@ -34,7 +34,8 @@ use std::convert::AsStr;
 pub struct Ended {
     /// Exit status.
     pub status: u8,
-    /// Whether everything was written. If not, the reason was reported on standard error, unless that is what failed.
+    /// Whether everything was written. If not, the reason was reported on standard error, unless standard error is what
+    /// failed.
     pub written: Result<(), RunFault>,
 }
 
@@ -44,7 +45,7 @@ pub struct Ended {
 ///
 /// The status is 0 for success and for help; 1 if an expression, a timestamp, a span or the timer file is rejected, if
 /// `out` fails or memory runs out, or if `err` fails during a report; and 2 if the arguments, a zone file, the local
-/// zone or the clock are at fault. If an output or an allocation fails, each output has a prefix of its whole text,
+/// zone or the clock are invalid. If an output or an allocation fails, each output has a prefix of its whole text,
 /// followed on `err` by the line that reports the failure.
 pub fn work<S: System, T: AsStr, O: Output, E: Sink>(
     alloc: Global,
@@ -71,7 +72,7 @@ pub fn work<S: System, T: AsStr, O: Output, E: Sink>(
     }
 }
 
-/// Returns the status once the output is flushed: 1 if the output or an allocation failed, and else `status`.
+/// Returns the status once the output is flushed: 1 if the output or an allocation failed, and otherwise `status`.
 fn status_by(written: Result<(), RunFault>, status: u8) -> u8
     ensures { result ≡ status_by written status }
 {
@@ -172,7 +173,8 @@ fn load_item<S: System>(
     }
 }
 
-/// Returns the stop for a zone file that can't be loaded. The stop owns the name, so allocating it can fail as well.
+/// Returns the stop for a zone file that can't be loaded. The stop owns a copy of the name. If the copy can't be
+/// allocated, the stop is for running out of memory instead.
 fn zone_stop(alloc: Global, name: &str, fault: LoadFault) -> Stop
     ensures { StopsAs {X = Unit} result (Err (load_stop name.now fault)) }
 {
@@ -196,7 +198,7 @@ fn read_rules(alloc: Global, local: &LocalZone) -> Result<Option<Rules>, Stop>
     }
 }
 
-/// Returns the local zone. `rules` are its parsed rules if it is given as a POSIX rule.
+/// Returns the local zone. If it is given as a POSIX rule, `rules` are the parsed rules.
 fn local_zone<'t>(
     local: &LocalZone,
     rules: &'t Option<Rules>,
@@ -220,7 +222,7 @@ fn local_zone<'t>(
     }
 }
 
-/// Returns the present instant: the one given with `--now`, or else the clock's.
+/// Returns the present instant: the instant given with `--now`, or else the time of the clock.
 fn find_present<S: System>(system: &S, given: Option<Instant>) -> Result<Instant, Stop>
     ensures { Presents (λ now. now.secs) (S.tells system.now) (option_map (λ now. now.secs) given) result }
 {
@@ -230,7 +232,7 @@ fn find_present<S: System>(system: &S, given: Option<Instant>) -> Result<Instant
     }
 }
 
-/// Reads the clock. Fails with `Stop::Clock` if it has no time or one outside the supported range.
+/// Reads the clock. Fails with `Stop::Clock` if the clock has no time, or a time outside the supported range.
 fn read_system_clock<S: System>(system: &S) -> Result<Instant, Stop>
     ensures { Reads (λ now. now.secs) (S.tells system.now) result }
 {
@@ -310,8 +312,8 @@ fn open_file<S: System>(alloc: Global, system: &S, path: &str) -> Result<S::File
 
 // What is reported at the end
 
-/// Reports a stop, unless it has to wait for the flush of the output, and returns the status together with whether the
-/// report was written. A failed output and running out of memory are reported later, by `tell_fault`.
+/// Reports why the work stopped, if it did, and returns the exit status together with whether the report was written. A
+/// failed output and running out of memory are not reported here, but by `tell_fault` after the output is flushed.
 fn tell<O: Sink, E: Sink>(answered: &Result<Status, Stop>, out: &mut O, err: &mut E) -> Ended
     requires out { O.is_failed out.old ≡ is_out_cut answered.now }
     requires err { E.is_failed err.old ≡ is_err_cut answered.now }
@@ -333,7 +335,8 @@ fn tell<O: Sink, E: Sink>(answered: &Result<Status, Stop>, out: &mut O, err: &mu
     }
 }
 
-/// Reports a stop right away: help on `out`, other stops on `err`. Returns the error if it has to be reported later.
+/// Reports a stop right away: help on `out`, other stops on `err`. If the stop has to be reported later, writes nothing
+/// and returns its error.
 fn tell_stop<O: Sink, E: Sink>(stop: &Stop, out: &mut O, err: &mut E) -> Result<(), RunFault>
     requires out { O.is_failed out.old ≡ is_out_stop stop.now }
     requires err { E.is_failed err.old ≡ is_err_stop stop.now }

@@ -1,4 +1,4 @@
-//! What the program uses from outside besides its arguments: files and the clock.
+//! What the program uses of the system besides its arguments: files and the clock.
 
 ghost use Rattle.std.specs.Prelude.{◌≡◌, false, option_map, IfSome};
 ghost use Rattle.cal_work.specs.System.{nothing_known, GivesTime, Opens, Known};
@@ -8,7 +8,7 @@ use cal_bytes::Source;
 /// Access to files and to the present time.
 ///
 /// A contract can use what `tells` says about a system. `tells` says nothing about the real system, and can say
-/// everything about one in memory.
+/// everything about a system that exists only in memory.
 pub trait System {
     /// An open file.
     type File: Source + Drop;

@@ -10,8 +10,8 @@ ghost use Rattle.cal_work.specs.WorkedSystem.{bare_system, daily_world};
 ghost use Rattle.cal_work.specs.Works.{FitsArguments};
 
 /// If everything about the system's files and clock is known, no read fails and `clap` accepts the arguments, there is
-/// only one possible outcome, unless memory runs out: the one computed from the arguments, the system and the zones
-/// that `jiff` reads.
+/// only one possible outcome, unless memory runs out: the outcome that is computed from the arguments, the system and
+/// the zones that `jiff` reads.
 pub fn known_systems_decide()
     ensures { (known : Known) (arguments : List (List ℕ)) (world : World) → TellsAll known → takes_arguments arguments ≡ true
         → FitsArguments known arguments world → IsOr (outcome world) (known_outcome known (asked_in arguments) world) }

@@ -1,4 +1,4 @@
--- Whatever is found of the remaining files continues what was found so far.
+-- Whatever is found of the remaining files, it continues what was found of the earlier files, as `GoesOn` says.
 use Rattle.std.proofs.Common.{drop, map}
 use Rattle.cal_command.specs.Ask.{shown_item}
 use Rattle.cal_work.proofs.WorkLemmas.{GoesOn}
