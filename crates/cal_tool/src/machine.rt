@@ -1,4 +1,4 @@
-//! The real system, with its files and its clock. Nothing is proved of what they return.
+//! The real system, with its files and its clock. Nothing is proved about what they return.
 
 use cal_streams::Port;
 use cal_work::System;
