@@ -36,14 +36,15 @@ pub base_at : (asked : Request) (secs : ℤ) → IsInstant secs → base_in (sta
 unfolding base_in
 base_at asked secs h = counted_base (started_at asked secs) secs h
 
--- a base time resolves to the same instant in the continuing request, because only the present and the zones matter
+-- a base time resolves to the same instant in the request that `begun_again` returns, because only the present and the
+-- zones matter
 same_base : (asked : Request) (shown : List ℤ) (k : ℕ) (base : Option (List ℕ)) → base_from (begun_again asked shown k) base ≡ base_from asked base
 unfolding stamp_in
 same_base asked shown k None = refl
 same_base asked shown k (Some text) = refl
 
--- the base time of the continuing request resolves to the last of the first `k` elapse times shown, or to the old base
--- time if `k` is 0
+-- the base time of the request that `begun_again` returns resolves to the last of the first `k` elapse times shown, or
+-- to the old base time if `k` is 0
 record IsSought (asked : Request) (base : ℤ) (shown : List ℤ) (k : ℕ) : Type 0 where
   from : ℤ
   sought : base_in (begun_again asked shown k) ≡ Ok from

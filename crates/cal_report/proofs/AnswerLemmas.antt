@@ -26,7 +26,7 @@ left-next false (Ok report) reports = rw (append-nil report) refl
 left-next true (Err message) reports = refl
 left-next false (Err message) reports = refl
 
--- the reports of the remaining texts
+-- the reports of the remaining texts, joined as in `left_of`
 pub reports_left : Bool → (List ℕ → Answer) → List (List ℕ) → List ℕ
 reports_left is_later answer texts = left_of is_later (flat_map (λ text. report_in (answer text)) texts)
 
@@ -108,7 +108,7 @@ pub writes_nothing : {T E : Type 0} (a : Option (List ℕ)) (r : Result T E) →
 writes_nothing a (Ok x) = Appends-nil a
 writes_nothing a (Err e) = record { front = []; rest = []; whole = refl; written = Appends-nil a }
 
--- From the answered texts to one more
+-- Answering one more text
 
 -- the reports of `done` and any later texts are the reports of `done`, followed by the reports of the later texts
 abbrev pub GoesOn : (List ℕ → Answer) → Bool → List (List ℕ) → Type 0

@@ -7,7 +7,8 @@ use Rattle.cal_report.specs.headline.ElapseLines.{elapse_text, elapse_texts, ela
 some_is : (x e : ℤ) → ◌≡◌ {A = Option ℤ} (Some e) (Some x) → x ≡ e
 some_is x e h = cc
 
--- if there is an elapse time, the text begins with it, and the text of the later ones follows
+-- if there is an elapse time, the text begins with the lines of the first elapse time, and the lines of the later
+-- elapse times follow
 pub texts_first : (local : Zone) (now : ℤ) (number count e : ℕ) (elapse : ℤ) (xs : List ℤ) → count ≡ suc e → Some elapse ≡ slice_get xs 0 → elapse_texts local now number (take count xs) ≡ elapse_text local now number elapse ++ elapse_texts local now (number + 1) (take e (drop 1 xs))
 texts_first local now number count e elapse [] h is = absurd (cc)
 texts_first local now number count e elapse (x ∷ xs) h is = rw (h, some_is x elapse is) refl

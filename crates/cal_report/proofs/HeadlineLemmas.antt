@@ -87,7 +87,6 @@ pub each_report : (asked : Request) (base : ℤ) (es : List Expression)
 each_report asked base [] = tt
 each_report asked base (e ∷ es) = (is_report asked base e, each_report asked base es)
 
--- the text of an expression
 abbrev pub text_of : Expression → List ℕ
 text_of e = e.text
 
@@ -203,7 +202,7 @@ meanings_are asked (entry ∷ list) [] h = absurd h
 meanings_are asked (entry ∷ list) (e ∷ es) h =
     rw (h.0.expr, h.0.zone) (ap (λ (ts : List Timed). meaning e ∷ ts) (meanings_are asked list es h.1))
 
--- the headings of the entries are the headings of the expressions
+-- if the entries in `list` are the expressions `es`, in order, then both have the same headings
 shown_are : (label : List ℕ) (asked : Request) (list : List (TimerLine Fields)) (es : List Expression) → AllZip (IsEntryOf asked) list es
     → flat_map (λ (entry : TimerLine Fields). heading_text label entry.text entry.expr) list ≡ flat_map (λ (e : Expression). heading_text label e.text e.fields) es
 shown_are label asked [] [] h = refl
@@ -217,12 +216,12 @@ as_many asked [] [] h some = some
 as_many asked [] (e ∷ es) h some = absurd h
 as_many asked (entry ∷ list) es h some = omega arith
 
--- the entries of both lists belong to the expressions and exceptions of a schedule
+-- the entries of the parsed timer file `lists` are the expressions and the exceptions of the schedule `s`, in order
 record AreEntriesOf (asked : Request) (lists : Timer Fields) (s : Schedule) : Type 0 where
   expressions : AllZip (IsEntryOf asked) lists.expressions s.expressions
   exceptions : AllZip (IsEntryOf asked) lists.exceptions s.exceptions
 
--- the entries of a file's lists
+-- the parsed expressions and exceptions of a timer file
 abbrev entries_in : List ℕ → Timer Fields
 entries_in bytes = entries expr_in (assigned_in bytes)
 

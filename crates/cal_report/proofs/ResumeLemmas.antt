@@ -271,7 +271,7 @@ one_stands asked s shown front k m h g =
     let at_most : m < k → ⊥ = not_fewer asked s shown front m k g h in
     omega (arith, at_least, at_most)
 
--- The continuing request
+-- The request that continues a report
 
 -- if `from` is the base time of a request that continues after the first `k` elapse times of `xs`, then the elapse
 -- times after `from` are those of `xs` without the first `k`
@@ -326,7 +326,7 @@ of_reports asked base e text (a ∷ (b ∷ reports)) each layout = absurd each.1
 one_report_of : (asked : Request) (base : ℤ) (e : Expression) (text : List ℕ) → AreReportsOf asked base (e ∷ []) text → IsReportOf asked base (alone e) text
 one_report_of asked base e text h = of_reports asked base e text h.reports h.each h.layout
 
--- a request for one accepted text prints the report of its expression
+-- a request for one accepted text prints the report of the expression `e` with this text
 pub text_report : HaveOneNormalForm → (asked : Request) (read : Result (List ℕ) WholeFault) (base : ℤ) (e : Expression)
     → asked.verb ≡ Calendar → base_in asked ≡ Ok base → asked.texts ≡ e.text ∷ [] → IsAccepted asked e
     → IsReportOf asked base (alone e) (report asked read).out

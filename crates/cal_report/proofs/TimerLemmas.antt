@@ -26,7 +26,7 @@ pub none_mapped : (o : Option (TimerLine Fields)) → option_map (λ (e : TimerL
 none_mapped None h = refl
 none_mapped (Some e) h = cc
 
--- the lines up to and including the index are the lines before it and the line at it
+-- the lines up to and including index `i` are the lines before index `i` and the line at it
 pub shown_more : (lines : List declared_line.TimerLine) (i : ℕ) (d : declared_line.TimerLine) → i < length lines → map shown (take (i + 1) lines) ≡ map shown (take i lines) ++ shown (get_or lines i d) ∷ []
 shown_more lines i d h = rw (take_more lines i d h) (map-append shown (take i lines) (get_or lines i d ∷ []))
 
@@ -74,7 +74,7 @@ merge_instants asked base lists merge m low i h =
 abbrev pub line_text : List ℕ → declared_line.TimerLine → List ℕ
 line_text label line = heading_text label (string_bytes line.text) line.expr
 
--- the headings of the lines from an index on begin with the heading of the line at the index
+-- the headings of the lines from index `i` on begin with the heading of `line`, the line at index `i`
 pub lines-first : (label : List ℕ) (lines : List declared_line.TimerLine) (i : ℕ) (line : declared_line.TimerLine) (text : List ℕ) → i < length lines
     → line ≡ get_or lines i line → text ≡ string_bytes line.text → flat_map (line_text label) (drop i lines) ≡ heading_text label text line.expr ++ flat_map (line_text label) (drop (i + 1) lines)
 lines-first label lines i line text h is so = item_first (line_text label) i lines line h (ap (λ bytes. heading_text label bytes line.expr) so ∙ ap (line_text label) is)

@@ -27,13 +27,13 @@ HasInstants (Calendar expr elapses) = AreInstants (remaining_elapses elapses)
 HasInstants (Timestamp moment) = Unit {0}
 HasInstants (Timespan span) = Unit {0}
 
--- the report of a valid argument, with its text as the user gave it
+-- the report of a valid argument; `text` is the argument as the user gave it
 abbrev pub report_text : Request → List ℕ → Parsed → List ℕ
 report_text asked text (Calendar expr elapses) = report_of_elapses asked text expr (remaining_elapses elapses)
 report_text asked text (Timestamp moment) = timestamp_report asked text moment.micros
 report_text asked text (Timespan span) = timespan_report text span.micros
 
--- the error message
+-- the message of an error, which is empty if memory ran out
 abbrev pub text_error_message : TextError → List ℕ
 text_error_message (Spec fault) = spec_message fault
 text_error_message NoSuchZone = codes "no such zone"

@@ -22,7 +22,7 @@ abbrev pub plan_text : Request → TimerPlan → List ℕ
 plan_text asked plan =
     joined (lists_text plan.timer ∷ elapses_text asked.local asked.now (take asked.iterations (merged plan.merge)) ∷ [])
 
--- the error message
+-- the message of an error, which is empty if memory ran out
 abbrev pub timer_error_message : TimerError → List ℕ
 timer_error_message (errors.Timer fault) = message_of fault
 timer_error_message (errors.NoSuchZone line) = codes "no such zone"

@@ -1,4 +1,4 @@
--- The merge has the elapse times of the exceptions before the index.
+-- The merge has the elapse times of the exceptions before the loop's index.
 use Rattle.std.proofs.Common.{◌≡◌, ◌++◌, false, map, take}
 use Rattle.cal_rising.specs.Merge.{Merge}
 use Rattle.cal_read.specs.TimerView.{shown}

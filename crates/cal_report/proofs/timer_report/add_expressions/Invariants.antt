@@ -1,4 +1,4 @@
--- The merge has the elapse times of the lines before the index, except for lines that an exception covers.
+-- The merge has the elapse times of the lines before the loop's index, except for lines that an exception covers.
 use Rattle.std.proofs.Common.{map, take}
 use Rattle.cal_read.specs.TimerView.{shown}
 use Rattle.cal_report.specs.Context.{asked_by}

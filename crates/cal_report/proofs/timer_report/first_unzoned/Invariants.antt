@@ -1,4 +1,4 @@
--- The first line with a missing zone, if there is one, is at the index or after it.
+-- The first line with a missing zone, if there is one, is at the loop's index or after it.
 use Rattle.std.proofs.Common.{◌≡◌, drop, map}
 use Rattle.cal_read.specs.TimerView.{shown}
 use Rattle.cal_report.specs.Context.{asked_by}

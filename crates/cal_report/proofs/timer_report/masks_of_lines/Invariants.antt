@@ -1,4 +1,4 @@
--- `masks` holds the masks of the lines before the index.
+-- `masks` holds the masks of the lines before the loop's index.
 use Rattle.std.proofs.Common.{◌≡◌, map, take}
 use Rattle.cal_elapse.specs.Masks.{sets_in}
 use Rattle.cal_read.specs.TimerView.{shown}

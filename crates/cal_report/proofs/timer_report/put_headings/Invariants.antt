@@ -1,4 +1,4 @@
--- The writer hasn't failed, and the headings of the lines from the index on remain to be written.
+-- The writer hasn't failed, and the headings of the lines from the loop's index on remain to be written.
 use Rattle.std.proofs.Common.{drop, map}
 use Rattle.std.specs.List.{flat_map}
 use Rattle.cal_bytes.proofs.PutLemmas.{PutsUpTo}
