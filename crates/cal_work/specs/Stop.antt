@@ -40,11 +40,11 @@ zones_line name message = joined (codes "calendar-analyze: --zones: " ∷ name �
 unfoldable pub unopened_line : List ℕ → List ℕ
 unopened_line path = joined (path ∷ codes ": cannot be read\n" ∷ [])
 
--- Out of memory. The report is the same whatever the memory was for.
+-- The stop for running out of memory. It is the same whatever the memory was for.
 abbrev pub memory_stop : Stop
 memory_stop = with_line (own_line (codes "out of memory")) 1
 
--- the arguments are invalid, or ask only for help or the version
+-- the stop for arguments that are invalid, or ask only for help or the version
 abbrev pub command_stop : CommandFault → Stop
 command_stop (usage text) = with_line text 2
 command_stop (help text) = record { out = text; err = []; status = 0 }
@@ -54,7 +54,7 @@ command_stop bad_zones = with_line (own_line (codes "bad zones")) 2
 command_stop bad_local = with_line (own_line (codes "bad local zone")) 2
 command_stop no_memory = memory_stop
 
--- a zone file can't be loaded
+-- the stop for a zone file that can't be loaded
 abbrev pub zone_stop : List ℕ → ZoneFault → Stop
 zone_stop name zone.NoMemory = memory_stop
 zone_stop name fault = with_line (zones_line name (message_of (Zone fault))) 2
@@ -63,7 +63,7 @@ abbrev pub load_stop : List ℕ → LoadFault → Stop
 load_stop name ReadFailed = with_line (zones_line name (message_of ReadFailed)) 2
 load_stop name (Zone fault) = zone_stop name fault
 
--- the local zone or the present instant can't be determined
+-- the stops if the local zone or the present instant can't be determined
 abbrev pub rule_stop : Stop
 rule_stop = with_line (own_line (codes "--local: bad rule")) 2
 
@@ -73,11 +73,11 @@ name_stop = with_line (own_line (codes "--local: no such zone")) 2
 abbrev pub clock_stop : Stop
 clock_stop = with_line (own_line (codes "clock out of range")) 2
 
--- the timer file can't be opened
+-- the stop for a timer file that can't be opened
 abbrev pub unopened_stop : List ℕ → Stop
 unopened_stop path = with_line (unopened_line path) 1
 
--- A run ended early. If standard error itself failed, nothing more is reported.
+-- The stop for a run that ended early. If standard error itself failed, nothing more is reported.
 abbrev pub fault_stop : RunFault → Stop
 fault_stop run.OutFailed = with_line (own_line (codes "output failed")) 1
 fault_stop run.ErrFailed = with_line [] 1

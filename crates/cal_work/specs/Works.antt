@@ -42,7 +42,8 @@ pub record SeesZone (known : Known) (item : ZoneItem) (found : ZoneFound) : Type
   pub sees : Sees known file_limit item.path found.seen
   pub reads : ReadsZone item.name found.seen found.zone
 
--- What is found of each zone file, in order. The files after the first one that can't be loaded are not opened.
+-- What is found of each zone file, in order, agrees with what is known about the file. The files after the first one
+-- that can't be loaded are not opened, so nothing is required of what is found of them.
 abbrev pub SeesZones : Known → ZoneMap → List ZoneItem → List ZoneFound → Type 0
 SeesZones known table [] found = Unit {0}
 SeesZones known table (item ∷ items) [] = ⊥
@@ -75,7 +76,7 @@ pub record Fits (known : Known) (ask : Ask) (world : World) : Type 0 where
   pub zones : SeesZones known empty ask.zones world.zones
   pub after : IfOk (table_by empty ask.zones world.zones) (FitsAt known ask world)
 
--- the arguments parse as the world says, and the rest of the world fits what they ask for
+-- the arguments parse as the world says, and the other parts of the world fit what they ask for
 pub record FitsArguments (known : Known) (arguments : List (List ℕ)) (world : World) : Type 0 where
   pub parsed : IsAskOf arguments world.parsed
   pub fits : IfOk world.parsed (λ ask. Fits known ask world)
