@@ -37,7 +37,7 @@ abbrev pub named_file : List ℕ × List ℕ → Option ZoneItem
 named_file parts =
     if is_zone_name parts.0 && nat_lt 0 (length parts.1) then Some (record { name = parts.0; path = parts.1 }) else None
 
--- an item of `--zones`, `NAME=FILE`, is split at its first `=`
+-- the item of `--zones` in a text `NAME=FILE`, which is split at its first `=`, if the item is valid
 unfoldable pub zone_item_in : List ℕ → Option ZoneItem
 zone_item_in item = option_and_then named_file (parts_at is_equals item)
 
