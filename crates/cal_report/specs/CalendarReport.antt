@@ -1,4 +1,4 @@
--- The report of one calendar expression, computed (systemd-analyze(1), calendar).
+-- How the report of one calendar expression is computed (systemd-analyze(1), calendar).
 use Rattle.std.specs.Prelude.{ℕ, ℤ, List, [], ◌∷◌, take, Option, None, Some, Result, Ok, Err, codes}
 use Rattle.jiff.specs.Types.{TimeZone}
 use Rattle.cal_bytes.specs.headline.Bytes.{joined}

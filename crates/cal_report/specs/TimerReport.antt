@@ -1,4 +1,4 @@
--- The report of a timer file, computed: this project's own verb, after systemd.timer(5), OnCalendar=.
+-- How the report of a timer file is computed (systemd.timer(5), OnCalendar=). The verb `timer` is this project's own.
 use Rattle.std.specs.Prelude.{◌≢◌, ℕ, ℤ, Bool, List, [], ◌∷◌, map, min, take, Option, None, Some, Result, Ok, Err, codes, decimal, is_none}
 use Rattle.std.specs.List.{find, flat_map}
 use Rattle.std.specs.Option.{option_map, unwrap_or}
