@@ -103,7 +103,7 @@ pub record Presents {T : Type 0} (view : T → ℤ) (known : Known) (given : Opt
 
 -- How the work ended
 
--- the result of a run, as the result of the work
+-- the result of a run, converted to the result of the work
 abbrev pub ran : Result Status RunFault → Result Status declared_stop.Stop
 ran (Ok status) = Ok status
 ran (Err fault) = Err (Run fault)
