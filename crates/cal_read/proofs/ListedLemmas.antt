@@ -255,7 +255,62 @@ resumes_from read before (a ∷ after) all =
     (changes read is_exception is_exception_reset before a (is_exception a) (is_exception_reset a) refl refl (exception_is_no_exception_reset a) all.1)
     (either_fault read before a (is_expression a) refl) (resumes_from read (before ++ a ∷ []) after)
 
--- applying the assignments one after another, from empty lists on, gives the result of `lists_of`
-pub resumed_is_list : {E : Type 0} (read : List ℕ → Result E SpecFault) (assignments : List Assignment) → resumed read (record { expressions = []; exceptions = [] }) assignments ≡ lists_of read assignments
-unfolding lists_of entries listed excepted
-resumed_is_list read assignments = resumes_from read [] assignments (refl, refl)
+-- the first error, or the absence of one, follows from whether both lists were read
+lists_by : {E : Type 0} (o : Option TimerFault) (all lists : Timer E) → unless_fault o (Ok all) ≡ Ok lists → unless_fault o (some_entries all) ≡ some_entries lists
+lists_by None all lists h = let same : all ≡ lists = cc in ap some_entries same
+lists_by (Some fault) all lists h = cc
+
+fault_by : {E : Type 0} (o : Option TimerFault) (all : Timer E) (fault : TimerFault) → unless_fault o (Ok all) ≡ Err fault → unless_fault o (some_entries all) ≡ Err fault
+fault_by None all fault h = cc
+fault_by (Some f) all fault h = cc
+
+none_by : {E : Type 0} (o : Option TimerFault) (all lists : Timer E) → unless_fault o (Ok all) ≡ Ok lists → o ≡ None
+none_by None all lists h = refl
+none_by (Some fault) all lists h = cc
+
+some_by : {E : Type 0} (o : Option TimerFault) (all : Timer E) (fault : TimerFault) → unless_fault o (Ok all) ≡ Err fault → o ≡ Some fault
+some_by None all fault h = cc
+some_by (Some f) all fault h = cc
+
+-- applying one assignment after another gives the entries of all assignments, or the first error
+pub resumed_is_entries : {E : Type 0} (read : List ℕ → Result E SpecFault) (assignments : List Assignment) → resumed read (record { expressions = []; exceptions = [] }) assignments ≡ entries_or_fault read assignments
+unfolding entries_or_fault entries listed excepted
+resumed_is_entries read assignments = resumes_from read [] assignments (refl, refl)
+
+-- so the lists of a file follow from these entries, or its error is that error
+pub lists_from_entries : {E : Type 0} (read : List ℕ → Result E SpecFault) (all : List Assignment) (lists : Timer E) → resumed read empty_lists all ≡ Ok lists → lists_of read all ≡ some_entries lists
+unfolding lists_of entries_or_fault
+lists_from_entries read all lists h = lists_by (first_fault read [] all) (entries read all) lists (sym (resumed_is_entries read all) ∙ h)
+
+pub lists_from_fault : {E : Type 0} (read : List ℕ → Result E SpecFault) (all : List Assignment) (fault : TimerFault) → resumed read empty_lists all ≡ Err fault → lists_of read all ≡ Err fault
+unfolding lists_of entries_or_fault
+lists_from_fault read all fault h = fault_by (first_fault read [] all) (entries read all) fault (sym (resumed_is_entries read all) ∙ h)
+
+pub first_from_entries : {E : Type 0} (read : List ℕ → Result E SpecFault) (all : List Assignment) (lists : Timer E) → resumed read empty_lists all ≡ Ok lists → first_fault read [] all ≡ None
+unfolding entries_or_fault
+first_from_entries read all lists h = none_by (first_fault read [] all) (entries read all) lists (sym (resumed_is_entries read all) ∙ h)
+
+pub first_from_fault : {E : Type 0} (read : List ℕ → Result E SpecFault) (all : List Assignment) (fault : TimerFault) → resumed read empty_lists all ≡ Err fault → first_fault read [] all ≡ Some fault
+unfolding entries_or_fault
+first_from_fault read all fault h = some_by (first_fault read [] all) (entries read all) fault (sym (resumed_is_entries read all) ∙ h)
+
+-- what follows from both lists, unless there was an error
+abbrev pub with_lists : {E : Type 0} → Result (Timer E) TimerFault → (Timer E → Result (Timer E) TimerFault) → Result (Timer E) TimerFault
+with_lists (Ok lists) next = next lists
+with_lists (Err fault) next = Err fault
+
+list_then : {E : Type 0} (r : Result (List (TimerLine E)) TimerFault) (next first : List (TimerLine E) → Result (Timer E) TimerFault) (second : Timer E → Result (Timer E) TimerFault)
+    → ((es : List (TimerLine E)) → next es ≡ with_lists (first es) second) → with_list r next ≡ with_lists (with_list r first) second
+list_then (Ok es) next first second h = h es
+list_then (Err fault) next first second h = refl
+
+-- Applying two lists of assignments one after the other is applying their concatenation. This is what lets several
+-- texts be read without joining them.
+pub resumed_append : {E : Type 0} (read : List ℕ → Result E SpecFault) (lists : Timer E) (before after : List Assignment)
+    → resumed read lists (before ++ after) ≡ with_lists (resumed read lists before) (λ now. resumed read now after)
+unfolding resumed
+resumed_append read lists [] after = refl
+resumed_append read lists (a ∷ before) after =
+    list_then (changed read (is_expression a) (is_reset a) lists.expressions a) _ _ (λ now. resumed read now after)
+    (λ es. list_then (changed read (is_exception a) (is_exception_reset a) lists.exceptions a) _ _ (λ now. resumed read now after)
+    (λ xs. resumed_append read (record { expressions = es; exceptions = xs }) before after))

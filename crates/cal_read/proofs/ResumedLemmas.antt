@@ -69,7 +69,7 @@ pub assigned_here : (line : Line) (after : List Line) (a : Assignment) → is_he
 unfolding assignments_in timer_lines
 assigned_here line after a e f = rw (e, f) refl
 
--- after the last line, the result is the lists so far, or `NothingToDo` if there is no expression
-pub no_lines : {E : Type 0} (read : List ℕ → Result E SpecFault) (lists : Timer E) (inside : Bool) → resumed read lists (assignments_in inside []) ≡ some_entries lists
+-- after the last line, the entries so far are the result
+pub no_lines : {E : Type 0} (read : List ℕ → Result E SpecFault) (lists : Timer E) (inside : Bool) → resumed read lists (assignments_in inside []) ≡ Ok lists
 unfolding resumed assignments_in timer_lines
 no_lines read lists inside = refl

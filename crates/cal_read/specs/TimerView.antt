@@ -19,8 +19,11 @@ shown line = record { number = line.number; text = string_bytes line.text; expr 
 abbrev pub shown_lists : ReadLists → Timer Fields
 shown_lists lists = record { expressions = map shown lists.expressions.items; exceptions = map shown lists.exceptions.items }
 
--- the list `es` with an entry for the assignment `a` added, or the error of `a`, given the result of parsing the
--- expression of `a`
+-- two empty lists
+abbrev pub empty_lists : {E : Type 0} → Timer E
+empty_lists = record { expressions = []; exceptions = [] }
+
+-- a list with one more entry, given the result of parsing its expression, or the error
 abbrev pub with_read : {E : Type 0} → List (TimerLine E) → Assignment → Result E SpecFault → Result (List (TimerLine E)) TimerFault
 with_read es a (Ok expr) = Ok (es ++ record { number = a.number; text = a.value; expr = expr } ∷ [])
 with_read es a (Err fault) = Err (BadLine a.number fault)
@@ -41,9 +44,9 @@ abbrev pub with_list : {E A : Type 0} → Result (List (TimerLine E)) TimerFault
 with_list (Ok es) next = next es
 with_list (Err fault) next = Err fault
 
--- The lists of expressions and exceptions after the remaining assignments, given the lists so far. This definition
--- follows the loop of the code, and only private contracts use it; the lemma `resumed_is_list` says that, from empty
--- lists on, the result is that of `lists_of`.
+-- The lists after the remaining assignments, given the lists so far. This follows the loop of the code and only private
+-- contracts use it; the lemma `resumed_is_entries` says that they are
+-- `entries_or_fault`.
 unfoldable pub resumed : {E : Type 0} → (List ℕ → Result E SpecFault) → Timer E → List Assignment → Result (Timer E) TimerFault
 resumed read lists [] = Ok lists
 resumed read lists (a ∷ after) =

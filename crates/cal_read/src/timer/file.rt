@@ -95,10 +95,15 @@ pub(crate) fn without_mark(text: &str) -> &str
     text.strip_prefix("\u{FEFF}").unwrap_or(text)
 }
 
-/// Parses the logical lines of a timer file, and returns the lists of expressions and exceptions as they are after the
-/// last line. An empty list of expressions is not an error here.
-fn read_lists(alloc: Global, text: &str) -> Result<ReadLists, TimerFault>
-    requires { length text.now ≤ timer_file_limit }
+/// Parses the logical lines of a text and applies them to the lists. The first line has the number `first`, and belongs
+/// to no section. An empty list of expressions is not an error here.
+pub(crate) fn take_text(
+    alloc: Global,
+    lists: &mut ReadLists,
+    first: u32,
+    text: &str,
+) -> Result<(), TimerFault>
+    requires { first + length text.now < 2 ^ 32 }
     ensures { MatchResult result
         (λ _. resumed expr_in (shown_lists lists.old) (assignments_in false (logical_lines first text.now)) ≡ Ok (shown_lists lists.new))
         (λ fault. fault ≢ TimerFault.NoMemory

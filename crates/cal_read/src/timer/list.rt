@@ -16,8 +16,8 @@ use cal_lines::trim;
 use cal_spec::{SpecFault, read_expr};
 use std::alloc::Global;
 
-/// The maximum number of entries of the list of expressions, and of the list of exceptions.
-const MAX_EXPRESSIONS: usize = 256;
+/// The maximum number of expressions in a list.
+pub(crate) const MAX_EXPRESSIONS: usize = 256;
 
 /// The name of the section whose assignments are read.
 const TIMER_SECTION: &[u8] = b"Timer";
