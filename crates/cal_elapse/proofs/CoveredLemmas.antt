@@ -22,7 +22,7 @@ unfolding matches date_in time_in
 matches_among sets others h local =
     both_follow _ _ _ _ (λ same. same)
     (both_follow _ _ _ _
-    (both_follow _ _ _ _ (h.weekday _) (both_follow _ _ _ _ (h.year _) (both_follow _ _ _ _ (h.month _) (rw h.from_end (h.day _)))))
+    (both_follow _ _ _ _ (λ m. grind (arith, h.weekday)) (both_follow _ _ _ _ (h.year _) (both_follow _ _ _ _ (h.month _) (rw h.from_end (h.day _)))))
     (both_follow _ _ _ _ (h.hour _) (both_follow _ _ _ _ (h.minute _) (h.second _))))
 
 -- if the expression `others` matches all values of the expression `fields`, field by field, then in the same zone
