@@ -255,7 +255,8 @@ resumes_from read before (a ∷ after) all =
     (changes read is_exception is_exception_reset before a (is_exception a) (is_exception_reset a) refl refl (exception_is_no_exception_reset a) all.1)
     (either_fault read before a (is_expression a) refl) (resumes_from read (before ++ a ∷ []) after)
 
--- the first error, or the absence of one, follows from whether both lists were read
+-- what `entries_or_fault` says about the lists of a file, where it is an error if there is no expression, and about the
+-- first error
 lists_by : {E : Type 0} (o : Option TimerFault) (all lists : Timer E) → unless_fault o (Ok all) ≡ Ok lists → unless_fault o (some_entries all) ≡ some_entries lists
 lists_by None all lists h = let same : all ≡ lists = cc in ap some_entries same
 lists_by (Some fault) all lists h = cc

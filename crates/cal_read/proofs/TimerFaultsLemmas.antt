@@ -1,5 +1,5 @@
 -- Lemmas which say that counting gives the same errors as keeping the lists.
-use Rattle.std.proofs.Common.{◌≡◌, ◌+◌, ◌<◌, ℕ, List, [], ◌∷◌, ◌++◌, refl, subst, sym, ap, ◌∙◌, arith, append_assoc, append-nil, length, map, Option, Some, None, Result, drop, get_or, drop-cons, add-one}
+use Rattle.std.proofs.Common.{◌≡◌, ◌+◌, ◌<◌, ℕ, List, [], ◌∷◌, ◌++◌, refl, subst, sym, ap, ◌∙◌, arith, append_assoc, append-nil, length, length-append, map, take, Option, Some, None, Result, drop, get_or, drop-cons, add-one}
 use Rattle.std.specs.Prelude.{nat_le, min}
 use Rattle.std.specs.List.{slice_get}
 use Rattle.std.proofs.lemmas.Bool.Decides.{nat_tests}
@@ -8,14 +8,15 @@ use Rattle.cal_spec.specs.declared.spec_fault.SpecFault.{SpecFault}
 use Rattle.cal_read.specs.headline.Assignments.{Assignment}
 use Rattle.cal_read.specs.headline.TimerText.{excepted, is_exception, is_exception_reset, is_expression, is_reset, listed, max_expressions}
 use Rattle.cal_read.specs.TimerText.{fault_following, fault_joining, first_fault}
-use Rattle.cal_read.specs.TimerTexts.{assignments_at, assignments_of}
+use Rattle.cal_read.specs.TimerTexts.{IsFirstOf, assignments_at, assignments_of}
 use Rattle.cal_read.specs.TimerFaults.{all_faults, counted_faults, counted_files, counts_over, counts_with, fault_at, faults_of, in_file}
 use Rattle.cal_read.specs.declared.timer.all.Counts.{Counts}
 use Rattle.cal_read.specs.declared.timer.fault.TimerFault.{TimerFault}
 use Rattle.cal_read.specs.declared.timer.texts.FileFault.{FileFault}
 use Rattle.cal_read.specs.declared.timer.texts.UnitText.{UnitText}
 use Rattle.std.proofs.lemmas.List.{map-append}
-use Rattle.std.proofs.Math.Seq.{drop-length}
+use Rattle.std.proofs.Math.Seq.{drop-length, take-append_seam}
+use Rattle.std.proofs.lemmas.List.Concat.{flat_map-append}
 use Rattle.cal_read.proofs.ListedLemmas.{counted_kept, exception_is_no_exception_reset, expression_is_no_reset}
 
 -- the counts are the lengths of the lists of these assignments, capped at the limit
@@ -153,3 +154,53 @@ texts_are_all read before k (file ∷ files) =
     ∙ ap (λ front. front ++ map (λ (found : FileFault). found.fault) (faults_of read (before ++ assignments_at file) (k + 1) files)) (without_file k (all_faults read before (assignments_at file)))
     ∙ ap (λ rest. all_faults read before (assignments_at file) ++ rest) (texts_are_all read (before ++ assignments_at file) (k + 1) files)
     ∙ sym (all_append read before (assignments_at file) (assignments_of files))
+
+-- the first error of several texts, and the index of its text
+one_more : (done : List UnitText) (file : UnitText) → assignments_of (done ++ file ∷ []) ≡ assignments_of done ++ assignments_at file
+one_more done file = flat_map-append assignments_at done (file ∷ []) ∙ ap (λ last. assignments_of done ++ last) (append-nil (assignments_at file))
+
+after_none : {E : Type 0} (read : List ℕ → Result E SpecFault) (done : List UnitText) (file : UnitText) → all_faults read [] (assignments_of done) ≡ []
+    → all_faults read [] (assignments_of (done ++ file ∷ [])) ≡ all_faults read (assignments_of done) (assignments_at file)
+after_none read done file none =
+    ap (λ all. all_faults read [] all) (one_more done file)
+    ∙ all_append read [] (assignments_of done) (assignments_at file)
+    ∙ ap (λ front. front ++ all_faults read (assignments_of done) (assignments_at file)) none
+
+up_to : (done : List UnitText) (k : ℕ) (file : UnitText) (files : List UnitText) → k ≡ length done → take (k + 1) (done ++ file ∷ files) ≡ done ++ file ∷ []
+up_to done k file files e =
+    let size : k + 1 ≡ length (done ++ file ∷ []) = omega (arith, length-append done (file ∷ []), e) in
+    ap (λ n. take n (done ++ file ∷ files)) size
+    ∙ ap (λ all. take (length (done ++ file ∷ [])) all) (sym (append_assoc done (file ∷ []) files))
+    ∙ take-append_seam (done ++ file ∷ []) files
+
+first_by : {E : Type 0} (read : List ℕ → Result E SpecFault) (done : List UnitText) (k : ℕ) (file : UnitText) (files : List UnitText) (found : FileFault) (faults : List TimerFault)
+    → all_faults read (assignments_of done) (assignments_at file) ≡ faults → all_faults read [] (assignments_of done) ≡ [] → k ≡ length done
+    → (faults ≡ [] → slice_get (faults_of read (assignments_of done ++ assignments_at file) (k + 1) files) 0 ≡ Some found → IsFirstOf read (done ++ file ∷ files) found.file found.fault)
+    → slice_get (map (in_file k) faults ++ faults_of read (assignments_of done ++ assignments_at file) (k + 1) files) 0 ≡ Some found
+    → IsFirstOf read (done ++ file ∷ files) found.file found.fault
+first_by read done k file files found [] here none e later is = later refl is
+first_by read done k file files found (f ∷ fs) here none e later is =
+    let same : in_file k f ≡ found = cc in
+    subst (λ (found : FileFault). IsFirstOf read (done ++ file ∷ files) found.file found.fault) same (
+      omega (arith, length-append done (file ∷ files), e),
+      ap (λ all. first_fault read [] (assignments_of all)) (ap (λ n. take n (done ++ file ∷ files)) e ∙ take-append_seam done (file ∷ files))
+          ∙ first_is_head read [] (assignments_of done)
+          ∙ ap (λ all. slice_get all 0) none,
+      ap (λ all. first_fault read [] (assignments_of all)) (up_to done k file files e)
+          ∙ first_is_head read [] (assignments_of (done ++ file ∷ []))
+          ∙ ap (λ all. slice_get all 0) (after_none read done file none ∙ here),
+    )
+
+first_from : {E : Type 0} (read : List ℕ → Result E SpecFault) (done : List UnitText) (k : ℕ) (files : List UnitText) (found : FileFault) → all_faults read [] (assignments_of done) ≡ [] → k ≡ length done
+    → slice_get (faults_of read (assignments_of done) k files) 0 ≡ Some found → IsFirstOf read (done ++ files) found.file found.fault
+unfolding faults_of
+first_from read done k [] found none e is = absurd (cc)
+first_from read done k (file ∷ files) found none e is =
+    first_by read done k file files found (all_faults read (assignments_of done) (assignments_at file)) refl none e (λ empty later.
+    subst (λ (all : List UnitText). IsFirstOf read all found.file found.fault) (append_assoc done (file ∷ []) files)
+    (first_from read (done ++ file ∷ []) (k + 1) files found (after_none read done file none ∙ empty) (omega (arith, length-append done (file ∷ []), e))
+    (ap (λ before. slice_get (faults_of read before (k + 1) files) 0) (one_more done file) ∙ later))) is
+
+pub first_of_texts : {E : Type 0} (read : List ℕ → Result E SpecFault) (files : List UnitText) (found : FileFault) → slice_get (faults_of read [] 0 files) 0 ≡ Some found → IsFirstOf read files found.file found.fault
+unfolding all_faults
+first_of_texts read files found is = first_from read [] 0 files found refl refl is

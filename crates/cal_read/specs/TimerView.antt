@@ -45,8 +45,7 @@ with_list (Ok es) next = next es
 with_list (Err fault) next = Err fault
 
 -- The lists after the remaining assignments, given the lists so far. This follows the loop of the code and only private
--- contracts use it; the lemma `resumed_is_entries` says that they are
--- `entries_or_fault`.
+-- contracts use it; the lemma `resumed_is_entries` says that they are `entries_or_fault`.
 unfoldable pub resumed : {E : Type 0} → (List ℕ → Result E SpecFault) → Timer E → List Assignment → Result (Timer E) TimerFault
 resumed read lists [] = Ok lists
 resumed read lists (a ∷ after) =

@@ -60,7 +60,7 @@ impl<'t> Model for Settings<'t> {
 
 impl<'t> Settings<'t> {
     /// Creates an iterator over the settings in all sections with this name. The first line of the text has the number
-    /// `first`, and belongs to no section.
+    /// `first`, and belongs to no section. A byte order mark is not removed.
     pub fn new(section: &'t str, first: u32, text: &'t str) -> Settings<'t>
         requires { first + length text.now < 2 ^ 32 }
         ensures { result ≡ settings_in section.now false (logical_lines first text.now) }

@@ -141,8 +141,8 @@ fn take_faults(
 /// Returns all errors in the texts of a unit file and of its drop-ins, in the order of their lines.
 ///
 /// An expression or an exception is an error if it is invalid, or if its list already has 256. Invalid ones and those
-/// over the limit stay in the count until the list is cleared. So the first of these errors is the error of
-/// [`crate::read_texts`]. It is not among these errors that there is no expression.
+/// over the limit stay in the count until the list is cleared. That there is no expression is not among these errors. If
+/// there are any, [`crate::read_texts`] fails with the first one.
 pub fn find_faults(alloc: Global, files: &[UnitText<'_>]) -> Result<Vec<FileFault>, AllocError>
     requires { All (λ file. file.first + length file.text.now < 2 ^ 32) files.now }
     ensures { IfOk result (λ found. found.items ≡ faults_of expr_in [] 0 files.now) }

@@ -1,7 +1,7 @@
 //! Laws of the definitions that the contracts of [`crate::read_timer`] and [`crate::read_texts`] use. Each law is a function that does nothing
 //! and whose contract is the law.
 
-ghost use Rattle.std.specs.Prelude.{◌≡◌, ◌∷◌, ◌++◌, [], ℕ, Bool, List, Result, codes, false, filter, map, slice_get, true, if◌then◌else◌};
+ghost use Rattle.std.specs.Prelude.{◌≡◌, ◌∷◌, ◌++◌, [], ℕ, Bool, List, Result, Some, codes, false, filter, map, slice_get, true, if◌then◌else◌};
 ghost use Rattle.std.specs.List.{list_any};
 ghost use Rattle.std.specs.Str.{bytes_eq};
 ghost use Rattle.cal_spec.specs.headline.Fields.{Fields};
@@ -13,7 +13,8 @@ ghost use Rattle.cal_read.specs.TimerRule.{JudgesTimer};
 ghost use Rattle.cal_read.specs.declared.timer.fault.TimerFault.{TimerFault};
 ghost use Rattle.cal_read.specs.TimerText.{Timer, first_fault, lists_of, timer_of};
 ghost use Rattle.cal_read.specs.TimerFaults.{all_faults, faults_of};
-ghost use Rattle.cal_read.specs.TimerTexts.{assignments_of};
+ghost use Rattle.cal_read.specs.TimerTexts.{assignments_of, IsFirstOf};
+ghost use Rattle.cal_read.specs.declared.timer.texts.FileFault.{FileFault};
 ghost use Rattle.cal_read.specs.declared.timer.texts.UnitText.{UnitText};
 ghost use Rattle.cal_read.specs.headline.TimerText.{excepted, is_exception, is_exception_reset, is_expression, is_reset, listed};
 
@@ -72,11 +73,13 @@ pub fn settings_of_the_section_timer()
     ensures { (inside : Bool) (lines : List Line) → settings_in (codes "Timer") inside lines ≡ assignments_in inside lines }
 {}
 
-/// The first of all errors is the first error, and the errors of several texts are those of all their settings in order.
-/// So the first error of [`crate::find_faults`] is the error of [`crate::read_texts`].
+/// The first of all errors is the first error, and the errors of several texts are those of all their assignments, in
+/// order. So if [`crate::find_faults`] returns any errors, [`crate::read_texts`] fails with the first one.
 pub fn first_of_all_faults()
     ensures first { (read : List ℕ → Result Fields SpecFault) (before after : List Assignment)
         → first_fault read before after ≡ slice_get (all_faults read before after) 0 }
     ensures texts { (read : List ℕ → Result Fields SpecFault) (before : List Assignment) (k : ℕ) (files : List UnitText)
         → map (λ found. found.fault) (faults_of read before k files) ≡ all_faults read before (assignments_of files) }
+    ensures place { (read : List ℕ → Result Fields SpecFault) (files : List UnitText) (found : FileFault)
+        → slice_get (faults_of read [] 0 files) 0 ≡ Some found → IsFirstOf read files found.file found.fault }
 {}
