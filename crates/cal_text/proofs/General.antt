@@ -65,7 +65,7 @@ or_false a b h = grind arith
 pub or_assoc : (x y z : Bool) → ((x || y) || z) ≡ (x || (y || z))
 or_assoc x y z = grind arith
 
--- equality of Booleans, and of lists of Booleans, as computable tests
+-- tests whether two Booleans are equal; `same_bools` tests two lists of Booleans
 unfoldable pub same_bool : Bool → Bool → Bool
 same_bool true b = b
 same_bool false b = not b
@@ -119,7 +119,6 @@ int_eq-other a b e = grind (arith, ints)
 pub int_lt_trans : (a b c : ℤ) → a <ℤ b → b <ℤ c → a <ℤ c
 int_lt_trans a b c h k = omega (arith, ints)
 
--- if a < b, `int_cmp` returns `Less`
 pub int_cmp-less : (a b : ℤ) → a <ℤ b → int_cmp a b ≡ Less
 int_cmp-less a b h = sym (int_cmp_is a b Less h)
 
@@ -136,7 +135,6 @@ none_between low high i none = grind (arith, nat_tests)
 pub below_end : (passes : ℕ → Bool) (n s : ℕ) → ((i : ℕ) → n ≤ i → passes i ≡ false) → passes s ≡ true → s < n
 below_end passes n s none holds = grind (arith, none s)
 
--- if t is at least a * size and less than (a + 1) * size, then t / size is a
 pub quotient_part : (size a t : ℕ) → 0 < size → a * size ≤ t → t < (a + 1) * size → t / size ≡ a
 quotient_part size a t positive low high = omega (arith, le-div a t size positive low, div_below t size (a + 1) positive high)
 
@@ -187,7 +185,7 @@ between_whole a b n m is_n is_m less small =
 pub lt_from_less : (a b : ℤ) → int_cmp a b ≡ Less → a <ℤ b
 lt_from_less a b e = int_ranked a b Less (sym e)
 
--- if `m` and `n` are equal exactly if `a` and `b` are, the equality tests of both pairs return the same
+-- if `m ≡ n` and `a ≡ b` imply each other, testing `m` and `n` for equality returns the same as testing `a` and `b`
 alike_tests : (m n : ℕ) (a b : ℤ) → (m ≡ n → a ≡ b) → (a ≡ b → m ≡ n) → nat_eq m n ≡ int_eq a b
 alike_tests m n a b back forth = grind (arith, ints)
 
@@ -293,8 +291,8 @@ not_some o e = grind arith
 pub is_some-option_map : {A B : Type 0} (f : A → B) (o : Option A) → is_some (option_map f o) ≡ is_some o
 is_some-option_map f o = grind arith
 
--- mapping an option with `f` is the same as mapping it to pairs of the results of `f` and `g` and then to the first
--- element of the pair
+-- mapping an option with `f` returns the same as mapping it to the pair `(f b, g b)` and then taking the first element
+-- of the pair
 pub map-first : {B X Y : Type 0} (f : B → X) (g : B → Y) (o : Option B)
     → option_map f o ≡ option_map (λ (p : X × Y). p.0) (option_map (λ b. (f b, g b)) o)
 map-first f g o = grind arith
@@ -356,12 +354,11 @@ pub items_next : {A B : Type 0} (f : A → B) (xs : List A) (i : ℕ) (x : A) (y
 items_next f xs i x y h is e =
     rw (add-one, drop-cons xs i x h) (ap (λ z. f z ∷ map f (drop (suc i) xs)) (sym is) ∙ ap (λ t. t ∷ map f (drop (suc i) xs)) (sym e))
 
--- if `i` is not less than the length of a list, the mapped list from index `i` on is empty
 pub items_end : {A B : Type 0} (f : A → B) (xs : List A) (i : ℕ) → length xs ≤ i → map f (drop i xs) ≡ []
 items_end f xs i h = ap (map f) (drop_all i xs h)
 
--- if `y` is the item at index `i` mapped by `f`, then the first `i + 1` mapped items are the first `i` and `y` after
--- them
+-- if `y` is the item at index `i` mapped by `f`, then the first `i + 1` mapped items are the first `i` mapped items
+-- followed by `y`
 pub items_taken : {A B : Type 0} (f : A → B) (xs : List A) (i : ℕ) (x : A) (y : B) → i < length xs → x ≡ get_or xs i x → y ≡ f x
     → map f (take (i + 1) xs) ≡ map f (take i xs) ++ y ∷ []
 items_taken f xs i x y h is e =
@@ -372,7 +369,7 @@ items_taken f xs i x y h is e =
 flat_map-drop : {A : Type 0} (f : A → List ℕ) (i : ℕ) (xs : List A) (d : A) → i < length xs → flat_map f (drop i xs) ≡ f (get_or xs i d) ++ flat_map f (drop (i + 1) xs)
 flat_map-drop f i xs d h = rw (add-one, drop-cons xs i d h) refl
 
--- like `flat_map-drop`, with `piece` in place of the text of item `i`, to which it is equal
+-- like `flat_map-drop`, but with `piece`, which is equal to the text of item `i`, in its place
 pub item_first : {A : Type 0} (f : A → List ℕ) (i : ℕ) (xs : List A) (d : A) {piece : List ℕ} → i < length xs → piece ≡ f (get_or xs i d) → flat_map f (drop i xs) ≡ piece ++ flat_map f (drop (i + 1) xs)
 item_first f i xs d h is = flat_map-drop f i xs d h ∙ ap (λ first. first ++ flat_map f (drop (i + 1) xs)) (sym is)
 
@@ -482,7 +479,8 @@ take_front text n h =
 
 -- Splitting a text at separators
 
--- `onto_first` always returns at least one piece, and so does `slice_split`
+-- `onto_first` puts `x` in front of the first piece, or makes it a piece of its own if there is none. It therefore
+-- always returns at least one piece, and so does `slice_split` (`some_piece`).
 some_onto : (x : ℕ) (pieces : List (List ℕ)) → (first : List ℕ) × (more : List (List ℕ)) × (onto_first x pieces ≡ first ∷ more)
 some_onto x [] = (x ∷ [], [], refl)
 some_onto x (t ∷ ts) = (x ∷ t, ts, refl)
@@ -522,7 +520,7 @@ split_join_with_byte c t [] same clear = split_alone (λ b. b == c) t clear.0
 split_join_with_byte c t (u ∷ ts) same clear =
     split_at (λ b. b == c) t c (join_with_byte c (u ∷ ts)) clear.0 same ∙ ap (λ more. t ∷ more) (split_join_with_byte c u ts same clear.1)
 
--- the pieces of a text with the separators between them
+-- joins pieces of a text again, with the separators between them
 abbrev pub woven : List ℕ → List (List ℕ) → List ℕ
 woven cs [] = []
 woven [] (t ∷ ts) = t
@@ -562,8 +560,8 @@ split_none p xs at =
     let none = ltb-false _ _ (not_found (nat_lt (position_or_len p xs) (length xs)) (position_or_len p xs) at) in
     slice_split_none p xs (λ k d within. not-true _ (prefix_len_passes (λ x. not (p x)) xs k d (omega (arith, none))))
 
--- if a text has a separator, its separators are the first of them and then those of the bytes after it (the induction
--- step)
+-- the induction step of `filter_some`: if a text has a separator, its separators are the first one and then those of
+-- the bytes after it
 filter_some_step : (p : ℕ → Bool) (x : ℕ) (xs : List ℕ) (test : Bool) → (position_or_len p xs < length xs → filter p xs ≡ get_or xs (position_or_len p xs) 0 ∷ filter p (drop (position_or_len p xs + 1) xs)) → cond (not test) (1 + position_or_len p xs) 0 < suc (length xs) → cond test (x ∷ filter p xs) (filter p xs) ≡ get_or (x ∷ xs) (cond (not test) (1 + position_or_len p xs) 0) 0 ∷ filter p (drop (cond (not test) (1 + position_or_len p xs) 0 + 1) (x ∷ xs))
 filter_some_step p x xs true rest within = refl
 filter_some_step p x xs false rest within =
@@ -672,7 +670,7 @@ digit_value_at digits i within all =
     let high = leb-true (get_or digits i 0) 57 range.1 in
     (low, high, digit_value_digit (get_or digits i 0) (low, high))
 
--- the decimal digits of 100 + n, for n below 100: a 1, then two digits of n
+-- if n is below 100, the decimal digits of 100 + n are a 1 and then two digits of n
 pub hundred_more : (n : ℕ) → n < 100 → decimal (100 + n) ≡ 49 ∷ (48 + n / 10) ∷ (48 + n % 10) ∷ []
 hundred_more n h =
     let front : (100 + n) / 10 / 10 ≡ 1 = omega arith in
@@ -691,7 +689,8 @@ letter_no_digit b h = grind (arith, nat_tests)
 pub boundary_at : (text : List ℕ) (m n : ℕ) → m ≡ n → IsCharBoundary text m → IsCharBoundary text n
 boundary_at text m n e h = let P : ℕ → Type 0 = λ k. IsCharBoundary text k in subst P e h
 
--- the byte before the longest suffix of bytes that pass `p` doesn't pass, and all bytes of that suffix do (`in_suffix`)
+-- take the longest suffix of a text in which all bytes pass `p`: the byte before it doesn't pass, and every byte in it
+-- does (`in_suffix`)
 pub before_suffix : (p : ℕ → Bool) (text : List ℕ) → suffix_len p text < length text → p (get_or text (length text - suffix_len p text - 1) 0) ≡ false
 before_suffix p text within =
     let n = suffix_len p text in

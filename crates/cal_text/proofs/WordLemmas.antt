@@ -1,4 +1,4 @@
--- Blanks and words, and the positions at which a text may be split without cutting a character.
+-- Blanks and words, and the positions at which a text may be split without cutting a character in two.
 use Rattle.std.proofs.Common.{ℕ, ◌+◌, ◌-◌, ◌<◌, ◌≤◌, ◌≡◌, Bool, true, false, cond, not, List, [], ◌∷◌, suc, length, get_or, take, drop, refl, ◌∙◌, arith, inl, inr, add-one, add-zero, drop-cons, length-drop}
 use Rattle.std.specs.Str.{IsUtf8, IsCharBoundary}
 use Rattle.std.specs.List.{list_any, prefix_len, suffix_len, position_or_len}
@@ -76,8 +76,8 @@ pub words-nil : words [] ≡ []
 unfolding words
 words-nil = refl
 
--- if a text doesn't begin with a blank but contains one, its words are the bytes before the first blank, followed by
--- the words of the text after that blank
+-- if a text doesn't begin with a blank but contains one, its first word is everything before the first blank, and its
+-- other words are the words of the text after that blank
 then_blank : (text : List ℕ) → 0 < position_or_len is_blank text → position_or_len is_blank text < length text
     → words text ≡ take (position_or_len is_blank text) text ∷ words (drop (position_or_len is_blank text + 1) text)
 unfolding words

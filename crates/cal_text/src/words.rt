@@ -1,11 +1,11 @@
-//! Words and blanks. A blank is a space or a tab, and words are separated by blanks.
+//! Splitting off the first or last word of a text, and trimming blanks. A blank is a space or a tab.
 
 ghost use Rattle.std.specs.Prelude.{◌≡◌, ◌≤◌, ◌∷◌, [], MatchOption, false, length, not, true};
 ghost use Rattle.std.specs.List.{after_last, before_last, list_any, prefix_len, suffix_len, position_or_len};
 ghost use Rattle.cal_text.specs.headline.Trim.{trim_matches, trim_end_matches, trim_start_matches};
 ghost use Rattle.cal_text.specs.headline.Words.{is_blank, words};
 
-/// Returns the first word of `text` and everything after it, or `None` if `text` has only blanks.
+/// Returns the first word of `text` and everything after it, or `None` if `text` is empty or has only blanks.
 pub fn first_word(text: &str) -> Option<(&str, &str)>
     ensures { MatchOption result (words text.now ≡ [])
         (λ found. words text.now ≡ found.0.now ∷ words found.1.now) }

@@ -1,4 +1,4 @@
--- Words of a text: systemd.time(7).
+-- The words of a text, separated by blanks as in the formats of systemd.time(7).
 use Rattle.std.specs.Prelude.{ℕ, ◌==◌, nat_lt, Bool, ◌||◌, List, length, filter}
 use Rattle.std.specs.List.{slice_split}
 
