@@ -49,8 +49,8 @@ first-with_numbers [] ys h = refl
 first-with_numbers (x ∷ xs) ys h =
     grind (arith, ints, first-insert_key, sorted_tail, lesser-assoc, lesser-first, first-with_numbers xs ys (sorted_tail int_cmp x xs h))
 
--- the first number of the union of the first i + 1 sources is the lesser of that of the first i sources and the number
--- read ahead from the source at index i
+-- the union of the first i + 1 sources begins with the lesser of two numbers: the first number of the union of the
+-- first i sources, and the number read ahead from the source at index i
 first-union_more : (ss : List Peeked) (i : ℕ) (d : Peeked) → i < length ss → All HasHead ss
     → slice_get (union (map numbers (take (suc i) ss))) 0 ≡ lesser (slice_get (union (map numbers (take i ss))) 0) (get_or ss i d).head
 unfolding union
@@ -101,8 +101,9 @@ union-advanced m ss h e =
     same_rising (union (map (advanced m) lists)) (drop 1 (union lists)) (rises-union (map (advanced m) lists)) (rises-drop (union lists) 1 rises)
     (λ i. grind (arith, HasAny-advanced m ss h low i, later_by_first m (union lists) rises e i, Has-union (map (advanced m) lists) i, Has-union lists i))
 
--- if the first i sources of `xs` have the numbers of those of `ys` under the function `f`, and the source at index i is
--- replaced by one for which this is so too, then it is so for the first i + 1 sources
+-- Suppose that the numbers of each of the first i sources of `xs` are `f` of the numbers of the source of `ys` at the
+-- same index. If the source of `xs` at index i is replaced by one for which this is also true, it is true for the first
+-- i + 1 sources.
 changed_next : (f : List ℤ → List ℤ) (xs ys : List Peeked) (i : ℕ) (y d : Peeked) → i < length xs → i < length ys
     → map numbers (take i xs) ≡ map f (map numbers (take i ys)) → numbers y ≡ f (numbers (get_or ys i d))
     → map numbers (take (suc i) (set xs i y)) ≡ map f (map numbers (take (suc i) ys))

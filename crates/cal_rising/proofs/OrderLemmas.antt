@@ -12,8 +12,8 @@ use Rattle.std.specs.declared.cmp.Ordering.{Ordering}
 use Rattle.std.specs.declared.cmp.Ordering.TheVariants.{Less, Equal, Greater}
 use Rattle.cal_rising.specs.headline.Elements.{Has}
 
--- if `Has` says that an element is in a list, so does `Contains` of the standard library, and the other way round
--- (`has_from_contains`)
+-- `Has` implies `Contains`, the standard library's definition of an element of a list; `has_from_contains` is the
+-- converse
 pub contains_from_has : {A : Type 0} (xs : List A) (x : A) → Has xs x → Contains xs x
 contains_from_has [] x h = absurd h
 contains_from_has (y ∷ ys) x h = elim h [
@@ -45,7 +45,7 @@ module _ {A : Type 0} (cmp : A → A → Ordering) (exact : IsAntisymmetric cmp)
   has_inserted Equal x y z ys more e rest = grind (arith, exact x y e)
   has_inserted Greater x y z ys more e rest = grind arith
 
-  -- the elements of a list into which `x` was inserted are `x` and the elements from before
+  -- inserting `x` into a list adds the element `x` and no other
   pub has-insert_key : (x : A) (ys : List A) (z : A) → Has (insert_key cmp ys x) z ↔ ((x ≡ z) ⊎ Has ys z)
   has-insert_key x [] z = (λ h. h, λ h. h)
   has-insert_key x (y ∷ ys) z = has_inserted (cmp x y) x y z ys (insert_key cmp ys x) refl (has-insert_key x ys z)

@@ -1,5 +1,5 @@
--- Lists without the numbers of exceptions: which numbers they contain, and which numbers the sources and the exceptions
--- of a merge still have after one round of its loop.
+-- Lists without the numbers of exceptions: which numbers they contain, what one round of the loop in `Merge::next`
+-- leaves of them, and how `has_onward_in_any` tests whether any exception has a number.
 use Rattle.std.proofs.Common.{None, IfSome, ◌≡◌, ◌≢◌, ◌↔◌, ◌||◌, ◌&&◌, ◌<◌, ◌≤◌, ◌+◌, ℕ, suc, cond, Bool, true, false, not, List, [], ◌∷◌, length, drop, slice_get, get_or, get_or-set_other, set, map, zero, Option, Some, ℤ, ◌≤ℤ◌, int_eq, refl, sym, ap, ◌∙◌, arith}
 use Rattle.std.specs.List.{AllByRecursion, list_any}
 use Rattle.std.specs.List.Sorted.{IsStrictlySortedBy}
@@ -81,14 +81,15 @@ pub is_member-reached : (s was : Peeked) (n : ℤ) → HasHead s → IfSome s.he
     → option_eq int_eq s.head (Some n) ≡ is_member int_eq (numbers was) n
 is_member-reached s was n h at same = member_reached s.head s.after n h.0 h.1 at ∙ same n (grind (arith, ints))
 
--- if two lists of exceptions have the same numbers from `n` upwards, the same remains of a list whose numbers are all
+-- two lists of exceptions with the same numbers from `n` upwards leave the same numbers of a list whose numbers are all
 -- above `n`
 without-same : (n : ℤ) (xs ys zs : List ℤ) → AllByRecursion (λ y. int_cmp n y ≡ Less) xs → IsSameFrom n zs ys → without xs zs ≡ without xs ys
 unfolding without
 without-same n [] ys zs h same = refl
 without-same n (x ∷ xs) ys zs h same = grind (arith, ints, lt_from_less n x h.0, same x, without-same n xs ys zs h.1 same)
 
--- one round of the loop: the first number `n` of the sources is skipped if it is an exception, and returned otherwise
+-- one round of the loop in `Merge::next`: the first number `n` of the sources is skipped if an exception has it
+-- (`there`), and returned otherwise
 pub without-first : (n : ℤ) (there : Bool) (xs ys zs : List ℤ) → slice_get xs 0 ≡ Some n → IsStrictlySortedBy int_cmp xs → IsSameFrom n zs ys → is_member int_eq ys n ≡ there
     → without xs ys ≡ cond (not there) (n ∷ without (drop 1 xs) zs) (without (drop 1 xs) zs)
 unfolding without
@@ -143,8 +144,7 @@ pub behind_here : (n number : ℤ) (at : ℕ) (given now ss : List Peeked) (s : 
     → is_member int_eq (numbers (get_or now at s)) n ≡ true → true ≡ list_any (λ xs. is_member int_eq xs number) (map numbers ss)
 behind_here n number at given now ss s h same whole lt has = grind (arith, ints, any-here)
 
--- replacing a source changes nothing about whether any source has `n` if the new source has `n` exactly if the old one
--- does
+-- if a source is replaced by one that has `n` exactly when the old one does, whether any source has `n` doesn't change
 pub any_replaced : (n : ℤ) (ss : List Peeked) (i : ℕ) (s d : Peeked) → i < length ss → is_member int_eq (numbers s) n ≡ is_member int_eq (numbers (get_or ss i d)) n
     → list_any (λ xs. is_member int_eq xs n) (map numbers (set ss i s)) ≡ list_any (λ xs. is_member int_eq xs n) (map numbers ss)
 any_replaced n [] i s d lt h = absurd (omega arith)

@@ -33,7 +33,7 @@ numbers s = numbers_by s.head s.after
 abbrev pub HasHead : Peeked → Type 0
 HasHead s = (s.head ≡ slice_get (numbers s) 0) × IsStrictlySortedBy int_cmp (numbers s)
 
--- what remains of a strictly increasing list after `x`, which is at most its first number, was returned
+-- what remains of a strictly increasing list after `x` is returned; no number of the list may be below `x`
 abbrev pub advanced : ℤ → List ℤ → List ℤ
 advanced x [] = []
 advanced x (y ∷ ys) = cond (int_lt x y) (y ∷ ys) ys

@@ -70,8 +70,8 @@ impl<S: Rising> Merge<S> {
 impl<S: Rising> Rising for Merge<S> {
     ghost rest = { merged };
 
-    /// Removes and returns the first remaining number of the sources that no exception has, after skipping any numbers
-    /// that an exception has. Returns `None` if no number is left.
+    /// Removes and returns the smallest remaining number of the sources that no exception has. Smaller numbers, which
+    /// exceptions have, are dropped. Returns `None` if no number is left.
     fn next(&mut self) -> Option<i64>
         ensures given { result ≡ slice_get (merged self.old) 0 }
         ensures left { merged self.new ≡ drop 1 (merged self.old) }

@@ -1,4 +1,4 @@
-//! One source of a merge, with the number that was read from it and not returned yet.
+//! One source of a merge, from which at most one number was read ahead: read but not returned yet.
 
 ghost use Rattle.std.specs.Prelude.{◌≡◌, ◌≤ℤ◌, None, IfSome};
 ghost use Rattle.std.specs.Set.{is_member};
@@ -9,12 +9,12 @@ ghost use Rattle.cal_rising.specs.RisingList.{IsSameFrom};
 use crate::Rising;
 use std::marker::Model;
 
-/// How many times a source has to say that it lacks a number before the next number is read from it. Reading a number
-/// from a sparse source costs far more than asking whether it has one.
+/// How many times a source has to say that it lacks a number before the next number is read from it. Reading the next
+/// number of a source that has few costs far more than asking the source whether it has a certain number.
 const MISSES_BEFORE_STEP: u8 = 128;
 
-/// A source whose next number may have been read ahead ("peeked"). A contract sees that number, if there is one, and
-/// the numbers after it.
+/// A source whose next number may have been read ahead ("peeked"). A contract sees the number read ahead, if any, and
+/// the rest of the source.
 #[derive(Drop)]
 pub struct Peeked<S: Rising> {
     head: Option<i64>,
@@ -57,7 +57,7 @@ impl<S: Rising> Peeked<S> {
         }
     }
 
-    /// Returns the number that was read ahead and not returned yet.
+    /// Returns the number read ahead, if there is one.
     pub fn head(&self) -> Option<i64>
         ensures { result ≡ self.now.head }
     {
@@ -75,7 +75,7 @@ impl<S: Rising> Peeked<S> {
     }
 
     /// Returns whether `number` is still to be returned. The caller promises not to ask for a smaller number again, so
-    /// a source that cannot tell is read up to `number`.
+    /// numbers below `number` may be dropped: a source that cannot tell is read up to `number`.
     pub fn has_onward(&mut self, number: i64) -> bool
         ensures has { result ≡ is_member int_eq (numbers self.old) number }
         ensures left { IsSameFrom number (numbers self.new) (numbers self.old) }
@@ -93,8 +93,8 @@ impl<S: Rising> Peeked<S> {
         }
     }
 
-    /// Returns whether `number` is still to be returned, or `None` if the source cannot tell. The source is only asked
-    /// if no number was read ahead, or if that number is below `number`.
+    /// Returns whether `number` is still to be returned, or `None` if the source cannot tell. If a number was read
+    /// ahead and is at least `number`, the source is not asked.
     fn has(&mut self, number: i64) -> Option<bool>
         ensures has { IfSome result (λ has. has ≡ is_member int_eq (numbers self.old) number) }
         ensures same { numbers self.new ≡ numbers self.old }

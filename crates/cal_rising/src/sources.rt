@@ -52,7 +52,7 @@ impl<S: Rising> Sources<S> {
     }
 
     /// Returns whether `number` is among the remaining numbers of any source. The caller promises not to ask for a
-    /// smaller number again.
+    /// smaller number again, so numbers below `number` may be dropped.
     pub fn has_onward(&mut self, number: i64) -> bool
         ensures has { result ≡ is_member int_eq (union self.old) number }
         ensures left { IsSameFrom number (union self.new) (union self.old) }
@@ -105,7 +105,7 @@ fn least_head<S: Rising>(sources: &Vec<Peeked<S>>) -> Option<i64>
     least
 }
 
-/// Drops the number read ahead from every source in which it equals `number`, the smallest of them.
+/// Drops the number read ahead from each source if it is at most `number`.
 fn advance_all_past<S: Rising>(sources: &mut Vec<Peeked<S>>, number: i64)
     requires { All HasHead sources.old.items }
     ensures { map numbers sources.new.items ≡ map (advanced number) (map numbers sources.old.items) }
@@ -116,7 +116,7 @@ fn advance_all_past<S: Rising>(sources: &mut Vec<Peeked<S>>, number: i64)
 }
 
 /// Returns whether `number` is among the remaining numbers of any source. The caller promises not to ask for a smaller
-/// number again, so sources that do not have `number` may be read further.
+/// number again, so sources that do not have `number` may drop smaller numbers.
 fn has_onward_in_any<S: Rising>(sources: &mut Vec<Peeked<S>>, number: i64) -> bool
     ensures has { result ≡ list_any (λ xs. is_member int_eq xs number) (map numbers sources.old.items) }
     ensures left { (i : ℤ) → number ≤ℤ i → list_any (λ xs. is_member int_eq xs i) (map numbers sources.new.items)

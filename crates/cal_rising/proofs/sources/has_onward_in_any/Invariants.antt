@@ -5,8 +5,8 @@ use Rattle.cal_rising.specs.Merge.{numbers}
 use Rattle.cal_rising.proofs.WithoutLemmas.{AreBehind}
 use Rattle.cal_rising.proofs.sources.has_onward_in_any.Given as goal
 
--- no source visited so far has `number`; from `number` upwards all sources have the same numbers as before, and the
--- sources not visited yet are unchanged
+-- no source visited so far had `number`, and the sources not visited yet are unchanged (`AreBehind`); taken together,
+-- the sources have the same numbers from `number` upwards as at the start
 abbrev pub invariant-loop-peeked : goal.invariant-loop-peeked
 invariant-loop-peeked g l = record {
   behind : AreBehind l.number l.peeked-index l.initial.peeked-items l.peeked-items;

@@ -10,6 +10,6 @@ invariant-loop-number g l = record {
   same : without (union l.self-inside.sources) (union l.self-inside.exceptions) ≡ merged l.fn.self;
 }
 
--- each round takes a number from the sources, so that they have fewer numbers left
+-- each round takes a number from the sources, so they have fewer numbers left
 abbrev pub decreases-loop-number : goal.decreases-loop-number
 decreases-loop-number g l = length (union l.self-inside.sources)
