@@ -1,4 +1,5 @@
--- The bits of a word.
+-- Which bits of a word are set, also after shifts, after the bitwise operations, and after its lowest set bit is
+-- removed.
 use Rattle.std.proofs.Common.{◌≡◌, ◌==◌, ℕ, ◌+◌, ◌&&◌, ◌||◌, bit_and, bit_or, ◌*◌, ◌-◌, ◌/◌, ◌%◌, ◌^◌, ◌<◌, ◌≤◌, true, false, Some, w64, ap, pow_pos, subst, inl, inr, sym, ◌∙◌, arith, nat_le, nat_lt, ◌≢◌}
 use Rattle.std.specs.Int.{bit_at, trailing_zeros}
 use Rattle.std.proofs.lemmas.Bool.{cases_lt, le-ltb, lt-ltb}
@@ -28,14 +29,14 @@ is_bit-shifted m j k = is_bit-same (m / 2 ^ j) m k (j + k) (bit_at-shift m j k)
 pub is_bit-above : (m k i : ℕ) → m < 2 ^ k → k ≤ i → is_bit m i ≡ false
 is_bit-above m k i small high = is_bit-zero m i (bit_at_above m k i small high)
 
--- the lowest set bit of a word that isn't 0 is given by the number of its trailing zeros
+-- if a word isn't 0, the index of its lowest set bit is the number of its trailing zeros
 pub first_bit : (m : ℕ) → 0 < m → m < 2 ^ 64 → IsFirstPassing (is_bit m) 0 64 (Some (trailing_zeros w64 m))
 first_bit m some fits =
     let h = bit_at-trailing_zeros w64 m some fits in
     (omega arith, h.0, is_bit-one m (trailing_zeros w64 m) h.1, λ t low below. is_bit-zero m t (h.2 t below))
 
--- The lowest set bit of `m` at or above `from`: there is none if `m` shifted right by `from` is 0. Otherwise it is
--- given by the number of trailing zeros of the shifted word.
+-- If `m` shifted right by `from` bits is 0, no bit of `m` from `from` on is set. Otherwise the index of the lowest such
+-- bit is `from` plus the number of trailing zeros of the shifted word (`next_some`).
 pub next_none : (m from : ℕ) → m / 2 ^ from ≡ 0 → NonePasses (is_bit m) from 64
 next_none m from none = λ t low below.
     let place : from + (t - from) ≡ t = omega arith in
@@ -57,12 +58,10 @@ next_some m from fits some =
           is_bit-zero m t (subst (λ (i : ℕ). bit_at m i ≡ 0) place (sym (bit_at-shift m from (t - from)) ∙ h.2 (t - from) (omega arith))),
     )
 
--- a bit of the bitwise and of two words is set if it is set in both
 pub is_bit-and : (m n i : ℕ) → is_bit (bit_and m n) i ≡ (is_bit m i && is_bit n i)
 unfolding is_bit
 is_bit-and m n i = ap (λ (b : ℕ). b == 1) (bit_at_and m n i) ∙ min_of_bits (bit_at m i) (bit_at n i) (bit_at-lt m i) (bit_at-lt n i)
 
--- a bit of the bitwise or of two words is set if it is set in at least one of them
 pub is_bit-or : (m n i : ℕ) → is_bit (bit_or m n) i ≡ (is_bit m i || is_bit n i)
 unfolding is_bit
 is_bit-or m n i = ap (λ (b : ℕ). b == 1) (bit_at_or m n i) ∙ max_of_bits (bit_at m i) (bit_at n i) (bit_at-lt m i) (bit_at-lt n i)
@@ -80,7 +79,8 @@ is_bit-up_none m k i low high =
     let whole : m * 2 ^ k + 0 ≡ m * 2 ^ k = omega arith in
     is_bit-zero (m * 2 ^ k % 2 ^ 64) i (bit_at-mod (m * 2 ^ k) i low ∙ (ap (λ (x : ℕ). bit_at x i) (sym whole) ∙ (bit_at_cat_low m k 0 i high ∙ bit_at-zero i)))
 
--- words in which exactly these bits are set: those below an index, those from an index on, or those between two indices
+-- The word of 64 ones, shifted right, has exactly the bits below `high` set. Shifted left, it has exactly the bits from
+-- `low` on set (`ones_from`). The bitwise and of both has exactly the bits in between set (`is_bit-run`).
 ones_below : (high i : ℕ) → high ≤ 64 → is_bit ((2 ^ 64 - 1) / 2 ^ (64 - high)) i ≡ nat_lt i high
 ones_below high i within =
     let width : 64 - (64 - high) ≡ high = omega arith in

@@ -51,8 +51,8 @@ in_word cells t word same = ap (λ (w : ℕ). is_bit (get_or cells w 0) (t % 64)
 in_zero : (cells : List ℕ) (t word : ℕ) → t / 64 ≡ word → get_or cells word 0 ≡ 0 → is_bit_in cells t ≡ false
 in_zero cells t word same zero = in_word cells t word same ∙ (ap (λ (w : ℕ). is_bit w (t % 64)) zero ∙ is_bit-none (t % 64))
 
--- if the word of the cell `from` has a set bit at or after the bit of `from`, the first such bit is that of the first
--- set cell from `from` on
+-- if the word of the cell `from` has a set bit at or after the bit of `from`, the first such bit is the bit of the
+-- first set cell from `from` on
 pub found_here : (cells : List ℕ) (from bit cell : ℕ) → from < 187_200 → IsFirstPassing (is_bit (get_or cells (from / 64) 0)) (from % 64) 64 (Some bit)
     → cell ≡ from / 64 * 64 + bit → IsFirstPassing (is_bit_in cells) from 187_200 (Some cell)
 found_here cells from bit cell inside found is =
@@ -79,8 +79,8 @@ none_before cells from later t none zeros above below =
           in_zero cells t (t / 64) refl (subst (λ (k : ℕ). get_or cells k 0 ≡ 0) at (sym (get_or-drop (from / 64 + 1) cells j 0) ∙ zeros j (omega arith)))
     ]
 
--- if the word of the cell `from` has no set bit from `from` on, the first set cell is that of the lowest set bit in the
--- first later word that isn't 0
+-- if the word of the cell `from` has no set bit from `from` on, the bit of the first set cell from `from` on is the
+-- lowest set bit of the first later word that isn't 0
 pub found_later : (cells : List ℕ) (from later bit cell : ℕ) → length cells ≡ 2_925 → from < 187_200
     → IsFirstPassing (is_bit (get_or cells (from / 64) 0)) (from % 64) 64 None → IsFirstSet (drop (from / 64 + 1) cells) later → from / 64 + 1 + later < 2_925
     → IsFirstPassing (is_bit (get_or cells (from / 64 + 1 + later) 0)) 0 64 (Some bit) → cell ≡ (from / 64 + 1 + later) * 64 + bit → IsFirstPassing (is_bit_in cells) from 187_200 (Some cell)
@@ -115,8 +115,8 @@ pub held_first : (cells : List ℕ) (low found : ℕ) → IsFirstPassing (is_bit
     → IsFirstPassing (is_held cells) low (low + 187_200) (Some (low - low % 187_200 + found))
 held_first cells low found first = grind (arith, held_at)
 
--- if no cell from the cell of `low` to the end of the ring is set, the first set cell from the start of the ring on is
--- that of the first second from `low` on whose cell is set
+-- if no cell from the cell of `low` to the end of the ring is set, the search continues at the start of the ring: the
+-- first set cell there is the cell of the first second from `low` on whose cell is set
 pub held_turned : (cells : List ℕ) (low found : ℕ) → IsFirstPassing (is_bit_in cells) (low % 187_200) 187_200 None → IsFirstPassing (is_bit_in cells) 0 187_200 (Some found)
     → IsFirstPassing (is_held cells) low (low + 187_200) (Some (low - low % 187_200 + 187_200 + found))
 held_turned cells low found none first = grind (arith, held_at)

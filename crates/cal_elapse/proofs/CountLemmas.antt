@@ -1,4 +1,4 @@
--- How many of several consecutive numbers pass a test.
+-- Lemmas about how many of several consecutive numbers pass a test.
 use Rattle.std.proofs.Common.{◌≡◌, ℕ, zero, suc, ◌+◌, ◌-◌, subst, ◌<◌, ◌≤◌, cond, Bool, true, refl, ap, ◌∙◌, arith}
 use Rattle.cal_elapse.specs.Search.{NonePasses}
 use Rattle.cal_elapse.specs.Window.{count_from}
@@ -64,7 +64,6 @@ pub count_from-nothing : (passes : ℕ → Bool) (a k : ℕ) → count_from pass
 unfolding count_from
 count_from-nothing passes a k = let none : k - k ≡ 0 = omega arith in rw none refl
 
--- the count of two adjacent ranges together is the sum of their counts
 pub count_from-both : (passes : ℕ → Bool) (a k n : ℕ) → count_from passes a (k + n) ≡ count_from passes a k + count_from passes (a + k) n
 unfolding count_from
 count_from-both passes a k zero = let same : k + zero ≡ k = omega arith in rw same (omega arith)
@@ -100,5 +99,5 @@ count_from-begun passes start bound low none =
     let nothing = λ (t : ℕ) (above : start + 0 ≤ t) (below : t < start + 0 + (bound - start)). none t (omega arith) (omega arith) in
     ap (count_from passes start) (omega arith) ∙ count_from-none passes start 0 (bound - start) nothing
 
--- bounds of counts
+-- bounds of counts, as a set of rules for the prover
 pub ruleset count_bounds = (count_from-begun, count_from-most)

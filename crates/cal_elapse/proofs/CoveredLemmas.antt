@@ -1,4 +1,4 @@
--- Expressions whose elapses are all elapses of exceptions, and the result if they are left out.
+-- Expressions whose elapses are all elapses of exceptions, and why they can be left out.
 use Rattle.std.proofs.Common.{◌≡◌, ◌⊎◌, ◌↔◌, ◌++◌, ℕ, Bool, true, false, List, [], ◌∷◌, ℤ, pos, ◌-ℤ◌, ◌<ℤ◌, inl, inr, refl, sym, subst, ◌∙◌, arith, int_eq}
 use Rattle.std.proofs.lemmas.Bool.{false≢true}
 use Rattle.std.proofs.lemmas.Int.{ints}
@@ -34,8 +34,8 @@ place_among fields others zone among i p = grind (arith, matches_among)
 below : (i : ℤ) → (i -ℤ pos 1) <ℤ i
 below i = omega (arith, ints)
 
--- if `i` is an elapse of `e`, and no elapse of `e` after `i` - 1 is left when those of the exceptions are removed, then
--- `i` is an elapse of an exception
+-- if `i` is an elapse of `e`, and no elapse of `e` after `i` - 1 is left once the elapses of the exceptions are
+-- removed, then `i` is an elapse of an exception
 not_left : (e : Timed) (exceptions : List Timed) (i : ℤ) (b : Bool) → is_member int_eq (elapses_after exceptions (i -ℤ pos 1)) i ≡ b → elapses_except (e ∷ []) exceptions (i -ℤ pos 1) ≡ []
     → IsPlace e i → IsElapse exceptions i
 not_left e exceptions i true has none p = (((AreAbove-elapses_after exceptions (i -ℤ pos 1)).members i).0 (Has-is_member (elapses_after exceptions (i -ℤ pos 1)) i has)).1
@@ -44,8 +44,8 @@ not_left e exceptions i false lacks none p =
     let excepted = λ (x : IsElapse exceptions i). let has = is_member-Has (elapses_after exceptions base) i (((AreAbove-elapses_after exceptions base).members i).1 (below i, x)) in false≢true (sym lacks ∙ has) in
     absurd (subst (λ (xs : List ℤ). Has xs i) none (((AreElapses-elapses_except (e ∷ []) exceptions base).members i).1 (below i, (inl p, excepted))))
 
--- an expression is covered by exceptions exactly if, after any base, none of its elapses is left when those of the
--- exceptions are removed
+-- an expression is covered by exceptions exactly if, after any base, none of its elapses is left once the elapses of
+-- the exceptions are removed
 pub elapses_of_covered : (e : Timed) (exceptions : List Timed) → IsCovered e exceptions ↔ ((base : ℤ) → elapses_except (e ∷ []) exceptions base ≡ [])
 elapses_of_covered e exceptions = (
   λ covered base.
@@ -56,7 +56,8 @@ elapses_of_covered e exceptions = (
   λ none i p. not_left e exceptions i (is_member int_eq (elapses_after exceptions (i -ℤ pos 1)) i) refl (none (i -ℤ pos 1)) p,
 )
 
--- an instant is an elapse of `es` ++ `fs` exactly if it is an elapse of `es` or of `fs`
+-- an instant is an elapse of `es` ++ `fs` exactly if it is an elapse of `es` or of `fs` (this lemma and the two after
+-- it)
 pub IsElapse-left : (es fs : List Timed) (i : ℤ) → IsElapse es i → IsElapse (es ++ fs) i
 IsElapse-left [] fs i h = absurd h
 IsElapse-left (e ∷ es) fs i (inl here) = inl here
@@ -71,8 +72,8 @@ IsElapse-either [] fs i h = inr h
 IsElapse-either (e ∷ es) fs i (inl here) = inl (inl here)
 IsElapse-either (e ∷ es) fs i (inr rest) = elim (IsElapse-either es fs i rest) [ inl h ↦ inl (inr h) | inr h ↦ inr h ]
 
--- `AreKept` stays true if the same expression is added to `all` and to `kept`, or if an expression that is covered by
--- the exceptions is added to `all` alone
+-- `AreKept` stays true if the same expression is added to `all` and to `kept`, and also if an expression that the
+-- exceptions cover is added to `all` alone (`kept_without`)
 pub kept_one : (all exceptions kept : List Timed) (e : Timed) → AreKept all exceptions kept → AreKept (all ++ e ∷ []) exceptions (kept ++ e ∷ [])
 kept_one all exceptions kept e h = record {
   within = λ i m.

@@ -21,7 +21,7 @@ ones_are length k short =
       | inr high ↦ (let out : nat_lt k length ≡ false = grind (arith, nat_tests) in rw out (is_bit-zero (2 ^ length - 1) k (bit_at_ones_above length k high)))
     ])
 
--- in the mask of days, the bit of the day with index `k` in a month is the bit of the month's first day plus `k`
+-- in the mask of days, the bit of the day with index `k` in a month is `k` bits above the bit of the month's first day
 day_at : (days : ℕ) (from_end : Bool) (length k : ℕ) → length ≤ 31 → k < length
     → ((nat_le 1 (if from_end then length - k else k + 1) && nat_le (if from_end then length - k else k + 1) 31)
     && is_bit days (day_place from_end (if from_end then length - k else k + 1)))
@@ -34,8 +34,9 @@ in_order d w y m h = grind arith
 weekday_at : (m : Masks) (first k : ℕ) → k < 31 → is_bit m.weekdays ((first + 3) % 7 + k) ≡ (nat_lt ((first + k + 3) % 7) 7 && is_bit m.weekdays ((first + k + 3) % 7))
 weekday_at m first k small = grind (arith, nat_lt, nat_tests)
 
--- if the expression matches the year and the number of month `n`, then the bits that the mask of days and the mask of
--- weekdays have in common, both shifted to the first of the month, are exactly those of its matching days
+-- Suppose that the expression matches the year and the number of month `n`. If the mask of days and the mask of
+-- weekdays are shifted so that bit 0 of both stands for the first of the month, the bits set in both stand for exactly
+-- the matching days of the month.
 pub days_are : (m : Masks) (n first length lowest ones k : ℕ) → n < 2_760 → first ≡ first_day n → length ≡ length_of n
     → lowest ≡ (if m.from_end then 31 - length else 0) → month_in (sets_in m) n ≡ true → k < length → is_bit ones k ≡ true
     → is_bit (bit_and (bit_and (m.days / 2 ^ lowest) (m.weekdays / 2 ^ ((first + 3) % 7))) ones) k ≡ day_in (sets_in m) (first + k)
@@ -53,6 +54,6 @@ days_are m n first length lowest ones k within begins long place member small al
     (day ∙ (rw (number, ← weekday)
     (sym (in_order (is_bit m.days ((if m.from_end then 31 - length_of n else 0) + k)) (is_bit m.weekdays ((first_day n + 3) % 7 + k)) _ _ member))))))
 
--- if exactly the lowest `length` bits of `ones` are set, its bitwise and with any word has no higher bits set
+-- if exactly the lowest `length` bits of `ones` are set, the bitwise and of `ones` and any word has no higher bits set
 pub days_end : (bits ones length k : ℕ) → ((i : ℕ) → is_bit ones i ≡ nat_lt i length) → is_bit (bit_and bits ones) k ≡ true → k < length
 days_end bits ones length k all holds = grind (arith, nat_lt, nat_tests, bit_and, is_bit-and, and_right)

@@ -25,7 +25,8 @@ record IsPlaceFrom (e : Timed) (a n : ℕ) (i : ℤ) : Type 0 where
   is_match : e.matches local ≡ true
   placed : e.place local ≡ Some i
 
--- putting `o` in front of `rest`, if `b` is true and `o` isn't `None`, adds exactly the number in `o` to the elements
+-- if `b` is true and `o` is a number, this number is put in front of `rest` and becomes an element; otherwise `rest` is
+-- unchanged
 Has-one : (b : Bool) (o : Option ℤ) (rest : List ℤ) (i : ℤ) → Has (cond b (cons_option o rest) rest) i ↔ (((b ≡ true) × (o ≡ Some i)) ⊎ Has rest i)
 Has-one b o rest i = grind arith
 
@@ -68,7 +69,8 @@ not_above b x i ge lt e = omega (arith, ints)
 not_both : (x e i : ℤ) → x <ℤ e → e <ℤ i → x ≡ i → ⊥
 not_both x e i h k f = omega (arith, ints)
 
--- the numbers of a list that are after `b` are kept by a filter: for one element, and then for a whole list
+-- filtering keeps exactly the numbers that are after `b`: first for one element, and then for a whole list
+-- (`Has-above`)
 above-one : (b x : ℤ) (keep : Bool) (rest : List ℤ) (i : ℤ) → int_lt b x ≡ keep → Has (cond keep (x ∷ rest) rest) i ↔ (((b <ℤ i) × (x ≡ i)) ⊎ Has rest i)
 above-one b x keep rest i h = grind (arith, ints, not_above)
 
@@ -124,7 +126,7 @@ AreElapses-elapses_except es exceptions b =
       );
     }
 
--- two strictly increasing lists of all numbers after `b` that satisfy the same condition are equal
+-- two strictly increasing lists that both contain exactly the numbers after `b` that satisfy `Holds` are equal
 pub same_above : {Holds : ℤ → Type 0} (b : ℤ) (xs ys : List ℤ) → AreAbove Holds b xs → AreAbove Holds b ys → xs ≡ ys
 same_above b xs ys h k = grind (arith, same_rising)
 

@@ -18,8 +18,8 @@ none_of_month sets n first length from within begins long low fails = λ t above
     let next = first_day-suc n in
     months_none sets n (suc n) (omega arith) (λ k a b. let same : k ≡ n = omega arith in rw same fails) t (omega arith) (omega arith)
 
--- bit k of `bits` is set exactly if the k-th day after `first`, the first day of a month with `length` days, is in that
--- month and matches
+-- bit k of `bits` is set exactly if the day `first` + k matches and is in the month that has `length` days and begins
+-- on the day `first`
 pub record HasDays (sets : Sets) (first length bits : ℕ) : Type 0 where
   pub days : (k : ℕ) → k < length → is_bit bits k ≡ day_in sets (first + k)
   pub within : (k : ℕ) → is_bit bits k ≡ true → k < length

@@ -48,7 +48,7 @@ pub day_both : (from_end : Bool) (c : Option (List Part)) (v : ℕ) → IsValidC
     → (1 ≤ v) × (v < 1 + 31)
 day_both from_end c v sound h = grind (arith, component_both)
 
--- a word is filled bit by bit, from the lowest on: at the start no bit is filled, and none is set
+-- a word is filled bit by bit, from the lowest bit on; before the first bit is filled, no bit is set
 pub filled_none : (has : ℕ → Bool) (i : ℕ) → is_bit 0 i ≡ (nat_lt i 0 && has i)
 filled_none has i = let out = le-ltb i 0 (omega arith) in rw out (is_bit-none i)
 
@@ -94,8 +94,8 @@ pub weeks_repeat : (mask : ℕ) (days : List Bool) → ((i : ℕ) → is_bit mas
     → (i : ℕ) → i < 42 → is_bit mask i ≡ is_bit mask (i % 7)
 weeks_repeat mask days filled i low = grind (arith, lt-ltb)
 
--- If each of four words was filled with its own years that satisfy the test `holds`, then together they contain exactly
--- the years 1970 to 2199 that satisfy it. The first lemma is for a single word.
+-- Each of the four words of years was filled with those of its years that satisfy the test `holds`. Together they then
+-- contain exactly the years from 1970 to 2199 that satisfy it (`years_filled`). This lemma is for a single word.
 year_word : (word first n i j : ℕ) (holds : ℕ → Bool) → ((p : ℕ) → is_bit word p ≡ (nat_lt p n && holds (first + p)))
     → first + j ≡ 1_970 + i → j < n → i < 230 → is_bit word j ≡ (nat_lt i 230 && holds (1_970 + i))
 year_word word first n i j holds filled same low inside = grind (arith, lt-ltb)

@@ -1,5 +1,5 @@
--- The stored bits of the later matches in the minute of a match, and of the later minutes with matches in its hour. A
--- search that takes its result from these bits removes one of them.
+-- The bits that are stored when a match is found: one for each later match in its minute, and one for each later minute
+-- with matches in its hour. A search that takes its result from these bits removes one of them.
 use Rattle.std.proofs.Common.{IfSome, IsSome, ◌≡◌, ◌≢◌, ◌∙◌, ℕ, ◌+◌, ◌-◌, ◌*◌, ◌/◌, ◌%◌, ◌^◌, ◌<◌, ◌≤◌, Bool, true, false, ◌&&◌, Option, Some, ℤ, option_map, pos, unsigned_abs, w64, sym, subst, refl, arith, ltb-true, nat_lt}
 use Rattle.std.proofs.lemmas.Bool.{and_from, and_parts, false_from_ne_true, lt-ltb}
 use Rattle.std.specs.Int.{trailing_zeros}
@@ -23,7 +23,7 @@ use Rattle.cal_text.proofs.General.{and_regrouped, below_end}
 no_bit : (i : ℕ) → is_bit 0 i ≡ true → ⊥
 no_bit i bit = let none = is_bit-none i in cc
 
--- only local seconds match
+-- a number that matches is a local second
 pub match_inside : (sets : Sets) (t : ℕ) → matches sets t ≡ true → t < seconds_in_all
 unfolding matches
 match_inside sets t holds = ltb-true t seconds_in_all (and_parts _ _ holds).0
@@ -65,15 +65,15 @@ minutes_of_all m = record {
       split_at (locals_split (sets_in m)) (a / 1_440) (a * 60 + b) (omega arith) day ∙ rw (lt-ltb a 120_968_640 low, time, here) (sym (and_regrouped (day_in (sets_in m) (a / 1_440)) (minute_in (sets_in m) (a % 1_440)) (is_bit m.seconds b)));
 }
 
--- If `found` passes, then of the numbers in the same unit of 60 exactly those pass whose low part passes.
+-- if `found` passes, a number in the same unit of 60 passes exactly if its low part passes
 by_low : (passes high low : ℕ → Bool) (limit found t : ℕ) → Splits passes high low 60 limit → found / 60 < limit → passes found ≡ true → t / 60 ≡ found / 60 → passes t ≡ low (t % 60)
 by_low passes high low limit found t s within holds same =
     let both = and_parts _ _ (sym (split_at s (found / 60) found within refl) ∙ holds) in
     let here : high (found / 60) ≡ true = both.0 in
     split_at s (found / 60) t within same ∙ rw here refl
 
--- if `found` passes, the bits of `mask` above the low part of `found` stand for the greater numbers in its unit that
--- pass
+-- if `found` passes, the bits of `mask` above the low part of `found` stand for the greater numbers that pass in its
+-- unit of 60
 left_after : (passes high : ℕ → Bool) (mask limit found : ℕ) → Splits passes high (is_bit mask) 60 limit → ((i : ℕ) → 60 ≤ i → is_bit mask i ≡ false) → found / 60 < limit
     → passes found ≡ true → AreRemaining passes found (found + 1) (mask / 2 ^ (found % 60 + 1))
 left_after passes high mask limit found s last within holds = record {
@@ -118,7 +118,7 @@ seconds_after m local holds =
 pub left_inside : (m : Masks) (found from left bit : ℕ) → AreRemaining (matches (sets_in m)) found from left → IsFirstPassing (is_bit left) 0 64 (Some bit) → from + bit < seconds_in_all
 left_inside m found from left bit h lowest = match_inside (sets_in m) (from + bit) (bit_passes _ found from left bit h lowest.2)
 
--- A search examines one month if it finds a match later on the same day.
+-- A search after a match examines one month if it finds a match later on the same day.
 search_on : (m : Masks) (found next : ℕ) → next / 86_400 ≡ found / 86_400 → IsFirstPassing (matches (sets_in m)) (found + 1) seconds_in_all (Some next)
     → IsSearch (sets_in m) (found + 1) (record { local = Some (pos next); months = 1 })
 search_on m found next day first =
@@ -197,7 +197,7 @@ search_later m found from start minutes bit first h later lowest second =
     search_on m found ((start + bit) * 60 + first) (omega arith) (next_in_hour m found from start minutes bit first h later lowest second)
 
 -- After the first match of a later minute in the hour is found, the bits of `m.seconds` above the second of that match
--- remain in its minute. In the hour, all bits but that of its minute remain.
+-- remain in its minute. In the hour, all bits remain except the bit of its minute (`minutes_later`).
 pub seconds_later : (m : Masks) (found from start minutes bit first : ℕ) → AreRemaining (matches (sets_in m)) found from 0
     → AreRemaining (minute_matches (sets_in m)) (found / 60) start minutes → IsFirstPassing (is_bit minutes) 0 64 (Some bit) → IsFirstPassing (is_bit m.seconds) 0 64 (Some first)
     → AreRemaining (matches (sets_in m)) ((start + bit) * 60 + first) ((start + bit) * 60 + first + 1) (m.seconds / 2 ^ (first + 1))
@@ -271,7 +271,8 @@ pub next_found : (m : Masks) (local : ℕ) (next : Option ℤ) → HasMoreInMinu
     → IsNextInMinute (matches (sets_in m)) local (option_map unsigned_abs next) × IsSome next
 next_found m local next more first = grind (arith, next_known, match_inside, first_passing)
 
--- if `local` matches, the rest of its minute up to `local` itself has no bits
+-- before the rest of a minute is searched, `IsRestOfMinute` holds with no bits, and with the match `local` itself as
+-- the last match
 pub rest_unknown : (passes : ℕ → Bool) (local : ℕ) → passes local ≡ true → IsRestOfMinute passes local 0 local
 rest_unknown passes local holds = grind (arith, no_bit)
 

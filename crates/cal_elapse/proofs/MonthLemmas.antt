@@ -26,7 +26,8 @@ pub length_bounds : (n : ℕ) → (length_of n ≤ 31) × (28 ≤ length_of n)
 unfolding length_of
 length_bounds n = days_in_month_bounds (pos (year_of n)) (number_of n)
 
--- the first day of the next month in the same year is as many days later as the month has days
+-- if the first day of a month has the number `f`, and the month has `l` days, the first day of the next month in the
+-- same year has the number `f` + `l`
 next_in_year : (y : ℤ) (m l f : ℕ) → 1 ≤ m → l ≡ days_in_month y m → 28 ≤ l → days_from_civil y m 1 ≡ pos f → days_from_civil y (m + 1) 1 ≡ pos (f + l)
 next_in_year y m l f one long some first =
     omega (arith, signed_arith, days_from_civil-next_month y m l one long, days_from_civil-day y m 1 l (omega arith) (omega arith))
@@ -66,7 +67,7 @@ first_is (suc n) =
 pub first_day-end : first_day 2_760 ≡ 84_006
 first_day-end = let last = first_is 2_760 in omega (arith, signed_arith, last, first_of_2200)
 
--- The date of the day with index `k`, counted from 0, in month `n`
+-- The date of the day with the zero-based index `k` in month `n`
 year_within : (n : ℕ) → n ≤ 2_760 → IsYear (pos (year_of n))
 year_within n h = (omega (arith, signed_arith), omega (arith, signed_arith))
 
@@ -220,5 +221,5 @@ index_by d e years months same y m low high = grind (arith, unsigned_abs, to_z, 
 pub length_by : (d e : Date) (l : ℕ) → d ≡ e → l ≡ days_in_month (to_z w16 (of_z w16 d.year)) d.month → pos 1_970 ≤ℤ e.year → e.year ≤ℤ pos 2_199 → l ≡ month_length e
 length_by d e l same is low high = grind (arith, to_z, w16, of_z, year_word)
 
--- bounds of the first days and the lengths of months
+-- bounds of the first days and the lengths of months, as a set of rules for the prover
 pub ruleset month_bounds = (first_day-end, first_day-rises, length_bounds)

@@ -27,8 +27,9 @@ pub most_next : (sets : Sets) (t next before months : ℕ) → matches sets t �
     → IsMostAfter sets t next before (max before months)
 most_next sets t next before months holds examined later none = grind (arith, max_is)
 
--- if the searches after the matches of a range raise the maximum from `x` to `y`, and those of the adjacent range from
--- `y` to `z`, then those of both ranges together raise it from `x` to `z`
+-- Suppose that the searches after the matches of one range raise the maximum from `x` to `y`, and that the searches
+-- after the matches of the adjacent range raise it from `y` to `z`. All these searches together then raise it from `x`
+-- to `z`.
 pub most_on : (sets : Sets) (a b c x y z : ℕ) → a ≤ b → b ≤ c → IsMostAfter sets a b x y → IsMostAfter sets b c y z → IsMostAfter sets a c x z
 most_on sets a b c x y z low high one two =
     record {

@@ -1,4 +1,5 @@
--- The values of a part of a component, as indices in the `count` values from `first` on.
+-- Which of the `count` values from `first` on a part of a component matches. Each value has an index: how far it is
+-- from `first`.
 use Rattle.std.proofs.Common.{◌≡◌, ◌==◌, ◌&&◌, ◌||◌, ◌+◌, ◌-◌, ◌%◌, ◌<◌, ◌≤◌, min, ℕ, Bool, true, false, nat_le, nat_lt, List, length, take, get_or, Option, None, Some, refl, ap, sym, ◌∙◌, inl, inr, arith}
 use Rattle.std.specs.List.{list_any}
 use Rattle.std.proofs.lemmas.List.Folds.{list_any_more}
@@ -16,13 +17,13 @@ use Rattle.cal_spec.specs.declared.part.Part.{Part}
 use Rattle.cal_spec.specs.declared.slot.Slot.{Slot}
 use Rattle.cal_text.proofs.General.{and_regrouped, and_shared, and_true}
 
--- the values that a field matches are those of its component
+-- a field matches exactly the values that its component matches
 pub members_by : (f : Field) (e : Fields) (v : ℕ) → members_of f (sets_of e) v ≡ component_has (slot_of f e.from_end) (component f e) v
 unfolding sets_of
 members_by f e v = grind arith
 
--- an index is from `a` - `first` to `b` - `first` and below `count` exactly if it stands for one of the `count` values
--- from `first` on and this value is from `a` to `b`
+-- an index `i` is from `a` - `first` to `b` - `first` and below `count` exactly if it is below `count` and the value
+-- `first` + `i` is from `a` to `b`
 pub between_in_window : (a b first count i : ℕ) → (nat_le (a - first) i && nat_lt i (min (b + 1 - first) count)) ≡ (nat_lt i count && is_between a b (first + i))
 between_in_window a b first count i = grind (arith, nat_tests)
 
@@ -31,14 +32,15 @@ abbrev pub is_stepped : Option ℕ → ℕ → Bool
 is_stepped None distance = true
 is_stepped (Some r) distance = distance % r == 0
 
--- if a slot doesn't count from the end of the month, a part matches exactly the values from its start to its last value
--- that its repetition contains, or all of these if it has none
+-- if a slot doesn't count from the end of the month, a part without a repetition matches all values from its start to
+-- its last value, and a part with a repetition matches those of them that the repetition contains
 values_up : (slot : Slot) (a : ℕ) (end step : Option ℕ) (v : ℕ) → is_from_end slot ≡ false → v ≤ greatest slot
     → values slot a end step v ≡ (is_between a (last_number a end step) v && is_stepped step (v - a))
 values_up slot a end step v up small = grind (arith, and_true)
 
--- If a slot doesn't count from the end of the month, the values that a part matches, among the `count` values from
--- `first` on, are at the indices from `low` up to but not including `high` that the repetition contains.
+-- Suppose that a slot doesn't count from the end of the month. Of the `count` values from `first` on, a part without a
+-- repetition matches those with the indices from `low` up to but not including `high`. A part with a repetition matches
+-- those of them that the repetition contains.
 pub part_in_slot_values : (slot : Slot) (p : Part) (step : Option ℕ) (first count low high i : ℕ) → AreSlotValues slot first count → p.step ≡ step
     → low ≡ p.start - first → high ≡ min (last_number p.start p.end p.step + 1 - first) count
     → ((nat_le low i && nat_lt i high) && is_stepped step (first + i - p.start)) ≡ (nat_lt i count && part_has slot p (first + i))

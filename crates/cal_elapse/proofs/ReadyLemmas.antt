@@ -36,8 +36,8 @@ pub record IsNext (e : Timed) (from : ℕ) (answer : Option ℤ) : Type 0 where
   pub none : NonePasses e.matches from (bound_of answer)
   pub found : IsMatchAhead e answer
 
--- if a search from `from` on returned `ahead`, no local second from `from` up to but not including `ahead` passes, or
--- none from `from` on if `ahead` is `None`
+-- if a search from `from` on returned `ahead`, no local second from `from` up to but not including `ahead` passes; if
+-- `ahead` is `None`, no local second from `from` on passes
 none_before : (passes : ℕ → Bool) (from : ℕ) (ahead : Option ℤ) → from ≤ seconds_in_all → IsFirstLocal passes (pos from) ahead → (from ≤ bound_of ahead) × NonePasses passes from (bound_of ahead)
 none_before passes from ahead within none = grind (arith, first_passing)
 
@@ -51,8 +51,8 @@ pub is_next : (masks : Masks) (zone : Zone) (from : ℕ) (found : Option ℤ) �
 unfolding timed_by
 is_next masks zone from found h first = next_by (timed_by masks zone) from found h first
 
--- if `searcher` has the masks of the window, and its counts, `ahead` and `pending` belong together as `IsReady` says,
--- then the window is ready with them
+-- if `searcher` has the masks of the window, and its counts, `ahead` and `pending` are as `IsReady` requires, then the
+-- window is ready once they are stored in it
 pub ready_after : (v : Window) (searcher : Searcher) (ahead : Option ℤ) (pending : List ℤ) → searcher.masks ≡ v.searcher.masks → pos 0 ≤ℤ v.base → v.base ≤ℤ v.last
     → Windowed (timed_of v) (start_of v.base) (bound_of ahead) v.last pending → IsMatchAhead (timed_of v) ahead → start_of v.base ≤ bound_of ahead
     → searcher.searches ≡ count_from (timed_of v).matches (start_of v.base) (bound_of ahead - start_of v.base) + 1
@@ -89,8 +89,7 @@ placed_to v (pos local) ahead pending h at near put =
       examined = subst (λ (o : Option ℤ). IsMost (sets_in v.searcher.masks) start (bound_of o) v.searcher.most_months) at h.examined;
     }
 
--- if all matches up to `local` were converted, and `local` was the last of them, then `local` is a local second that
--- matches
+-- if `IsPlacedTo` holds for `local`, the match converted last, then `local` is a local second that matches
 pub placed_is_match : (v : Window) (local : ℤ) → IsPlacedTo v local → IsLocalSecond local × (matches (sets_in v.searcher.masks) (unsigned_abs local) ≡ true)
 unfolding timed_by
 placed_is_match v local h = h.found

@@ -56,9 +56,8 @@ ahead_near tz from to offset ahead order inside =
 signed_word : (local : ℕ) (signed : ℤ) → local < seconds_in_all → signed ≡ pos local → to_z w64 (of_z w64 signed) ≡ pos local
 signed_word local signed inside is = ap (λ z. to_z w64 (of_z w64 z)) is ∙ to_z_pos w64 local (omega (arith, seconds_in_all-is))
 
--- the UTC offset is constant from `local` to `end`, the end of its minute or hour; and these values fit 64-bit
--- integers: both local seconds, the offset, the instants of both local seconds, and the second after the instant of
--- `local`
+-- The UTC offset is constant from `local` to `end`, the end of its minute or hour. Both local seconds, the offset, the
+-- instants of both local seconds, and the second after the instant of `local` fit 64-bit integers.
 pub record IsRun (tz : TimeZone) (local end : ℕ) (from to offset : ℤ) : Type 0 where
   pub ahead : AreAtOffset tz (pos local) (pos end) offset
   pub low : offset ≤ℤ pos 93_599
@@ -112,9 +111,9 @@ place_there v local t end offset h ahead low high inside =
     let count = seconds_in_all-is in
     ahead (pos t) (omega (arith, ints), omega (arith, ints)) (omega (arith, ints)) (omega (arith, ints))
 
--- The condition for adding the remaining matches of a minute to the pending instants: `bits` and `last` are those of
--- the rest of the minute of `local`, the UTC offset is constant to the end of the minute, the instant of `local` isn't
--- before `least`, the smallest pending instant, and the end of the minute is at most 93,599 seconds after every pending
+-- The condition for adding the remaining matches of a minute to the pending instants: `bits` and `last` describe the
+-- rest of the minute of `local`; the UTC offset is constant to the end of the minute; the instant of `local` isn't
+-- before `least`, the smallest pending instant; and the end of the minute is at most 93,599 seconds after every pending
 -- instant.
 pub record IsBehind (v : Window) (local bits last : ℕ) (offset least : ℤ) : Type 0 where
   pub rest : IsRestOfMinute (matches (sets_in v.searcher.masks)) local bits last
@@ -215,7 +214,7 @@ module _ (v : Window) (local : ℕ) (searcher : Searcher) (last : ℕ) (h : IsPl
     (most : IsMostAfter (sets_in v.searcher.masks) local last v.searcher.most_months searcher.most_months)
     (later : local ≤ last) (holds : matches (sets_in v.searcher.masks) last ≡ true)
   where
-    -- if `pending` has the pending instants for the matches up to and including `last`, as `Windowed` says, then all of
+    -- if `pending` consists of the pending instants of the matches up to and including `last` (`Windowed`), then all of
     -- these matches were converted
     rest_placed : (pending : List ℤ) → Windowed (timed_of v) (start_of v.base) (last + 1) v.last pending
         → IsPlacedTo (record v { searcher = searcher; pending = pending }) (pos last)

@@ -116,7 +116,7 @@ members_near cells low i j m n =
 pub same_second : (low i j : ℕ) → low ≤ i → i < low + 187_200 → low ≤ j → j < low + 187_200 → i % 187_200 ≡ j % 187_200 → i ≡ j
 same_second low i j il ih jl jh same = omega arith
 
--- the second, of the 187,200 seconds from `low` on, that has the same cell as `i`
+-- the one second among the 187,200 seconds from `low` on that has the same cell as `i`
 record Turned (low i : ℕ) : Type 0 where
   at : ℕ
   above : low ≤ at
@@ -170,8 +170,8 @@ none_kept cells least first none = let test : (least == no_second) ≡ true = gr
 
 -- Adding an instant
 
--- `at` is one of the 187,200 seconds from `from` on; and so is every second that is one of the 187,200 seconds from
--- `low` on and less than 187,200 seconds from `at`
+-- A ring that starts at `low` can start at `from` once `at` is added: `at` is one of the 187,200 seconds from `from`
+-- on, and so is each of the 187,200 seconds from `low` on that is less than 187,200 seconds from `at`.
 record IsRoundWith (low at from : ℕ) : Type 0 where
   above : from ≤ at
   below : at < from + 187_200
@@ -255,7 +255,7 @@ put_round old new low at from more round near high whole was =
     }
 
 -- if `at` is before `least`, or less than 187,200 seconds after it, then a ring that started at `least` can start at
--- the smaller of both after `at` is added
+-- the smaller of the two seconds after `at` is added
 with_least : (least at : ℕ) → (least ≤ at → at ≤ least + 187_199) → IsRoundWith least at (min least at)
 with_least least at near = grind (arith, min)
 
@@ -293,8 +293,8 @@ others_held : (old new : List ℕ) (at t : ℕ) → HasLess old new at → t % 1
 unfolding is_held
 others_held old new at t less other = less.others (t % 187_200) other
 
--- if the cell of one of the 187,200 seconds from `at` on is still set after `at`, the smallest element, was removed,
--- then this second was an element before, and is greater than `at`
+-- let `t` be one of the 187,200 seconds from `at` on: if its cell is still set after `at`, the smallest element, was
+-- removed, then `t` was an element before and is greater than `at`
 left_second : (old new : List ℕ) (low at t : ℕ) → IsFirstPassing (is_held old) low (low + 187_200) (Some at) → HasLess old new at
     → at ≤ t → t < at + 187_200 → is_held new t ≡ true → (at < t) × Has (instants_in old low) (pos t)
 left_second old new low at t found less above below holds =

@@ -76,7 +76,7 @@ first_of_all sets day r from f first (Some s) parts inside small today found beg
           (first_here (locals_split sets) day r from 86_400 s parts inside holds today.1 today)))
     ]
 
--- the two lemmas above, for local seconds as integers instead of natural numbers
+-- `none_of_all`, and then `first_of_all`, for local seconds as integers instead of natural numbers
 pub none_found : (sets : Sets) (day r : ℕ) (from : ℤ) (today : Option ℕ) → pos (day * 86_400 + r) ≡ from → day < 84_006 → r < 86_400 → IsFirstPassing (time_in sets) r 86_400 today
     → NonePasses (day_in sets) (day_to_start day today) 84_006 → IsFirstLocal (matches sets) from None
 none_found sets day r from today parts inside small none later = λ t above below.
@@ -92,7 +92,7 @@ first_found sets day r f first from found today parts inside small none later be
     let there = first_local (matches sets) (day * 86_400 + r) t (subst (λ (n : ℕ). IsFirstPassing (matches sets) (day * 86_400 + r) n (Some t)) (sym seconds_in_all-is) all) in
     subst (λ (z : ℤ). IsFirstLocal (matches sets) z (Some found)) parts (subst (λ (z : ℤ). IsFirstLocal (matches sets) (pos (day * 86_400 + r)) (Some z)) (sym is) there)
 
--- if `second` is the first matching time on the day of the match `t` that is later than `t`, then the next match after
+-- if `t` is a match, and `second` is the first matching time of day after the time of `t`, then the next match after
 -- `t` is on the same day, at `second`
 pub later_today : (sets : Sets) (t second : ℕ) → t < seconds_in_all → matches sets t ≡ true → IsFirstPassing (time_in sets) (t % 86_400 + 1) 86_400 (Some second)
     → IsFirstPassing (matches sets) (t + 1) seconds_in_all (Some (t / 86_400 * 86_400 + second))
@@ -103,7 +103,7 @@ later_today sets t second below holds found =
     first_within (matches sets) (t + 1) ((t / 86_400 + 1) * 86_400) seconds_in_all (t / 86_400 * 86_400 + second) (omega arith)
     (first_here (locals_split sets) (t / 86_400) (t % 86_400 + 1) (t + 1) 86_400 second (omega arith) day (and_parts _ _ both).0 found.1 found)
 
--- a search after the match `t` that finds a match on the same day, at `second`, examines one month
+-- if a search after the match `t` finds a match on the same day, at `second`, it examines one month
 pub search_today : (sets : Sets) (t second : ℕ) (found : ℤ) → t < seconds_in_all → matches sets t ≡ true → IsFirstPassing (time_in sets) (t % 86_400 + 1) 86_400 (Some second)
     → found ≡ pos (t / 86_400 * 86_400 + second) → IsSearch sets (t + 1) (record { local = Some found; months = 1 })
 search_today sets t second found below holds time same =

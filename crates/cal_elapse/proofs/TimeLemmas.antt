@@ -1,4 +1,4 @@
--- The parts of a time of day: hour, minute and second.
+-- How the masks of hours, minutes and seconds tell whether a time of day matches.
 use Rattle.std.proofs.Common.{arith}
 use Rattle.cal_elapse.specs.Bits.{is_bit}
 use Rattle.cal_elapse.specs.Masks.{sets_in}

@@ -43,11 +43,11 @@ timed_by-near masks zone local i placed =
 placed_on : (e : Timed) (a b : ℕ) (i : ℤ) → a ≤ b → IsPlacedBelow e a i → IsPlacedBelow e b i
 placed_on e a b i h p = record { local = p.local; below = omega arith; is_match = p.is_match; placed = p.placed }
 
--- the instant of a local second below `bound` + 1 is that of `bound`, or of a local second below `bound`
+-- an instant of a match below `bound` + 1 is the instant of `bound` or of a match below `bound`
 placed_split : (e : Timed) (bound : ℕ) (i : ℤ) → IsPlacedBelow e (bound + 1) i → (e.place bound ≡ Some i) ⊎ IsPlacedBelow e bound i
 placed_split e bound i p = grind arith
 
--- if no match below `bound` is more than 93,599 seconds after `i`, and `bound` isn't either, then no match up to and
+-- if neither a match below `bound` nor `bound` itself is more than 93,599 seconds after `i`, then no match up to and
 -- including `bound` is
 reach_on : (e : Timed) (from bound : ℕ) (i : ℤ) → ((t : ℕ) → from ≤ t → t < bound → e.matches t ≡ true → pos t ≤ℤ (i +ℤ pos 93_599))
     → pos bound ≤ℤ (i +ℤ pos 93_599) → (t : ℕ) → from ≤ t → t < bound + 1 → e.matches t ≡ true → pos t ≤ℤ (i +ℤ pos 93_599)
@@ -118,9 +118,10 @@ pub record IsPlacedFrom (e : Timed) (a b : ℕ) (i : ℤ) : Type 0 where
   pub is_match : e.matches local ≡ true
   pub placed : e.place local ≡ Some i
 
--- if all matches below `a` were converted, and `ys` are the pending instants `xs` and the instants after `last` of the
--- matches from `a` up to but not including `b`, and no local second below `b` is more than 93,599 seconds after an
--- instant in `ys`, then all matches below `b` were converted
+-- Suppose that all matches below `a` were converted, with the pending instants `xs`, and that no local second below `b`
+-- is more than 93,599 seconds after an instant in `ys`. If `ys` consists of `xs` and of the instants after `last` of
+-- the matches from `a` up to but not including `b`, then all matches below `b` were converted, with the pending
+-- instants `ys`.
 pub windowed_more : (e : Timed) (from a b : ℕ) (last : ℤ) (xs ys : List ℤ) → a ≤ b → Windowed e from a last xs → IsStrictlySortedBy int_cmp ys
     → ((i : ℤ) → Has ys i ↔ (Has xs i ⊎ ((last <ℤ i) × IsPlacedFrom e a b i))) → ((i : ℤ) → Has ys i → (t : ℕ) → t < b → pos t ≤ℤ (i +ℤ pos 93_599)) → Windowed e from b last ys
 windowed_more e from a b last xs ys h w rises more near = record {
@@ -214,7 +215,7 @@ full_first e from ahead last (x ∷ xs) near w found full =
     (inl (elapse_of e (bound_of ahead) x (bound_in e ahead found) here.1))
     (λ j above m. elim m [ inl p ↦ least_place e from ahead last x j xs near w full above p | inr n ↦ absurd n ])
 
--- a ready window is still ready after its smallest pending instant was returned
+-- a window that is ready is still ready after its smallest pending instant was returned
 pub taken_ready : (v : Window) (i last : ℤ) (xs : List ℤ) → IsReady v → slice_get v.pending 0 ≡ Some i → last ≡ i → xs ≡ drop 1 v.pending
     → IsReady (record v { last = last; pending = xs })
 taken_ready v i last xs h at same rest =
@@ -243,8 +244,8 @@ pub none_given : (v : Window) → IsReady v → to_place v.ahead (slice_get v.pe
     → elapses_after (timed_of v ∷ []) v.last ≡ drop 1 (elapses_after (timed_of v ∷ []) v.last)
 none_given v h full none = drop_none (elapses_after (timed_of v ∷ []) v.last) (sym (first_given v h full ∙ none))
 
--- if a local second is at most 93,599 seconds from a pending instant, its instant is less than 187,200 seconds from
--- that pending instant
+-- if a local second is at most 93,599 seconds from a pending instant, the instant of the local second is less than
+-- 187,200 seconds from the pending instant
 pub put_near : (tz : TimeZone) (local place member : ℤ) → place_of tz local ≡ Some place → local ≤ℤ (member +ℤ pos 93_599)
     → member ≤ℤ (local +ℤ pos 93_599) → IsNear member place
 put_near tz local place member at low high =

@@ -1,4 +1,4 @@
--- Sets of small numbers, represented as the bits of one or several masks: this project's own definition.
+-- Sets of small numbers, represented as the bits of one or several masks.
 use Rattle.std.specs.Prelude.{◌==◌, ℕ, ◌/◌, ◌%◌, Bool, List, slice_index_or}
 use Rattle.std.specs.Int.{bit_at}
 

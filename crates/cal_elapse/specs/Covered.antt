@@ -3,7 +3,7 @@ use Rattle.std.specs.Prelude.{◌≡◌, ◌⊎◌, ℕ, ℤ, Bool, true, List}
 use Rattle.cal_elapse.specs.headline.Elapses.{IsElapse, IsPlace, Timed}
 use Rattle.cal_spec.specs.headline.Match.{Sets}
 
--- `has` contains every number in `inner`
+-- the set `has` contains every number of the set `inner`
 abbrev pub HasAll : (ℕ → Bool) → (ℕ → Bool) → Type 0
 HasAll has inner = (n : ℕ) → inner n ≡ true → has n ≡ true
 

@@ -5,7 +5,7 @@ use Rattle.cal_civil.specs.headline.Local.{seconds_in_all}
 use Rattle.cal_rising.specs.RisingList.{union, without}
 use Rattle.cal_elapse.specs.headline.Elapses.{Timed}
 
--- the elapse set: the places of all local seconds that match
+-- the elapse set of an expression: the places of all local seconds that match
 unfoldable pub places : Timed → List ℤ
 places e = filter_map e.place (filter e.matches (range_with_len 0 seconds_in_all))
 

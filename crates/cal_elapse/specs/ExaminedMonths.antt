@@ -1,6 +1,6 @@
--- The result of a search and the number of months that it examines. It examines only months whose year and month number
--- the expression matches, from the month in which it starts to the month of the result, or to the end of 2199 if there
--- is no result.
+-- The result of a search, and the number of months that the search examines. A search examines only months whose year
+-- and month number the expression matches, from the month in which it starts to the month of the result, or to the end
+-- of 2199 if there is no result.
 use Rattle.std.specs.Prelude.{◌≡◌, ◌≤◌, ℕ, suc, ◌-◌, ◌/◌, Option, None, Some, pos, unsigned_abs}
 use Rattle.std.specs.Option.{option_map}
 use Rattle.cal_civil.specs.headline.Local.{civil_date}

@@ -1,4 +1,4 @@
--- The meaning of masks, as contracts see it: systemd.time(7), Calendar Events.
+-- What masks stand for: the values that each field of an expression matches (systemd.time(7), Calendar Events).
 use Rattle.std.specs.Prelude.{◌≡◌, ℕ, ◌+◌, ◌-◌, ◌≤◌, Bool, ◌&&◌, false, nat_le, nat_lt, if◌then◌else◌, Option, None, Some}
 use Rattle.cal_elapse.specs.Bits.{is_bit, is_bit_in}
 use Rattle.cal_elapse.specs.declared.masks.Masks.{Masks}
@@ -29,7 +29,8 @@ sets_in masks = record {
   from_end = masks.from_end;
 }
 
--- the slot of a field; for days it depends on whether they are counted from the end of the month
+-- the slot of a field, which says what values it allows; days that are counted from the end of the month have a slot of
+-- their own
 abbrev pub slot_of : Field → Bool → Slot
 slot_of field.Year from_end = Year
 slot_of field.Month from_end = Month
@@ -38,13 +39,14 @@ slot_of field.Hour from_end = Hour
 slot_of field.Minute from_end = Minute
 slot_of field.Second from_end = Second
 
--- the `count` numbers from `first` on are all values of the slot, and the slot doesn't count from the end of the month
+-- the slot allows each of the `count` numbers from `first` on, and it doesn't count from the end of the month
 pub record AreSlotValues (slot : Slot) (first count : ℕ) : Type 0 where
   pub upwards : is_from_end slot ≡ false
   pub from : least slot ≤ first
   pub upto : first + count ≤ greatest slot + 1
 
--- the largest value that a part can match; an open-ended repetition is limited only by its field
+-- the largest value that a part can match; an open-ended repetition is limited only by its field, so this is 65,535
+-- for it, the greatest 16-bit number
 abbrev pub last_number : ℕ → Option ℕ → Option ℕ → ℕ
 last_number a (Some b) step = b
 last_number a None None = a

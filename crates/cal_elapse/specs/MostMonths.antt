@@ -5,14 +5,13 @@ use Rattle.cal_elapse.specs.ExaminedMonths.{examined_months}
 use Rattle.cal_elapse.specs.Search.{IsFirstPassing}
 use Rattle.cal_spec.specs.headline.Match.{Sets, matches}
 
--- `months` is how many months a search from `from` on examines
+-- a search from `from` on examines `months` months
 pub record IsExamined (sets : Sets) (from months : ℕ) : Type 0 where
   pub answer : Option ℕ
   pub first : IsFirstPassing (matches sets) from seconds_in_all answer
   pub examined : months ≡ examined_months sets from answer
 
--- `months` is how many months the search examines that starts just after some match from `from` up to but not including
--- `to`
+-- a search that starts just after some match from `from` up to but not including `to` examines `months` months
 pub record IsExaminedAfter (sets : Sets) (from to months : ℕ) : Type 0 where
   pub local : ℕ
   pub low : from ≤ local
@@ -20,8 +19,8 @@ pub record IsExaminedAfter (sets : Sets) (from to months : ℕ) : Type 0 where
   pub is_match : matches sets local ≡ true
   pub examined : IsExamined sets (local + 1) months
 
--- `most` is the largest of `before` and the numbers of months that are examined by the searches that start just after a
--- match from `from` up to but not including `to`
+-- One search starts just after each match from `from` up to but not including `to`. `most` is the largest of `before`
+-- and the numbers of months that these searches examine.
 pub record IsMostAfter (sets : Sets) (from to before most : ℕ) : Type 0 where
   pub not_below : before ≤ most
   pub all : (months : ℕ) → IsExaminedAfter sets from to months → months ≤ most

@@ -1,4 +1,4 @@
--- The remaining elapses of an expression.
+-- The elapses that a source of elapses has yet to return.
 use Rattle.std.specs.Prelude.{List, [], ◌∷◌, ℤ, int_lt, filter, map}
 use Rattle.std.specs.Ordering.{int_cmp}
 use Rattle.std.specs.List.Sorted.{IsStrictlySortedBy}

@@ -10,8 +10,8 @@ use Rattle.cal_spec.specs.headline.Match.{Sets}
 unfoldable pub minute_matches : Sets → ℕ → Bool
 minute_matches sets minute = nat_lt minute 120_968_640 && (day_in sets (minute / 1_440) && minute_in sets (minute % 1_440))
 
--- Bit i of `left` stands for the number `from` + i. The set bits are those of the numbers that pass the test, are
--- greater than `found` and are in the same unit of 60 as `found`: local seconds in one minute, or minutes in one hour.
+-- Bit i of `left` stands for the number `from` + i. It is set exactly if this number passes the test, is greater than
+-- `found`, and is in the same unit of 60 as `found`: local seconds in one minute, or minutes in one hour.
 pub record AreRemaining (passes : ℕ → Bool) (found from left : ℕ) : Type 0 where
   pub begun : from ≤ found + 1
   pub behind : (i : ℕ) → is_bit left i ≡ true → found < from + i
@@ -46,8 +46,8 @@ IsNextInHour passes local next = (next / 3_600 ≡ local / 3_600) × IsFirstPass
 abbrev pub NoneLeftInMinute : (ℕ → Bool) → ℕ → Type 0
 NoneLeftInMinute passes local = NonePasses passes (local + 1) (local / 60 * 60 + 60)
 
--- Bit i of `bits` stands for the local second `local` + 1 + i. `last` passes, is in the minute of `local`, and isn't
--- before `local`. The set bits are those of the local seconds after `local`, up to and including `last`, that pass.
+-- Bit i of `bits` stands for the local second `local` + 1 + i. It is set exactly if this local second passes and isn't
+-- after `last`. The local second `last` passes, is in the minute of `local`, and isn't before `local`.
 pub record IsRestOfMinute (passes : ℕ → Bool) (local bits last : ℕ) : Type 0 where
   pub begun : local ≤ last
   pub minute : last / 60 ≡ local / 60

@@ -28,12 +28,12 @@ pub record IsOneOf (start : ℤ) (bits : ℕ) (i : ℤ) : Type 0 where
   pub set : is_bit bits bit ≡ true
   pub is : (start +ℤ pos bit) ≡ i
 
--- those of the `n` numbers from `from` on that pass
+-- the numbers that pass, of the `n` numbers from `from` on
 abbrev pub rising_from : (ℕ → Bool) → ℕ → ℕ → List ℤ
 rising_from passes from zero = []
 rising_from passes from (suc n) = cond (passes from) (pos from ∷ rising_from passes (suc from) n) (rising_from passes (suc from) n)
 
--- the instants in a ring that starts at the second `low`: those of the 187,200 seconds from `low` on whose cell is set
+-- the instants in a ring that starts at the second `low`: of the 187,200 seconds from `low` on, those whose cell is set
 unfoldable pub instants_in : List ℕ → ℕ → List ℤ
 instants_in cells low = rising_from (is_held cells) low cells_in_all
 

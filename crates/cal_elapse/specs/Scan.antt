@@ -1,4 +1,4 @@
--- Words that aren't 0.
+-- The test for a word that isn't 0, which the scan of a ring looks for.
 use Rattle.std.specs.Prelude.{ℕ, Bool, not, ◌==◌}
 
 -- whether a word isn't 0

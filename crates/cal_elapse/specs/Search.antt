@@ -1,4 +1,4 @@
--- The result of a search among local seconds.
+-- What it means that a search returns the first number, or the first local second, that passes a test.
 use Rattle.std.specs.Prelude.{◌≡◌, ◌<◌, ◌≤◌, ℕ, Bool, true, false, Option, None, Some, ℤ, pos, unsigned_abs, ◌≤ℤ◌, ◌<ℤ◌}
 use Rattle.cal_civil.specs.headline.Local.{seconds_in_all}
 

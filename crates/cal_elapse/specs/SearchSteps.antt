@@ -1,14 +1,15 @@
--- The two steps of a search for a local second: the first day that it tests, and the time of day of its result.
+-- The two steps of a search for a local second: from which day on it searches for a matching day, and which time of
+-- that day it returns.
 use Rattle.std.specs.Prelude.{ℕ, ◌+◌, ◌==◌, cond, Option, None, Some}
 
--- the first day on which a search can end: `day`, on which it starts, if a matching time is left on that day, and
--- otherwise the day after
+-- The earliest day on which a search can find a match. The search starts on `day`, and the second argument is the first
+-- matching time left on that day. If it is `None`, no match is left on `day`, so this is the day after it.
 abbrev pub day_to_start : ℕ → Option ℕ → ℕ
 day_to_start day None = day + 1
 day_to_start day (Some second) = day
 
--- the time of day of a result on day `found`: if the search started on that day, the first matching time that was left
--- on it, and otherwise `first`, the first matching time of any day
+-- The time of day of a search's result, which is on the day `found`. If the search started on that day, this is the
+-- third argument, the first matching time left on it. Otherwise it is `first`, the first matching time of any day.
 abbrev pub second_on : ℕ → ℕ → Option ℕ → ℕ → ℕ
 second_on found day None first = first
 second_on found day (Some second) first = cond (found == day) second first

@@ -26,8 +26,8 @@ pub record IsPlacedBelow (e : Timed) (bound : ℕ) (i : ℤ) : Type 0 where
   pub placed : e.place local ≡ Some i
 
 -- `xs` is strictly increasing and contains exactly the instants after `last` of the matching local seconds below
--- `bound`. None of these local seconds from `from` on is later than an instant in `xs` by more than 93,599 seconds, the
--- largest distance between a local second and its instant.
+-- `bound`. No matching local second from `from` up to but not including `bound` is later than an instant in `xs` by
+-- more than 93,599 seconds, the largest distance between a local second and its instant.
 pub record Windowed (e : Timed) (from bound : ℕ) (last : ℤ) (xs : List ℤ) : Type 0 where
   pub rises : IsStrictlySortedBy int_cmp xs
   pub members : (i : ℤ) → Has xs i ↔ ((last <ℤ i) × IsPlacedBelow e bound i)
@@ -47,14 +47,14 @@ bound_of ahead = unwrap_or (option_map unsigned_abs ahead) seconds_in_all
 abbrev pub IsMatchAhead : Timed → Option ℤ → Type 0
 IsMatchAhead e ahead = IfSome ahead (λ local. IsLocalSecond local × (e.matches (unsigned_abs local) ≡ true))
 
--- `ahead`, if it has to be converted before `least`, the smallest pending instant, can be returned, and otherwise
--- `None`; if nothing is pending, a match always has to be converted
+-- Returns `ahead` if this match has to be converted before `least`, the smallest pending instant, can be returned.
+-- Returns `None` if not. If nothing is pending, a match always has to be converted.
 abbrev pub to_place : Option ℤ → Option ℤ → Option ℤ
 to_place None least = None
 to_place (Some local) None = Some local
 to_place (Some local) (Some least) = cond (int_lt least (local -ℤ pos 93_599)) None (Some local)
 
--- the pending instants with another one added, if it exists and is after the instant returned last
+-- the pending instants with one more instant, which is added if there is one and it is after the instant returned last
 abbrev pub with_place : Option ℤ → ℤ → List ℤ → List ℤ
 with_place None last xs = xs
 with_place (Some i) last xs = cond (int_lt last i) (insert_key int_cmp xs i) xs
@@ -66,8 +66,8 @@ timed_by masks zone = record { matches = matches (sets_in masks); place = λ loc
 abbrev pub timed_of : Window → Timed
 timed_of w = timed_by w.searcher.masks w.zone
 
--- all matching local seconds before `w.ahead` were converted, or all there are if it is `None`; one search was made at
--- the start, and one after each of these matches
+-- All matching local seconds before `w.ahead` were converted, or all that exist if it is `None`. One search was made at
+-- the start, and one after each of these matches.
 pub record IsReady (w : Window) : Type 0 where
   pub windowed : Windowed (timed_of w) (start_of w.base) (bound_of w.ahead) w.last w.pending
   pub found : IsMatchAhead (timed_of w) w.ahead
@@ -77,7 +77,8 @@ pub record IsReady (w : Window) : Type 0 where
   pub counted : w.searcher.searches ≡ count_from (timed_of w).matches (start_of w.base) (bound_of w.ahead - start_of w.base) + 1
   pub examined : IsMost (sets_in w.searcher.masks) (start_of w.base) (bound_of w.ahead) w.searcher.most_months
 
--- all matching local seconds up to `local`, which is a match, were converted, and no search was made after `local` yet
+-- `local` matches, all matching local seconds up to and including `local` were converted, and the search after `local`
+-- was not made yet
 pub record IsPlacedTo (w : Window) (local : ℤ) : Type 0 where
   pub windowed : Windowed (timed_of w) (start_of w.base) (unsigned_abs local + 1) w.last w.pending
   pub found : IsMatchAhead (timed_of w) (Some local)

@@ -96,10 +96,11 @@ impl Rising for Elapses<'_> {
 
     /// Removes and returns the next elapse, or `None` if there are no more.
     ///
-    /// When `next` has returned e, `searches` counts the first search, which starts at the local second base - 93,599
-    /// (at 0 if that is negative), and one search after each matching local second from there to e + 93,599. When
-    /// `next` has returned `None`, `searches` counts the first search and one search after every match from there on.
-    /// `most_months` is the largest number of months that one of these searches examined, at most 2,760.
+    /// The first search starts at the local second base - 93,599, or at 0 if that is negative. After `next` returned an
+    /// elapse e, `searches` counts the first search and one search after each match from its start to the local second
+    /// e + 93,599. After `next` returned `None`, `searches` counts the first search and one search after each match
+    /// from its start on. `most_months` is the largest number of months that one of these searches examined, at most
+    /// 2,760.
     fn next(&mut self) -> Option<i64>
         ensures given { result ≡ slice_get (remaining_elapses self.old) 0 }
         ensures left { remaining_elapses self.new ≡ drop 1 (remaining_elapses self.old) }
@@ -114,7 +115,8 @@ impl Rising for Elapses<'_> {
         self.window.take()
     }
 
-    /// Returns whether `number` is an elapse that was not returned yet, without a search. The result is never `None`.
+    /// Returns whether `number` is an elapse that `next` has yet to return. The result is never `None`. This makes no
+    /// search.
     fn has(&mut self, number: i64) -> Option<bool>
         ensures has { IfSome result (λ has. has ≡ is_member int_eq (remaining_elapses self.old) number) }
         ensures says { IsSome result }

@@ -1,4 +1,5 @@
-//! Laws of the definitions that the contracts cite. Each law is the contract of a function that does nothing.
+//! Laws about the elapses of expressions, with and without exceptions. Each law is a function with an empty body, whose
+//! contract states the law.
 
 ghost use Rattle.std.specs.Prelude.{◌≡◌, ◌↔◌, ◌+◌, ◌++◌, ◌∷◌, [], ℕ, ℤ, pos, ◌≤ℤ◌, List, Some, map, suc, take, drop, slice_get};
 ghost use Rattle.jiff.specs.Types.{TimeZone};
@@ -30,10 +31,10 @@ pub fn elapses_of_each()
         ≡ elapses_except es exceptions base }
 {}
 
-/// An expression is covered by exceptions exactly if none of its elapses is left after those of the exceptions are
-/// removed. An expression is covered by another one in the same zone that matches all its values, field by field, and
-/// counts days from the same end of the month. Covered expressions may be left out: if every elapse of the expressions
-/// left out is an elapse of an exception, the result is unchanged.
+/// An expression is covered by exceptions exactly if, after any base, none of its elapses is left once the elapses of
+/// the exceptions are removed. An expression is covered by another one in the same zone that matches all its values,
+/// field by field, and counts days from the same end of the month. Covered expressions may be left out: if every elapse
+/// of the expressions left out is an elapse of an expression that is kept or of an exception, the result is unchanged.
 pub fn covered_are_left_out()
     ensures covered { (e : Timed) (exceptions : List Timed) → IsCovered e exceptions
         ↔ ((base : ℤ) → elapses_except (e ∷ []) exceptions base ≡ []) }

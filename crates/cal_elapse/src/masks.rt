@@ -6,8 +6,9 @@ ghost use Rattle.cal_elapse.specs.Bits.{is_bit, is_bit_in};
 /// The values that each field of a calendar expression matches, one bit for each. The lowest bit stands for the
 /// smallest value of the field: 1970 for years, 1 for months and days.
 ///
-/// Days counted from the end of the month are stored in reverse order, with count 31 at bit 0. The later of two days
-/// therefore always has the higher bit. Hours, minutes and seconds each have at least one value.
+/// If days are counted from the end of the month, the last day has count 1. Counts are stored in reverse order, with
+/// count 31 at bit 0, so the later of two days always has the higher bit. Hours, minutes and seconds each have at least
+/// one value.
 #[derive(Clone, Copy)]
 pub struct Masks {
     /// The weekdays from Monday on, repeated for six weeks. Shifted to the weekday of a month's first day, they cover

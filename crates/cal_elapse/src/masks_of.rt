@@ -37,7 +37,7 @@ impl Masks {
     }
 }
 
-/// Returns the set of weekdays, repeated for six consecutive weeks.
+/// Returns the mask of the weekdays, repeated for six consecutive weeks, with the first Monday at bit 0.
 fn weeks(weekdays: &[bool; 7]) -> u64
     ensures { (i : ℕ) → is_bit result i ≡ (nat_lt i 42 && slice_index_or weekdays.now (i % 7) false) }
 {
@@ -48,8 +48,8 @@ fn weeks(weekdays: &[bool; 7]) -> u64
     mask
 }
 
-/// Returns which of the `count` values from `first` on a field of the expression matches, as a mask with `first` at bit
-/// 0. A field that is `*` matches all of them.
+/// Returns a mask of `count` bits. Bit i is set if the field of the expression matches the value `first` + i; a field
+/// that is `*` matches every value.
 fn members(expr: &Expr, field: Field, first: u16, count: u32) -> u64
     requires few { count ≤ 64 }
     requires values { AreSlotValues (slot_of field expr.now.from_end) first count }
@@ -61,8 +61,7 @@ fn members(expr: &Expr, field: Field, first: u16, count: u32) -> u64
     }
 }
 
-/// Returns which of the `count` values from `first` on at least one of the parts matches, as a mask with `first` at bit
-/// 0.
+/// Returns a mask of `count` bits. Bit i is set if at least one of the parts matches the value `first` + i.
 fn in_parts(parts: &[Part], first: u16, count: u32) -> u64
     requires few { count ≤ 64 }
     requires within { first ≤ 2_200 }
@@ -76,7 +75,7 @@ fn in_parts(parts: &[Part], first: u16, count: u32) -> u64
     mask
 }
 
-/// Returns which of the `count` values from `first` on the part matches, as a mask with `first` at bit 0.
+/// Returns a mask of `count` bits. Bit i is set if the part matches the value `first` + i.
 fn in_part(part: Part, first: u16, count: u32) -> u64
     requires few { count ≤ 64 }
     requires within { first ≤ 2_200 }
@@ -117,8 +116,8 @@ fn bits_between(low: u32, high: u32) -> u64
     }
 }
 
-/// Returns a word with those bits from `low` up to but not including `high` whose value exceeds `start` by a multiple
-/// of `step`. Bit i stands for the value `first` + i.
+/// Returns a word in which bit i stands for the value `first` + i. From bit `low` up to but not including bit `high`,
+/// the bits are set whose value exceeds `start` by a multiple of `step`. No other bits are set.
 fn steps(low: u32, high: u32, first: u16, start: u16, step: u16) -> u64
     requires few { high ≤ 64 }
     requires within { first ≤ 2_200 }

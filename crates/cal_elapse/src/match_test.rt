@@ -14,7 +14,7 @@ use crate::search::month::has_month;
 use crate::search::time::has_minute;
 use cal_civil::{day_of, second_of_day};
 
-/// Returns whether a local second matches. Tests the time of day first, because that is cheapest.
+/// Returns whether a local second matches. Tests the time of day first, because testing the date takes longer.
 #[tactic(auto, using(cal_civil::proofs::LocalLemmas::local_arith, crate::proofs::SearchLemmas::locals_at, std::proofs::lemmas::Bool::and_right))]
 pub(crate) fn is_match(masks: &Masks, local: i64) -> bool
     requires { IsLocalSecond local }

@@ -24,8 +24,8 @@ const NO_SECOND: u64 = u64::MAX;
 pub struct Pending {
     /// One bit for each cell.
     cells: Box<[u64; CELL_WORDS]>,
-    /// The smallest element, at whose cell the ring starts, or `NO_SECOND`. It is stored so that only removals scan the
-    /// ring, and calls of `least` don't.
+    /// The smallest element, at whose cell the ring starts, or `NO_SECOND` if the set is empty. It is stored so that
+    /// `least` doesn't have to scan the ring; only removals scan it.
     least: u64,
 }
 

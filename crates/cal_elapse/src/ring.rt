@@ -60,7 +60,7 @@ fn cell_at(word: usize, bit: u32) -> u64
     word as u64 * 64 + u64::from(bit)
 }
 
-/// Sets the cell with the index `cell`, which is below 187,200.
+/// Sets the cell with the index `cell`, which must be below 187,200.
 pub fn set_cell(cells: &mut [u64], cell: u64)
     requires whole { length cells.old ≡ 2_925 }
     requires inside { cell < 187_200 }
@@ -72,8 +72,8 @@ pub fn set_cell(cells: &mut [u64], cell: u64)
     cells[word] = with_bit(cells[word], (cell % 64) as u32);
 }
 
-/// Sets a cell for each set bit of `bits`: bit 0 stands for the cell `cell`, and bit i for the i-th cell after it.
-/// Wraps around at the end of the ring.
+/// Sets a cell for each set bit of `bits`: bit 0 stands for the cell with the index `cell`, and bit i for the i-th cell
+/// after it. Wraps around at the end of the ring.
 pub fn set_cells(cells: &mut [u64], cell: u64, bits: u64)
     requires whole { length cells.old ≡ 2_925 }
     requires inside { cell < 187_200 }
@@ -88,7 +88,7 @@ pub fn set_cells(cells: &mut [u64], cell: u64, bits: u64)
     cells[next] |= bits >> 1 >> (63 - shift);
 }
 
-/// Clears the cell with the index `cell`, which is below 187,200.
+/// Clears the cell with the index `cell`, which must be below 187,200.
 pub fn clear_cell(cells: &mut [u64], cell: u64)
     requires whole { length cells.old ≡ 2_925 }
     requires inside { cell < 187_200 }

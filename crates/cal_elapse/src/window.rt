@@ -25,12 +25,11 @@ pub struct Window<'z> {
     zone: PlaceCache<'z>,
     /// The base: all elapses are later than this instant.
     base: i64,
-    /// The match that was found last, which is not converted to an instant yet. `None` if no match is left.
+    /// The match that was found last, which was not converted to an instant yet. `None` if no match is left.
     ahead: Option<i64>,
     /// The instant that was returned last, or the base if none was.
     pub last: i64,
-    /// The instants after `last` to which the matches before `ahead` resolve. If `ahead` is `None`, these are all
-    /// matches.
+    /// The instants after `last` to which the matches before `ahead` resolve, or all matches if `ahead` is `None`.
     pending: Pending,
 }
 
@@ -79,7 +78,7 @@ impl<'z> Window<'z> {
     }
 
     /// Converts matches to instants until no later match can resolve to an instant at or before the smallest pending
-    /// one.
+    /// one, or no match is left.
     #[tactic(auto, using(cal_civil::proofs::LocalLemmas::local_arith, crate::proofs::ReadyLemmas::few_searches, crate::proofs::ReadyLemmas::placed_is_match))]
     pub fn fill(&mut self)
         requires { IsReady self.old }
@@ -104,11 +103,15 @@ impl<'z> Window<'z> {
     }
 
     /// Searches for all remaining matches in the minute of `local`, a match that was already converted, and converts
-    /// them at once. This has three conditions: every second of the minute has to be converted now; the UTC offset is
-    /// constant to the end of the minute; and either nothing is pending and the end of the minute doesn't resolve to an
-    /// instant after the one returned last, or the smallest pending instant isn't after the instant of `local`. If a
-    /// condition isn't met, nothing changes. If no later match in the minute is known, calls `skip_hour` instead.
-    /// Returns the last match that was converted, which can be `local`.
+    /// them at once. Returns the last match that was converted, which can be `local`.
+    ///
+    /// If no later match in the minute is known, calls `skip_hour` instead. Otherwise, nothing changes unless three
+    /// conditions are met:
+    ///
+    /// - All matches in the minute have to be converted before the smallest pending instant can be returned.
+    /// - The UTC offset is constant from `local` to the end of the minute.
+    /// - Either the smallest pending instant is at or before the instant of `local`, or nothing is pending and the end
+    ///   of the minute doesn't resolve to an instant after the one returned last.
     #[tactic(auto, using(cal_civil::proofs::LocalLemmas::local_arith, crate::proofs::ReadyLemmas::few_searches, crate::proofs::ReadyLemmas::placed_is_match))]
     fn convert_minute(&mut self, local: i64) -> i64
         requires { IsPlacedTo self.old local }
@@ -132,10 +135,11 @@ impl<'z> Window<'z> {
         };
         let place = local - offset;
         match least {
-            // No remaining match resolves to an instant after the instant returned last, so none becomes pending.
+            // No remaining match of the minute resolves to an instant after the one returned last, so none becomes
+            // pending.
             None if end - offset <= self.last => self.searcher.search_minute(local).last,
-            // All remaining matches resolve to instants after the smallest pending one, because `place`, the instant of
-            // `local`, isn't before it.
+            // The remaining matches of the minute resolve to instants after `place`, the instant of `local`, and so
+            // after the smallest pending instant, as `put_bits` requires.
             Some(least) if least <= place => {
                 let rest = self.searcher.search_minute(local);
                 self.pending.put_bits(place + 1, rest.bits);
@@ -145,10 +149,10 @@ impl<'z> Window<'z> {
         }
     }
 
-    /// Searches for all remaining matches in the hour of `local`, a match that was already converted, if nothing is
-    /// pending, the UTC offset is constant to the end of the hour, and no second up to there resolves to an instant
-    /// after the instant returned last. Such matches need no conversion. Returns the last match found, or `local` if
-    /// there was no search.
+    /// Searches for the remaining matches in the hour of `local`, a match that was already converted, if none of them
+    /// can become pending. That is known if nothing is pending, the UTC offset is constant to the end of the hour, and
+    /// the end of the hour doesn't resolve to an instant after the one returned last. The matches then need no
+    /// conversion. Returns the last match found, or `local` if there was no search.
     #[tactic(auto, using(cal_civil::proofs::LocalLemmas::local_arith, crate::proofs::ReadyLemmas::few_searches, crate::proofs::ReadyLemmas::placed_is_match))]
     fn skip_hour(&mut self, local: i64) -> i64
         requires { IsPlacedTo self.old local }
@@ -169,7 +173,8 @@ impl<'z> Window<'z> {
         }
     }
 
-    /// Removes and returns the smallest pending instant. The caller must have called `fill` before.
+    /// Removes and returns the smallest pending instant, which is the next elapse, or returns `None` if nothing is
+    /// pending. The caller must have called `fill` before.
     pub fn take(&mut self) -> Option<i64>
         requires ready { IsReady self.old }
         requires full { to_place self.old.ahead (slice_get self.old.pending 0) ≡ None }
@@ -242,8 +247,8 @@ fn is_to_place(local: i64, least: Option<i64>) -> bool
     }
 }
 
-/// Adds the instant of `local` to the pending instants, if there is one and it is after `last`, the instant returned
-/// last.
+/// If `local` resolves to an instant after `last`, the instant returned last, adds this instant to `pending`.
+/// Otherwise, nothing changes.
 fn put_place(pending: &mut Pending, place_cache: &mut PlaceCache<'_>, local: i64, last: i64)
     requires local_in { IsLocalSecond local }
     requires last_in { pos 0 ≤ℤ last }

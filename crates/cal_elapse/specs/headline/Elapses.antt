@@ -5,8 +5,8 @@ use Rattle.std.specs.List.Sorted.{IsStrictlySortedBy}
 use Rattle.cal_civil.specs.headline.Local.{seconds_in_all}
 use Rattle.cal_rising.specs.headline.Elements.{Has}
 
--- the meaning of an expression in a zone: which local seconds match, and the place of each local second, which is the
--- instant to which it resolves, or `None` if the zone's clock skips it
+-- The meaning of an expression in a zone: which local seconds match, and the place of each local second. The place is
+-- the instant to which the local second resolves, or `None` if the zone's clock skips it.
 pub record Timed : Type 0 where
   pub matches : ℕ → Bool
   pub place : ℕ → Option ℤ

@@ -30,9 +30,9 @@ use cal_civil::{DAY, LOCAL_END, day_of, second_of_day};
 pub struct Found {
     /// The first matching local second, or `None` if there is none.
     pub local: Option<i64>,
-    /// How many months the search examined, at most 2,760. It examines only months whose year and month number the
-    /// expression matches, from the month in which it starts to the month of the result, or to the end of 2199 if there
-    /// is no result.
+    /// How many months the search examined, at most 2,760. A search examines only months whose year and month number
+    /// the expression matches, from the month in which it starts to the month of the result, or to the end of 2199 if
+    /// there is no result.
     pub months: u32,
 }
 
@@ -76,8 +76,8 @@ pub fn next_local(masks: &Masks, from: i64) -> Found
     }
 }
 
-/// Returns the first match after `local`, which must itself match. If the result is on the same day, one month was
-/// examined: the month of `local`, which is known to match.
+/// Returns the first match after `local`, which must itself match. If the result is on the same day, one month counts
+/// as examined: the month of `local`, which is known to match.
 #[tactic(auto, using(cal_civil::proofs::LocalLemmas::local_arith))]
 pub(crate) fn next_after(masks: &Masks, local: i64) -> Found
     requires inside { IsLocalSecond local }
@@ -102,7 +102,7 @@ fn local_on(day: u32, second: u32) -> i64
     i64::from(day) * DAY + i64::from(second)
 }
 
-/// Returns the first matching time of day after `second`, or `None` if none is left on that day.
+/// Returns the first matching time of day after `second`, or `None` if no later time of day matches.
 fn second_after(masks: &Masks, second: u32) -> Option<u32>
     requires { second < 86_400 }
     ensures { IsFirstPassing (time_in (sets_in masks.now)) (second + 1) 86_400 result }
@@ -114,8 +114,8 @@ fn second_after(masks: &Masks, second: u32) -> Option<u32>
     }
 }
 
-/// Returns the first day on which a search can end: `day`, on which it starts, if `today`, a matching time left on that
-/// day, isn't `None`, and otherwise the day after.
+/// Returns the earliest day on which a search can find a match. The search starts on `day`, and `today` is the first
+/// matching time left on that day. If `today` is `None`, no match is left on `day`, so this is the day after it.
 fn day_to_start(day: u32, today: Option<u32>) -> u32
     requires { day < 84_006 }
     ensures { result ≡ day_to_start day today }
@@ -126,8 +126,8 @@ fn day_to_start(day: u32, today: Option<u32>) -> u32
     }
 }
 
-/// Returns the time of day of a result on day `found`. If the search started on that day, this is `today`, the first
-/// matching time that was left on it. Otherwise it is `first`, the first matching time of any day.
+/// Returns the time of day of a search's result, which is on the day `found`. If the search started on that day, this
+/// is `today`, the first matching time left on it. Otherwise it is `first`, the first matching time of any day.
 fn second_on(found: u32, day: u32, today: Option<u32>, first: u32) -> u32
     ensures { result ≡ second_on found day today first }
 {

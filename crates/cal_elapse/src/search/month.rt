@@ -82,7 +82,7 @@ fn next_year(years: &[u64; 4], from: u32) -> Option<u32>
     }
 }
 
-/// Returns the first year of `years` at or after `from` whose bit is in the same word as that of `from`.
+/// Returns the first year of `years` at or after `from` whose bit is in the same word as the bit of `from`.
 fn year_here(years: &[u64; 4], from: u32) -> Option<u32>
     requires { from < 256 }
     ensures { IsFirstPassing (is_bit_in years.now) from ((from / 64 + 1) * 64) result }

@@ -33,7 +33,7 @@ pub enum SearchStart {
 /// The matches that `search_minute` found: those after a given match in the same minute.
 #[derive(Drop)]
 pub struct RestOfMinute {
-    /// One bit for each match found: bit i for the local second i + 1 seconds after the given match.
+    /// One bit for each match found. Bit i stands for the local second i + 1 seconds after the given match.
     pub bits: u64,
     /// The last match found, or the given match if none was found.
     pub last: i64,
@@ -43,8 +43,8 @@ pub struct RestOfMinute {
 /// The masks of an expression, the number of searches made with them, and the largest number of months that a single
 /// search examined. The fields are private, so that every search is counted.
 ///
-/// Most searches end in the minute or the hour of the match after which they start. The remaining matches in the minute
-/// of the match found last, and the remaining minutes with matches in its hour, are therefore stored as bits.
+/// Most searches start after a match and end in the same minute or hour. Two words of bits are therefore stored: the
+/// remaining matches in the minute of the match found last, and the remaining minutes with matches in its hour.
 #[derive(Drop)]
 pub struct Searcher {
     masks: Masks,
@@ -140,8 +140,8 @@ impl Searcher {
         self.left != 0 && self.found == local
     }
 
-    /// Searches for the matches after `local`, a match, to the end of its minute. Finds none if `local` isn't the match
-    /// that was found last. Each match in the result counts as one search.
+    /// Searches for the matches after `local`, which must itself match, up to the end of its minute. Finds none if
+    /// `local` isn't the match that was found last. Each match in the result counts as one search.
     pub fn search_minute(&mut self, local: i64) -> RestOfMinute
         requires start { CanStart (matches (sets_in self.old.masks)) (SearchStart.After local) }
         requires few { self.old.searches ≤ unsigned_abs local + 1 }
@@ -162,8 +162,8 @@ impl Searcher {
         RestOfMinute { bits, last }
     }
 
-    /// Returns the next match in the minute of `local`, a match, found by one search. Returns `None` without a search
-    /// if no later match in the minute is known.
+    /// If a later match in the minute of `local`, which must itself match, is known, searches for the next match and
+    /// returns it. Otherwise returns `None` without a search.
     #[inline(always)]
     fn next_in_minute(&mut self, local: i64) -> Option<i64>
         requires start { CanStart (matches (sets_in self.old.masks)) (SearchStart.After local) }
@@ -216,8 +216,8 @@ impl Searcher {
         last
     }
 
-    /// Returns the next match after `local`, a match, found by one search, if it is known to be in the same hour.
-    /// Otherwise returns `None` without a search.
+    /// If the next match after `local`, which must itself match, is known to be in the same hour, searches for it and
+    /// returns it. Otherwise returns `None` without a search.
     #[inline(always)]
     fn next_in_hour(&mut self, local: i64) -> Option<i64>
         requires start { CanStart (matches (sets_in self.old.masks)) (SearchStart.After local) }
@@ -253,8 +253,8 @@ impl Searcher {
         found
     }
 
-    /// Finds the next match after `local`, a match. Takes it from the stored bits if `local` is the match that was
-    /// found last and another one follows in its minute or hour.
+    /// Finds the next match after `local`, which must itself match. Takes it from the stored bits if `local` is the
+    /// match that was found last and another one follows in its minute or hour.
     #[inline(always)]
     fn find_after(&mut self, local: i64) -> Found
         requires inside { IsLocalSecond local }
@@ -278,8 +278,8 @@ impl Searcher {
         found
     }
 
-    /// Takes the next match from the stored bits of the minute. Reports one month as examined: the month of this match
-    /// and of the one before it.
+    /// Takes the next match from the stored bits of the minute. Reports one month as examined, because this match is in
+    /// the same month as the one before it.
     #[inline(always)]
     fn find_in_minute(&mut self) -> Found
         requires { 0 < self.old.left }
@@ -300,8 +300,8 @@ impl Searcher {
     }
 
     /// Takes the next match from the stored bits of the hour: the first match of the next minute that has any. No bits
-    /// of the current minute may be left. Reports one month as examined: the month of this match and of the one before
-    /// it.
+    /// of the current minute may be left. Reports one month as examined, because this match is in the same month as the
+    /// one before it.
     #[inline(always)]
     fn find_in_hour(&mut self) -> Found
         requires none { self.old.left ≡ 0 }
@@ -324,8 +324,8 @@ impl Searcher {
         }
     }
 
-    /// Stores `found` as the match that was found last, with the bits that remain after it in its minute and its hour.
-    /// Does nothing if `found` is `None`.
+    /// Stores `found` as the match that was found last, with the bits of the later matches in its minute and of the
+    /// later minutes with matches in its hour. Does nothing if `found` is `None`.
     #[tactic(auto, using(cal_civil::proofs::LocalLemmas::local_arith))]
     fn keep(&mut self, found: Option<i64>)
         requires { IfSome found

@@ -1,4 +1,4 @@
--- The mask has exactly the values that the parts before the current one match.
+-- The mask contains exactly the values that the parts before the current one match.
 use Rattle.std.proofs.Common.{◌≡◌, ◌&&◌, ◌+◌, ℕ, nat_lt, take}
 use Rattle.std.specs.List.{list_any}
 use Rattle.cal_elapse.specs.Bits.{is_bit}
