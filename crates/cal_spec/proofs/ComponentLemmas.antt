@@ -70,7 +70,7 @@ sound_parts slot (p ∷ ps) at =
     let none = option_or_none (fault_of slot p) (first_value_fault slot ps) at in
     (sound_part slot p none.0, sound_parts slot ps none.1)
 
--- There are as many parsed parts as texts, and no more than are allowed
+-- Parsing returns one part for each text between commas, and no more parts than are allowed
 
 pub part_due_ok : (slot : Slot) (room : ℕ) (text : List ℕ) (p : Part) → part_due slot room text ≡ Ok p → 0 < room
 unfolding part_due
@@ -109,7 +109,7 @@ listed_ok slot room text ps at =
     let two = unless_ok (first_value_fault slot one.value) one.value ps one.next in
     record { shapes = rw two.1 at one.first; values = rw two.1 at two.0 }
 
--- a parsed component other than `*` has at least one part
+-- a parsed component that isn't `*` has at least one part
 parts_some : (slot : Slot) (room : ℕ) (text : List ℕ) (ps : List Part) → parts_of slot room (slice_split is_comma text) ≡ Ok ps → 0 < length ps
 parts_some slot room text ps at =
     let some = some_piece is_comma text in
@@ -119,12 +119,13 @@ counted_in : (time : Bool) (n room : ℕ) → n ≤ cond time (room + 1) room �
 counted_in true n room h = omega arith
 counted_in false n room h = h
 
--- the component `c` has valid values and at most `room` counted parts, as every parsed component has
+-- what is known of a component that was parsed with this `room`: its values are valid, and it has at most `room`
+-- counted parts
 pub record IsRead (slot : Slot) (room : ℕ) (c : Option (List Part)) : Type 0 where
   pub sound : IsValidComponent slot c
   pub few : counted slot c ≤ room
 
--- if a component is parsed, it is `*` if its text is, and otherwise it consists of the parsed parts of its text
+-- if the text of a parsed component is `*`, so is the component; otherwise it consists of the parts of its text
 pub component_is : (slot : Slot) (room : ℕ) (text : List ℕ) (c : Option (List Part)) → component_of slot room text ≡ Ok c
     → ((is_star text ≡ true) × (c ≡ None)) ⊎ ((is_star text ≡ false) × ((ps : List Part) × (c ≡ Some ps) × ListedRead slot room text ps))
 unfolding component_of

@@ -84,13 +84,13 @@ component_found slot room text c at =
       | inr listed ↦ rw listed.1.1 (listed_found slot room text listed.1.0 listed.1.2)
     ]
 
--- The bytes of parts and components
+-- The bytes that can occur in parts and components
 
 -- the bytes that can occur in a part: points, slashes and digits
 abbrev pub is_part_byte : ℕ → Bool
 is_part_byte b = leb 46 b && leb b 57
 
--- the bytes that can occur in a component: those of parts, commas and stars
+-- the bytes that can occur in a component: the bytes of its parts, commas, and a star
 abbrev pub is_component_byte : ℕ → Bool
 is_component_byte b = (b == 42) || ((b == 44) || is_part_byte b)
 

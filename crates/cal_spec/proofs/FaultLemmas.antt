@@ -1,4 +1,4 @@
--- The error of an invalid text is that of the first check that fails.
+-- The error of parsing an invalid text is the error of the first check that fails.
 use Rattle.std.proofs.Common.{inl, inr, ℕ, ◌+◌, ◌-◌, ◌<◌, ◌≡◌, Bool, true, false, cond, List, [], ◌∷◌, ◌++◌, length, map, Option, Some, None, Ok, Err, Result, refl, sym, ap, ◌∙◌, arith, ltb, eqb, zero-add}
 use Rattle.std.specs.Option.{option_or}
 use Rattle.std.specs.Result.{result_err}
@@ -29,8 +29,8 @@ use Rattle.cal_spec.proofs.ComponentLemmas.{component_is, component_read, parts_
 use Rattle.cal_spec.proofs.FieldLemmas.{fields_with, DateRead, date_found}
 use Rattle.cal_spec.proofs.ReadLemmas.{Follows, bind_ok, cond_ok}
 
--- if the first parser has the error `u`, and the second has the error `v` for each value that the first can return,
--- then both in sequence have the error `u`, or `v` if `u` is `None`
+-- the error of two parsers, one after the other, is the error `u` of the first, or the error `v` of the second if `u`
+-- is None; `v` must be the same for every value that the first parser can return
 pub err_of_bind : {A B : Type 0} (r : Result A SpecFault) (f : A → Result B SpecFault) (u v : Option SpecFault) → result_err r ≡ u → ((a : A) → r ≡ Ok a → result_err (f a) ≡ v) → result_err (r >>= f) ≡ option_or u v
 err_of_bind (Ok x) f u v first next = next x refl ∙ ap (λ o. option_or o v) first
 err_of_bind (Err e) f u v first next = ap (λ o. option_or o v) first
@@ -45,7 +45,7 @@ first_of-append [] ys = refl
 first_of-append (None ∷ xs) ys = first_of-append xs ys
 first_of-append (Some e ∷ xs) ys = refl
 
--- The error of parsing a component is that of the first check of the component that fails
+-- The error of parsing a component is the error of its first check that fails
 
 due_fault : (slot : Slot) (text : List ℕ) (r : Result Part SpecFault) (full : Bool) → result_err (cond full (Err TooManyParts) (r >>= λ p. Ok (with_values slot p))) ≡ cond full (Some TooManyParts) (result_err r)
 due_fault slot text r true = refl
@@ -106,7 +106,7 @@ component_fault : (slot : Slot) (before room : ℕ) (text : List ℕ) → before
 unfolding component_of component_faults
 component_fault slot before room text sum = star_fault slot before room text (is_star text) sum
 
--- if a component is parsed, it has as many counted parts as are counted in its text
+-- a parsed component has as many counted parts as are counted in its text
 pub component_counted : (slot : Slot) (room : ℕ) (text : List ℕ) (c : Option (List Part)) → component_of slot room text ≡ Ok c → counted slot c ≡ numbered slot text
 component_counted slot room text c at =
     elim (component_is slot room text c at) [
@@ -114,13 +114,13 @@ component_counted slot room text c at =
       | inr listed ↦ rw (listed.1.1, listed.0) (ap (λ n. cond (is_time slot) (n - 1) n) (parts_counted slot (room_in slot room) (pieces_of text) listed.1.0 listed.1.2.shapes).0)
     ]
 
--- if the number of counted parts `before` a component and the `room` for more add up to 240, they still do after the
--- component is parsed
+-- the counted parts so far (`before`) and the counted parts that are still allowed (`room`) are 240 in all; this stays
+-- true when a component is parsed
 left_after : (slot : Slot) (before room : ℕ) (text : List ℕ) (c : Option (List Part)) → before + room ≡ 240 → component_of slot room text ≡ Ok c → before + numbered slot text + (room - counted slot c) ≡ 240
 left_after slot before room text c sum at =
     omega (arith, component_counted slot room text c at, (component_read slot room text c at).few)
 
--- The error of parsing a date or a time is that of its first check that fails
+-- The error of parsing a date or a time is the error of its first check that fails
 
 abbrev three_faults : List (Option SpecFault) → List (Option SpecFault) → List (Option SpecFault) → Option SpecFault
 three_faults xs ys zs = option_or (first_of xs) (option_or (first_of ys) (first_of zs))
@@ -128,7 +128,7 @@ three_faults xs ys zs = option_or (first_of xs) (option_or (first_of ys) (first_
 first_of_three : (xs ys zs : List (Option SpecFault)) → three_faults xs ys zs ≡ first_of (xs ++ (ys ++ zs))
 first_of_three xs ys zs = sym (first_of-append xs (ys ++ zs) ∙ ap (option_or (first_of xs)) (first_of-append ys zs))
 
--- if three components are parsed one after another, the error is the first one among the checks of all three
+-- the error of parsing three components, one after the other, is the first one among the checks of all three
 components_fault : {D : Type 0} (a b c : Slot) (before room : ℕ) (x y z : List ℕ) (make : Option (List Part) → Option (List Part) → Option (List Part) → D) → before + room ≡ 240 → result_err (component_of a room x >>= λ u. component_of b (room - counted a u) y >>= λ v. component_of c (room - counted a u - counted b v) z >>= λ w. Ok (make u v w)) ≡ three_faults (component_faults a before x) (component_faults b (before + numbered a x) y) (component_faults c (before + numbered a x + numbered b y) z)
 components_fault a b c before room x y z make sum =
     err_of_bind (component_of a room x) (λ u. component_of b (room - counted a u) y >>= λ v. component_of c (room - counted a u - counted b v) z >>= λ w. Ok (make u v w)) (first_of (component_faults a before x)) (option_or (first_of (component_faults b (before + numbered a x) y)) (first_of (component_faults c (before + numbered a x + numbered b y) z))) (component_fault a before room x sum) (λ u first.
@@ -148,7 +148,7 @@ time_fault before room None sum = refl
 time_fault before room (Some t) sum =
     components_fault Hour Minute Second before room t.hour t.minute t.second (λ hour minute second. record { hour = hour; minute = minute; second = second }) sum ∙ first_of_three (component_faults Hour before t.hour) (component_faults Minute (before + numbered Hour t.hour) t.minute) (component_faults Second (before + numbered Hour t.hour + numbered Minute t.minute) t.second)
 
--- the number of counted parts of a parsed date and the number that are still allowed after it add up to 240
+-- the counted parts of a parsed date and the counted parts that are still allowed after it are 240 in all
 date_left : (t : DateTexts) (d : DateFields) → DateRead t d → numbered Year t.year + numbered Month t.month + numbered (day_slot t.from_end) t.day + room_after d ≡ 240
 date_left t d read =
     let one = left_after Year 0 240 t.year d.year refl read.year in
@@ -167,7 +167,7 @@ time_of_fault : (before room : ℕ) (word : List ℕ) → before + room ≡ 240 
 unfolding time_in_word
 time_of_fault before room word sum = time_fault before room (time_texts word) sum
 
--- The error of parsing a whole text is that of its first check that fails
+-- The error of parsing a whole text is the error of its first check that fails
 
 zone_fault : {A : Type 0} (r : Result (Option ZoneSuffix) SpecFault) (make : Option ZoneSuffix → A) → result_err (r >>= λ name. Ok (make name)) ≡ first_of (result_err r ∷ [])
 zone_fault (Ok x) make = refl

@@ -1,4 +1,4 @@
--- Lemmas about the places of the words in a text.
+-- The positions of words in a text, by which `fault_span` finds the word at fault.
 use Rattle.std.proofs.Common.{◌≡◌, ◌<◌, ◌≤◌, ◌+◌, ◌-◌, ◌∙◌, ◌⊎◌, ◌==◌, ◌||◌, ℕ, Bool, true, false, not, List, length, get_or, drop, take, sym, ap, subst, arith, inl, inr, length-drop}
 use Rattle.std.specs.List.{prefix_len, suffix_len}
 use Rattle.std.proofs.lemmas.Bool.{cases_lt, not-true, not-false}
@@ -10,11 +10,11 @@ use Rattle.cal_text.specs.headline.Words.{is_blank}
 use Rattle.cal_text.proofs.General.{in_suffix}
 use Rattle.cal_spec.specs.FaultSpan.{IsWordAt}
 
--- the byte after the text without its trailing blanks is one of these blanks
+-- if a text has trailing blanks, the byte at which they begin is a blank
 pub trailing_blank : (text : List ℕ) (end : ℕ) → end ≡ length text - suffix_len is_blank text → end < length text → is_blank (get_or text end 0) ≡ true
 trailing_blank text end e within = in_suffix is_blank text end 0 (omega arith) within
 
--- what `&text[from..]` is
+-- `&text[from..]` is the text without its first `from` bytes
 pub rest_from : (text : List ℕ) (from : ℕ) → take (length text - from) (drop from text) ≡ drop from text
 rest_from text from = take_all (length text - from) (drop from text) (omega (arith, length-drop from text))
 
@@ -36,7 +36,7 @@ word_is_solid text start end e i after before =
     ∙ ap is_blank (sym (get_or-drop start text (i - start) 0))
     ∙ not-true (is_blank (get_or (drop start text) (i - start) 0)) (prefix_len_passes (λ b. not (is_blank b)) (drop start text) (i - start) 0 (omega arith))
 
--- the byte after the next word is a blank
+-- the byte after the next word is a blank, unless the text ends there
 pub word_ends : (text : List ℕ) (start end : ℕ) → end ≡ start + prefix_len (λ b. not (is_blank b)) (drop start text) → end < length text → is_blank (get_or text end 0) ≡ true
 word_ends text start end e within =
     ap (λ k. is_blank (get_or text k 0)) e
@@ -44,7 +44,7 @@ word_ends text start end e within =
     ∙ not-false (is_blank (get_or (drop start text) (prefix_len (λ b. not (is_blank b)) (drop start text)) 0))
     (prefix_len_stops (λ b. not (is_blank b)) (drop start text) 0 (omega (arith, length-drop start text)))
 
--- if the next word is empty, only blanks are left
+-- if there is no next word, all bytes from `from` on are blanks
 pub only_blanks : (text : List ℕ) (from start : ℕ) → start ≡ from + prefix_len is_blank (drop from text) → prefix_len (λ b. not (is_blank b)) (drop start text) ≡ 0
     → from ≤ length text → (i : ℕ) → from ≤ i → i < length text → is_blank (get_or text i 0) ≡ true
 only_blanks text from start e none inside i after within =
@@ -59,7 +59,7 @@ only_blanks text from start e none inside i after within =
           absurd (cc)
     ]
 
--- a word that ends after `from`, and not after the next word, is the next word
+-- a word that doesn't end after the next word ends at or before `from`, or where the next word ends
 pub earlier_word : (text : List ℕ) (from start end s e : ℕ) → end ≤ length text
     → ((i : ℕ) → from ≤ i → i < start → is_blank (get_or text i 0) ≡ true)
     → ((i : ℕ) → start ≤ i → i < end → is_blank (get_or text i 0) ≡ false)
@@ -86,8 +86,8 @@ earlier_word text from start end s e inside gap solid w before =
           ]
     ]
 
--- if only blanks follow `from`, and a byte which isn't a blank comes before it, the text up to `from` is the text without
--- its trailing blanks
+-- if only blanks follow `from`, and the byte before `from`, if there is one, isn't a blank, then the text up to `from`
+-- is the text without its trailing blanks
 pub trimmed_at : (text : List ℕ) (from : ℕ) → from ≤ length text → ((i : ℕ) → from ≤ i → i < length text → is_blank (get_or text i 0) ≡ true)
     → (0 < from → is_blank (get_or text (from - 1) 0) ≡ false) → trim_end_matches is_blank text ≡ take from text
 unfolding trim_end_matches
@@ -95,7 +95,8 @@ trimmed_at text from inside blanks solid =
     let size = suffix_len_is is_blank text from 0 inside blanks solid in
     ap (λ n. take n text) (omega (arith, size))
 
--- what holds of the end of each word up to `from` holds of the end of each word before the end of the next word
+-- if `P` is true of the end of each word that ends at or before `from`, it is true of the end of each word that ends
+-- before the next word does
 pub accepted_before : (P : ℕ → Type 0) (text : List ℕ) (from start end : ℕ) → end ≤ length text
     → ((i : ℕ) → from ≤ i → i < start → is_blank (get_or text i 0) ≡ true)
     → ((i : ℕ) → start ≤ i → i < end → is_blank (get_or text i 0) ≡ false)
@@ -106,7 +107,8 @@ accepted_before P text from start end inside gap solid so_far s e w before =
       | inr same ↦ absurd (omega arith)
     ]
 
--- and if it holds of the end of the next word, then of the end of each word up to there
+-- if `P` is also true of the end of the next word, it is true of the end of each word that ends at or before the end of
+-- the next word
 pub accepted_up_to : (P : ℕ → Type 0) (text : List ℕ) (from start end : ℕ) → end ≤ length text
     → ((i : ℕ) → from ≤ i → i < start → is_blank (get_or text i 0) ≡ true)
     → ((i : ℕ) → start ≤ i → i < end → is_blank (get_or text i 0) ≡ false)
@@ -117,7 +119,8 @@ accepted_up_to P text from start end inside gap solid so_far here s e w before =
       | inr same ↦ subst (λ (k : ℕ). P k) (sym same) here
     ]
 
--- if only blanks follow `from`, the text without its trailing blanks is empty or is the text up to `from`
+-- if only blanks follow `from`, and the text up to `from` is valid, then the text without its trailing blanks is empty
+-- or valid
 pub trimmed_valid : (valid : List ℕ → Bool) (text : List ℕ) (from : ℕ) → from ≤ length text → ((i : ℕ) → from ≤ i → i < length text → is_blank (get_or text i 0) ≡ true)
     → (0 < from → is_blank (get_or text (from - 1) 0) ≡ false) → (0 < from → valid (take from text) ≡ true)
     → true ≡ (length (trim_end_matches is_blank text) == 0) || valid (trim_end_matches is_blank text)

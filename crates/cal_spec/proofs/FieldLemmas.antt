@@ -178,7 +178,7 @@ is_week (Some word) days at =
     let found = weekdays_found word days at in
     rw found.is at (week_of_items (without_comma word) found.items found.read)
 
--- The zone that parsing returns is valid
+-- Parsing a zone returns a valid zone
 
 name_kept : (word : List ℕ) (utc : Bool) → is_zone_name word ≡ true → is_zone_name (cond utc (codes "UTC") word) ≡ true
 unfolding is_zone_name
@@ -333,7 +333,7 @@ valid_with weekdays d h name week date time zone_is = record {
   zone = zone_is;
 }
 
--- if parsing a text returns the fields `f`, these are valid
+-- parsing a text returns valid fields
 pub valid_fields : (text : List ℕ) (f : Fields) → fields_in text ≡ Ok f → IsValidFields f
 valid_fields text f at =
     let found = text_found text f at in

@@ -1,4 +1,4 @@
--- The printed normal form has fewer than 4,096 bytes.
+-- The printed normal form of valid fields has fewer than 4,096 bytes.
 use Rattle.std.proofs.Common.{◌≡◌, ℕ, zero, suc, ◌+◌, ◌-◌, ◌*◌, ◌/◌, ◌^◌, ◌<◌, ◌≤◌, Bool, true, false, nat_le, List, [], ◌∷◌, ◌++◌, length, codes, Option, None, Some, refl, sym, subst, lit≤, arith, length-append}
 use Rattle.std.specs.Fmt.{decimal}
 use Rattle.std.specs.List.{AllByRecursion, flat_map}
@@ -29,12 +29,12 @@ use Rattle.cal_text.proofs.General.{check_all, each_checked}
 
 -- The numbers in a normal form are small
 
--- a number is below a bound, if there is a number; a part is "small" if its start and end are below 10,000 and its step
--- is below 1,000
+-- if there is a number, it is below `bound`
 abbrev pub IsBelow : ℕ → Option ℕ → Type 0
 IsBelow bound None = Unit {0}
 IsBelow bound (Some n) = n < bound
 
+-- a small part: its numbers have so few digits that the length of its text can be bounded
 pub record IsSmall (p : Part) : Type 0 where
   pub start : p.start < 10_000
   pub end : IsBelow 10_000 p.end
@@ -100,7 +100,7 @@ unfolding normal_second
 small_second None h = tt
 small_second (Some ps) h = small_starred (normal_parts ps) (starred (normal_parts ps)) (starred_is (normal_parts ps)) (small_component Second (Some ps) h)
 
--- How long the text of small parts is
+-- Upper bounds for the length of the text of small parts
 
 number_length : (lead : List ℕ) (width most n : ℕ) → 0 < most → width ≤ most → n < 10 ^ most → n < 10_000 → length (number_text lead width n) ≤ length lead + most
 unfolding number_text
@@ -169,7 +169,7 @@ fields_length f year month day hour minute second few =
     let lg = row_length (codes ":") 2 f.second (omega arith) second in
     omega (arith, lead_length f.from_end, length-append a (b ++ (c ++ (d ++ (e ++ (g ++ []))))), length-append b (c ++ (d ++ (e ++ (g ++ [])))), length-append c (d ++ (e ++ (g ++ []))), length-append d (e ++ (g ++ [])), length-append e (g ++ []), length-append g [])
 
--- How long the text of weekdays is, checked by computing it for each set of weekdays
+-- The text of weekdays has at most 20 bytes, which is checked by computing it for each set of weekdays
 
 short_weekdays : check_all 7 (λ days. nat_le (length (weekdays_text days)) 20) ≡ true
 unfolding weekdays_text runs_text run_text name_of
@@ -195,7 +195,6 @@ expr_length f valid year month day hour minute second =
     let lc = zone_length f.zone valid.zone in
     omega (arith, length-append a (b ++ (c ++ [])), length-append b (c ++ []), length-append c [])
 
--- the printed normal form has fewer than 4,096 bytes
 pub normal_length : (f : Fields) → IsValidFields f → length (expr_text (normal_fields f)) < 4_096
 unfolding normal_fields
 normal_length f valid =

@@ -24,7 +24,6 @@ use Rattle.cal_spec.proofs.NormalLemmas.{part_eq_exact, part_exact, part_total, 
 use Rattle.cal_spec.proofs.OrderLemmas.{has_in_order, sorted_in_order}
 use Rattle.cal_spec.proofs.ReducedLemmas.{normal_stays, reduced_is, reduced_normal, reduced_only, reduced_sound}
 
--- if `x` is in a list, `g x` is in the list that `map g` returns for it
 has_map : {A B : Type 0} (g : A → B) (xs : List A) (x : A) → Has xs x → Has (map g xs) (g x)
 has_map g [] x h = absurd h
 has_map g (y ∷ ys) x h = elim h [ inl same ↦ inl (ap g same) | inr k ↦ inr (has_map g ys x k) ]
@@ -92,8 +91,8 @@ normal_fixed ps h =
 pub normal_twice : (raw : List Part) → AllByRecursion IsPart raw → normal_parts (normal_parts raw) ≡ normal_parts raw
 normal_twice raw all = normal_fixed (normal_parts raw) (are_normal raw all)
 
--- a list into which a part is inserted is not empty, and it has at most one part more than before; this is the
--- induction step
+-- the induction step of `length-insert_key`: inserting a part returns a list that isn't empty and has at most one part
+-- more
 length_inserted : (o : Ordering) (x y : Part) (ys more : List Part) → 0 < length more → length more ≤ length ys + 1
     → (0 < length (match_ordering o (x ∷ y ∷ ys) (y ∷ ys) (y ∷ more))) × (length (match_ordering o (x ∷ y ∷ ys) (y ∷ ys) (y ∷ more)) ≤ length (y ∷ ys) + 1)
 length_inserted Less x y ys more some few = (omega arith, omega arith)
@@ -140,7 +139,6 @@ component_twice : (c : Option (List Part)) → AreParts c → normal_component (
 component_twice None h = refl
 component_twice (Some ps) h = ap Some (normal_twice ps h)
 
--- if `part_eq` returns `false` for `p` and `0/1`, the list of only `p` is not the list of only `0/1`
 not_each : (p : Part) → part_eq p each ≡ false → p ∷ [] ≡ each ∷ [] → ⊥
 not_each p other same = let is : part_eq p each ≡ true = (let e : p ≡ each = cc in ap (λ q. part_eq q each) e) in cc
 
@@ -254,7 +252,7 @@ fields_twice f valid =
     let from_end = from_end_twice f.from_end f.day in
     rw (year, month, day, hour, minute, second, from_end) refl
 
--- if fields are valid, `normal_fields` returns a normal form of them as `IsNormalFieldsOf` defines it
+-- for valid fields, `normal_fields` returns a normal form in the sense of `IsNormalFieldsOf`
 pub fields_are : (f : Fields) → IsValidFields f → IsNormalFieldsOf f (normal_fields f)
 unfolding normal_fields
 fields_are f valid = record {

@@ -47,7 +47,7 @@ pub record IsReadable (f : Fields) : Type 0 where
   pub minute : AreSmall f.minute
   pub second : AreSmall f.second
 
--- The printed fields are the word of the date, a space, and the word of the time
+-- The printed date and time are a word for the date, a space, and a word for the time
 
 date_word : Fields → List ℕ
 date_word f = component_text 4 f.year ++ (45 ∷ (component_text 2 f.month ++ (day_lead f.from_end ++ component_text 2 f.day)))
@@ -66,8 +66,8 @@ unfolding fields_text row_text date_word time_word
 fields_printed f =
     layout (day_lead f.from_end) (component_text 4 f.year) (component_text 2 f.month) (component_text 2 f.day) (component_text 2 f.hour) (component_text 2 f.minute) (component_text 2 f.second)
 
--- The bytes that can occur in a date or in a time: those of components, and separators. None of them is a letter or a
--- blank.
+-- The bytes that can occur in a date or in a time: the bytes of components, and separators. None of them is a letter or
+-- a blank.
 
 abbrev is_date_byte : ℕ → Bool
 is_date_byte b = is_component_byte b || (nat_eq b 45 || nat_eq b 126)
@@ -180,7 +180,7 @@ time_printed f h = record {
   second = component_printed Second 2 f.second h.valid.second h.second;
 }
 
--- The words of the printed date, time and zone
+-- Splitting the printed date, time and zone into words
 
 word_first : (w rest : List ℕ) → list_any is_blank w ≡ false → 0 < length w → words (w ++ (32 ∷ rest)) ≡ w ∷ words rest
 unfolding words

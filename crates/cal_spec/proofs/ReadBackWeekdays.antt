@@ -71,10 +71,10 @@ some_days days some chosen good =
     let none : not (list_any (λ d. d) days) ≡ false = ap not chosen in
     sym (ap (λ b. b || is_read_back (runs_text (runs_from 0 days)) days) none) ∙ (sym (cond-false (list_all (λ d. d) days) _ _ some) ∙ good)
 
--- if all seven weekdays are in the set, it is the set that is used if there is no weekday list
+-- the set of all seven weekdays is the one that is used if there is no weekday list
 pub weekdays_all : (days : List Bool) → length days ≡ 7 → list_all (λ d. d) days ≡ true → map (λ day. true) week ≡ days
 weekdays_all days seven all = all_days days all (each_checked 7 good_days days all_good seven)
 
--- if some of the weekdays are in a set, but not all, parsing the text of the set returns the set
+-- if a set contains some of the weekdays but not all, parsing its text returns the set
 pub weekdays_some : (days : List Bool) → length days ≡ 7 → list_all (λ d. d) days ≡ false → list_any (λ d. d) days ≡ true → ReadsDays (runs_text (runs_from 0 days)) days
 weekdays_some days seven some chosen = reads_days (runs_text (runs_from 0 days)) days (some_days days some chosen (each_checked 7 good_days days all_good seven))

@@ -1,11 +1,11 @@
--- Consecutive parsers, each of which may fail.
+-- Parsers that run one after the other: if all of them together succeed, each of them succeeds.
 use Rattle.std.proofs.Common.{◌≡◌, Bool, true, false, cond, Option, Some, None, Ok, Err, refl}
 use Rattle.std.specs.Prelude.{Result}
 use Rattle.cal_text.specs.AndThen.{◌>>=◌}
 use Rattle.cal_spec.specs.Reads.{unless}
 use Rattle.cal_spec.specs.declared.spec_fault.SpecFault.{SpecFault}
 
--- the first of two consecutive parsers returns some value, and for this value the second returns `y`
+-- the first of two parsers returns some value, and for this value the second returns `y`
 pub record Follows {A B E : Type 0} (r : Result A E) (f : A → Result B E) (y : B) : Type 0 where
   pub value : A
   pub first : r ≡ Ok value
@@ -23,7 +23,7 @@ pub cond_ok : {A : Type 0} (test : Bool) (e : SpecFault) (r : Result A SpecFault
 cond_ok true e r y at = cc
 cond_ok false e r y at = (refl, at)
 
--- Three and four consecutive parsers
+-- Three and four parsers that run one after the other
 
 pub record Three {A B C D : Type 0} (r : Result A SpecFault) (g : A → Result B SpecFault) (h : A → B → Result C SpecFault) (k : A → B → C → D) (y : D) : Type 0 where
   pub a : A

@@ -15,7 +15,7 @@ use Rattle.cal_spec.specs.declared.spec_fault.SpecFault.{SpecFault}
 use Rattle.cal_civil.specs.headline.Weekday.{name_of}
 use Rattle.cal_spec.specs.declared.spec_fault.SpecFault.TheVariants.{Empty, BadWeekday, BadDate, BadTime, FractionalSecond, NumberTooLarge, OutOfField, BackwardRange, ZeroRepeat, NoRepeat, TooManyParts, StrayWord, UnknownShorthand}
 
--- a text and the error of parsing it
+-- a text, and the error that parsing it returns
 abbrev Row : Type 0
 Row = List ℕ × SpecFault
 

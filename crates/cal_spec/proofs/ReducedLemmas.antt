@@ -1,4 +1,5 @@
--- The normal form of a part: a range ends at the last number that it reaches, and it matches the same values as before.
+-- The normal form of a part: a range ends at the last number that it reaches, and the part matches the same values as
+-- before.
 use Rattle.std.proofs.Common.{◌≡◌, ℕ, ◌+◌, ◌-◌, ◌*◌, ◌/◌, ◌%◌, ◌<◌, ◌≤◌, cond, Bool, true, false, nat_eq, nat_le, Option, None, Some, refl, ap, ◌∙◌, inl, inr, arith}
 use Rattle.std.proofs.Math.Nat.{mul-le-mul_right, mul-mod_left}
 use Rattle.std.proofs.lemmas.Bool.{ne_eqb, eqb-true, eqb-false, leb-true, le-leb, and_parts, and_from, cases_lt}
@@ -42,8 +43,8 @@ pub step_positive : (step : Option ℕ) → IsStep step → 0 < step_of step
 step_positive None h = omega arith
 step_positive (Some r) h = h
 
--- if the range of a part isn't backwards and its step isn't zero, `reduced_to` returns its normal form as `IsReducedTo`
--- defines it
+-- if a part's range doesn't run backwards and its step isn't zero, `reduced_to` returns a normal form in the sense of
+-- `IsReducedTo`
 reduced_is_to : (a : ℕ) (end step : Option ℕ) → EndsAfter a end → IsStep step → IsReducedTo a end step (reduced_to a end step)
 reduced_is_to a None step forward steps = refl
 reduced_is_to a (Some b) step forward steps =

@@ -12,11 +12,9 @@ abbrev pub begins_with : (ℕ → Bool) → List ℕ → Bool
 begins_with p [] = false
 begins_with p (b ∷ bs) = p b
 
--- a digit is not a point
 pub digit_no_point : (b : ℕ) → is_ascii_digit b ≡ true → is_point b ≡ false
 digit_no_point b digit = ne_eqb b 46 (λ e. omega (arith, leb-true 48 b (and_parts (leb 48 b) (leb b 57) digit).0))
 
--- the symbols of a digit and a text after it are those of the text, with the digit put before them by `with_digit`
 pub symbols_digit : (b : ℕ) (bs : List ℕ) → is_ascii_digit b ≡ true → symbols (b ∷ bs) ≡ with_digit b (symbols bs)
 symbols_digit b [] digit = rw digit refl
 symbols_digit b (c ∷ bs) digit = rw (digit_no_point b digit, digit) refl

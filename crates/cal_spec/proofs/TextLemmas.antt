@@ -13,7 +13,7 @@ pub parts_text-first : (width : ℕ) (p : Part) (ps : List Part) → parts_text 
 unfolding parts_text
 parts_text-first width p ps = refl
 
--- a part printed with a comma as its `lead` is a comma and then the part printed without a `lead`
+-- the code writes a comma as the `lead` of a part, which gives the same text as a comma and then the part
 pub part_text-comma : (width : ℕ) (p : Part) → part_text (codes ",") width p ≡ codes "," ++ part_text [] width p
 unfolding part_text number_text
 part_text-comma width p = refl

@@ -1,4 +1,4 @@
--- Lemmas which say that trailing blanks don't change the words of a text, nor how it is parsed.
+-- Trailing blanks change neither the words of a text nor, unless they make it too long, how it is parsed.
 use Rattle.std.proofs.Common.{◌≡◌, ◌≤◌, ◌+◌, ◌-◌, ◌∙◌, ℕ, false, true, List, [], ◌∷◌, ◌++◌, length, drop, take, refl, sym, subst, ap, arith, append_assoc, length-drop}
 use Rattle.std.specs.Prelude.{nat_lt}
 use Rattle.std.specs.List.{list_all, suffix_len}

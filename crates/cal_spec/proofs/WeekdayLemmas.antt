@@ -53,7 +53,7 @@ with_day-alone day (r ∷ rs) a =
 with_day-joins : (day last : ℕ) (rs : List Run) → with_day day (record { first = day + 1; last = last } ∷ rs) ≡ record { first = day; last = last } ∷ rs
 with_day-joins day last rs = let same : nat_eq (day + 1) (day + 1) ≡ true = eq-eqb (day + 1) (day + 1) refl in rw same
 
--- if the first day doesn't match, the runs are those of the days after it
+-- if the first day doesn't match, the runs are the runs of the days after it
 pub runs_skip : (day : ℕ) (bs : List Bool) → front bs ≡ 0 → runs_from day bs ≡ runs_from (day + 1) (drop 1 bs)
 runs_skip day [] h = refl
 runs_skip day (true ∷ bs) h = absurd (omega arith)
@@ -91,8 +91,8 @@ unfolding run_text
 led-comma [] = refl
 led-comma (r ∷ rs) = refl
 
--- if `day` matches, the text of the runs from `day` on is that of the run from `day` to `last`, and then that of the
--- runs from `next` on
+-- if `day` matches, the text of the runs from `day` on is the text of the run from `day` to `last`, and then the text
+-- of the runs from `next` on
 pub led-front : (lead : List ℕ) (day last next n : ℕ) (days : List Bool) → n ≡ front (drop day days) → 0 < n → last ≡ day + n - 1 → next ≡ day + (n + 1)
     → led lead (runs_from day (drop day days)) ≡ run_text lead (record { first = day; last = last }) ++ led (codes ",") (runs_from next (drop next days))
 led-front lead day last next zero days e positive at_last at_next = absurd (omega arith)
@@ -106,7 +106,7 @@ led-front lead day last next (suc m) days e positive at_last at_next =
     ∙ ap (λ t. run_text lead (record { first = day; last = day + m }) ++ t) (led-comma (runs_from (day + m + 2) (drop (suc (suc m)) bs)))
     ∙ rw (at_end, after, dropped) refl
 
--- if `day` doesn't match, the text of the runs from `day` on is that of the runs from `next` on
+-- if `day` doesn't match, the text of the runs from `day` on is the text of the runs from `next` on
 pub led-skip : (lead : List ℕ) (day next n : ℕ) (days : List Bool) → n ≡ front (drop day days) → n ≡ 0 → next ≡ day + (n + 1)
     → led lead (runs_from day (drop day days)) ≡ led lead (runs_from next (drop next days))
 led-skip lead day next n days e none at_next =

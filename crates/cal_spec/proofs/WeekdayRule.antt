@@ -251,8 +251,8 @@ items_only (t ∷ ts) (d ∷ items) zip =
     let more = items_only ts items zip.1 in
     ((clear_of is_item_byte is_comma t item_no_comma (item_bytes t d zip.0), more.0), rw (item_only t d zip.0, more.1) refl)
 
--- Removing a trailing comma: a text that ends in a letter is unchanged, and if a comma follows the letter, this comma
--- alone is removed
+-- Removing a trailing comma: a text that ends in a letter is unchanged, and if a comma follows the letter, only this
+-- comma is removed
 
 pub record EndsInLetter (text : List ℕ) : Type 0 where
   pub front : List ℕ

@@ -1,4 +1,4 @@
--- The words of a text are the maximal runs of bytes between its blanks.
+-- `words` returns the words of a text, the maximal runs of bytes that aren't blanks, as `AreWords` describes them.
 use Rattle.std.proofs.Common.{ℕ, ◌<◌, ◌≡◌, Bool, true, false, cond, List, [], ◌∷◌, ◌++◌, length, refl, sym, ap, ◌∙◌, arith}
 use Rattle.std.specs.Prelude.{filter, nat_lt}
 use Rattle.std.specs.List.{list_all, list_any, slice_split, onto_first}
@@ -70,7 +70,6 @@ spread_of [] part parts at =
     rw (← one, ← two) (record { rest = []; whole = refl; ends = tt; clear = refl; are = refl })
 spread_of (x ∷ xs) part parts at = spread_step x xs part parts (is_blank x) refl (spread_of xs) at
 
--- `words` returns the words of a text
 pub words_found : (text : List ℕ) → AreWords text (words text)
 unfolding words
 words_found text =
@@ -99,7 +98,7 @@ words_first w [] word ends =
 words_first w (b ∷ rest) word ends =
     rw (split_at is_blank w b rest word.solid ends, lt-ltb 0 (length w) word.some) (ap (λ more. w ∷ more) (sym (words-blank b rest ends)))
 
--- if `ws` are the words of a text, `words` returns them
+-- no other list satisfies `AreWords`
 pub words_only : (text : List ℕ) (ws : List (List ℕ)) → AreWords text ws → words text ≡ ws
 words_only text [] blanks = words_none text blanks
 words_only text (w ∷ ws) are =

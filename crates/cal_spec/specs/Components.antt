@@ -27,8 +27,8 @@ abbrev pub counted : Slot → Option (List Part) → ℕ
 counted slot None = 0
 counted slot (Some ps) = if is_time slot then length ps - 1 else length ps
 
--- the number of parts that are allowed in a component if `room` counted parts are: one more in an hour, minute or
--- second
+-- the number of parts that a component may have if `room` counted parts are still allowed: one more than `room` in an
+-- hour, minute or second, since its first part isn't counted
 abbrev pub room_in : Slot → ℕ → ℕ
 room_in slot room = if is_time slot then room + 1 else room
 

@@ -1,4 +1,4 @@
--- How contracts see calendar expressions: systemd.time(7), Calendar Events.
+-- Valid expressions in normal form, and how a text is parsed into one: systemd.time(7), Calendar Events.
 use Rattle.std.specs.Prelude.{◌≡◌, ℕ, List, Option, Result, Ok}
 use Rattle.cal_spec.specs.headline.Fields.{Fields}
 use Rattle.cal_spec.specs.Grammar.{fields_in}

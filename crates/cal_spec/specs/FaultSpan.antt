@@ -1,9 +1,9 @@
--- The places of the words in a text.
+-- Where the words of a text are, as ranges of bytes.
 use Rattle.std.specs.Prelude.{◌≡◌, ◌<◌, ◌≤◌, ◌+◌, ℕ, true, false, List, length, slice_index}
 use Rattle.cal_text.specs.headline.Words.{is_blank}
 
--- the bytes from `start` up to `end` are a word: there is at least one, and none of them is a blank; the byte before them
--- is a blank, unless they begin the text, and the byte after them is a blank, unless they end it
+-- the bytes `start..end` are a word: there is at least one of them, none of them is a blank, and they are not part of a
+-- longer word, since the byte before them and the byte after them, if there are such bytes, are blanks
 pub record IsWordAt (text : List ℕ) (start end : ℕ) : Type 0 where
   pub some : start < end
   pub within : end ≤ length text

@@ -1,6 +1,5 @@
--- All checks of an expression in their documented order, each independent of the others: systemd.time(7), Calendar
--- Events. A check is `None` if it passes, and otherwise its error. The error of an invalid text is that of the first
--- check that fails.
+-- The list of all checks of an expression, in their documented order: systemd.time(7), Calendar Events. A check that
+-- passes is `None`, and a check that fails is its error. The error of an invalid text is the first error in the list.
 use Rattle.std.specs.Prelude.{ℕ, ◌+◌, ◌-◌, nat_lt, if◌then◌else◌, List, [], ◌∷◌, ◌++◌, length, map, Option, None, Some, Result, Ok, Err}
 use Rattle.std.specs.List.{slice_split}
 use Rattle.std.specs.Result.{result_err}
@@ -27,17 +26,18 @@ use Rattle.cal_spec.specs.declared.spec_fault.SpecFault.TheVariants.{Empty, Text
 abbrev pub pieces_of : List ℕ → List (List ℕ)
 pieces_of text = slice_split is_comma text
 
--- the number of counted parts of a component, from its text
+-- the number of counted parts of a component, counted in its text
 abbrev pub numbered : Slot → List ℕ → ℕ
 numbered slot text =
     if is_star text then 0 else (if is_time slot then length (pieces_of text) - 1 else length (pieces_of text))
 
--- the number of a component's first part, after `before` counted parts of earlier components: counted parts are
--- numbered from 1, and the first part of an hour, minute or second, which isn't counted, gets the number `before`
+-- the number that a component's first part gets if the components before it have `before` counted parts; counted parts
+-- are numbered from 1, and the first part of an hour, minute or second, which isn't counted, gets the number `before`
 abbrev pub first_number : Slot → ℕ → ℕ
 first_number slot before = if is_time slot then before else before + 1
 
--- the check of a part's syntax; a part with a number above 240 is one too many, whatever its syntax
+-- the check of the syntax of the part that has the number `number`; a part whose number is above 240 is one too many,
+-- and then its syntax isn't checked
 abbrev pub shape_fault : Slot → ℕ → List ℕ → Option SpecFault
 shape_fault slot number text = if nat_lt most_counted number then Some TooManyParts else result_err (part_of slot text)
 

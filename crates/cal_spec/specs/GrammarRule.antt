@@ -1,4 +1,4 @@
--- Words, and texts that consist of words with blanks between them.
+-- The words of a text as a relation, which says what they are and not how to find them.
 use Rattle.std.specs.Prelude.{ℕ, ◌<◌, ◌≡◌, true, false, List, [], ◌∷◌, ◌++◌, length, ⊤}
 use Rattle.std.specs.List.{list_all, list_any}
 use Rattle.cal_text.specs.headline.Words.{is_blank}

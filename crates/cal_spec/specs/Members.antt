@@ -1,10 +1,9 @@
--- The values that a component matches, by the name of the component.
+-- The values that a component matches, if a `Field` says which component.
 use Rattle.std.specs.Prelude.{ℕ, Bool}
 use Rattle.cal_spec.specs.headline.Match.{Sets}
 use Rattle.cal_spec.specs.declared.field.Field.{Field}
 use Rattle.cal_spec.specs.declared.field.Field.TheVariants as field
 
--- the values that the component of this name matches
 abbrev pub members_of : Field → Sets → ℕ → Bool
 members_of field.Year sets = sets.year
 members_of field.Month sets = sets.month

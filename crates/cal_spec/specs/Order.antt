@@ -1,4 +1,4 @@
--- Sorting of a list, without duplicates.
+-- Sorting a list and removing its duplicates.
 use Rattle.std.specs.Prelude.{List, [], ◌∷◌}
 use Rattle.std.specs.BTreeSet.{insert_key}
 use Rattle.std.specs.declared.cmp.Ordering.{Ordering}

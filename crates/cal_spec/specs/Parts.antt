@@ -13,9 +13,9 @@ use Rattle.cal_spec.specs.declared.spec_fault.SpecFault.TheVariants.{BadDate, Ba
 use Rattle.cal_spec.specs.headline.Parts.{most}
 use Rattle.cal_text.specs.headline.Separators.{is_point}
 
--- Slots
+-- Kinds of slots
 
--- whether the slot is that of an hour, a minute or a second
+-- whether the slot is the hour, the minute or the second
 abbrev pub is_time : Slot → Bool
 is_time Hour = true
 is_time Minute = true
@@ -34,7 +34,7 @@ is_from_end slot = false
 abbrev pub bad : Slot → SpecFault
 bad slot = if is_time slot then BadTime else BadDate
 
--- Symbols
+-- Splitting a text into symbols
 
 abbrev pub is_slash : ℕ → Bool
 is_slash b = b == 47
@@ -59,13 +59,14 @@ lone b = if is_point b then point else (if is_slash b then slash else other b)
 abbrev pub with_byte : ℕ → List Symbol → List Symbol
 with_byte b ss = if is_ascii_digit b then with_digit b ss else lone b ∷ ss
 
--- splits a text into symbols; two consecutive points are one symbol, taken from the left, so `...` is `..` and then `.`
+-- splits a text into symbols; two consecutive points are one symbol, and they are paired from the left, so `...` is
+-- `..` and then `.`
 abbrev pub symbols : List ℕ → List Symbol
 symbols [] = []
 symbols (b ∷ []) = with_byte b []
 symbols (b ∷ c ∷ bs) = if is_point b && is_point c then dots ∷ symbols bs else with_byte b (symbols (c ∷ bs))
 
--- Syntax: `a`, `a/r`, `a..b` and `a..b/r`
+-- Parsing the symbols of a part: `a`, `a/r`, `a..b` or `a..b/r`
 
 abbrev pub starts_with_point : List Symbol → Bool
 starts_with_point (point ∷ ss) = true
@@ -114,12 +115,12 @@ after_start slot a ss = Err (bad slot)
 unfoldable pub part_of : Slot → List ℕ → Result Part SpecFault
 part_of slot text = number_due slot (symbols text) >>= λ a. after_start slot a.number a.after
 
--- Checks of the values
+-- Checking the values of a part
 
 abbrev pub is_within : Slot → ℕ → Bool
 is_within slot n = nat_le (least slot) n && nat_le n (greatest slot)
 
--- whether the slot doesn't allow the start or the end of a part
+-- whether the start or the end of a part is a number that the slot doesn't allow
 abbrev pub is_outside : Slot → ℕ → Option ℕ → Bool
 is_outside slot a None = not (is_within slot a)
 is_outside slot a (Some b) = not (is_within slot a && is_within slot b)

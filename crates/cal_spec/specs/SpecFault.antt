@@ -3,7 +3,7 @@ use Rattle.std.specs.Prelude.{ℕ, List, [], codes}
 use Rattle.cal_spec.specs.declared.spec_fault.SpecFault.{SpecFault}
 use Rattle.cal_spec.specs.declared.spec_fault.SpecFault.TheVariants.{Empty, TextTooLong, BadWeekday, BadDate, BadTime, FractionalSecond, NumberTooLarge, OutOfField, BackwardRange, ZeroRepeat, NoRepeat, TooManyParts, StrayWord, UnknownShorthand, NoMemory}
 
--- the message for users
+-- the message of an error, which is empty only for `NoMemory`
 abbrev pub message_of : SpecFault → List ℕ
 message_of Empty = codes "empty expression"
 message_of TextTooLong = codes "expression longer than 4096 bytes"

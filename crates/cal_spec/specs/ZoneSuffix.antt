@@ -14,13 +14,13 @@ abbrev pub suffix_due : Option ZoneSuffix → Result (Option ZoneSuffix) SpecFau
 suffix_due None = Err StrayWord
 suffix_due (Some suffix) = Ok (Some suffix)
 
--- parses the words after the time: there are none, or there is one, which is a zone
+-- parses the words after the time: no words, or one word that is a zone
 abbrev pub suffix_in : List (List ℕ) → Result (Option ZoneSuffix) SpecFault
 suffix_in [] = Ok None
 suffix_in (word ∷ []) = suffix_due (suffix_of word)
 suffix_in words = Err StrayWord
 
--- the zones that parsing a word can return
+-- whether parsing a word can return this zone
 abbrev pub IsSuffix : ZoneSuffix → Type 0
 IsSuffix (of_name name) = (is_zone_name name ≡ true) × (kept_name name ≡ name)
 IsSuffix (ahead seconds) = AreWholeMinutes seconds

@@ -49,7 +49,7 @@ pub(crate) fn count_parts(slot: Slot, component: &Option<Vec<Part>>) -> usize
     }
 }
 
-/// Parses parts separated by commas.
+/// Parses parts separated by commas, and then checks their values.
 #[tactic(auto, unfolding(crate::specs::Components::parts_listed))]
 fn read_listed(alloc: Global, slot: Slot, room: usize, text: &[u8]) -> Result<Vec<Part>, SpecFault>
     requires { room ≤ most_counted }

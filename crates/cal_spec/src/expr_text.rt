@@ -16,8 +16,8 @@ use cal_bytes::{Fill, ShortText, Sink, WriteFault, padding, put_all, put_pieces}
 use cal_civil::push_offset;
 use itoa::Buffer;
 
-/// A component to print: the text before it, the number of digits to which its numbers except steps are padded with
-/// zeros, and its parts (`None` for `*`).
+/// A component to print: the text before it, the least number of digits of its numbers, and its parts (`None` for `*`).
+/// Shorter numbers are padded with zeros, except steps, which are never padded.
 #[derive(Clone, Copy)]
 struct Row<'a> {
     lead: &'a [u8],

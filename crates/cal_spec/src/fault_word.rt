@@ -1,4 +1,4 @@
-//! The word at fault in an invalid expression.
+//! Finding the word at fault in an invalid expression.
 
 ghost use Rattle.std.specs.Prelude.{◌≡◌, ◌+◌, ◌<◌, ◌≤◌, ◌||◌, ◌==◌, ℕ, IfOk, false, is_ok, length, not, slice_index, take, true};
 ghost use Rattle.std.specs.List.{prefix_len, suffix_len};
@@ -12,13 +12,14 @@ use crate::{SpecFault, read_expr};
 use std::alloc::{AllocError, Global};
 use std::ops::Range;
 
-/// Returns the place of the word at fault in an invalid expression, as a range of bytes.
+/// Returns the range of bytes of the word at fault in an invalid expression.
 ///
-/// It is the first word such that the text up to the end of this word is not a valid expression. So the text up to the
-/// end of any earlier word is valid.
+/// The word at fault is the first word such that the text up to its end is not a valid expression. So the text up to
+/// the end of any earlier word is valid.
 ///
-/// Returns `None` if the text has only blanks, or if it is valid without its trailing blanks. Trailing blanks can make a
-/// text invalid only by making it longer than 4,096 bytes, and then no word is at fault. Fails only if allocation fails.
+/// Returns `None` if the text has only blanks, or if it is valid without its trailing blanks. Trailing blanks can make
+/// a text invalid only by making it longer than 4,096 bytes, and then no word is at fault. Fails only if allocation
+/// fails.
 pub fn fault_span(alloc: Global, text: &str) -> Result<Option<Range<usize>>, AllocError>
     ensures word { IfOk result (λ found. IfSome found (λ word. IsWordAt text.now word.start word.end)) }
     ensures rejected { IfOk result (λ found. IfSome found (λ word.
@@ -43,7 +44,7 @@ pub fn fault_span(alloc: Global, text: &str) -> Result<Option<Range<usize>>, All
     Ok(None)
 }
 
-/// Returns whether a text is a valid expression.
+/// Returns whether a text is a valid expression. Fails only if allocation fails.
 fn is_valid(alloc: Global, text: &str) -> Result<bool, AllocError>
     ensures { IfOk result (λ valid. valid ≡ is_ok (expr_in text.now)) }
 {
@@ -71,7 +72,7 @@ fn text_until(text: &str, end: usize) -> &str
     &text[..end]
 }
 
-/// Returns the place of the first word that starts at or after `from`, or `None` if only blanks follow.
+/// Returns the range of bytes of the next word at or after `from`, or `None` if only blanks follow.
 fn next_word(text: &[u8], from: usize) -> Option<Range<usize>>
     requires { from ≤ length text.now }
     ensures none { is_some result ≡ false → (i : ℕ) → from ≤ i → i < length text.now

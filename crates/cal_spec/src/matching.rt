@@ -1,4 +1,4 @@
-//! Tests whether a local second matches the fields of an expression (systemd.time(7), Calendar Events).
+//! Matching: whether the fields of an expression match a local second (systemd.time(7), Calendar Events).
 
 ghost use Rattle.std.specs.Prelude.{◌≡◌, ◌<◌, false, unsigned_abs, slice_index_or};
 ghost use Rattle.jiff_core.specs.Weekday.{monday_zero};
@@ -13,8 +13,8 @@ use crate::slot::{Slot, day_slot};
 use cal_civil::{date_of_day, day_of, second_of_day};
 use jiff_core::civil::{Date, Weekday, days_in_month};
 
-/// Returns whether the fields match the weekday, date and time of the local second `local`, which is in the years 1970
-/// to 2199.
+/// Returns whether the fields match the weekday, date and time of the local second `local`, which must be in the years
+/// 1970 to 2199.
 #[tactic(auto, using(cal_civil::proofs::LocalLemmas::local_arith), unfolding(crate::specs::headline::Match::matches))]
 pub fn has_local(fields: &Fields, local: i64) -> bool
     requires { IsLocalSecond local }

@@ -58,8 +58,8 @@ fn repeats(slot: Slot, start: u16, step: u16, value: u16) -> bool
     }
 }
 
-/// Returns whether `*` matches `value` in this slot. It matches all numbers that the slot allows. If days are counted
-/// from the month's end, it matches 1 to 31, although the slot allows only 1 to 28.
+/// Returns whether `*` matches `value` in this slot. A `*` matches all numbers that the slot allows. For days counted
+/// from the month's end it matches more: 1 to 31, although the slot allows only 1 to 28.
 fn in_field(slot: Slot, value: u16) -> bool
     ensures { result ≡ in_field slot value }
 {

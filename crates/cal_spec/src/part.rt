@@ -1,6 +1,7 @@
 //! Parts of components: single numbers, ranges and repetitions.
 
-/// A part of a component: a single number, a range if it has an end, and a repetition if it has a step.
+/// A part of a component: `a`, `a/r`, `a..b` or `a..b/r`. It is a range if it has an end, a repetition if it has a
+/// step, and a single number if it has neither.
 ///
 /// Parts are ordered by their start, then by their end, then by their step. `None` comes before any number.
 #[derive(Clone, Copy, PartialEq, Eq, PartialOrd, Ord, Debug)]

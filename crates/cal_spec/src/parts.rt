@@ -37,8 +37,8 @@ pub(crate) fn with_values(slot: Slot, part: Part) -> Part
     }
 }
 
-/// Returns the first error of the part's values. They are checked in this order: `OutOfField`, `BackwardRange`,
-/// `ZeroRepeat`, `NoRepeat`.
+/// Returns the first error in the part's values, or `None` if they are valid. The checks are made in this order:
+/// `OutOfField`, `BackwardRange`, `ZeroRepeat`, `NoRepeat`.
 #[tactic(auto, unfolding(crate::specs::Parts::fault_of))]
 pub(crate) fn fault_of(slot: Slot, part: Part) -> Option<SpecFault>
     ensures { result ≡ fault_of slot part }
@@ -74,7 +74,7 @@ fn bad_shape(slot: Slot) -> SpecFault
 }
 
 /// Parses a number at the start of `text`. Returns the number and the text after it. Fails if `text` doesn't begin with
-/// a digit, if the number is above `MAX_NUMBER`, or if a single point follows a number of seconds.
+/// a digit, if the number is above `MAX_NUMBER`, or, in the seconds, if a single point follows the number.
 fn read_number(slot: Slot, text: &[u8]) -> Result<(u16, &[u8]), SpecFault>
     ensures { Gives (λ found. record { number = found.0; after = symbols found.1.now }) result
         (number_due slot (symbols text.now)) }
@@ -168,7 +168,7 @@ fn is_within(slot: Slot, number: u16) -> bool
     slot.least() <= number && number <= slot.greatest()
 }
 
-/// Returns whether the slot doesn't allow the start or the end of a part.
+/// Returns whether the start or the end of a part is a number that the slot doesn't allow.
 fn is_outside(slot: Slot, start: u16, end: Option<u16>) -> bool
     ensures { result ≡ is_outside slot start end }
 {

@@ -28,7 +28,7 @@ const MAX_TEXT_BYTES: usize = 4096;
 /// [`SpecFault::Empty`] if it has no words, then the errors of the words from left to right. Fails with
 /// [`SpecFault::NoMemory`] only if allocation fails; that says nothing about whether the text is valid.
 ///
-/// The zone is a name or a UTC offset, `+hh:mm` or `-hh:mm`. Only the form of the name is checked, not whether a zone
+/// The zone is a name or a UTC offset, `+hh:mm` or `-hh:mm`. Only the syntax of a name is checked, not whether a zone
 /// of that name exists.
 #[tactic(auto, unfolding(crate::specs::Expr::expr_in))]
 pub fn read_expr(alloc: Global, text: &str) -> Result<Expr, SpecFault>

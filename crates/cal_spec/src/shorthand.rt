@@ -48,7 +48,7 @@ impl Shorthand {
         Shorthand::Yearly,
     ];
 
-    /// Returns the names of the shorthand, in lower case. Their case doesn't matter when a word is compared with them.
+    /// Returns the names of the shorthand in lower case. In an expression they may be written in any case.
     fn names(self) -> &'static [&'static [u8]]
         ensures { map (λ name. name.now) result.now ≡ names_of self }
     {

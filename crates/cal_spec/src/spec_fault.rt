@@ -38,7 +38,7 @@ pub enum SpecFault {
     /// The step of a repetition is zero.
     #[error("repetition of zero")]
     ZeroRepeat = 10,
-    /// An open-ended repetition doesn't reach a second number.
+    /// An open-ended repetition, such as `20/4` in the hour, doesn't reach a second number.
     #[error("repetition reaches no further value")]
     NoRepeat = 11,
     /// There are more than 240 parts, not counting the first part of the hour, of the minute and of the second.

@@ -45,7 +45,7 @@ pub(crate) fn read_weekdays(alloc: Global, word: &[u8]) -> Result<[bool; 7], Spe
     Ok(set_of(&items))
 }
 
-/// Parses the items of a weekday list without its trailing comma.
+/// Parses the items of a weekday list from which a trailing comma has been removed.
 fn read_items(alloc: Global, list: &[u8]) -> Result<Vec<WeekdayRange>, SpecFault>
     ensures { GivesUnlessNoMemory (λ items. items.items) result
         (items_of (slice_split is_comma list.now)) }

@@ -17,7 +17,7 @@ use std::alloc::Global;
 /// The zone in which an expression is interpreted.
 #[derive(PartialEq, Eq, Debug, Drop)]
 pub enum ZoneSuffix {
-    /// The zone of this name.
+    /// The zone with this name.
     Name(String),
     /// A fixed UTC offset in seconds.
     Offset(i32),

@@ -33,7 +33,7 @@ pub record IsNumber (text : List ℕ) (n : ℕ) : Type 0 where
   pub value : digits_value 10 text ≡ n
   pub small : n ≤ most
 
--- the text is empty if there is no number; otherwise it is `mark` and then the number
+-- the text is `mark` followed by the number, or empty if there is no number
 abbrev pub IsNext : List ℕ → List ℕ → Option ℕ → Type 0
 IsNext mark text None = text ≡ []
 IsNext mark text (Some n) = (number : List ℕ) × (text ≡ mark ++ number) × IsNumber number n
@@ -135,9 +135,9 @@ given word = option_to_list word
 abbrev pub IsSignless : List ℕ → Type 0
 IsSignless word = begins_with_sign word ≡ false
 
--- `[weekdays] [date] [time] [zone]`, with at least one of the first three. The weekdays begin with a letter; the date
--- and the time don't. The time contains a colon; the date doesn't. After the first word, only a zone begins with `+` or
--- `-`.
+-- `[weekdays] [date] [time] [zone]`, with at least one of the first three. The weekdays begin with a letter and aren't
+-- a shorthand; the date and the time don't begin with a letter. The time contains a colon; the date doesn't. After the
+-- first word, only a zone begins with `+` or `-`.
 pub record ArePlain (ws : List (List ℕ)) (p : WordRoles) (last : Option (List ℕ)) : Type 0 where
   pub date : Option (List ℕ)
   pub time : Option (List ℕ)
@@ -162,7 +162,7 @@ pub record AreShort (ws : List (List ℕ)) (p : WordRoles) (last : Option (List 
   pub time_is : p.time ≡ (expansion_of shorthand).time
   pub rest_is : p.rest ≡ given last
 
--- the zone of an expression as a word: no word, the name of a zone, or a UTC offset
+-- the zone that is written as this word, a name or a UTC offset, or no zone if there is no word
 abbrev pub IsZoneWord : Option (List ℕ) → Option ZoneSuffix → Type 0
 IsZoneWord None suffix = suffix ≡ None
 IsZoneWord (Some word) suffix =
@@ -178,7 +178,7 @@ pub record IsExpression (text : List ℕ) (f : Fields) : Type 0 where
   pub time : IsTime roles.time f
   pub zone : IsZoneWord last f.zone
 
--- the text is an expression that is neither too long nor has too many parts
+-- the text is an expression that isn't too long and doesn't have too many parts
 pub record IsValid (text : List ℕ) (f : Fields) : Type 0 where
   pub short : length text ≤ 4096
   pub expression : IsExpression text f

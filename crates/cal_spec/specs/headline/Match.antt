@@ -16,8 +16,8 @@ pub record Sets : Type 0 where
   pub second : ℕ → Bool
   pub from_end : Bool
 
--- the number that the day field has to match: the day of the month, or its count from the month's end (1 is the last
--- day)
+-- the number that the day component of an expression has to match: the day of the month, or its count from the month's
+-- end (1 is the last day)
 abbrev pub day_value : Bool → Date → ℕ
 day_value from_end date = if from_end then month_length date - date.day + 1 else date.day
 

@@ -32,8 +32,8 @@ values slot a (Some b) (Some r) v = is_step_between a b r (v - a) v
 unfoldable pub part_has : Slot → Part → ℕ → Bool
 part_has slot p v = values slot p.start p.end p.step v
 
--- whether `*` matches v: it matches all numbers of the slot; if days are counted from the month's end, it matches every
--- day from 1 to 31
+-- whether `*` matches v: it matches all numbers that the slot allows, except that it matches every day from 1 to 31 if
+-- days are counted from the month's end
 abbrev pub in_field : Slot → ℕ → Bool
 in_field DayFromEnd v = is_between (least Day) (greatest Day) v
 in_field slot v = is_between (least slot) (greatest slot) v

@@ -9,7 +9,7 @@ use Rattle.cal_spec.specs.headline.Fields.{Fields}
 use Rattle.cal_rising.specs.headline.Elements.{Has}
 use Rattle.cal_spec.specs.declared.part.Part.{Part}
 
--- e is the last number of a, a + r, .. that is at most b
+-- e is the last of the numbers a, a + r, .. that are at most b
 pub record IsLastReached (a b r e : ℕ) : Type 0 where
   pub from : a ≤ e
   pub reached : (e - a) % r ≡ 0
@@ -29,7 +29,7 @@ range_step (Some r) = if r == 1 then None else Some r
 abbrev pub point : ℕ → Part
 point a = record { start = a; end = None; step = None }
 
--- the range from a to e, or the single number a if both are equal
+-- the range from a to e, or the single number a if e is a
 abbrev pub range_to : ℕ → ℕ → Option ℕ → Part
 range_to a e step = if e == a then point a else record { start = a; end = Some e; step = range_step step }
 

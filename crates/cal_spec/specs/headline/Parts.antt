@@ -1,4 +1,5 @@
--- The numbers that a part of a component stands for: systemd.time(7), Calendar Events.
+-- The greatest number that an expression may contain, and the expansion of two-digit years: systemd.time(7), Calendar
+-- Events.
 use Rattle.std.specs.Prelude.{ℕ, ◌+◌, nat_lt, Bool, true, false, if◌then◌else◌}
 use Rattle.std.specs.Option.{option_map}
 use Rattle.cal_spec.specs.declared.part.Part.{Part}
@@ -13,7 +14,7 @@ is_year slot = false
 abbrev pub most : ℕ
 most = 9999
 
--- a two-digit year: 0 to 69 become 2000 to 2069, and 70 to 99 become 1970 to 1999
+-- expands a two-digit year: 0 to 69 become 2000 to 2069, and 70 to 99 become 1970 to 1999; other numbers are unchanged
 abbrev pub with_century : ℕ → ℕ
 with_century n = if nat_lt n 70 then n + 2000 else (if nat_lt n 100 then n + 1900 else n)
 

@@ -13,7 +13,7 @@ abbrev pub IsEndWithin : Slot → Option ℕ → Type 0
 IsEndWithin slot None = Unit {0}
 IsEndWithin slot (Some b) = IsWithin slot b
 
--- a range doesn't end below its start
+-- if the part has an end, it isn't below the start
 abbrev pub EndsAfter : ℕ → Option ℕ → Type 0
 EndsAfter a None = Unit {0}
 EndsAfter a (Some b) = a ≤ b

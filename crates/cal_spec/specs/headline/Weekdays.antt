@@ -6,13 +6,13 @@ use Rattle.jiff_core.specs.Weekday.{monday_zero}
 use Rattle.cal_civil.specs.headline.Weekday.{week}
 use Rattle.cal_spec.specs.declared.weekdays.WeekdayRange.{WeekdayRange}
 
--- the number of days from one weekday to the next occurrence of another
+-- the number of days from one weekday to the next occurrence of another, or 0 if they are the same weekday
 abbrev pub days_until : Weekday → Weekday → ℕ
 days_until day other = (monday_zero other + 7 - monday_zero day) % 7
 
 abbrev pub is_in_weekday_range : Weekday → WeekdayRange → Bool
 is_in_weekday_range day days = nat_le (days_until days.first day) (days_until days.first days.last)
 
--- which weekdays match, from Monday to Sunday
+-- which weekdays are in at least one of the ranges, from Monday to Sunday
 abbrev pub set_of : List WeekdayRange → List Bool
 set_of items = map (λ day. list_any (is_in_weekday_range day) items) week

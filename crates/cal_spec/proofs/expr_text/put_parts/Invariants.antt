@@ -1,5 +1,4 @@
--- The writer hasn't failed, and what is still to be written is the text of the parts from the index on, each after a
--- comma.
+-- The writer hasn't failed, and what is still to be written is a comma and the text of each part from the index on.
 use Rattle.std.proofs.Common.{[], ◌++◌, drop, codes}
 use Rattle.std.specs.List.{flat_map}
 use Rattle.cal_bytes.proofs.PutLemmas.{PutsUpTo}
