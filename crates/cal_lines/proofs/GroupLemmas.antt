@@ -1,12 +1,12 @@
--- Lemmas on the loops that find the lines that are not comments and join physical lines into a logical one.
+-- Lemmas for the loop that skips comments and for the loop that joins physical lines into a logical line.
 use Rattle.std.proofs.Common.{arith, ◌≡◌, ℕ, ◌+◌, Bool, true, false, List, [], ◌∷◌, ◌++◌, map, refl, sym, ap, ◌∙◌, append_assoc, append-nil}
 use Rattle.std.specs.List.{flat_map}
 use Rattle.std.specs.Str.Lines.{lines}
 use Rattle.cal_text.specs.headline.Trim.{trim_start_matches}
 use Rattle.cal_lines.specs.headline.Lines.{Group, Line, continued_by, groups, is_blank_or_return, is_comment, is_continued, joined_line, logical_lines, part_of_line, physical_lines, plain_lines}
 
--- if the first physical line is not a comment, it is the first of the lines that are not comments; the others are those
--- of the text after it
+-- if the first physical line is not a comment, it comes first in `plain_lines`, followed by the lines of the remaining
+-- text that are not comments
 pub plain_here : (n : ℕ) (text line rest : List ℕ) → lines text ≡ line ∷ lines rest → is_comment (trim_start_matches is_blank_or_return line) ≡ false → plain_lines n text ≡ record { number = n; text = trim_start_matches is_blank_or_return line } ∷ plain_lines (n + 1) rest
 unfolding physical_lines plain_lines
 plain_here n text line rest e f = rw (e, f) refl
@@ -29,8 +29,8 @@ abbrev pub after : ℕ → List ℕ → List Group → List Line
 after n front [] = record { number = n; text = front } ∷ []
 after n front (group ∷ rest) = record { number = n; text = front ++ parts_of (group.first ∷ group.more) } ∷ map joined_line rest
 
--- the logical lines that begin with a partly joined one, which has the number `n` and the text `front` so far; the
--- Boolean says whether it continues in the physical lines `ls` or is complete
+-- the logical lines of a text of which the first is partly joined: it has the number `n` and the text `front` so far;
+-- if the Boolean is `true`, it continues in the physical lines `ls`, otherwise it is complete
 abbrev pub goes_on_in : ℕ → List ℕ → Bool → List Line → List Line
 goes_on_in n front true ls = after n front (groups ls)
 goes_on_in n front false ls = record { number = n; text = front } ∷ map joined_line (groups ls)

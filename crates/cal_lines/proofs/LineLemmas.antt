@@ -1,4 +1,4 @@
--- Positions at which a line may be split, and the first line of a text.
+-- Positions at which a line may be split without cutting a UTF-8 character: beside a blank, and before a backslash.
 use Rattle.std.proofs.Common.{◌≡◌, ◌<◌, ◌≤◌, ◌-◌, ℕ, true, List, length, get_or, arith, ◌∙◌, ap, reverse, ◌==◌}
 use Rattle.std.specs.List.{suffix_len}
 use Rattle.std.specs.Str.{IsCharBoundary}

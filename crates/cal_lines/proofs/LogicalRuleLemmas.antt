@@ -14,7 +14,8 @@ use Rattle.cal_lines.specs.LogicalRule.{AreJoined, AreLogical, ArePhysical, Each
 use Rattle.cal_lines.proofs.GroupLemmas.{parts_of}
 use Rattle.cal_lines.proofs.LineRuleLemmas.{are_groups, groups_of_lines, lines_of_groups}
 
--- `numbered_lines`, applied to lines without their leading blanks, returns the physical lines
+-- `numbered_lines`, applied to lines without their leading blanks, returns the physical lines that `ArePhysical`
+-- describes
 pub physical : (number : ℕ) (texts : List (List ℕ)) → ArePhysical number texts (numbered_lines number (map (trim_start_matches is_blank_or_return) texts))
 physical number [] = tt
 physical number (text ∷ texts) = (refl, unindented is_blank_or_return text, physical (number + 1) texts)

@@ -1,4 +1,4 @@
--- Grouping of physical lines into logical ones, as a relation: systemd.syntax(7).
+-- The grouping of physical lines into logical ones, as a relation: systemd.syntax(7).
 use Rattle.std.specs.Prelude.{◌≡◌, true, false, List, [], ◌∷◌}
 use Rattle.std.specs.List.{flat_map}
 use Rattle.cal_lines.specs.headline.Lines.{Group, Line, is_continued}
@@ -7,12 +7,12 @@ use Rattle.cal_lines.specs.headline.Lines.{Group, Line, is_continued}
 abbrev pub lines_of : List Group → List Line
 lines_of = flat_map (λ group. group.first ∷ group.more)
 
--- all these lines but the last are continued, and the last is not
+-- a group that is complete: all its lines but the last are continued, and the last is not
 abbrev pub IsClosed : Line → List Line → Type 0
 IsClosed line [] = is_continued line.text ≡ false
 IsClosed line (next ∷ more) = (is_continued line.text ≡ true) × IsClosed next more
 
--- all these lines but the last are continued; nothing is required of the last
+-- a group that the end of the file may cut off: all its lines but the last are continued, and the last may be, too
 abbrev pub IsOpen : Line → List Line → Type 0
 IsOpen line [] = Unit {0}
 IsOpen line (next ∷ more) = (is_continued line.text ≡ true) × IsOpen next more

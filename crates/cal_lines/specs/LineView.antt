@@ -4,7 +4,6 @@ use Rattle.cal_lines.specs.headline.Lines.{Line}
 use Rattle.cal_lines.specs.declared.lines.LogicalLine.{LogicalLine}
 use Rattle.cal_lines.specs.declared.lines.PlainLine.{PlainLine}
 
--- the line with this number and text
 abbrev pub line_at : ℕ → List ℕ → Line
 line_at number text = record { number = number; text = text }
 

@@ -16,9 +16,9 @@ pub fn one_grouping()
     ensures only { (all : List Group) → AreGroups all → groups (lines_of all) ≡ all }
 {}
 
-/// `logical_lines` returns the logical lines that `AreLogical` describes, and no other list of lines satisfies it: the
-/// physical lines lose their leading blanks, comments are dropped, and each group of continued lines is joined, with a
-/// space in place of each backslash that continues a line.
+/// `AreLogical` describes exactly one list of logical lines for each text, and `logical_lines` returns it: the physical
+/// lines lose their leading blanks, comments are dropped, and each group of continued lines is joined, with a space in
+/// place of each backslash that continues a line.
 pub fn logical_lines_are_those_of_the_rule()
     ensures these { (number : ℕ) (text : List ℕ) → AreLogical number text (logical_lines number text) }
     ensures only { (number : ℕ) (text : List ℕ) (all : List Line) → AreLogical number text all
@@ -26,7 +26,7 @@ pub fn logical_lines_are_those_of_the_rule()
 {}
 
 /// `trim` removes exactly the leading and trailing blanks (spaces, tabs and carriage returns): it removes nothing else,
-/// and its result neither begins nor ends with a blank. No other text satisfies this.
+/// and its result neither begins nor ends with a blank. No other result has both properties.
 pub fn one_trimmed_text()
     ensures this { (text : List ℕ) → IsTrimmed is_blank_or_return text (trim_matches is_blank_or_return text) }
     ensures only { (text trimmed : List ℕ) → IsTrimmed is_blank_or_return text trimmed → trimmed ≡ trim_matches is_blank_or_return text }

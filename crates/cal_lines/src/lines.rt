@@ -1,4 +1,4 @@
-//! Lines of a unit file (systemd.syntax(7)): physical lines, comments, and logical lines.
+//! Splitting a unit file into physical lines, dropping comments, and joining continued lines (systemd.syntax(7)).
 //!
 //! Blanks in this module are spaces, tabs and carriage returns. A physical line that ends in an odd number of
 //! backslashes is continued by the next one that isn't a comment, and the lines joined in this way are one logical

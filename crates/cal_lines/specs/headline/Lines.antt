@@ -6,7 +6,7 @@ use Rattle.std.specs.Str.Lines.{lines}
 use Rattle.cal_text.specs.headline.Trim.{trim_start_matches}
 use Rattle.cal_text.specs.headline.Words.{is_blank}
 
--- a blank or a carriage return
+-- a space, a tab or a carriage return
 abbrev pub is_blank_or_return : ℕ → Bool
 is_blank_or_return b = is_blank b || (b == 13)
 
@@ -66,6 +66,6 @@ joined_line group = record {
   text = part_of_line group.first.text ++ flat_map (λ line. part_of_line line.text) group.more;
 }
 
--- the logical lines of a text
+-- the logical lines of a text whose first physical line has the number `number`
 unfoldable pub logical_lines : ℕ → List ℕ → List Line
 logical_lines number text = map joined_line (groups (plain_lines number text))
