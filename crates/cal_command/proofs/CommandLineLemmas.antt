@@ -1,4 +1,4 @@
--- The command as it is described to `clap`, and what `clap` finds in arguments.
+-- Lemmas about the command that is described to `clap`, and about the results for what `clap` finds in arguments.
 use Rattle.std.proofs.Common.{arith, ◌≡◌, ◌≢◌, List, [], ◌∷◌, ◌++◌, append_assoc, Some, Bool, true, false, refl, sym, ap, ◌∙◌, inl, inr, ◌⊎◌, Result, Ok, Err}
 use Rattle.std.specs.Prelude.{not}
 use Rattle.std.specs.List.{list_any}
@@ -32,8 +32,8 @@ among p kind [] at holds = absurd at
 among p kind (k ∷ ks) (inl same) holds = grind (arith, ap p same)
 among p kind (k ∷ ks) (inr later) holds = grind (arith, among p kind ks later holds)
 
--- if `clap` returns an error of a kind that it may report for the arguments, or out of memory, then the error that is
--- reported for it is right for the arguments, as `IsFaultOf` says
+-- if `clap` returns an error, one that it may report for the arguments or a failed allocation, then the error that is
+-- reported for it is right for the arguments, as `IsFaultOf` defines it
 pub reported_fault : (arguments : List Text) (kind : ErrorKind) (fault : CommandFault) → (takes_arguments arguments ≡ true → kind ≡ OutOfMemory)
     → (kind ≡ OutOfMemory) ⊎ IsAmong kind (faults_in arguments) → IsReportedOf kind fault → IsFaultOf arguments fault
 reported_fault arguments kind (usage text) passes kinds reported =
@@ -45,8 +45,8 @@ reported_fault arguments kind bad_now passes kinds reported = absurd reported
 reported_fault arguments kind bad_zones passes kinds reported = absurd reported
 reported_fault arguments kind bad_local passes kinds reported = absurd reported
 
--- if `clap` parses the arguments, then the result of checking the values that it found is right for the arguments, as
--- `IsAskOf` says
+-- if `clap` parses the arguments, then checking the values that it found has a result that is right for the arguments,
+-- as `IsAskOf` defines it
 pub read_answer : (arguments : List Text) (option_texts : OptionTexts) (answer : Result Ask CommandFault) → faults_in arguments ≡ [] → Some option_texts ≡ parsed_in arguments
     → IsOrNoMemory answer (read_options option_texts) → IsAskOf arguments answer
 unfolding asked_in
@@ -59,7 +59,7 @@ read_answer arguments option_texts (Err bad_zones) none parsed is = (none, rw (�
 read_answer arguments option_texts (Err bad_local) none parsed is = (none, rw (← parsed) (sym is))
 read_answer arguments option_texts (Err no_memory) none parsed is = tt
 
--- if `clap` accepts the arguments, the result is what they ask for, or that memory ran out
+-- if `clap` accepts the arguments, the result is what they ask for or a failed allocation
 pub taken_arguments : (arguments : List Text) (answer : Result Ask CommandFault) → IsAskOf arguments answer → takes_arguments arguments ≡ true
     → (answer ≡ Err no_memory) ⊎ (answer ≡ asked_in arguments)
 taken_arguments arguments (Ok ask) is takes = inr (sym is.1)

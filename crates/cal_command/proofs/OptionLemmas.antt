@@ -1,4 +1,4 @@
--- The parsing of option values.
+-- Lemmas about the parsing of option values: numbers, the present, and the items of `--zones`.
 use Rattle.std.proofs.Common.{◌≡◌, ◌≢◌, ℕ, ◌<◌, ◌≤◌, ◌^◌, List, [], ◌∷◌, length, Option, None, Some, Result, Ok, Err, Bool, true, false, cond, nat_le, ◌==◌, ◌&&◌, get_or, refl, ap, ap₂, sym, ◌∙◌, ◌+◌, lit<, Bor, ◌++◌, map, append-nil, append_assoc, arith, option_map, pos, ℤ, IsSome, IfSome, ◌↔◌}
 use Rattle.std.specs.Prelude.{not}
 use Rattle.std.specs.List.{slice_split}
@@ -31,13 +31,13 @@ pub number_between-plus : (least most : ℕ) (text : List ℕ) → get_or text 0
 unfolding number_between
 number_between-plus least most text at = grind (arith, no_plus text at)
 
--- the number in the result of parsing, if it is in range
+-- the number that parsing returned, if it is from `least` to `most`
 abbrev pub within : {E : Type 0} → ℕ → ℕ → Result ℕ E → Option ℕ
 within least most (Ok n) = cond (nat_le least n && nat_le n most) (Some n) None
 within least most (Err e) = None
 
--- if `text` doesn't begin with `+`, and `most` fits 64 bits, then `number_between` returns the result `r` of `parse`,
--- checked against the range
+-- if `text` doesn't begin with `+`, and `most` fits in 64 bits, then `number_between` returns the number that `parse`
+-- returns, if it is in range
 pub number_between-parsed : (E : Type 0) (least most : ℕ) (text : List ℕ) (r : Result ℕ E) → ParsesUnsigned 64 10 text r → get_or text 0 0 ≢ 43
     → most < 2 ^ 64 → number_between least most text ≡ within least most r
 unfolding number_between
@@ -46,7 +46,6 @@ number_between-parsed E least most text (Ok n) read unsigned small =
 number_between-parsed E least most text (Err e) refused unsigned small =
     grind (arith, nat_tests, parse_plain own {E = E} 64 text (Err e) refused unsigned)
 
--- if `number_between` returns `n`, then `n` is from `least` to `most`
 pub number_between-range : (least most n : ℕ) (text : List ℕ) → Some n ≡ number_between least most text → (least ≤ n) × (n ≤ most)
 unfolding number_between
 number_between-range least most n text is = grind (arith, nat_tests)

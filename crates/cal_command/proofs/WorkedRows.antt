@@ -1,4 +1,4 @@
--- The definitions, evaluated on the examples of arguments.
+-- The examples of `WorkedArguments`, checked by computing the definitions.
 use Rattle.std.proofs.Common.{◌≡◌, ℕ, true, List, Some, Ok, Err, refl}
 use Rattle.clap.proofs.OnLiterals.{clap_on_literals}
 use Rattle.cal_command.specs.Ask.{bad_iterations, help, usage}

@@ -28,7 +28,7 @@ pub record ZoneItem : Type 0 where
   pub name : List ℕ
   pub path : List ℕ
 
--- what the arguments ask for; without a present instant, the system's clock is read
+-- what the arguments ask for; if `now` is None, the present is read from the system's clock
 pub record Ask : Type 0 where
   pub verb : Verb
   pub texts : List (List ℕ)
@@ -58,7 +58,8 @@ shown_ask ask = record {
   zones = map shown_item ask.zones.items;
 }
 
--- the errors for arguments: usage and help with the text of `clap`, an invalid option value, or a failed allocation
+-- the errors for arguments: usage and help, with the text of `clap`; an invalid value of an option; and a failed
+-- allocation
 pub data CommandFault : Type 0 where
   usage : List ℕ → CommandFault
   help : List ℕ → CommandFault
@@ -77,7 +78,7 @@ shown_fault BadZones = bad_zones
 shown_fault BadLocal = bad_local
 shown_fault NoMemory = no_memory
 
--- the result of parsing the arguments
+-- the result of parsing the arguments, with each string as the list of its bytes
 abbrev pub shown_answer : Result declared_ask.Ask declared_fault.CommandFault → Result Ask CommandFault
 shown_answer (Ok ask) = Ok (shown_ask ask)
 shown_answer (Err fault) = Err (shown_fault fault)

@@ -1,10 +1,10 @@
--- The messages of the errors for the command line, in this project's own words.
+-- The messages for errors of the command line, in this project's own words.
 use Rattle.std.specs.Prelude.{ℕ, List, [], codes}
 use Rattle.std.specs.String.{string_bytes}
 use Rattle.cal_command.specs.declared.command_fault.CommandFault.{CommandFault}
 use Rattle.cal_command.specs.declared.command_fault.CommandFault.TheVariants.{Usage, Help, BadIterations, BadNow, BadZones, BadLocal, NoMemory}
 
--- the message of an error: for usage and help the text of `clap`, and empty if memory ran out
+-- the message of an error: the text of `clap` for usage and help, and no text if memory ran out
 abbrev pub message_of : CommandFault → List ℕ
 message_of (Usage text) = string_bytes text
 message_of (Help text) = string_bytes text

@@ -79,11 +79,11 @@ pub record OptionTexts : Type 0 where
   pub local : Option Text
   pub zones : Option Text
 
--- the value of an option, if the verb has this option and it is given
+-- the value of an option, if the verb has this option (`has`) and the option was given
 abbrev pub option_text : Bool → Text → List Row → Option Text
 option_text has name rows = if has then first_of name rows else None
 
--- the texts that are used: for `timer` only the first one, and for other verbs all
+-- the texts that are used: only the first for `timer`, and all for other verbs
 abbrev pub texts_kept : Verb → List Text → List Text
 texts_kept verb texts = if is_timer verb then take 1 texts else texts
 
@@ -112,13 +112,13 @@ option_texts_in = option_and_then (λ found. option_and_then (λ verb. option_te
 unfoldable pub parsed_in : List Text → Option OptionTexts
 parsed_in arguments = option_texts_in (subcommand_of command_app arguments)
 
--- fails with `fault` if the value is invalid, and goes on with the value otherwise
+-- fails with `fault` if the value is invalid, and otherwise continues with the value
 abbrev pub unless_bad : {A : Type 0} → CommandFault → Option A → (A → Result Ask CommandFault) → Result Ask CommandFault
 unless_bad fault None next = Err fault
 unless_bad fault (Some value) next = next value
 
--- what the values ask for, or the error for the first invalid one; the defaults are one elapse, the present of the
--- system's clock, UTC and no zone files
+-- what the values ask for, or the error for the first invalid value; the defaults are one elapse, the present of the
+-- system's clock, no zone files, and UTC
 unfoldable pub read_options : OptionTexts → Result Ask CommandFault
 read_options option_texts =
     unless_bad bad_iterations (option_map_or count_in option_texts.iterations (Some 1)) (λ iterations.
@@ -134,8 +134,8 @@ read_options option_texts =
       zones = zones;
     })))))
 
--- what the arguments ask for, if `clap` parses them; in that case there is a verb with texts, so the default `usage []`
--- is never the result
+-- what the arguments ask for, if `clap` parses them; since there is then a verb with texts, the default `usage []` is
+-- never the result
 unfoldable pub asked_in : List Text → Result Ask CommandFault
 asked_in arguments = option_map_or read_options (parsed_in arguments) (Err (usage []))
 
@@ -163,19 +163,19 @@ IsFaultOf arguments bad_zones = HasRead arguments (Err bad_zones)
 IsFaultOf arguments bad_local = HasRead arguments (Err bad_local)
 IsFaultOf arguments no_memory = ⊤
 
--- `answer` is right for the arguments: what they ask for if `clap` parses them, usage or help if it doesn't, or that
--- memory ran out, which is always possible
+-- `answer` is right for the arguments: it is what they ask for if `clap` parses them, usage or help if `clap` doesn't,
+-- or a failed allocation, which is always possible
 abbrev pub IsAskOf : List Text → Result Ask CommandFault → Type 0
 IsAskOf arguments (Ok ask) = HasRead arguments (Ok ask)
 IsAskOf arguments (Err fault) = IsFaultOf arguments fault
 
--- if `clap` returns an error of this kind, this error may be reported
+-- this error may be reported if `clap` returns an error of this kind
 abbrev pub IsReportedOf : ErrorKind → CommandFault → Type 0
 IsReportedOf kind (usage text) = (is_of_help kind ≡ false) × (kind ≢ OutOfMemory)
 IsReportedOf kind (help text) = (is_of_help kind ≡ true) × (kind ≢ OutOfMemory)
 IsReportedOf kind no_memory = ⊤
 IsReportedOf kind _ = ⊥
 
--- the command with `rules` as further arguments
+-- adds options and positional arguments to the command
 abbrev pub with_rules : App → List Rule → App
 with_rules app rules = record app { top = record app.top { rules = app.top.rules ++ rules } }

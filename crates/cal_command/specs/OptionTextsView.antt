@@ -1,4 +1,4 @@
--- The values that `clap` found, each as the list of its bytes, and what checking them may return.
+-- The texts that `clap` found, each as the list of its bytes, and the results that checking them may have.
 use Rattle.std.specs.Prelude.{◌≡◌, ⊤, Result, Ok, Err}
 use Rattle.std.specs.Option.{option_copied}
 use Rattle.cal_command.specs.Ask.{CommandFault, usage, help, bad_iterations, bad_now, bad_zones, bad_local, no_memory, Ask, texts_of}

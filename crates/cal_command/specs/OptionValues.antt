@@ -27,21 +27,22 @@ unfoldable pub present_in : List ℕ → Option ℤ
 present_in [] = None
 present_in (byte ∷ bytes) = if byte == 64 then option_map pos (number_between 0 (unsigned_abs last_instant) bytes) else None
 
--- the parts of a text before and after the first separator, if there is one
+-- the parts of a text before and after its first separator, or None if there is no separator
 abbrev pub parts_at : (ℕ → Bool) → List ℕ → Option (List ℕ × List ℕ)
 parts_at is_separator text =
     if list_any is_separator text then Some (before_first is_separator text, after_first is_separator text) else None
 
--- the item of `--zones` with this name and path, if the name has the form of a zone's name and the path is not empty
+-- an item of `--zones`, given its name and its path, if the name has the form of a zone's name and the path is not
+-- empty
 abbrev pub named_file : List ℕ × List ℕ → Option ZoneItem
 named_file parts =
     if is_zone_name parts.0 && nat_lt 0 (length parts.1) then Some (record { name = parts.0; path = parts.1 }) else None
 
--- the item of `--zones` in a text `NAME=FILE`, which is split at its first `=`, if the item is valid
+-- parses an item of `--zones`, `NAME=FILE`, which is split at its first `=`
 unfoldable pub zone_item_in : List ℕ → Option ZoneItem
 zone_item_in item = option_and_then named_file (parts_at is_equals item)
 
--- all items, if each of them is valid
+-- parses a list of items; None if one of them is invalid
 unfoldable pub zone_items_in : List (List ℕ) → Option (List ZoneItem)
 zone_items_in [] = Some []
 zone_items_in (item ∷ items) =

@@ -16,12 +16,13 @@ daily_option_texts = record { verb = Calendar; texts = codes "daily" ∷ []; ite
 abbrev pub daily_ask : Ask
 daily_ask = record { verb = Calendar; texts = codes "daily" ∷ []; iterations = 1; base = None; now = None; local = in_utc; zones = [] }
 
--- every option of `calendar`, with the text `daily` between them and `weekly` after them
+-- every option of `calendar`, with the text `daily` among them and the text `weekly` after them
 abbrev pub options_arguments : List (List ℕ)
 options_arguments =
     codes "calendar" ∷ codes "--iterations=3" ∷ codes "--base-time" ∷ codes "now" ∷ codes "daily" ∷ codes "--now" ∷ codes "@5"
     ∷ codes "--zones" ∷ codes "Here=here.tz" ∷ codes "--local" ∷ codes "Here" ∷ codes "weekly" ∷ []
 
+-- what these arguments ask for
 abbrev pub options_ask : Ask
 options_ask = record {
   verb = Calendar;
@@ -33,13 +34,14 @@ options_ask = record {
   zones = record { name = codes "Here"; path = codes "here.tz" } ∷ [];
 }
 
--- an invalid number of elapses
+-- `--iterations=0`, which isn't a valid number of elapses
 abbrev pub none_arguments : List (List ℕ)
 none_arguments = codes "calendar" ∷ codes "--iterations=0" ∷ codes "daily" ∷ []
 
--- `--help`, and `daily` where a verb is expected
+-- a request for help
 abbrev pub help_arguments : List (List ℕ)
 help_arguments = codes "--help" ∷ []
 
+-- `daily` where a verb is expected
 abbrev pub stray_arguments : List (List ℕ)
 stray_arguments = codes "daily" ∷ []

@@ -7,7 +7,7 @@ use std::alloc::AllocError;
 
 /// Why a command line is invalid, or that it only asks for help.
 ///
-/// The variants have these numbers:
+/// The variants have these numbers, which other error types declare with `= N`:
 ///
 /// | Number | Variant |
 /// |---|---|
@@ -20,7 +20,7 @@ use std::alloc::AllocError;
 /// | 7 | `NoMemory` |
 #[derive(Debug, Drop)]
 pub enum CommandFault {
-    /// `clap` can't parse the arguments. The text is the one of `clap`, which says why and how to get help.
+    /// `clap` can't parse the arguments. The text is the message of `clap`, which says why, and how to get help.
     Usage(String),
     /// Help or the version is asked for; this is the text to print.
     Help(String),
@@ -28,9 +28,9 @@ pub enum CommandFault {
     BadIterations,
     /// `--now` isn't `@` and the seconds of an instant.
     BadNow,
-    /// `--zones` isn't a list of 1 to 64 items with a name and a file each.
+    /// `--zones` isn't a list of 1 to 64 items, each with a name and a file.
     BadZones,
-    /// `--local` doesn't have the form of a zone.
+    /// `--local` isn't `UTC`, a UTC offset, a POSIX rule after `posix:`, or a name that has the form of a zone's name.
     BadLocal,
     /// Out of memory.
     NoMemory,
@@ -39,8 +39,8 @@ pub enum CommandFault {
 impl CommandFault {
     ghost use Rattle.cal_command.specs.CommandFault.{message_of};
 
-    /// Returns the message for users: for usage and help the text of `clap`, up to and including its last line feed.
-    /// The message of [`CommandFault::NoMemory`] is empty.
+    /// Returns the message for users. For usage and help it is the text of `clap`, up to and including its last line
+    /// feed. For [`CommandFault::NoMemory`] it is empty.
     pub fn words(&self) -> &str
         ensures { result.now ≡ message_of self.now }
     {

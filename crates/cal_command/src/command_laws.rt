@@ -1,6 +1,6 @@
 //! Laws of the command line: one for all arguments, and two for worked examples.
 //!
-//! A law is a function that does nothing at run time: its contract states a fact.
+//! Each law is a function with an empty body, whose contract states the law.
 
 ghost use Rattle.std.specs.Prelude.{◌≡◌, ◌⊎◌, ℕ, true, List, Some, Result, Ok, Err};
 ghost use Rattle.cal_command.specs.Ask.{CommandFault, Ask, bad_iterations, help, no_memory, usage};
@@ -8,8 +8,8 @@ ghost use Rattle.cal_command.specs.CommandLine.{IsAskOf, asked_in, parsed_in, ta
 ghost use Rattle.cal_command.specs.WorkedArguments.{daily_option_texts, daily_ask, daily_arguments, help_arguments};
 ghost use Rattle.cal_command.specs.WorkedArguments.{none_arguments, options_ask, options_arguments, stray_arguments};
 
-/// If `clap` accepts the arguments, the result is what they ask for, unless allocation fails. It is neither `Usage` nor
-/// `Help`.
+/// If `clap` accepts the arguments, the result is what they ask for or the error for their first invalid value, unless
+/// allocation fails. It is neither `Usage` nor `Help`.
 pub fn taken_arguments_are_answered()
     ensures { (arguments : List (List ℕ)) (answer : Result Ask CommandFault) → IsAskOf arguments answer → takes_arguments arguments ≡ true
         → (answer ≡ Err no_memory) ⊎ (answer ≡ asked_in arguments) }

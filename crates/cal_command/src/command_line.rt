@@ -127,7 +127,8 @@ fn texts_for<'b, 'a>(verb: Verb, values: &'b ArgMatches<'a>) -> Option<&'b [&'a 
     Some(texts_kept(verb, texts))
 }
 
-/// Keeps only the first text of `timer`. `clap` never finds more than one, but this function saves proving it.
+/// Drops all texts of `timer` but the first. `clap` never finds more than one, but dropping the others is easier than
+/// proving that there are none.
 fn texts_kept<'b, 'a>(verb: Verb, texts: &'b [&'a str]) -> &'b [&'a str]
     ensures file { is_timer verb ≡ true → length result.now ≤ 1 }
     ensures value { texts_of result.now ≡ texts_kept verb (texts_of texts.entry.now) }
@@ -139,7 +140,8 @@ fn texts_kept<'b, 'a>(verb: Verb, texts: &'b [&'a str]) -> &'b [&'a str]
     }
 }
 
-/// Returns the value of an option if the verb has the option, which `has` says, and the option was given.
+/// Returns the value of an option. Returns `None` if the option wasn't given, or if `has` is `false`, which means that
+/// the verb doesn't have the option.
 fn option_text<'a>(values: &ArgMatches<'a>, has: bool, name: &str) -> Option<&'a str>
     ensures { option_copied result ≡ option_text has name.now (rows_of (found_of values.now)) }
 {
@@ -170,7 +172,7 @@ fn parse<'a, S: AsStr>(alloc: Global, arguments: &'a [S]) -> Result<ArgMatches<'
     }
 }
 
-/// Converts an error of `clap`. Help and the version are such errors too.
+/// Converts an error of `clap`, which also reports help and the version as errors.
 fn convert_error(alloc: Global, error: &Error) -> CommandFault
     ensures { IsReportedOf (kind_of error.now) (shown_fault result) }
 {
@@ -187,8 +189,8 @@ fn convert_error(alloc: Global, error: &Error) -> CommandFault
     }
 }
 
-/// Returns the text of an error of `clap`, with a line feed added if the text doesn't end in one, as that of the
-/// version. Returns `None` if allocation fails.
+/// Returns the text of an error of `clap`, and adds a line feed if the text doesn't end in one (that of `--version`
+/// doesn't). Returns `None` if allocation fails.
 fn error_text(alloc: Global, error: &Error) -> Option<String> {
     let Ok(mut text) = error.to_string(alloc) else {
         return None;

@@ -1,4 +1,4 @@
-//! The command line of the program.
+//! Parsing of the program's command line (systemd-analyze(1)).
 #![tactic(auto)]
 
 mod ask;

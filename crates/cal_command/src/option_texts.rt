@@ -5,8 +5,8 @@ ghost use Rattle.cal_request.specs.Request.{is_timer, seeks_elapses};
 
 use cal_request::Verb;
 
-/// The texts that `clap` found for a verb, not checked yet. An option that the verb doesn't have is `None`. For `timer`
-/// there is at most one text.
+/// The texts that `clap` found for a verb and its options, not checked yet. An option that the verb doesn't have is
+/// `None`. For `timer` there is at most one text.
 #[derive(Clone, Copy)]
 pub(crate) struct OptionTexts<'b, 'a> {
     pub(crate) verb: Verb,

@@ -1,7 +1,7 @@
 //! The parsing of option values (systemd-analyze(1)).
 //!
-//! The functions whose names end in `_of` take the value of an option that may be missing, and return its default if it
-//! is. The functions whose names end in `_in` parse a value. Both return `None` for an invalid value.
+//! A function whose name ends in `_of` takes the value of an option, or `None` if the option wasn't given; in that case
+//! it returns the default. A function whose name ends in `_in` parses a value. Both return `None` for an invalid value.
 
 ghost use Rattle.std.specs.Prelude.{◌≡◌, ◌≤◌, ◌<◌, ◌==◌, ◌∷◌, [], true, None, Some, length, map, option_map, IfSome, IfOk, string_bytes, vec_len};
 ghost use Rattle.std.specs.List.{slice_split};
@@ -25,7 +25,7 @@ const MAX_ITERATIONS: u64 = 1_000_000;
 /// The maximum number of items of `--zones`.
 const MAX_ZONES: usize = 64;
 
-/// Parses `--iterations`, 1 by default.
+/// Parses the value of `--iterations`. The default is 1.
 pub(crate) fn iterations_of(text: Option<&str>) -> Option<u32>
     ensures value { result ≡ option_map_or count_in (option_copied text.entry) (Some 1) }
     ensures range { IfSome result IsCount }
@@ -47,7 +47,8 @@ pub(crate) fn base_of(alloc: Global, text: Option<&str>) -> Result<Option<String
     }
 }
 
-/// Parses `--now`. Returns `Some(None)` if it isn't given: then the clock of the system is read.
+/// Parses the value of `--now`. Returns `Some(None)` if the option wasn't given; the system's clock is read in that
+/// case.
 pub(crate) fn now_of(text: Option<&str>) -> Option<Option<Instant>>
     ensures { option_map (option_map (λ now. now.secs)) result
         ≡ option_map_or (λ text. option_map Some (present_in text)) (option_copied text.entry) (Some None) }
@@ -58,7 +59,7 @@ pub(crate) fn now_of(text: Option<&str>) -> Option<Option<Instant>>
     }
 }
 
-/// Parses `--zones`, no items by default.
+/// Parses the value of `--zones`. By default there are no items.
 pub(crate) fn zones_of(
     alloc: Global,
     text: Option<&str>,
@@ -72,7 +73,7 @@ pub(crate) fn zones_of(
     }
 }
 
-/// Parses `--local`, UTC by default.
+/// Parses the value of `--local`. The default is UTC.
 pub(crate) fn local_zone_of(
     alloc: Global,
     text: Option<&str>,
@@ -104,7 +105,8 @@ pub(crate) fn present_in(value: &str) -> Option<Instant>
     Instant::new(number as i64)
 }
 
-/// Parses a number from `least` to `most`. Only digits are accepted, so a `+`, which `parse` would take, is rejected.
+/// Parses a number from `least` to `most`. Only digits are accepted, so a leading `+`, which `parse` would accept, is
+/// rejected first.
 fn number_between(text: &str, least: u64, most: u64) -> Option<u64>
     ensures { result ≡ number_between least most text.now }
 {
@@ -149,7 +151,8 @@ fn first_item(text: &str) -> (&str, Option<&str>)
     }
 }
 
-/// Splits an item `NAME=FILE` at its first `=`, if the name has the form of a zone's name and the path isn't empty.
+/// Splits an item `NAME=FILE` at its first `=`. Returns `None` if there is no `=`, if the name doesn't have the form of
+/// a zone's name, or if the path is empty.
 #[tactic(auto, unfolding(crate::specs::OptionValues::zone_item_in))]
 fn zone_item_in(item: &str) -> Option<(&str, &str)>
     ensures value { option_map (λ parts. record { name = parts.0.now; path = parts.1.now }) result ≡ zone_item_in item.now }
@@ -173,7 +176,7 @@ fn zone_item(alloc: Global, name: &str, path: &str) -> Result<ZoneItem, AllocErr
     })
 }
 
-/// Splits the text at the first separator, if there is one.
+/// Splits the text at its first separator. Returns `None` if there is no separator.
 fn parts_at(text: &str, separator: char) -> Option<(&str, &str)>
     requires { separator < 128 }
     ensures { option_map (λ parts. (parts.0.now, parts.1.now)) result ≡ parts_at (λ byte. byte == separator) text.now }
