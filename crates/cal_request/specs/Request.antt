@@ -1,4 +1,4 @@
--- The limits of requests, and what the verbs depend on.
+-- The limits of requests, and the properties of the verbs.
 use Rattle.std.specs.Prelude.{ℕ, ◌≤◌, Bool, true, false}
 use Rattle.cal_request.specs.declared.request.Verb.{Verb}
 use Rattle.cal_request.specs.declared.request.Verb.TheVariants.{Calendar, Timer, Timestamp, Timespan}

@@ -1,4 +1,4 @@
--- The conversion of the code's requests to those of the definitions.
+-- How contracts see a request: with the present and the zones added, and each string as the list of its bytes.
 use Rattle.std.specs.Prelude.{ℤ, map}
 use Rattle.std.specs.String.{string_bytes}
 use Rattle.std.specs.Option.{option_map}

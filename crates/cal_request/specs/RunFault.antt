@@ -1,4 +1,4 @@
--- Which writer failed if a run ended with an error.
+-- Tests for which of a run's two writers failed, if one did.
 use Rattle.std.specs.Prelude.{Bool, true, false, Result, Ok, Err}
 use Rattle.cal_request.specs.declared.request.RunFault.{RunFault}
 use Rattle.cal_request.specs.declared.request.RunFault.TheVariants.{OutFailed, ErrFailed, NoMemory}

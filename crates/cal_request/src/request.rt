@@ -1,9 +1,9 @@
-//! Requests to the program, and how a run ends.
+//! The types of requests and of the ways in which a run ends, as plain data.
 
 ghost use Rattle.std.specs.Prelude.{◌≡◌, None, false, true, vec_len};
 ghost use Rattle.cal_request.specs.Request.{IsCount, is_timer, seeks_elapses};
 
-/// The verb of a request, which says what is reported for each text or for a timer file (systemd-analyze(1)).
+/// The verb of a request, which says what to report for each text or for a timer file (systemd-analyze(1)).
 #[derive(Clone, Copy, PartialEq, Eq, Debug)]
 pub enum Verb {
     /// `calendar`: the normal form of a calendar expression, and its next elapses.
@@ -52,15 +52,15 @@ pub struct Request {
     pub texts: Vec<String>,
     /// The maximum number of elapses to report, 1 to 1,000,000.
     pub iterations: u32,
-    /// The base time as a timestamp that isn't parsed yet: only elapses after it are reported. `None` stands for the
-    /// present. Verbs that don't compute elapses have no base time.
+    /// The base time, a timestamp that isn't parsed yet. Only elapses after the base time are reported. `None` stands
+    /// for the present. Verbs that don't compute elapses have no base time.
     pub base: Option<String>,
     ghost count: { IsCount iterations },
     ghost file: { is_timer verb ≡ true → vec_len texts ≡ 1 },
     ghost sought: { seeks_elapses verb ≡ false → base ≡ None },
 }
 
-/// How a run ended whose output could be written in full.
+/// The outcome of a run whose output could be written in full.
 #[derive(Clone, Copy, PartialEq, Eq, Debug)]
 pub enum Status {
     /// Every text was valid.
@@ -92,8 +92,8 @@ impl Status {
     }
 }
 
-/// Why a run could not write its output in full. There are two writers, one for reports and one for error lines. What
-/// each writer got is then a prefix of what a run without this error writes to it.
+/// Why a run could not write its output in full. A run has two writers, one for reports and one for error lines. If the
+/// run fails, each of them has received a prefix of what it would have received without the failure.
 #[derive(Clone, Copy, PartialEq, Eq, Debug)]
 pub enum RunFault {
     /// Writing a report failed.

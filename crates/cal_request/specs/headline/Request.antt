@@ -1,10 +1,10 @@
--- Requests, as the definitions use them.
+-- A request together with the present and the zones, which its answer depends on.
 use Rattle.std.specs.Prelude.{ℕ, ℤ, List, Option}
 use Rattle.cal_zone.specs.headline.ZoneMap.{ZoneMap}
 use Rattle.cal_zone.specs.declared.zone.Zone.{Zone}
 use Rattle.cal_request.specs.declared.request.Verb.{Verb}
 
--- a request with the present instant, the local zone and the named zones, independent of where its texts are in memory
+-- a request, the present instant, the local zone and the named zones; each string is the list of its bytes
 pub record Request : Type 0 where
   pub verb : Verb
   pub texts : List (List ℕ)
