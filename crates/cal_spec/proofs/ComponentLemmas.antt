@@ -125,7 +125,8 @@ pub record IsRead (slot : Slot) (room : ℕ) (c : Option (List Part)) : Type 0 w
   pub sound : IsValidComponent slot c
   pub few : counted slot c ≤ room
 
--- if the text of a parsed component is `*`, so is the component; otherwise it consists of the parts of its text
+-- if the text of a parsed component is `*`, so is the component; otherwise the component consists of the parts of its
+-- text
 pub component_is : (slot : Slot) (room : ℕ) (text : List ℕ) (c : Option (List Part)) → component_of slot room text ≡ Ok c
     → ((is_star text ≡ true) × (c ≡ None)) ⊎ ((is_star text ≡ false) × ((ps : List Part) × (c ≡ Some ps) × ListedRead slot room text ps))
 unfolding component_of

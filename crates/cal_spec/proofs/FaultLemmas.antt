@@ -128,7 +128,7 @@ three_faults xs ys zs = option_or (first_of xs) (option_or (first_of ys) (first_
 first_of_three : (xs ys zs : List (Option SpecFault)) → three_faults xs ys zs ≡ first_of (xs ++ (ys ++ zs))
 first_of_three xs ys zs = sym (first_of-append xs (ys ++ zs) ∙ ap (option_or (first_of xs)) (first_of-append ys zs))
 
--- the error of parsing three components, one after the other, is the first one among the checks of all three
+-- the error of parsing three components, one after the other, is the first error in the checks of all three
 components_fault : {D : Type 0} (a b c : Slot) (before room : ℕ) (x y z : List ℕ) (make : Option (List Part) → Option (List Part) → Option (List Part) → D) → before + room ≡ 240 → result_err (component_of a room x >>= λ u. component_of b (room - counted a u) y >>= λ v. component_of c (room - counted a u - counted b v) z >>= λ w. Ok (make u v w)) ≡ three_faults (component_faults a before x) (component_faults b (before + numbered a x) y) (component_faults c (before + numbered a x + numbered b y) z)
 components_fault a b c before room x y z make sum =
     err_of_bind (component_of a room x) (λ u. component_of b (room - counted a u) y >>= λ v. component_of c (room - counted a u - counted b v) z >>= λ w. Ok (make u v w)) (first_of (component_faults a before x)) (option_or (first_of (component_faults b (before + numbered a x) y)) (first_of (component_faults c (before + numbered a x + numbered b y) z))) (component_fault a before room x sum) (λ u first.

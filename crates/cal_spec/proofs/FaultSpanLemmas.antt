@@ -107,8 +107,8 @@ accepted_before P text from start end inside gap solid so_far s e w before =
       | inr same ↦ absurd (omega arith)
     ]
 
--- if `P` is also true of the end of the next word, it is true of the end of each word that ends at or before the end of
--- the next word
+-- like `accepted_before`, but for each word that ends at or before the end of the next word, of whose end `P` must be
+-- true as well
 pub accepted_up_to : (P : ℕ → Type 0) (text : List ℕ) (from start end : ℕ) → end ≤ length text
     → ((i : ℕ) → from ≤ i → i < start → is_blank (get_or text i 0) ≡ true)
     → ((i : ℕ) → start ≤ i → i < end → is_blank (get_or text i 0) ≡ false)

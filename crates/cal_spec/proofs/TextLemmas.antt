@@ -1,4 +1,4 @@
--- The printed text of a component's parts.
+-- Lemmas for the loop that prints the parts of a component.
 use Rattle.std.proofs.Common.{◌≡◌, ℕ, List, [], ◌∷◌, ◌++◌, length, codes, refl, ap}
 use Rattle.std.proofs.lemmas.List.{nil_from_length}
 use Rattle.std.specs.List.{flat_map}

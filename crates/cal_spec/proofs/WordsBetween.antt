@@ -98,7 +98,7 @@ words_first w [] word ends =
 words_first w (b ∷ rest) word ends =
     rw (split_at is_blank w b rest word.solid ends, lt-ltb 0 (length w) word.some) (ap (λ more. w ∷ more) (sym (words-blank b rest ends)))
 
--- no other list satisfies `AreWords`
+-- a list that satisfies `AreWords` is the list that `words` returns
 pub words_only : (text : List ℕ) (ws : List (List ℕ)) → AreWords text ws → words text ≡ ws
 words_only text [] blanks = words_none text blanks
 words_only text (w ∷ ws) are =

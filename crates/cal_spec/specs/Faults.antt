@@ -31,8 +31,8 @@ abbrev pub numbered : Slot → List ℕ → ℕ
 numbered slot text =
     if is_star text then 0 else (if is_time slot then length (pieces_of text) - 1 else length (pieces_of text))
 
--- the number that a component's first part gets if the components before it have `before` counted parts; counted parts
--- are numbered from 1, and the first part of an hour, minute or second, which isn't counted, gets the number `before`
+-- the number of a component's first part, if the components before it have `before` counted parts; counted parts are
+-- numbered from 1; the first part of an hour, minute or second isn't counted and gets the number `before`
 abbrev pub first_number : Slot → ℕ → ℕ
 first_number slot before = if is_time slot then before else before + 1
 

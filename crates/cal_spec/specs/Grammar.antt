@@ -34,7 +34,7 @@ fields_at p =
       zone = suffix;
     })
 
--- a text without words is not an expression
+-- parses the fields, or fails with `Empty` if there are no words
 abbrev pub fields_due : Option WordRoles → Result Fields SpecFault
 fields_due None = Err Empty
 fields_due (Some p) = fields_at p

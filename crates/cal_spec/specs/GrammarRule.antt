@@ -13,7 +13,7 @@ abbrev pub Ends : List ℕ → Type 0
 Ends [] = ⊤
 Ends (b ∷ bs) = is_blank b ≡ true
 
--- the words of the text are exactly these, with only blanks before, between and after them
+-- the words of the text are exactly those in the list, with only blanks before, between and after them
 abbrev pub AreWords : List ℕ → List (List ℕ) → Type 0
 AreWords text [] = list_all is_blank text ≡ true
 AreWords text (w ∷ ws) =

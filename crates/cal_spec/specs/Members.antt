@@ -1,4 +1,4 @@
--- The values that a component matches, if a `Field` says which component.
+-- The values that a component matches. A `Field` names the component.
 use Rattle.std.specs.Prelude.{ℕ, Bool}
 use Rattle.cal_spec.specs.headline.Match.{Sets}
 use Rattle.cal_spec.specs.declared.field.Field.{Field}

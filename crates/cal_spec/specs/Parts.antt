@@ -39,7 +39,7 @@ bad slot = if is_time slot then BadTime else BadDate
 abbrev pub is_slash : ℕ → Bool
 is_slash b = b == 47
 
--- a maximal run of digits, two points, a slash, a single point, or any other byte
+-- a symbol: a maximal run of digits, two points, a slash, a single point, or any other byte
 pub data Symbol : Type 0 where
   digits : List ℕ → Symbol
   dots : Symbol
@@ -139,7 +139,7 @@ abbrev pub reaches_no_further_value : Slot → ℕ → Option ℕ → Option ℕ
 reaches_no_further_value slot a None (Some r) = if is_from_end slot then nat_le a r else nat_lt (greatest slot) (a + r)
 reaches_no_further_value slot a last step = false
 
--- the first error of the part's values
+-- the first error in the part's values, if there is one
 unfoldable pub fault_of : Slot → Part → Option SpecFault
 fault_of slot p =
     if is_outside slot p.start p.end then Some OutOfField

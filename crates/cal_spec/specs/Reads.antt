@@ -9,7 +9,7 @@ abbrev pub unless : {A : Type 0} → Option SpecFault → A → Result A SpecFau
 unless None x = Ok x
 unless (Some e) x = Err e
 
--- the first error in a list of checks
+-- the first error in a list of checks, if there is one
 abbrev pub first_of : List (Option SpecFault) → Option SpecFault
 first_of [] = None
 first_of (o ∷ os) = option_or o (first_of os)

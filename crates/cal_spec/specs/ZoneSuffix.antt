@@ -29,12 +29,13 @@ abbrev pub IsSuffixOption : Option ZoneSuffix → Type 0
 IsSuffixOption None = Unit {0}
 IsSuffixOption (Some suffix) = IsSuffix suffix
 
--- the name if the zone is a name, and the offset in seconds if it is a UTC offset
+-- the name of the zone, if it is a name
 abbrev pub name_in : Option ZoneSuffix → Option (List ℕ)
 name_in None = None
 name_in (Some (of_name name)) = Some name
 name_in (Some (ahead seconds)) = None
 
+-- the offset of the zone in seconds, if it is a UTC offset
 abbrev pub offset_said : Option ZoneSuffix → Option ℤ
 offset_said None = None
 offset_said (Some (of_name name)) = None

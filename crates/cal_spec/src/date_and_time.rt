@@ -77,8 +77,8 @@ struct TimeTexts<'a> {
     second: &'a [u8],
 }
 
-/// Splits a date into its components. A missing year is `*`. Returns `None` if the number of components is neither two
-/// nor three, or if `~` stands anywhere but before the day.
+/// Splits a date into its components. A missing year becomes `*`. Returns `None` if the number of components is neither
+/// two nor three, or if `~` stands anywhere but before the day.
 #[tactic(auto, unfolding(crate::specs::DateAndTime::date_texts))]
 fn date_texts(word: &[u8]) -> Option<DateTexts<'_>>
     ensures { option_map date_texts_in result ≡ date_texts word.now }
@@ -122,8 +122,8 @@ fn sign_index(word: &[u8]) -> Option<usize>
     word.iter().position(|byte| *byte == b'-' || *byte == b'~')
 }
 
-/// Splits a time into its components. Missing seconds are `00`. Returns `None` if the number of components is neither
-/// two nor three.
+/// Splits a time into its components. Missing seconds become `00`. Returns `None` if the number of components is
+/// neither two nor three.
 #[tactic(auto, unfolding(crate::specs::DateAndTime::time_texts))]
 fn time_texts(word: &[u8]) -> Option<TimeTexts<'_>>
     ensures { option_map time_texts_in result ≡ time_texts word.now }

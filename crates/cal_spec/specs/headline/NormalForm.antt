@@ -20,7 +20,7 @@ pub record IsLastReached (a b r e : ℕ) : Type 0 where
 abbrev pub step_of : Option ℕ → ℕ
 step_of step = unwrap_or step 1
 
--- the step of a range in normal form, in which `/1` is dropped
+-- the step of a range once it is in normal form; a step of 1 is dropped
 abbrev pub range_step : Option ℕ → Option ℕ
 range_step None = None
 range_step (Some r) = if r == 1 then None else Some r
@@ -47,7 +47,7 @@ part_cmp p q =
     ordering_then (nat_cmp p.start q.start)
     (ordering_then (option_cmp nat_cmp p.end q.end) (option_cmp nat_cmp p.step q.step))
 
--- the normal form of a list of parts: sorted and without duplicates, it consists of the normal forms of its parts
+-- `normal` is the normal form of the list `raw`: the normal forms of its parts, sorted and without duplicates
 pub record AreNormalOf (raw normal : List Part) : Type 0 where
   pub rising : IsStrictlySortedBy part_cmp normal
   pub from_part : (q : Part) → Has normal q → (p : Part) × Has raw p × IsReduced p q
@@ -58,7 +58,7 @@ abbrev pub IsNormalOf : Option (List Part) → Option (List Part) → Type 0
 IsNormalOf None normal = normal ≡ None
 IsNormalOf (Some raw) normal = (ps : List Part) × AreNormalOf raw ps × (normal ≡ Some ps)
 
--- the part `0/1`
+-- the part `0/1`, which in the seconds matches every second
 abbrev pub each : Part
 each = record { start = 0; end = None; step = Some 1 }
 
