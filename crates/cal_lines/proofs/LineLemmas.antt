@@ -1,4 +1,5 @@
--- Positions at which a line may be split without cutting a UTF-8 character: beside a blank, and before a backslash.
+-- Positions at which a line may be split without cutting a UTF-8 character: beside a blank, and before the backslash
+-- that continues the line.
 use Rattle.std.proofs.Common.{◌≡◌, ◌<◌, ◌≤◌, ◌-◌, ℕ, true, List, length, get_or, arith, ◌∙◌, ap, reverse, ◌==◌}
 use Rattle.std.specs.List.{suffix_len}
 use Rattle.std.specs.Str.{IsCharBoundary}

@@ -44,7 +44,7 @@ last_byte text h =
     sym (take-length text) ∙ (ap (λ n. take n text) (sym whole) ∙ (take_more text (length text - 1) 0 (omega arith)
     ∙ ap (λ b. take (length text - 1) text ++ b ∷ []) byte))
 
--- `part_of_line` returns what a line contributes
+-- `part_of_line` returns what a line contributes to its logical line
 part_as : (continued : Bool) (text : List ℕ) → is_continued text ≡ continued → IsLinePart text (part_of_line text)
 unfolding part_of_line
 part_as true text e = rw e (inr (record { continued = e; front = take (length text - 1) text; line = last_byte text e; said = refl }))
@@ -63,7 +63,7 @@ unfolding part_of_line
 part_only text said (inl h) = rw h.0 h.1
 part_only text said (inr h) = rw h.continued (h.said ∙ ap (λ front. front ++ 32 ∷ []) (sym (ap (λ t. take (length t - 1) t) h.line ∙ front_of h.front)))
 
--- `parts_of` joins what the lines contribute
+-- `parts_of` joins what the lines contribute to their logical line
 pub joined : (all : List Line) → AreJoined all (parts_of all)
 joined [] = refl
 joined (line ∷ all) = (part_of_line line.text, parts_of all, part line.text, joined all, refl)
@@ -87,7 +87,7 @@ each_only (group ∷ all) (line ∷ logical) h =
     let first : line ≡ joined_line group = λ i. record { number = h.0.number i; text = text_is i } in
     ap (λ l. l ∷ logical) first ∙ ap (λ ls. joined_line group ∷ ls) (each_only all logical h.1)
 
--- `logical_lines` returns the logical lines of a text
+-- `logical_lines` returns the logical lines that `AreLogical` describes
 pub logical_are : (number : ℕ) (text : List ℕ) → AreLogical number text (logical_lines number text)
 unfolding logical_lines plain_lines physical_lines
 logical_are number text = record {

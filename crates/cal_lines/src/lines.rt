@@ -150,8 +150,8 @@ fn without_backslash(line: &str) -> &str
     &line[..line.len() - 1]
 }
 
-/// Appends a physical line to a logical line, with a space in place of a backslash that continues it. Returns whether
-/// the line is continued. Fails only if allocation fails.
+/// Appends a physical line to a logical line. If the physical line is continued, a space takes the place of its last
+/// backslash. Returns whether it is continued. Fails only if allocation fails.
 #[tactic(auto, unfolding(crate::specs::headline::Lines::part_of_line))]
 fn push_part(joined: &mut String, line: &str) -> Result<bool, AllocError>
     ensures text { OnOk result (string_bytes joined.new ≡ string_bytes joined.old ++ part_of_line line.now) }

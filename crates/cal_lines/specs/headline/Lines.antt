@@ -37,8 +37,8 @@ plain_lines number text = filter (λ line. not (is_comment line.text)) (physical
 unfoldable pub is_continued : List ℕ → Bool
 is_continued text = suffix_len (λ b. b == 92) text % 2 == 1
 
--- what a physical line contributes to its logical line: the line, with a space in place of a backslash that continues
--- it
+-- what a physical line contributes to its logical line: the line itself, but if it is continued, a space takes the
+-- place of its last backslash
 unfoldable pub part_of_line : List ℕ → List ℕ
 part_of_line text = if is_continued text then take (length text - 1) text ++ (32 ∷ []) else text
 
