@@ -32,8 +32,8 @@ among p kind [] at holds = absurd at
 among p kind (k ∷ ks) (inl same) holds = grind (arith, ap p same)
 among p kind (k ∷ ks) (inr later) holds = grind (arith, among p kind ks later holds)
 
--- if `clap` returns an error, one that it may report for the arguments or a failed allocation, then the error that is
--- reported for it is right for the arguments, as `IsFaultOf` defines it
+-- if the kind of an error of `clap` is out of memory, or one that `clap` may report for the arguments, then the error
+-- that the code makes of it is right for the arguments, as `IsFaultOf` defines it
 pub reported_fault : (arguments : List Text) (kind : ErrorKind) (fault : CommandFault) → (takes_arguments arguments ≡ true → kind ≡ OutOfMemory)
     → (kind ≡ OutOfMemory) ⊎ IsAmong kind (faults_in arguments) → IsReportedOf kind fault → IsFaultOf arguments fault
 reported_fault arguments kind (usage text) passes kinds reported =
@@ -59,7 +59,7 @@ read_answer arguments option_texts (Err bad_zones) none parsed is = (none, rw (�
 read_answer arguments option_texts (Err bad_local) none parsed is = (none, rw (← parsed) (sym is))
 read_answer arguments option_texts (Err no_memory) none parsed is = tt
 
--- if `clap` accepts the arguments, the result is what they ask for or a failed allocation
+-- if `clap` accepts the arguments, the result is what they ask for, unless memory ran out
 pub taken_arguments : (arguments : List Text) (answer : Result Ask CommandFault) → IsAskOf arguments answer → takes_arguments arguments ≡ true
     → (answer ≡ Err no_memory) ⊎ (answer ≡ asked_in arguments)
 taken_arguments arguments (Ok ask) is takes = inr (sym is.1)

@@ -1,4 +1,4 @@
--- The texts that `clap` found, each as the list of its bytes, and the results that checking them may have.
+-- The texts that `clap` found, each as the list of its bytes, and the results that the code may return for them.
 use Rattle.std.specs.Prelude.{◌≡◌, ⊤, Result, Ok, Err}
 use Rattle.std.specs.Option.{option_copied}
 use Rattle.cal_command.specs.Ask.{CommandFault, usage, help, bad_iterations, bad_now, bad_zones, bad_local, no_memory, Ask, texts_of}

@@ -22,7 +22,7 @@ options_arguments =
     codes "calendar" ∷ codes "--iterations=3" ∷ codes "--base-time" ∷ codes "now" ∷ codes "daily" ∷ codes "--now" ∷ codes "@5"
     ∷ codes "--zones" ∷ codes "Here=here.tz" ∷ codes "--local" ∷ codes "Here" ∷ codes "weekly" ∷ []
 
--- what these arguments ask for
+-- what the arguments `options_arguments` ask for
 abbrev pub options_ask : Ask
 options_ask = record {
   verb = Calendar;
@@ -38,7 +38,7 @@ options_ask = record {
 abbrev pub none_arguments : List (List ℕ)
 none_arguments = codes "calendar" ∷ codes "--iterations=0" ∷ codes "daily" ∷ []
 
--- a request for help
+-- `--help`
 abbrev pub help_arguments : List (List ℕ)
 help_arguments = codes "--help" ∷ []
 

@@ -1,4 +1,4 @@
-//! The errors for the command line.
+//! The errors of parsing the command line.
 
 ghost use Rattle.std.specs.Prelude.{◌≡◌};
 ghost use Rattle.cal_command.specs.declared.command_fault.CommandFault.TheVariants.{NoMemory};
