@@ -134,7 +134,7 @@ abbrev pub is_zero : Option ℕ → Bool
 is_zero None = false
 is_zero (Some r) = r == 0
 
--- whether a part is an open-ended repetition that doesn't reach a second number
+-- whether a part is an open-ended repetition, `a/r`, that doesn't reach a second number
 abbrev pub reaches_no_further_value : Slot → ℕ → Option ℕ → Option ℕ → Bool
 reaches_no_further_value slot a None (Some r) = if is_from_end slot then nat_le a r else nat_lt (greatest slot) (a + r)
 reaches_no_further_value slot a last step = false

@@ -41,8 +41,8 @@ fn part_has(slot: Slot, part: Part, value: u16) -> bool
     }
 }
 
-/// Returns whether an open-ended repetition reaches `value`. The repetition counts upwards from `start`, or downwards
-/// if the slot is `DayFromEnd`.
+/// Returns whether an open-ended repetition, `start/step`, reaches `value`. It counts upwards from `start`, or
+/// downwards if the slot is `DayFromEnd`.
 fn repeats(slot: Slot, start: u16, step: u16, value: u16) -> bool
     ensures { result ≡ repeats slot start step value }
 {

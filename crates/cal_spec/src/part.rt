@@ -6,8 +6,8 @@
 /// Parts are ordered by their start, then by their end, then by their step. `None` comes before any number.
 #[derive(Clone, Copy, PartialEq, Eq, PartialOrd, Ord, Debug)]
 pub struct Part {
-    /// The first number. In an open-ended repetition of days counted from the month's end, it is the greatest number,
-    /// since the repetition counts downwards.
+    /// The first number. In an open-ended repetition (`a/r`) of days counted from the month's end, it is the greatest
+    /// number, since the repetition counts downwards.
     pub start: u16,
     /// The last number of a range.
     pub end: Option<u16>,

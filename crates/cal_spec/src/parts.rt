@@ -187,7 +187,7 @@ fn is_backward(start: u16, end: Option<u16>) -> bool
     }
 }
 
-/// Returns whether the part is an open-ended repetition that doesn't reach a second number.
+/// Returns whether the part is an open-ended repetition, `a/r`, that doesn't reach a second number.
 fn reaches_no_further_value(slot: Slot, part: Part) -> bool
     ensures { result ≡ reaches_no_further_value slot part.start part.end part.step }
 {

@@ -23,7 +23,8 @@ abbrev pub IsStep : Option ℕ → Type 0
 IsStep None = Unit {0}
 IsStep (Some r) = 0 < r
 
--- an open-ended repetition reaches a second number: upwards, or downwards if days are counted from the month's end
+-- an open-ended repetition, `a/r`, reaches a second number: upwards, or downwards if days are counted from the month's
+-- end
 abbrev pub IsSecondWithin : Slot → ℕ → ℕ → Type 0
 IsSecondWithin DayFromEnd a r = r < a
 IsSecondWithin slot a r = a + r ≤ greatest slot
