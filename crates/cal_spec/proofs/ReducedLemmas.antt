@@ -29,7 +29,7 @@ last_reached a b r positive forward =
       last = omega arith;
     }
 
--- if `e` is the last number that a range from `a` to `b` with the step `r` reaches, `e` is `last_of a b r`
+-- a range has only one last number that it reaches, which is `last_of a b r`
 pub one_last_reached : (a b r e : ℕ) → 0 < r → IsLastReached a b r e → e ≡ last_of a b r
 one_last_reached a b r e positive h =
     let whole = div-add-mod' (e - a) r in

@@ -36,7 +36,6 @@ pub(crate) struct ShorthandExpansion {
 }
 
 impl Shorthand {
-    /// All shorthands.
     const ALL: [Shorthand; 8] = [
         Shorthand::Minutely,
         Shorthand::Hourly,

@@ -77,7 +77,7 @@ abbrev pub normal_from_end : Bool → Option (List Part) → Bool
 normal_from_end from_end None = false
 normal_from_end from_end (Some ps) = from_end
 
--- the normal form of the fields
+-- `normal` are the fields `raw` in normal form
 pub record IsNormalFieldsOf (raw normal : Fields) : Type 0 where
   pub weekdays : normal.weekdays ≡ raw.weekdays
   pub year : IsNormalOf raw.year normal.year

@@ -12,11 +12,9 @@ any_date = codes "*-*-*"
 abbrev pub midnight : List ℕ
 midnight = codes "00:00:00"
 
--- all shorthands
 abbrev pub shorthands : List Shorthand
 shorthands = Minutely ∷ Hourly ∷ Daily ∷ Weekly ∷ Monthly ∷ Quarterly ∷ Semiannually ∷ Yearly ∷ []
 
--- the names of a shorthand
 abbrev pub names_of : Shorthand → List (List ℕ)
 names_of Minutely = codes "minutely" ∷ []
 names_of Hourly = codes "hourly" ∷ []

@@ -12,7 +12,7 @@ pub data ZoneSuffix : Type 0 where
 abbrev pub kept_name : List ℕ → List ℕ
 kept_name word = if str_eq_ignore_ascii_case word (codes "UTC") then codes "UTC" else word
 
--- the text of the zone
+-- the zone as it is printed
 abbrev pub suffix_text : ZoneSuffix → List ℕ
 suffix_text (of_name name) = name
 suffix_text (ahead seconds) = offset_text seconds
