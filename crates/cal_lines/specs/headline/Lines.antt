@@ -59,7 +59,7 @@ groups (line ∷ lines) =
     if is_continued line.text then continued_by line (groups lines)
     else record { first = line; more = [] } ∷ groups lines
 
--- the logical line of a group
+-- the logical line of a group, with the number of the group's first line
 abbrev pub joined_line : Group → Line
 joined_line group = record {
   number = group.first.number;
