@@ -38,7 +38,6 @@ options_ask = record {
 abbrev pub none_arguments : List (List ℕ)
 none_arguments = codes "calendar" ∷ codes "--iterations=0" ∷ codes "daily" ∷ []
 
--- `--help`
 abbrev pub help_arguments : List (List ℕ)
 help_arguments = codes "--help" ∷ []
 

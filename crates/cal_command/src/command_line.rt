@@ -224,7 +224,6 @@ fn build_command<'a>(alloc: Global) -> Result<Command<'a>, AllocError>
         .subcommand(build_timer(alloc)?)
 }
 
-/// Builds the subcommand `calendar TEXT..`.
 fn build_calendar<'a>(alloc: Global) -> Result<Command<'a>, AllocError>
     ensures app { IfOk result (λ command. shape_of command ≡ verb_shape (codes "calendar") elapse_rules texts_rule) }
     ensures local { IfOk result (λ command. (fields_of command).has_globals ≡ false) }
@@ -238,7 +237,6 @@ fn build_calendar<'a>(alloc: Global) -> Result<Command<'a>, AllocError>
     ))
 }
 
-/// Builds the subcommand `timestamp TEXT..`.
 fn build_timestamp<'a>(alloc: Global) -> Result<Command<'a>, AllocError>
     ensures app { IfOk result (λ command. shape_of command ≡ verb_shape (codes "timestamp") zone_rules texts_rule) }
     ensures local { IfOk result (λ command. (fields_of command).has_globals ≡ false) }
@@ -249,7 +247,6 @@ fn build_timestamp<'a>(alloc: Global) -> Result<Command<'a>, AllocError>
     with_zone_options(alloc, command)?.arg(texts_arg(alloc, "Timestamp, as in systemd.time(7)"))
 }
 
-/// Builds the subcommand `timespan TEXT..`.
 fn build_timespan<'a>(alloc: Global) -> Result<Command<'a>, AllocError>
     ensures app { IfOk result (λ command. shape_of command ≡ verb_shape (codes "timespan") [] texts_rule) }
     ensures local { IfOk result (λ command. (fields_of command).has_globals ≡ false) }
@@ -260,7 +257,6 @@ fn build_timespan<'a>(alloc: Global) -> Result<Command<'a>, AllocError>
         .arg(texts_arg(alloc, "Time span, as in systemd.time(7)"))
 }
 
-/// Builds the subcommand `timer FILE`.
 fn build_timer<'a>(alloc: Global) -> Result<Command<'a>, AllocError>
     ensures app { IfOk result (λ command. shape_of command ≡ verb_shape (codes "timer") elapse_rules file_rule) }
     ensures local { IfOk result (λ command. (fields_of command).has_globals ≡ false) }
