@@ -1,4 +1,4 @@
--- Lemmas on texts that are written by several calls.
+-- Lemmas on texts that several calls write: two calls one after the other, or the calls of a loop.
 use Rattle.std.proofs.Common.{◌≡◌, ℕ, List, [], ◌++◌, Result, Ok, Err, false, sym, ◌∙◌, subst}
 use Rattle.std.proofs.KnownBytes.{Appends-nil}
 use Rattle.std.proofs.lemmas.Bool.{false≢true}
@@ -70,5 +70,5 @@ module _ {W : Type 0} {sink : Ghosts W} where
     bytes = writes_err _ _ r text is_err (stop _ _ _ piece rest text (respell _ _ _ _ text before.leaves split) p.bytes);
   }
 
--- the lemmas on consecutive calls
+-- the lemmas that apply to consecutive calls
 pub ruleset puts = (first_fails, second_ends, last_ends)

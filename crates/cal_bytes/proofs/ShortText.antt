@@ -1,4 +1,4 @@
--- Lemmas on short texts.
+-- Lemmas on the padding of numbers, and on appending pieces to a short text.
 use Rattle.std.proofs.Common.{◌≡◌, ℕ, ◌≤◌, List, [], ◌∷◌, ◌++◌, take, replicate, ap, sym, ◌∙◌}
 use Rattle.std.proofs.lemmas.List.{append-nil, append_assoc, take-replicate}
 use Rattle.std.proofs.lemmas.List.Concat.{flat_map-append}

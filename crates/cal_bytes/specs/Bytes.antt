@@ -1,4 +1,5 @@
--- What one call of a reader or a writer does to its bytes, and how much a call that writes a whole text has written.
+-- Which bytes one call of a source or a sink reads or writes, and how much of a text has been written after one or more
+-- calls.
 use Rattle.std.specs.Prelude.{◌≡◌, ℕ, ◌<◌, ◌≤◌, List, ◌++◌, length, take, Option, None, Some, Result, Ok, Err}
 use Rattle.std.specs.Io.KnownBytes.{Keeps, Appends, Consumes, IsAtEnd}
 

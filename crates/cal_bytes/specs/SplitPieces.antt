@@ -2,7 +2,7 @@
 use Rattle.std.specs.Prelude.{ℕ, ◌+◌, Bool, List, [], length, Option, None, Some}
 use Rattle.std.specs.List.{slice_split}
 
--- the pieces of the text after a separator; `None` says that no separator was found, so that there are no pieces
+-- the pieces of the text after a separator; `None` says that no separator was found, so there are no pieces
 abbrev pub pieces_after : (ℕ → Bool) → Option (List ℕ) → List (List ℕ)
 pieces_after p None = []
 pieces_after p (Some text) = slice_split p text

@@ -1,4 +1,4 @@
-//! Output and input of bytes, and short texts on the stack.
+//! Output and input of bytes, short texts on the stack, and lookup in lists of names.
 #![tactic(auto)]
 
 mod bytes;
