@@ -25,11 +25,11 @@ const CHUNK: usize = 4_096;
 /// The errors are:
 ///
 /// - [`WholeFault::ReadFailed`] if and only if a call of [`Source::fetch`] fails; no further call is made.
-/// - [`WholeFault::TooLarge`] if the source has more than `limit` bytes. Nothing more is read then, so that an endless
-///   source also gives this error.
+/// - [`WholeFault::TooLarge`] if the source has more than `limit` bytes. Nothing more is read then, so an endless
+///   source gives this error, too.
 /// - [`WholeFault::NoMemory`] if allocation fails.
 ///
-/// It makes at most `limit` + 1 calls of `fetch`, since each but the last returns at least one byte.
+/// The function makes at most `limit` + 1 calls of `fetch`, since each but the last returns at least one byte.
 pub fn read_whole<R: Source>(
     alloc: Global,
     from: &mut R,
