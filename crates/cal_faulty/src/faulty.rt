@@ -1,4 +1,4 @@
-//! An in-memory reader and writer for tests that moves few bytes at a time and fails on purpose.
+//! An in-memory reader and writer for tests. It reads or writes a few bytes at a time and fails on purpose.
 
 ghost use Rattle.std.specs.Prelude.{◌≡◌, ◌+◌, ◌-◌, ◌^◌, ◌<◌, ◌≤◌, min};
 
@@ -34,7 +34,7 @@ pub struct Faulty {
 }
 
 impl Faulty {
-    /// Creates a reader of `bytes`, or a writer that appends to them.
+    /// Creates a reader of `bytes`, or a writer that appends to them. `step` must be at least 1.
     pub fn new(bytes: Vec<u8>, step: usize, limit: usize, then: Then) -> Faulty
         requires { 0 < step }
         ensures { result ≡ record { bytes = bytes; step = step; limit = limit; «then» = «then»; moved = 0; calls = 0 } }
