@@ -1,5 +1,5 @@
-//! The program `calendar-analyze`: reports when calendar expressions and timer files elapse, which instants timestamps
-//! resolve to, and how long time spans are (systemd-analyze(1), systemd.time(7), systemd.timer(5)).
+//! The program `calendar-analyze`: reports when calendar expressions and timer files elapse, what timestamps resolve
+//! to, and how long time spans are (systemd-analyze(1), systemd.time(7), systemd.timer(5)).
 #![tactic(auto)]
 
 ghost use Rattle.std.specs.Prelude.{◌≡◌, false};
@@ -31,8 +31,8 @@ const BUFFER_BYTES: usize = 8192;
 fn main(rt: HostRuntime) -> ExitCode {
     let mut err = Port::new(rt.stderr());
     let out = rt.stdout();
-    // On a terminal, output isn't buffered, so that an error line appears between the reports, in the order of the
-    // texts.
+    // On a terminal, output isn't buffered, so that error lines appear between the reports, in the order of the
+    // arguments.
     let capacity = if out.is_terminal() { 0 } else { BUFFER_BYTES };
     let arguments = match given_arguments(&rt) {
         Ok(arguments) => arguments,
@@ -58,7 +58,8 @@ fn given_arguments<R: Env + AllocGlobal>(rt: &R) -> io::Result<Vec<String>> {
     Ok(env::args(rt)?.skip(1).collect(rt.alloc())?)
 }
 
-/// Returns the reason to stop if the arguments can't be read: they aren't UTF-8, or allocation failed.
+/// Converts an error from reading the arguments into a [`Stop`]. Unless memory ran out, the reason is that an argument
+/// isn't UTF-8.
 fn stop_of(alloc: Global, error: &io::Error) -> Stop {
     if error.kind() == ErrorKind::OutOfMemory {
         return Stop::Run(RunFault::NoMemory);
@@ -69,7 +70,7 @@ fn stop_of(alloc: Global, error: &io::Error) -> Stop {
     }
 }
 
-/// Writes the error line for a stop before any work was done, and returns the exit status.
+/// Writes the error line for a stop that comes before [`work`] is called, and returns the exit status.
 fn exit_with<E: Sink>(err: &mut E, stop: &Stop) -> ExitCode
     requires { E.is_failed err.old ≡ false }
 {
