@@ -37,8 +37,8 @@ weight-counts_of-remainder [] n = omega arith
 weight-counts_of-remainder (unit ∷ units) n =
     omega (arith, weight-counts_of-remainder units (n % size_of unit), div-add-mod' n (size_of unit))
 
--- the counts that division finds satisfy `AreReduced`: those after a unit come from the remainder, so that they are
--- less than one of the unit
+-- the counts that division finds satisfy `AreReduced`: the counts after a unit come from the remainder, so together
+-- they are less than one of the unit
 reduced-counts_of : (units : List TimeUnit) (n : ℕ) → AreReduced units (counts_of units n)
 reduced-counts_of [] n = tt
 reduced-counts_of (unit ∷ units) n =
@@ -59,7 +59,7 @@ counts_of-weight [] (c ∷ cs) h = absurd h
 counts_of-weight (unit ∷ units) [] h = absurd h
 counts_of-weight (unit ∷ units) (c ∷ cs) h = grind (arith, nat_tests, div-mul-add, mod-mul-add, counts_of-weight units cs h.2)
 
--- `span_text n` is a text of the span of `n` microseconds, and the only one (`span_text_only`)
+-- `span_text n` follows the rule for the printed span of `n` microseconds, and no other text does (`span_text_only`)
 pub is_span_text : (n : ℕ) → IsSpanText n (span_text n)
 unfolding units_text
 is_span_text n = (counts_of all_units n, are_counts_of n, refl)
@@ -69,8 +69,8 @@ unfolding units_text
 span_text_only n text h =
     h.2 ∙ ap (λ (cs : List Count). counts_text (positive cs)) (counts_of-weight all_units h.0 h.1.reduced ∙ ap (counts_of all_units) h.1.sum)
 
--- if a unit fits into `n`, the counts that aren't zero begin with its count; if it doesn't, they are those of the units
--- after it
+-- if a unit fits into `n`, the counts that aren't zero begin with its count; if it doesn't, they are the counts of the
+-- units after it
 positive_taken : (unit : TimeUnit) (units : List TimeUnit) (n : ℕ) → size_of unit ≤ n → positive (counts_of (unit ∷ units) n) ≡ record { number = n / size_of unit; unit = unit } ∷ positive (counts_of units (n % size_of unit))
 positive_taken unit units n fits = grind (arith, nat_tests, lt-ltb, le-div, size_of_positive)
 

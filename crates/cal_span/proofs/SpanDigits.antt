@@ -1,4 +1,5 @@
--- Lemmas on the digits that `decimal` prints: a time span reads them as numbers without a decimal point.
+-- Lemmas on the digits that `decimal` prints: the parser of time spans reads them as one number without a decimal
+-- point.
 use Rattle.std.proofs.Common.{◌≡◌, ℕ, ◌*◌, ◌^◌, ◌<◌, List, [], ◌∷◌, length, true, false, ◌||◌, refl, arith}
 use Rattle.std.proofs.lemmas.Bool.Decides.{nat_tests}
 use Rattle.std.proofs.lemmas.Fmt.{decimal_is_IsNumeral}
@@ -14,7 +15,7 @@ use Rattle.cal_span.specs.declared.span.word.CharKind.TheVariants.{Numeric}
 use Rattle.cal_text.specs.headline.Separators.{is_point}
 use Rattle.cal_span.specs.SpanValue.{kind_of, is_number, number_worth}
 
--- a digit: an ASCII byte that is neither a decimal point nor a blank
+-- a digit, which is an ASCII byte and neither a decimal point nor a blank
 pub record IsDigit (c : ℕ) : Type 0 where
   pub ascii : c < 128
   pub digit : is_ascii_digit c ≡ true

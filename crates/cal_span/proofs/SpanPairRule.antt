@@ -1,4 +1,4 @@
--- The pairs that `pairs_of` forms from words are those of the rule, and the rule allows no other pairs.
+-- The pairs that `pairs_of` forms from words follow the rule of `SpanRule`, and no other pairs do.
 use Rattle.std.proofs.Common.{◌≡◌, ◌⊎◌, ◌&&◌, Bool, true, false, cond, List, [], ◌∷◌, Some, None, refl, sym, ap, ◌∙◌, inl, inr}
 use Rattle.std.proofs.lemmas.Bool.{false≢true}
 use Rattle.cal_span.specs.declared.span.word.CharKind.{CharKind}

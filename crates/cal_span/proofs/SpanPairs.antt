@@ -18,7 +18,7 @@ use Rattle.std.proofs.lemmas.Bool.Decides.{nat_tests}
 pub no_kind : (j k : CharKind) → (k ≡ j → ⊥) → is_kind j k ≡ false
 no_kind j k differs = false_from_ne_true (is_kind j k) (λ e. differs (sym (same_from_is_kind j k e)))
 
--- a word that is not a number, in place of a number, forms a pair with an empty number
+-- if a number is expected but the word is not a number, it forms a pair with an empty number
 pub stray_first : (w : Piece) (ws : List Piece) → is_kind Numeric w.kind ≡ false → pairs_of (w ∷ ws) ≡ record { number = []; unit = None } ∷ pairs_of ws
 stray_first w [] other = rw other refl
 stray_first w (v ∷ ws) other = rw other refl
@@ -58,7 +58,8 @@ pub worth_good : (p : Pair) (unit : TimeUnit) → is_number p.number ≡ true �
 unfolding worth_of
 worth_good p unit good some = rw (good, some) refl
 
--- adding the value `m` of a pair to the sum, both saturating, and then checking the limit gives what `sum_with` gives
+-- if `x` is the sum plus the value `m` of a pair, with saturation at `top`, then checking `x` against the limit gives
+-- the same result as `sum_with`
 added_by : (sum m x : ℕ) (r : Option Span) → x ≡ min (sum + min m top) top → MatchOption r (limit < x) (λ span. (span.micros ≡ x) × (x ≤ limit)) → MatchResult (ok_or r TooLarge) (λ span. sum_with sum (Ok m) ≡ Ok span.micros) (λ fault. sum_with sum (Ok m) ≡ Err fault)
 added_by sum m x None at_top beyond = rw (lt-leb (sum + m) limit (omega arith)) refl
 added_by sum m x (Some span) at_top (is, small) = grind (arith, nat_tests, le-leb)

@@ -1,4 +1,4 @@
--- Lemmas on the first word of a time span, by the runs of its characters.
+-- Lemmas that find the first word of a time span from the runs of its characters.
 use Rattle.std.proofs.Common.{ℕ, ◌+◌, ◌≡◌, ◌≤◌, length, take, drop, Bool, true, false, cond, List, [], ◌∷◌, ◌++◌, refl, sym, ap, ◌∙◌, arith}
 use Rattle.std.specs.Prelude.{filter, not}
 use Rattle.std.proofs.lemmas.List.{append-nil, drop-drop, length-append, length-take-le}

@@ -10,19 +10,19 @@ use Rattle.cal_span.specs.SpanValue.{Piece, Pair, is_kind, worth_of}
 
 -- Runs
 
--- `w` is the run of the characters `ss`: there is at least one, all are of the kind of `w`, and `w` has their joined
--- texts
+-- `w` is the run of the characters `ss`: there is at least one, all are of the kind of `w`, and their texts joined are
+-- the text of `w`
 pub record IsRun (ss : List Piece) (w : Piece) : Type 0 where
   pub some : 0 < length ss
   pub kinds : AllByRecursion (λ s. s.kind ≡ w.kind) ss
   pub text : w.text ≡ flat_map (λ s. s.text) ss
 
--- the characters, split into these runs in order
+-- the characters in order make up these runs, and none are left over
 abbrev pub AreRuns : List Piece → List Piece → Type 0
 AreRuns ss [] = ss ≡ []
 AreRuns ss (w ∷ ws) = (front : List Piece) × (rest : List Piece) × (ss ≡ front ++ rest) × IsRun front w × AreRuns rest ws
 
--- neighbouring runs are of different kinds, so none can be extended
+-- neighboring runs are of different kinds, so that none of them can be extended
 abbrev pub AreApart : List Piece → Type 0
 AreApart [] = ⊤
 AreApart (w ∷ []) = ⊤
@@ -30,7 +30,7 @@ AreApart (w ∷ v ∷ ws) = (is_kind w.kind v.kind ≡ false) × AreApart (v ∷
 
 -- Pairs
 
--- there are no words, or the first of them is not a unit
+-- there are no words, or the first of them is not a unit, which would be a word of letters
 abbrev pub BeginsWithNoUnit : List Piece → Type 0
 BeginsWithNoUnit [] = ⊤
 BeginsWithNoUnit (v ∷ ws) = v.kind ≡ Letter → ⊥
@@ -44,7 +44,7 @@ pub record IsWithUnit (ws : List Piece) (p : Pair) (rest : List Piece) : Type 0 
   pub is_unit : unit.kind ≡ Letter
   pub pair : p ≡ record { number = number.text; unit = Some unit.text }
 
--- the words `ws` begin with a number that no unit follows, which forms the pair `p`, and `rest` follows it
+-- the words `ws` begin with a number that no unit follows; the number forms the pair `p`, and `rest` follows it
 pub record IsWithoutUnit (ws : List Piece) (p : Pair) (rest : List Piece) : Type 0 where
   pub number : Piece
   pub words : ws ≡ number ∷ rest
@@ -52,7 +52,7 @@ pub record IsWithoutUnit (ws : List Piece) (p : Pair) (rest : List Piece) : Type
   pub no_unit : BeginsWithNoUnit rest
   pub pair : p ≡ record { number = number.text; unit = None }
 
--- the words `ws` begin with a word that is not a number, which forms a pair `p` with an empty number, and `rest`
+-- the words `ws` begin with a word that is not a number; this word forms a pair `p` with an empty number, and `rest`
 -- follows it
 pub record IsNoNumber (ws : List Piece) (p : Pair) (rest : List Piece) : Type 0 where
   pub word : Piece
@@ -72,8 +72,8 @@ abbrev pub AreWorth : List Pair → ℕ → Type 0
 AreWorth [] n = n ≡ 0
 AreWorth (p ∷ ps) n = (m : ℕ) × (k : ℕ) × (worth_of p ≡ Ok m) × AreWorth ps k × (n ≡ m + k)
 
--- the pair `p` is invalid with this error if the pairs before it have this sum: `p` has no value, or the sum with its
--- value is more than the limit
+-- the pair `p` after pairs with this sum is invalid with this error: either `p` has no value, or the sum plus its value
+-- is more than the limit (`TooLarge`)
 abbrev pub IsFaultAfter : ℕ → Pair → SpanFault → Type 0
 IsFaultAfter sum p TooLarge = (m : ℕ) × (worth_of p ≡ Ok m) × (limit < sum + m)
 IsFaultAfter sum p fault = worth_of p ≡ Err fault
@@ -83,8 +83,8 @@ abbrev pub IsFirstFault : List Pair → SpanFault → Type 0
 IsFirstFault ps fault =
     (before : List Pair) × (p : Pair) × (after : List Pair) × (sum : ℕ) × (ps ≡ before ++ (p ∷ after)) × AreWorth before sum × (sum ≤ limit) × IsFaultAfter sum p fault
 
--- A value is the sum of the pairs; then there is at least one pair, and the sum is at most the limit. The error is
--- `Empty` if there are no pairs, and otherwise that of the leftmost invalid pair.
+-- The value or the error that the rule demands for these pairs. A value is the sum of at least one pair and at most the
+-- limit. The error is `Empty` if there are no pairs, and otherwise the error of the leftmost invalid pair.
 abbrev pub Judges : List Pair → Result ℕ SpanFault → Type 0
 Judges ps (Ok n) = (0 < length ps) × AreWorth ps n × (n ≤ limit)
 Judges ps (Err Empty) = ps ≡ []

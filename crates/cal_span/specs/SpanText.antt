@@ -9,8 +9,8 @@ abbrev pub weight : List Count → ℕ
 weight [] = 0
 weight (c ∷ cs) = c.number * size_of c.unit + weight cs
 
--- There is one count for each unit, in the order of the units, and all counts after a unit together are less than one
--- of that unit.
+-- There is one count for each unit, in the order of the units, and after each count, the remaining counts add up to
+-- less than one of its unit.
 abbrev pub AreReduced : List TimeUnit → List Count → Type 0
 AreReduced [] [] = Unit {0}
 AreReduced [] (c ∷ cs) = ⊥

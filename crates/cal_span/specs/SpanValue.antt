@@ -73,7 +73,7 @@ words_in bytes = filter (λ w. not (is_kind Blank w.kind)) (runs (characters byt
 
 -- Pairs (systemd.time(7), Parsing Time Spans)
 
--- a number, and its unit if it has one; if there is no number where one is expected, `number` is empty
+-- a number, and its unit if it has one; if a number is expected but the word is not a number, `number` is empty
 pub record Pair : Type 0 where
   pub number : List ℕ
   pub unit : Option (List ℕ)
@@ -87,8 +87,8 @@ numeral_in w = if is_kind Numeric w.kind then w.text else []
 abbrev pub is_unit_of : Piece → Piece → Bool
 is_unit_of w v = is_kind Numeric w.kind && is_kind Letter v.kind
 
--- A number and the unit after it, if any, form a pair. Any other word that stands in place of a number forms a pair
--- with an empty number.
+-- A number and the unit after it, if any, form a pair. If a number is expected, any other word forms a pair with an
+-- empty number.
 abbrev pub pairs_of : List Piece → List Pair
 pairs_of [] = []
 pairs_of (w ∷ []) = record { number = numeral_in w; unit = None } ∷ []
@@ -116,8 +116,8 @@ abbrev pub unit_in : Option (List ℕ) → Option TimeUnit
 unit_in None = Some Second
 unit_in (Some word) = unit_named word
 
--- what the digits after a decimal point add, from the given decimal place on: each digit times the size of the unit,
--- divided by 10 to the power of its place and rounded down by itself
+-- what the digits after a decimal point add, if the first of them is at this decimal place: each digit times the size
+-- of the unit, divided by 10 to the power of the digit's place and rounded down separately
 abbrev pub fraction_worth : ℕ → ℕ → List ℕ → ℕ
 fraction_worth size place [] = 0
 fraction_worth size place (digit ∷ digits) =
@@ -143,8 +143,8 @@ worth_of p = if is_number p.number then worth_in p.number (unit_in p.unit) else 
 
 -- The value of a time span (systemd.time(7), Parsing Time Spans)
 
--- the sum plus the value of one more pair, or the error of that pair, which is `TooLarge` if the sum is more than the
--- limit
+-- the sum plus the value of one more pair, or the error of that pair, which is `TooLarge` if the new sum is more than
+-- the limit
 abbrev pub sum_with : ℕ → Result ℕ SpanFault → Result ℕ SpanFault
 sum_with sum worth = worth >>= λ m. if nat_le (sum + m) limit then Ok (sum + m) else Err TooLarge
 

@@ -6,7 +6,7 @@ use Rattle.cal_bytes.specs.headline.Bytes.{joined}
 use Rattle.cal_span.specs.headline.TimeUnit.{size_of, all_units, unit_name}
 use Rattle.cal_span.specs.declared.time_unit.TimeUnit.{TimeUnit}
 
--- how many of one unit: a number and the unit
+-- a number of one unit, such as 30 minutes
 pub record Count : Type 0 where
   pub number : ℕ
   pub unit : TimeUnit
@@ -23,7 +23,7 @@ count_text c = joined (decimal c.number ∷ unit_name c.unit ∷ [])
 unfoldable pub counts_in_row : List Count → List ℕ
 counts_in_row = join_by count_text (codes " ")
 
--- the counts as they are printed, which is `0` if there are none
+-- the printed counts, or `0` if there are none
 abbrev pub counts_text : List Count → List ℕ
 counts_text [] = codes "0"
 counts_text (c ∷ cs) = counts_in_row (c ∷ cs)

@@ -1,4 +1,4 @@
--- The units of time: systemd.time(7), Parsing Time Spans.
+-- The units of time, their lengths, and how they are printed (systemd.time(7), Parsing Time Spans).
 use Rattle.std.specs.Prelude.{ℕ, List, [], ◌∷◌, codes}
 use Rattle.cal_span.specs.declared.time_unit.TimeUnit.{TimeUnit}
 use Rattle.cal_span.specs.declared.time_unit.TimeUnit.TheVariants.{Year, Month, Week, Day, Hour, Minute, Second, Millisecond, Microsecond}

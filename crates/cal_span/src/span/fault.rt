@@ -6,14 +6,14 @@ use thiserror::Error;
 
 /// Why a time span is invalid.
 ///
-/// A time span is a list of pairs, each a number with an optional unit (systemd.time(7), Parsing Time Spans). The error
-/// is that of the leftmost invalid pair.
+/// A time span is a list of pairs, each a number with an optional unit (systemd.time(7), Parsing Time Spans). If
+/// several pairs are invalid, the error of the leftmost one is reported.
 #[derive(Clone, Copy, PartialEq, Eq, Debug, Error)]
 pub enum SpanFault {
     /// There are no pairs: the time span is empty or blank.
     #[error("empty time span")]
     Empty = 1,
-    /// A word that is not a number stands in place of a number. A number has one or more digits and at most one decimal
+    /// A number is expected, but the word is not a number. A number has one or more digits and at most one decimal
     /// point.
     #[error("bad number")]
     BadNumber = 2,

@@ -1,6 +1,6 @@
 //! The numbers in a time span, with or without a decimal point (systemd.time(7), Parsing Time Spans).
 //!
-//! All arithmetic saturates at `u64::MAX`, which is more than the longest time span.
+//! Sums and products that could overflow saturate at `u64::MAX`, which is more than the longest time span.
 
 ghost use Rattle.std.specs.Prelude.{◌≡◌, ◌≤◌, IsTrue, MatchOption, min, false, true};
 ghost use Rattle.std.specs.List.{list_all, position, before_first, after_first};
@@ -69,9 +69,9 @@ fn point_index(word: &[u8]) -> Option<usize>
     word.iter().position(|byte| *byte == b'.')
 }
 
-/// Returns what the digits after a decimal point add to the value of a number, in a unit of `size` microseconds, which
-/// is at most a year. The contribution of each digit is rounded down separately. Returns `u64::MAX` if the sum is more
-/// than that.
+/// Returns how many microseconds the digits after a decimal point add to a number whose unit has `size` microseconds.
+/// `size` is at most a year. The contribution of each digit is rounded down separately. Returns `u64::MAX` if the sum
+/// is more than that.
 pub fn fraction_of(digits: &[u8], size: u64) -> u64
     requires digits { IsTrue (list_all is_ascii_digit digits.now) }
     requires size { size ≤ size_of TimeUnit.Year }

@@ -26,7 +26,8 @@ pub fn one_value()
     ensures spelled { (unit : TimeUnit)
         → AllByRecursion (λ word. unit_named word ≡ Some unit) (spellings_of unit) }
 
-    // The value is the sum of the pairs, unless a pair is invalid; then the error is that of the leftmost invalid pair.
+    // The value is the sum of the pairs, unless a pair is invalid; then the error of the leftmost invalid pair is
+    // returned.
     ensures found { (text : List ℕ) → Judges (pairs_in text) (span_of text) }
     ensures only { (pairs : List Pair) (a b : Result ℕ SpanFault)
         → Judges pairs a → Judges pairs b → a ≡ b }

@@ -1,5 +1,5 @@
-//! Printing time spans. For each unit, from the largest to the smallest, a span has the largest whole count that fits
-//! into what remains, as in `1h 30min`.
+//! Printing time spans, as in `1h 30min`. For each unit, from the largest to the smallest, the text says how many whole
+//! units fit into what remains of the span; units that don't fit are left out.
 
 ghost use Rattle.std.specs.Prelude.{◌≡◌, ◌+◌, ◌≤◌, ℕ, List, [], ◌∷◌, ◌++◌, length, false, decimal};
 ghost use Rattle.cal_span.specs.Span.{limit};
@@ -21,9 +21,9 @@ use itoa::Buffer;
 /// of 5 bytes.
 pub const SPAN_ROOM: usize = 234;
 
-/// Appends a time span as it is printed: its units from the largest to the smallest without those whose count is zero,
-/// as in `1h 30min`, or `0` for the empty span (systemd.time(7), Parsing Time Spans). This is at most [`SPAN_ROOM`]
-/// bytes, and the caller guarantees that `text` has room for that many.
+/// Appends a time span as it is printed: its units from the largest to the smallest, without those whose count is zero,
+/// as in `1h 30min`. The empty span is printed as `0` (systemd.time(7), Parsing Time Spans). The text has at most
+/// [`SPAN_ROOM`] bytes, and the caller guarantees that `text` has room for that many.
 pub fn push_span(text: &mut ShortText, span: Span)
     requires room { length text.old.items + SPAN_ROOM ≤ SHORT_TEXT_ROOM }
     ensures text { text.new.items ≡ text.old.items ++ span_text span.micros }
@@ -46,7 +46,7 @@ pub fn format_span(span: Span) -> ShortText
 
 /// Writes a time span as [`push_span`] prints it.
 ///
-/// Fails with [`WriteFault::Failed`] if and only if the writer fails; then only a prefix was written.
+/// Fails with [`WriteFault::Failed`] if and only if the sink fails; then only a prefix was written.
 pub fn write_span<W: Sink>(out: &mut W, span: Span) -> Result<(), WriteFault>
     requires { W.is_failed out.old ≡ false }
     ensures { Puts W.Sink out.old out.new result (span_text span.micros) }
@@ -55,7 +55,7 @@ pub fn write_span<W: Sink>(out: &mut W, span: Span) -> Result<(), WriteFault>
     put_all(out, text.as_slice())
 }
 
-/// Every number of microseconds is printed in exactly one way.
+/// For every number of microseconds, exactly one text follows the rule `IsSpanText`, and this text is printed.
 pub fn one_text()
     ensures some { (n : ℕ) → IsSpanText n (span_text n) }
     ensures only { (n : ℕ) (text : List ℕ) → IsSpanText n text → text ≡ span_text n }
@@ -66,7 +66,7 @@ pub fn text_reads_back()
     ensures { (n : ℕ) → n ≤ limit → span_of (span_text n) ≡ Ok n }
 {}
 
-/// Appends the counts of these units in `micros` that aren't zero, with a space between them.
+/// Divides `micros` into these units and appends each count that isn't zero, with a space between the counts.
 fn push_counts(text: &mut ShortText, units: &[TimeUnit], micros: u64)
     requires few { length units.now ≤ 9 }
     requires room { length text.old.items + SPAN_ROOM ≤ SHORT_TEXT_ROOM }

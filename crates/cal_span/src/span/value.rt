@@ -12,8 +12,8 @@ use crate::span::word::{CharKind, first_span_word};
 use crate::{Span, SpanFault, TimeUnit};
 use cal_bytes::is_among;
 
-/// Parses a time span: one or more numbers, each with an optional unit. Blanks may come before, between and after all
-/// of them (systemd.time(7), Parsing Time Spans).
+/// Parses a time span: one or more pairs, each a number with an optional unit. Blanks may come before, between and
+/// after the numbers and units (systemd.time(7), Parsing Time Spans).
 ///
 /// A number without a unit counts seconds. The values are added up. Each digit after a decimal point is rounded down to
 /// microseconds separately.
