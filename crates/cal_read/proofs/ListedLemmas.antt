@@ -21,8 +21,8 @@ use Rattle.cal_read.specs.declared.timer.fault.TimerFault.TheVariants.{BadLine}
 use Rattle.cal_read.proofs.ResumedLemmas.{joined_bad, joined_many, joined_read, resumed_changed, resumed_fault}
 use Rattle.cal_text.proofs.General.{after_last_here, after_last_more, option_or-none}
 
--- The list to which assignments that pass the test `adds` are added, and which assignments that pass `resets` clear.
--- The lemmas say how one more assignment changes this list.
+-- One of the two lists, defined by two tests: assignments that pass `adds` are added to the list, and assignments that
+-- pass `resets` clear it. The lemmas say how one more assignment changes the list.
 abbrev Kept : (adds resets : Assignment → Bool) → List Assignment → List Assignment
 Kept adds resets all = filter adds (after_last resets all)
 
@@ -41,7 +41,8 @@ kept_more adds resets before a e f =
     ∙ filter-append adds (after_last resets before) (a ∷ [])
     ∙ rw f refl
 
--- the length of a list, counted one assignment at a time and capped at the limit
+-- if `n` is the length of a list, capped at the limit, then `count_with` returns its capped length after one more
+-- assignment
 pub counted_kept : (adds resets : Assignment → Bool) (before : List Assignment) (a : Assignment) (joined empties : Bool) (n : ℕ)
     → adds a ≡ joined → resets a ≡ empties → (adds a ≡ true → resets a ≡ false) → n ≡ min (length (filter adds (after_last resets before))) max_expressions
     → count_with n joined empties ≡ min (length (filter adds (after_last resets (before ++ a ∷ [])))) max_expressions
@@ -64,9 +65,9 @@ excepted_other : (before : List Assignment) (a : Assignment) → is_exception_re
 unfolding excepted
 excepted_other before a e f = kept_other is_exception is_exception_reset before a e f
 
--- An assignment does at most one of these four things: it adds an expression, adds an exception, clears the
--- expressions, or clears the exceptions. Only an assignment with a value can add and only one without a value can
--- clear, and no key is both that of exceptions and one of `timer_keys`.
+-- The lemmas down to `exception_is_no_exception_reset` say that an assignment does at most one of these four things: it
+-- adds an expression, adds an exception, clears the expressions, or clears the exceptions. This holds because only an
+-- assignment with a value adds, only one without a value clears, and the key of exceptions is not one of `timer_keys`.
 no_value : (b x y : Bool) → (b && x) ≡ true → (not b && y) ≡ false
 no_value true x y e = refl
 no_value false x y e = cc
@@ -123,7 +124,7 @@ excepted_kept before a e = excepted_other before a (reset_is_no_exception_reset 
 pub listed_kept : (before : List Assignment) (a : Assignment) → is_exception_reset a ≡ true → listed (before ++ a ∷ []) ≡ listed before
 listed_kept before a e = listed_other before a (exception_reset_is_no_reset a e) (exception_reset_is_no_expression a e)
 
--- every assignment in `list` has an entry, so the expressions of all of them are valid
+-- every assignment in `list` has an entry, so all of their expressions are valid
 abbrev AreAll : {E : Type 0} → (List ℕ → Result E SpecFault) → List Assignment → Type 0
 AreAll read list = length (entries_of read list) ≡ length list
 
@@ -134,7 +135,7 @@ entries_more read list a entry good =
     ∙ rw good refl
 
 -- If all assignments in `list` are valid, adding `a` to their entries either fails with the error of `a`, or adds the
--- entry of `a`; if it doesn't fail, all assignments are still valid.
+-- entry of `a`; in the latter case, `a` is valid, too.
 joins_by : {E : Type 0} (read : List ℕ → Result E SpecFault) (list : List Assignment) (a : Assignment) (many : Bool) (r : Result E SpecFault)
     → nat_le max_expressions (length list) ≡ many → read a.value ≡ r → AreAll read list
     → (with_assignment read (entries_of read list) a ≡ unless_fault (fault_joining read list a) (Ok (entries_of read (list ++ a ∷ []))))
@@ -158,15 +159,15 @@ joins_by {E} read list a false (Ok expr) m v all =
       λ h. ap length more ∙ length-append (entries_of read list) (entry ∷ []) ∙ ap (λ n. n + 1) all ∙ sym (length-append list (a ∷ [])),
     )
 
--- if `o` is an error, the result is this error; otherwise the result is that of `next` for the list `es`: the error `p`
--- if there is one, and `r` if not
+-- a step that fails with `o`, or returns `es` if `o` is `None`, is followed by `next`, which fails with `p`, or returns
+-- `r` if `p` is `None`: the result is the first of these errors, or `r` if both are `None`
 decides : {E : Type 0} (o p : Option TimerFault) (es : List (TimerLine E)) (next : List (TimerLine E) → Result (Timer E) TimerFault) (r : Result (Timer E) TimerFault)
     → (o ≡ None → next es ≡ unless_fault p r) → with_list (unless_fault o (Ok es)) next ≡ unless_fault (option_or o p) r
 decides None p es next r h = h refl
 decides (Some fault) p es next r h = refl
 
--- applying the assignments in `after` to the lists of those in `before` gives the first error in `after`, or else the
--- result for the lists of all assignments
+-- if the assignments in `after` are applied to the lists that the assignments in `before` leave, the result is the
+-- first error in `after`, or else the lists after all assignments
 abbrev Resumes : {E : Type 0} → (List ℕ → Result E SpecFault) → List Assignment → List Assignment → Type 0
 Resumes read before after = resumed read (entries read before) after ≡ unless_fault (first_fault read before after) (Ok (entries read (before ++ after)))
 
@@ -174,8 +175,8 @@ Resumes read before after = resumed read (entries read before) after ≡ unless_
 abbrev AreAllRead : {E : Type 0} → (List ℕ → Result E SpecFault) → List Assignment → Type 0
 AreAllRead read before = AreAll read (listed before) × AreAll read (excepted before)
 
--- the first error after the assignments in `before` is that of the next assignment `a`, or else the first error after
--- `a`
+-- the first error after the assignments in `before` is the error `o` of the next assignment `a`, or else the first
+-- error after `a`
 ends : {E : Type 0} (read : List ℕ → Result E SpecFault) (before : List Assignment) (a : Assignment) (after : List Assignment) (o : Option TimerFault) → fault_following read before a ≡ o
     → unless_fault (option_or o (first_fault read (before ++ a ∷ []) after)) (Ok (entries read ((before ++ a ∷ []) ++ after)))
     ≡ unless_fault (first_fault read before (a ∷ after)) (Ok (entries read (before ++ (a ∷ after))))
@@ -201,8 +202,8 @@ pub fault_of_exception : {E : Type 0} (read : List ℕ → Result E SpecFault) (
 unfolding fault_following
 fault_of_exception read before a f = rw (exception_is_no_expression a f, f) refl
 
--- What the assignment `a` does to one of the lists: it has the error `fault`, or, if `fault` is `None`, the list
--- becomes that of the assignments in `before` and `a`.
+-- What the assignment `a` does to one of the lists: it fails with the error `fault`, or, if `fault` is `None`, the
+-- result is the list after the assignments in `before` and `a`.
 record Changes {E : Type 0} (read : List ℕ → Result E SpecFault) (adds resets : Assignment → Bool) (before : List Assignment) (a : Assignment) (fault : Option TimerFault) : Type 0 where
   pub is : changed read (adds a) (resets a) (entries_of read (Kept adds resets before)) a ≡ unless_fault fault (Ok (entries_of read (Kept adds resets (before ++ a ∷ []))))
   pub all : fault ≡ None → AreAll read (Kept adds resets (before ++ a ∷ []))
@@ -255,8 +256,8 @@ resumes_from read before (a ∷ after) all =
     (changes read is_exception is_exception_reset before a (is_exception a) (is_exception_reset a) refl refl (exception_is_no_exception_reset a) all.1)
     (either_fault read before a (is_expression a) refl) (resumes_from read (before ++ a ∷ []) after)
 
--- what `entries_or_fault` says about the lists of a file, where it is an error if there is no expression, and about the
--- first error
+-- In the next four lemmas, `o` is the first error of a file, if it has one, and `all` are its lists. The premise is the
+-- result of `entries_or_fault`; the conclusion is the result of `lists_of`, or what `o` is.
 lists_by : {E : Type 0} (o : Option TimerFault) (all lists : Timer E) → unless_fault o (Ok all) ≡ Ok lists → unless_fault o (some_entries all) ≡ some_entries lists
 lists_by None all lists h = let same : all ≡ lists = cc in ap some_entries same
 lists_by (Some fault) all lists h = cc
@@ -278,7 +279,8 @@ pub resumed_is_entries : {E : Type 0} (read : List ℕ → Result E SpecFault) (
 unfolding entries_or_fault entries listed excepted
 resumed_is_entries read assignments = resumes_from read [] assignments (refl, refl)
 
--- so the lists of a file follow from these entries, or its error is that error
+-- The next four lemmas say what `lists_of` and `first_fault` return, given the result of applying all assignments to
+-- empty lists.
 pub lists_from_entries : {E : Type 0} (read : List ℕ → Result E SpecFault) (all : List Assignment) (lists : Timer E) → resumed read empty_lists all ≡ Ok lists → lists_of read all ≡ some_entries lists
 unfolding lists_of entries_or_fault
 lists_from_entries read all lists h = lists_by (first_fault read [] all) (entries read all) lists (sym (resumed_is_entries read all) ∙ h)
@@ -295,7 +297,7 @@ pub first_from_fault : {E : Type 0} (read : List ℕ → Result E SpecFault) (al
 unfolding entries_or_fault
 first_from_fault read all fault h = some_by (first_fault read [] all) (entries read all) fault (sym (resumed_is_entries read all) ∙ h)
 
--- what follows from both lists, unless there was an error
+-- the result of `next` for the lists, or the error if there is one instead of lists
 abbrev pub with_lists : {E : Type 0} → Result (Timer E) TimerFault → (Timer E → Result (Timer E) TimerFault) → Result (Timer E) TimerFault
 with_lists (Ok lists) next = next lists
 with_lists (Err fault) next = Err fault
@@ -305,8 +307,8 @@ list_then : {E : Type 0} (r : Result (List (TimerLine E)) TimerFault) (next firs
 list_then (Ok es) next first second h = h es
 list_then (Err fault) next first second h = refl
 
--- Applying two lists of assignments one after the other is applying their concatenation. This is what lets several
--- texts be read without joining them.
+-- Applying two lists of assignments one after the other has the same result as applying their concatenation. This is
+-- why several texts can be read without joining them.
 pub resumed_append : {E : Type 0} (read : List ℕ → Result E SpecFault) (lists : Timer E) (before after : List Assignment)
     → resumed read lists (before ++ after) ≡ with_lists (resumed read lists before) (λ now. resumed read now after)
 unfolding resumed

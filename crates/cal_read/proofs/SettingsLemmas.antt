@@ -1,4 +1,4 @@
--- Lemmas about what each logical line adds to the settings of a section.
+-- Lemmas on what each logical line adds to the settings of a section.
 use Rattle.std.proofs.Common.{◌≡◌, Bool, true, false, List, [], ◌∷◌, ◌++◌, ℕ, codes, map, refl, ap, Option, Some, None}
 use Rattle.std.specs.List.{filter_map}
 use Rattle.std.specs.Option.{option_to_list}
@@ -8,7 +8,7 @@ use Rattle.cal_lines.specs.headline.Lines.{Line, is_blank_or_return}
 use Rattle.cal_read.specs.headline.Assignments.{Assignment, assignment_of, assignments_in, is_header, section_of, timer_lines, trimmed}
 use Rattle.cal_read.specs.Settings.{section_lines, settings_in}
 
--- the settings of the section `Timer` are the assignments of a timer file
+-- the settings of the section `Timer` are the assignments of a timer file (the induction step)
 lines_by : (headed inside : Bool) (line : Line) (lines : List Line) → is_header line.text ≡ headed → ((inside : Bool) → section_lines (codes "Timer") inside lines ≡ timer_lines inside lines)
     → section_lines (codes "Timer") inside (line ∷ lines) ≡ timer_lines inside (line ∷ lines)
 unfolding section_lines timer_lines

@@ -38,7 +38,7 @@ number_by most word n true e h =
     record { some = grind (arith, nat_tests, long); digits = parts.1 }
 number_by most word n false e h = let none = rw e at h in cc
 
--- a number contains no colon, and a text that begins with a number begins with a digit
+-- the next three lemmas: a number contains no colon, and a text that begins with a number begins with a digit
 pub digit_no_colon : (b : ℕ) → is_ascii_digit b ≡ true → is_colon b ≡ false
 digit_no_colon b h = grind (arith, nat_tests)
 

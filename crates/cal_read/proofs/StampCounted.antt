@@ -14,7 +14,7 @@ use Rattle.cal_zone.specs.headline.Moment.{micros_of}
 use Rattle.cal_read.specs.Stamp.{Setting, after_second, in_moments, moment_in, moment_of_form}
 use Rattle.cal_read.specs.StampForm.{counted, form_of, form_of_solid}
 
--- The form
+-- The form of `@` and digits
 
 solid_digits : (ds : List ℕ) → AreDigits ds → AllByRecursion (λ b. is_blank b ≡ false) ds
 solid_digits [] h = tt
@@ -40,7 +40,7 @@ unfolding form_of
 form_of-counted ds h =
     ap form_of_solid (sym (trim_only is_blank (64 ∷ ds) (64 ∷ ds) (solid_trimmed (64 ∷ ds) (refl, solid_digits ds h))))
 
--- The law
+-- The law `counted_seconds_read_back`
 
 in_time : (micros : ℤ) → pos 0 ≤ℤ micros → micros ≤ℤ pos 7_258_211_998_000_000 → in_moments micros ≡ Ok micros
 unfolding in_moments

@@ -234,7 +234,7 @@ first-found at (w ∷ ws) fault h =
       | inr other ↦ body at None None fault refl w ws (λ no. inr (other, no)) (rw other at h)
     ]
 
--- The words after `today`, `yesterday` or `tomorrow`
+-- The error of the words after `today`, `yesterday` or `tomorrow`
 
 zone_only : (at : Setting) (name : Option (List ℕ)) (zone : TimeZone) (word : List ℕ) (after : List (List ℕ)) (fault : StampFault) → NamesZone at name zone → IsNoLastWord at name word fault
     → zone_by_words at (option_to_list name ++ (word ∷ after)) ≡ Err fault

@@ -19,7 +19,7 @@ use Rattle.cal_read.specs.StampTime.{time_numbers, micros_due, time_written}
 use Rattle.cal_read.specs.declared.stamp.fault.StampFault.{StampFault}
 use Rattle.cal_read.specs.declared.stamp.fault.StampFault.TheVariants.{NoSuchDate, OutOfRange, WrongWeekday}
 
--- What never has the error `NoSuchDate`
+-- Steps that never fail with `NoSuchDate`
 
 abbrev Never : {A : Type 0} → Result A StampFault → Type 0
 Never r = r ≡ Err NoSuchDate → ⊥
@@ -93,7 +93,7 @@ no_moment_of_civil_stamp : (now : ℤ) (c : CivilStamp) → moment_of_civil_stam
 unfolding moment_of_civil_stamp
 no_moment_of_civil_stamp now c = never_if _ _ (Err WrongWeekday) (no_settle_on c.zone _ c.micros) (λ h. cc)
 
--- What can have the error `NoSuchDate`
+-- Steps that can fail with `NoSuchDate`
 
 body : (at : Setting) (weekday : Option Weekday) (ws : List (List ℕ)) → after_weekday at weekday ws ≡ Err NoSuchDate → HasNoSuchDate ws
 body at weekday [] h = cc

@@ -1,4 +1,4 @@
--- Lemmas on the numbers, the pieces and the moments of timestamps.
+-- Lemmas on fractions of a second, on dates and times with too many pieces, and on moments.
 use Rattle.std.proofs.Common.{ℕ, ◌+◌, ◌*◌, ◌^◌, ◌≤◌, ◌≡◌, true, List, [], ◌∷◌, length, refl, sym, ap, arith, None, Err, ℤ, ◌+ℤ◌, ◌<ℤ◌}
 use Rattle.std.specs.Char.{is_ascii_digit, digit_value}
 use Rattle.std.specs.List.{list_all, slice_split}
@@ -18,7 +18,7 @@ use Rattle.cal_read.specs.StampDate.{is_hyphen, date_numbers}
 use Rattle.cal_read.specs.StampTime.{second_written, time_numbers}
 use Rattle.cal_read.specs.declared.stamp.fault.StampFault.TheVariants.{OutOfRange}
 
--- Numbers
+-- Fractions of a second
 
 -- each digit of a fraction adds at most nine times the unit `size` to the value of the fraction
 pub fraction_bound : (size place : ℕ) (ds : List ℕ) → list_all is_ascii_digit ds ≡ true → fraction_worth size place ds ≤ length ds * (9 * size)
@@ -31,7 +31,7 @@ fraction_bound size place (d ∷ ds) h =
     let whole : digit_value d * size ≤ 9 * size = mul-le-mul_right size (omega arith) in
     omega (arith, rest, part, whole)
 
--- Pieces
+-- Dates and times with too many pieces
 
 -- a date with more than three pieces between hyphens is invalid; so are a time with more than three pieces between
 -- colons, and seconds with more than two pieces between points

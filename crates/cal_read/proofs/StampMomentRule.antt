@@ -1,4 +1,4 @@
--- The moments of timestamps are those that the rule of `StampMomentRule` demands.
+-- Timestamps resolve to the moments that the rule of `StampMomentRule` demands.
 use Rattle.std.proofs.Common.{ℕ, ◌/◌, ◌%◌, ◌<◌, ◌≡◌, ◌⊎◌, Bool, true, false, inl, inr, List, refl, sym, ap, ◌∙◌, arith, rules, Option, Some, None, Ok, Err, ℤ, pos, negsuc, ◌+ℤ◌, ◌-ℤ◌, ◌*ℤ◌, ◌<ℤ◌, ◌≤ℤ◌, eq-eqb, unsigned_abs}
 use Rattle.std.specs.Prelude.{Result, ◌↔◌, if◌then◌else◌}
 use Rattle.std.specs.Int.{int_div_euclid, int_rem_euclid}
@@ -29,7 +29,7 @@ use Rattle.cal_read.proofs.StampFaultRule.{err_of, first-found, first-only, zone
 use Rattle.cal_read.proofs.StampLemmas.{too_late}
 use Rattle.cal_read.proofs.StampRule as form_rule
 
--- The range
+-- The range of moments
 
 cases_moment : (micros : ℤ) → IsMoment micros ⊎ ((micros <ℤ pos 0) ⊎ (last_moment <ℤ micros))
 cases_moment (pos n) =
@@ -125,7 +125,7 @@ unfolding weekday_number
 fits None day h = refl
 fits (Some weekday) day h = eq-eqb _ _ (of_week (day +ℤ pos 3) h.0 (monday_zero weekday) (below_seven weekday) h.1)
 
--- Times
+-- Times of day
 
 is_time : (zone : TimeZone) (day : ℤ) (micros : ℕ) (time : ℤ) → settle_on zone day micros ≡ Ok time → IsTimeOfDay zone day micros time × IsMoment time
 unfolding settle_on
@@ -282,7 +282,7 @@ midnight_error now at shift ws fault h =
     ]
 
 -- In this module, `of` adds a time span to a second, or subtracts it, and `time n` is the result for a span of `n`
--- microseconds. If `of` fails, the span is invalid, or the result is out of range.
+-- microseconds. The lemma says that if `of` fails, the span is invalid or the result is out of range.
 module _ (span : List ℕ) (time : ℕ → ℤ) (of : Result ℕ SpanFault → Result ℤ StampFault) (good : (n : ℕ) → of (Ok n) ≡ in_moments (time n)) (bad : (why : SpanFault) → of (Err why) ≡ Err (BadSpan why)) where
   span_error : (value : Result ℕ SpanFault) (fault : StampFault) → span_of span ≡ value → of value ≡ Err fault → IsBadSpan span fault ⊎ (((n : ℕ) × (span_of span ≡ Ok n) × (IsMoment (time n) → ⊥)) × (fault ≡ OutOfRange))
   span_error (Ok n) fault e h = let out = is_outside (time n) fault (sym (good n) ∙ h) in inr ((n, e, out.1), out.0)

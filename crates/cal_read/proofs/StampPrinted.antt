@@ -1,5 +1,5 @@
 -- Parsing a printed instant gives the same instant, if the zone's clock shows a year from 1970 to 2199 and its UTC
--- offset is whole minutes.
+-- offset is a whole number of minutes.
 use Rattle.std.proofs.Common.{◌≡◌, ℕ, ◌+◌, ◌-◌, ◌*◌, ◌/◌, ◌%◌, ◌<◌, ◌≤◌, true, false, inr, List, [], ◌∷◌, ◌++◌, length, get_or, codes, ℤ, pos, neg_ℤ, ◌+ℤ◌, ◌*ℤ◌, ◌≤ℤ◌, Option, Some, Ok, Err, refl, sym, ap, ◌∙◌, arith, append_assoc, append-nil, decimal, eq-eqb, length-append, leb-true, reverse, slice_index_or, unsigned_abs}
 use Rattle.std.specs.List.{list_any}
 use Rattle.std.proofs.lemmas.List.{get_or-reverse}
@@ -88,7 +88,7 @@ no_word core word means last apart other p =
     let same : last_byte core ≡ last_byte (p.1 ∷ word) = ap last_byte p.3 ∙ last_of p.0 (p.1 ∷ word) (omega arith) in
     apart p.1 (omega (arith, same, last))
 
--- if the first word of a text has three bytes, it isn't the word for a day, which has more
+-- a text whose first word has three bytes doesn't begin with `today`, `yesterday` or `tomorrow`, which are longer
 no_relative_day : (core name word : List ℕ) (rest : List (List ℕ)) (shift : ℤ) → words core ≡ name ∷ rest → length name ≡ 3 → 3 < length word → (other : Form) → IsRelativeDay word shift core other → ⊥
 no_relative_day core name word rest shift are short long other p =
     let same : name ∷ rest ≡ word ∷ p.0 = sym are ∙ p.1 in
@@ -272,8 +272,7 @@ shown_since zone secs h =
     let within = local_within zone secs h in
     year-from_1969 (shown_date zone secs) (omega (arith, signed_arith, shown_day zone secs h, within.0))
 
--- the result for a line is that of parsing its date, then its time and its zone, and of converting the civil time to a
--- moment
+-- parsing a line comes down to parsing its date, then its time and its zone, and converting the civil time to a moment
 words_read : (now : ℤ) (at : Setting) (date : Date) (second : ℕ) (zone : List ℕ) → second < 86_400 → IsLastWord zone
     → moment_in now at (line_of date second zone)
     ≡ ((day_written (date_in date) >>= λ number. after_date at (Some (day_in date)) number (time_in second ∷ zone ∷ [])) >>= λ stamp. moment_of_civil_stamp now stamp)
@@ -317,7 +316,7 @@ unfolding moment_of_civil_stamp
 moment_back now local secs zone date h back e =
     rw (fits date (day_of local) e) (settle_on_back zone local secs h back)
 
--- The law
+-- The law `printed_instants_read_back`
 
 -- if the year of a line is from 1970 to 2199, its date and its time are valid, so only its zone can still be invalid
 zone_judged : (now local : ℤ) (at : Setting) (date : Date) (zone : List ℕ) → IsLastWord zone → IsBetween (pos 1_970) (pos 2_199) date.year → epoch_day date ≡ day_of local
@@ -369,7 +368,8 @@ reads_as_none now local table zone secs h none =
     ∙ words_read now at (shown_date zone secs) (second_of_day shows) (shown_word zone secs) (second_below shows) (shown_last zone secs)
     ∙ rw (other_date_back (shown_date zone secs) (shown_since zone secs h) none) refl
 
--- at a second of the years 1970 to 2199, a clock in UTC shows one of these years, and its UTC offset is whole minutes
+-- at a second of the years 1970 to 2199, a clock in UTC shows one of these years, and its UTC offset is a whole number
+-- of minutes
 utc_shows : (secs : ℤ) → IsLocalSecond secs → ShowsYear (civil_of (zone_of utc) secs)
 unfolding civil_of zone_of
 utc_shows secs h =

@@ -40,7 +40,7 @@ printed width n some narrow few small =
     let long : length (padded width n) ≡ width - length (decimal n) + length (decimal n) = length-append (zeros width n) (decimal n) ∙ ap (λ m. m + length (decimal n)) (length-replicate (width - length (decimal n)) 48) in
     record { number = number_printed width n small; short = omega arith }
 
--- a number below 10,000 that is padded to four digits has at most four digits, which stand for the number; and so a
+-- a number below 10,000 that is padded to four digits has at most four digits, which stand for the number; likewise a
 -- number below 100 that is padded to two digits
 in_four : (n : ℕ) → n < 10_000 → IsPrinted 4 n (padded 4 n)
 in_four n small = printed 4 n (omega arith) (omega arith) (omega arith) small
@@ -65,7 +65,7 @@ digit_no_hyphen b h = grind (arith, nat_tests)
 digit_no_blank : (b : ℕ) → is_ascii_digit b ≡ true → is_blank b ≡ false
 digit_no_blank b h = grind (arith, nat_tests)
 
--- Three numbers, with the byte `sign` between each two of them
+-- Three numbers with the byte `sign` between them
 
 abbrev row : ℕ → List ℕ → List ℕ → List ℕ → List ℕ
 row sign a b c = a ++ (sign ∷ (b ++ (sign ∷ c)))
@@ -246,6 +246,6 @@ unfolding name_of day_named
 short_names Monday = record { long = refl; capital = refl; letter = refl; solid = refl; named = refl }
 short_names day = record { long = refl; capital = refl; letter = refl; solid = refl; named = refl }
 
--- the weekday at the index `n` of `week` has the number `n`, if Monday has the number 0
+-- the weekday at the index `n` of `week` has the number `n`, counting from Monday as 0
 pub in_week : (n : ℕ) → n < 7 → monday_zero (slice_index_or week n Sunday) ≡ n
 in_week n h = eqb-true _ n (below_all 7 (λ day. nat_eq (monday_zero (slice_index_or week day Sunday)) day) n refl h)

@@ -27,7 +27,7 @@ use Rattle.cal_read.specs.declared.stamp.fault.StampFault.{StampFault}
 use Rattle.cal_read.specs.declared.stamp.fault.StampFault.TheVariants.{Empty, BadWeekday, BadDate, BadTime, NoSuchDate, WrongWeekday, BadSpan, NoSuchZone, StrayWord, OutOfRange}
 use Rattle.cal_zone.proofs.YearLemmas.{days_from_civil-1970}
 
--- the zones of the examples: the local zone is UTC, and no other zone has a name
+-- the zones of the examples: the local zone is UTC, and UTC is the only zone with a name
 abbrev in_utc : Setting
 in_utc = record { local = UTC; find = λ name. if is_utc_name name then Some UTC else None }
 

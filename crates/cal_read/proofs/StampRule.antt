@@ -115,8 +115,8 @@ by_words core (w ∷ ws) are =
     (by_day (OrElse (IsRelativeDay (codes "tomorrow") (pos 1)) IsCivilForm) (codes "yesterday") (neg_ℤ (pos 1)) core w ws _ _ refl are
     (by_day IsCivilForm (codes "tomorrow") (pos 1) core w ws None _ refl are (ap civil (sym are))))
 
--- if the part of a text after its last blank is `word`, the text ends with a blank and `word`; and vice versa, if
--- `word` has no blank
+-- The next four lemmas lead to this: if the part of a text after its last blank is `word`, the text ends with a blank
+-- and `word`; and vice versa, if `word` has no blank.
 some_blank_within : (text : List ℕ) → list_any is_blank text ≡ true → suffix_len is_solid text < length text
 some_blank_within text some =
     elim (cases_lt (suffix_len is_solid text) (length text)) [

@@ -1,4 +1,4 @@
--- Lemmas which say that counting gives the same errors as keeping the lists.
+-- Lemmas which say that counting the entries of the lists gives the same errors as keeping the lists.
 use Rattle.std.proofs.Common.{◌≡◌, ◌+◌, ◌<◌, ℕ, List, [], ◌∷◌, ◌++◌, refl, subst, sym, ap, ◌∙◌, arith, append_assoc, append-nil, length, length-append, map, take, Option, Some, None, Result, drop, get_or, drop-cons, add-one}
 use Rattle.std.specs.Prelude.{nat_le, min}
 use Rattle.std.specs.List.{slice_get}
@@ -19,7 +19,7 @@ use Rattle.std.proofs.Math.Seq.{drop-length, take-append_seam}
 use Rattle.std.proofs.lemmas.List.Concat.{flat_map-append}
 use Rattle.cal_read.proofs.ListedLemmas.{counted_kept, exception_is_no_exception_reset, expression_is_no_reset}
 
--- the counts are the lengths of the lists of these assignments, capped at the limit
+-- the counts are the lengths of the two lists after these assignments, capped at the limit
 pub record AreCounts (counts : Counts) (before : List Assignment) : Type 0 where
   pub expressions : counts.expressions ≡ min (length (listed before)) max_expressions
   pub exceptions : counts.exceptions ≡ min (length (excepted before)) max_expressions
@@ -35,7 +35,7 @@ counts_more counts before a h = record {
   exceptions = counted_kept is_exception is_exception_reset before a (is_exception a) (is_exception_reset a) counts.exceptions refl refl (exception_is_no_exception_reset a) h.exceptions;
 }
 
--- a list is full exactly if its count is
+-- a list of length `m` is full if and only if its capped length `n` has reached the limit
 same_limit : (n m : ℕ) → n ≡ min m max_expressions → nat_le max_expressions n ≡ nat_le max_expressions m
 same_limit n m h = grind (arith, nat_tests)
 
@@ -66,11 +66,11 @@ files_by read counts before k (file ∷ files) h =
     ∙ ap (λ rest. map (in_file k) (all_faults read before (assignments_at file)) ++ rest)
     (files_by read (counts_over counts (assignments_at file)) (before ++ assignments_at file) (k + 1) files (counts_over_are counts before (assignments_at file) h))
 
--- the errors of all texts
+-- for all texts together, counting gives the same errors as keeping the lists
 pub files_counted : {E : Type 0} (read : List ℕ → Result E SpecFault) (files : List UnitText) → counted_files read (record { expressions = 0; exceptions = 0 }) 0 files ≡ faults_of read [] 0 files
 files_counted read files = files_by read (record { expressions = 0; exceptions = 0 }) [] 0 files counts_none
 
--- the errors from a text on are its own errors and those of the remaining texts
+-- the errors from the text with index `i` on are the errors of this text, followed by those of the remaining texts
 pub files_more : {E : Type 0} (read : List ℕ → Result E SpecFault) (counts : Counts) (files : List UnitText) (i : ℕ) (d : UnitText) → i < length files
     → counted_files read counts i (drop i files) ≡ map (in_file i) (counted_faults read counts (assignments_at (get_or files i d))) ++ counted_files read (counts_over counts (assignments_at (get_or files i d))) (i + 1) (drop (i + 1) files)
 unfolding counted_files
@@ -80,7 +80,7 @@ pub no_files : {E : Type 0} (read : List ℕ → Result E SpecFault) (counts : C
 unfolding counted_files
 no_files read counts k = refl
 
--- the errors of a list of settings are the error of the first one and those of the others
+-- the errors of a list of assignments are the error of the first one, if any, followed by those of the others
 pub setting_more : {E : Type 0} (read : List ℕ → Result E SpecFault) (counts : Counts) (a : Assignment) (after : List Assignment) → counted_faults read counts (a ∷ after) ≡ option_to_list (fault_at read counts a) ++ counted_faults read (counts_with counts a) after
 unfolding counted_faults
 setting_more read counts a after = refl
@@ -89,7 +89,8 @@ pub counts_step : (counts : Counts) (a : Assignment) (after : List Assignment) �
 unfolding counts_over
 counts_step counts a after = refl
 
--- the steps of the loops: what a setting adds to the errors and to the counts, and what a text adds
+-- the next lemmas are the steps and the ends of the loops in the code: what an assignment adds to the errors and to the
+-- counts, and what a text adds
 pub step_faults : {E : Type 0} (read : List ℕ → Result E SpecFault) (k : ℕ) (found more : List FileFault) (counts now : Counts) (all : List Assignment) (a : Assignment) (after : List Assignment) (fault : Option TimerFault)
     → all ≡ a ∷ after → fault ≡ fault_at read counts a → now ≡ counts_with counts a → more ≡ found ++ map (in_file k) (option_to_list fault)
     → more ++ map (in_file k) (counted_faults read now after) ≡ found ++ map (in_file k) (counted_faults read counts all)
@@ -119,7 +120,7 @@ step_files read found more counts now files i d h e f =
 pub ended_files : {E : Type 0} (read : List ℕ → Result E SpecFault) (found : List FileFault) (counts : Counts) (files : List UnitText) (i : ℕ) → i ≡ length files → found ≡ found ++ counted_files read counts i (drop i files)
 ended_files read found counts files i e = rw (e, drop-length files, no_files read counts (length files)) (sym (append-nil found))
 
--- the first of all errors is the first error
+-- the first element of `all_faults` is the error that `first_fault` returns (the induction step)
 head_by : {E : Type 0} (read : List ℕ → Result E SpecFault) (before : List Assignment) (a : Assignment) (after : List Assignment) (o : Option TimerFault)
     → first_fault read (before ++ a ∷ []) after ≡ slice_get (all_faults read (before ++ a ∷ []) after) 0
     → option_or o (first_fault read (before ++ a ∷ []) after) ≡ slice_get (option_to_list o ++ all_faults read (before ++ a ∷ []) after) 0
@@ -131,7 +132,7 @@ unfolding first_fault all_faults
 first_is_head read before [] = refl
 first_is_head read before (a ∷ after) = head_by read before a after (fault_following read before a) (first_is_head read (before ++ a ∷ []) after)
 
--- the errors of two lists of assignments
+-- the errors of two lists of assignments, one after the other
 all_append : {E : Type 0} (read : List ℕ → Result E SpecFault) (before xs ys : List Assignment) → all_faults read before (xs ++ ys) ≡ all_faults read before xs ++ all_faults read (before ++ xs) ys
 unfolding all_faults
 all_append read before [] ys = ap (λ all. all_faults read all ys) (sym (append-nil before))
@@ -155,7 +156,8 @@ texts_are_all read before k (file ∷ files) =
     ∙ ap (λ rest. all_faults read before (assignments_at file) ++ rest) (texts_are_all read (before ++ assignments_at file) (k + 1) files)
     ∙ sym (all_append read before (assignments_at file) (assignments_of files))
 
--- the first error of several texts, and the index of its text
+-- The lemmas from here on say that the first element of `faults_of` is the first error of several texts, with the index
+-- of its text.
 one_more : (done : List UnitText) (file : UnitText) → assignments_of (done ++ file ∷ []) ≡ assignments_of done ++ assignments_at file
 one_more done file = flat_map-append assignments_at done (file ∷ []) ∙ ap (λ last. assignments_of done ++ last) (append-nil (assignments_at file))
 

@@ -1,4 +1,4 @@
--- Lemmas on which errors the bytes of a file can have.
+-- Lemmas on the errors that parsing the bytes of a file can return.
 use Rattle.std.proofs.Common.{◌≡◌, ℕ, inl, inr, Bool, true, false, List, [], ◌∷◌, ◌++◌, length, refl, Option, Some, None, Result, Ok, Err}
 use Rattle.std.proofs.lemmas.Bool.{cases_Bool, false_from_ne_true}
 use Rattle.std.specs.Prelude.{nat_le}

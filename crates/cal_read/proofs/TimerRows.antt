@@ -44,7 +44,7 @@ Row = (List ℕ → Result (List ℕ) SpecFault) × List ℕ × Result (Timer (L
 
 abbrev rows : List Row
 rows =
-    -- the main example
+    -- a list that is cleared, and a line that is continued after a comment
     (reads, file (codes "[Unit]" ∷ codes "Description=x" ∷ codes "[Timer]" ∷ codes "OnCalendar=daily" ∷ codes "OnBootSec=" ∷ continued (codes "OnCalendar=Mon ") ∷ codes "# the minutes" ∷ codes "  *:0/30" ∷ codes "OnCalendar=hourly" ∷ []), gives (entry 6 (codes "Mon  *:0/30") ∷ entry 9 (codes "hourly") ∷ []) [])
     -- line endings, byte order marks, sections and backslashes
     ∷ (reads, 239 ∷ 187 ∷ 191 ∷ codes "[Timer]" ++ 13 ∷ 10 ∷ codes "OnCalendar= a " ++ 13 ∷ 13 ∷ 10 ∷ [], gives (entry 2 (codes "a") ∷ []) [])

@@ -16,7 +16,7 @@ use Rattle.cal_read.specs.declared.timer.fault.TimerFault.TheVariants.{NothingTo
 use Rattle.cal_read.proofs.TimerLemmas.{first_is_of_line, is_of_line}
 use Rattle.cal_text.proofs.General.{after_last_here, after_last_more, option_or_none}
 
--- The lines of the section `Timer`
+-- without any header, all lines are in the section `Timer` if `inside` is true, and otherwise none
 pub no_header : (inside : Bool) (lines : List Line) → list_any (λ line. is_header line.text) lines ≡ false → timer_lines inside lines ≡ (if inside then lines else [])
 unfolding timer_lines
 no_header true [] h = refl
@@ -28,7 +28,7 @@ no_header false (line ∷ lines) h =
     let parts = or_parts (is_header line.text) (list_any (λ line. is_header line.text) lines) h in
     rw parts.0 (no_header false lines parts.1)
 
--- the lines in `rest`, which follow the last header, if this header opens the section `Timer`; otherwise none
+-- `rest`, which are the lines after the last header, if this header opens the section `Timer`, and otherwise no lines
 abbrev opened : Line → List Line → List Line
 opened header rest = if bytes_eq (section_of header.text) (codes "Timer") then rest else []
 
@@ -43,7 +43,8 @@ unfolding timer_lines
 last_header inside [] rest header e none = rw e (no_header (bytes_eq (section_of header.text) (codes "Timer")) rest none)
 last_header inside (line ∷ front) rest header e none = header_passed (is_header line.text) inside line front rest header refl (λ inside. last_header inside front rest header e none)
 
--- The entries of a list since it was last cleared
+-- if no element of `ys` passes the test `p`, appending `ys` to a list appends `ys` to what comes after its last element
+-- that passes the test
 after_last_after : {X : Type 0} (p : X → Bool) (xs ys : List X) → list_any p ys ≡ false → after_last p (xs ++ ys) ≡ after_last p xs ++ ys
 after_last_after p xs [] none = ap (after_last p) (append-nil xs) ∙ sym (append-nil (after_last p xs))
 after_last_after p xs (y ∷ ys) none =
@@ -79,8 +80,7 @@ pub excepted_without_reset : (all : List Assignment) → list_any is_exception_r
 unfolding excepted
 excepted_without_reset = kept_without_reset is_exception is_exception_reset
 
--- The first error. `AreFineBehind` says that no assignment in `all` has an error, if these come after the assignments
--- in `first`.
+-- none of the assignments in `all` has an error, if they come after the assignments in `first`
 abbrev AreFineBehind : {E : Type 0} → (List ℕ → Result E SpecFault) → List Assignment → List Assignment → Type 0
 AreFineBehind read first all = (before : List Assignment) (a : Assignment) (after : List Assignment) → all ≡ before ++ (a ∷ after) → fault_following read (first ++ before) a ≡ None
 
@@ -112,8 +112,8 @@ none_from_fine read first (x ∷ xs) fine =
     let rest : first_fault read (first ++ x ∷ []) xs ≡ None = none_from_fine read (first ++ x ∷ []) xs (λ before a after e. subst (λ (front : List Assignment). fault_following read front a ≡ None) (sym (append_assoc first (x ∷ []) before)) (fine (x ∷ before) a after (ap (λ ys. x ∷ ys) e))) in
     rw here rest
 
--- of the assignments in `all`, which come after those in `first`, `at` is the first that has an error, and its error is
--- `fault`
+-- among the assignments in `all`, which come after those in `first`, `at` is the first that has an error, and its error
+-- is `fault`
 record FirstFault {E : Type 0} (read : List ℕ → Result E SpecFault) (first all : List Assignment) (fault : TimerFault) : Type 0 where
   before : List Assignment
   at : Assignment
@@ -147,7 +147,7 @@ unfolding first_fault
 fault_from_some read first [] fault h = cc
 fault_from_some read first (x ∷ xs) fault h = fault_at read first x xs fault (fault_following read first x) refl h (fault_from_some read (first ++ x ∷ []) xs fault)
 
--- if the assignment `a` has an error, and no assignment in `before` has an error, the first error is that of `a`
+-- if the assignment `a` has an error, and no assignment in `before` has one, then the error of `a` is the first error
 some_from_fault : {E : Type 0} (read : List ℕ → Result E SpecFault) (first before : List Assignment) (a : Assignment) (after : List Assignment) (fault : TimerFault) → AreFineBehind read first before → fault_following read (first ++ before) a ≡ Some fault → first_fault read first (before ++ (a ∷ after)) ≡ Some fault
 unfolding first_fault
 some_from_fault read first [] a after fault fine e =
@@ -159,7 +159,8 @@ some_from_fault read first (x ∷ before) a after fault fine e =
     let there : fault_following read ((first ++ x ∷ []) ++ before) a ≡ Some fault = subst (λ (front : List Assignment). fault_following read front a ≡ Some fault) (sym (append_assoc first (x ∷ []) before)) e in
     rw here (some_from_fault read (first ++ x ∷ []) before a after fault fine_after there)
 
--- A list of assignments has exactly one result
+-- The remaining lemmas say that a list of assignments has exactly one result by the rule. By this one, the first error
+-- satisfies the rule.
 judged_fault : {E : Type 0} (read : List ℕ → Result E SpecFault) (all : List Assignment) (fault : TimerFault) → is_of_line fault ≡ true → IsFirstTimerFault read all fault → JudgesTimer read all (Err fault)
 judged_fault read all NothingToDo e h = cc
 judged_fault read all fault e h = h

@@ -1,4 +1,4 @@
--- Lemmas about reading one text after another.
+-- Lemmas on reading one text after another.
 use Rattle.std.proofs.Common.{false, ◌≡◌, ◌+◌, ◌<◌, ℕ, List, [], ◌∷◌, ◌++◌, ◌∙◌, ap, sym, drop, get_or, length, take, append-nil, Result, Ok, Err}
 use Rattle.std.proofs.Math.Seq.{take-length}
 use Rattle.std.proofs.lemmas.List.{take_more, take-append-drop}
@@ -31,12 +31,12 @@ resumed_more read files i d text lists r h mark before here =
     ∙ ap (λ text. resumed read lists (assignments_in false (logical_lines (get_or files i d).first text))) (sym mark)
     ∙ here
 
--- after the last text, the result is that of all texts
+-- after the last text, the lists so far are the lists of all texts
 pub resumed_all : {E : Type 0} (read : List ℕ → Result E SpecFault) (files : List UnitText) (i : ℕ) (lists : Timer E) → i ≡ length files
     → resumed read empty_lists (assignments_of (take i files)) ≡ Ok lists → resumed read empty_lists (assignments_of files) ≡ Ok lists
 resumed_all read files i lists e h = ap (λ all. resumed read empty_lists (assignments_of all)) (sym (ap (λ n. take n files) e ∙ take-length files)) ∙ h
 
--- an error of the first texts is the error of all texts
+-- if the first `i` texts have an error, all texts together have the same error
 pub resumed_stops : {E : Type 0} (read : List ℕ → Result E SpecFault) (files : List UnitText) (i : ℕ) (fault : TimerFault)
     → resumed read empty_lists (assignments_of (take i files)) ≡ Err fault → resumed read empty_lists (assignments_of files) ≡ Err fault
 resumed_stops read files i fault h =
@@ -45,7 +45,7 @@ resumed_stops read files i fault h =
     ∙ resumed_append read empty_lists (assignments_of (take i files)) (assignments_of (drop i files))
     ∙ ap (λ now. with_lists now (λ lists. resumed read lists (assignments_of (drop i files)))) h
 
--- the lists of one text are those of a timer file
+-- a single text whose first line has the number 1 has the same result as a timer file with this text
 pub one_text : {E : Type 0} (read : List ℕ → Result E SpecFault) (file : UnitText) → file.first ≡ 1 → lists_of read (assignments_of (file ∷ [])) ≡ timer_of read file.text.now
 unfolding timer_of
 one_text read file first = rw (append-nil (assignments_at file), first) (ap (λ _. timer_of read file.text.now) first)

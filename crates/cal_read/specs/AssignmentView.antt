@@ -1,4 +1,5 @@
--- How contracts see the assignments of a unit file: by their contents, not by where they are in memory.
+-- How contracts see the assignments of a unit file: by the bytes of their keys and values, not by where these are in
+-- memory.
 use Rattle.cal_read.specs.headline.Assignments.{Assignment}
 use Rattle.cal_read.specs.declared.assignments.Assignment as declared_assignment
 

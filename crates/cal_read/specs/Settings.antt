@@ -1,5 +1,5 @@
--- The settings of a section of a unit file (systemd.syntax(7)), in the same words as `assignments_in`, but for a section
--- of any name.
+-- The settings in the sections of a unit file that have a given name (systemd.syntax(7)). They are defined like
+-- `assignments_in`, which is only for the section `Timer`.
 use Rattle.std.specs.Prelude.{ℕ, Bool, if◌then◌else◌, List, [], ◌∷◌, map, string_bytes}
 use Rattle.std.specs.List.{filter_map}
 use Rattle.std.specs.Str.{bytes_eq}
@@ -7,7 +7,8 @@ use Rattle.cal_lines.specs.headline.Lines.{Line}
 use Rattle.cal_read.specs.headline.Assignments.{Assignment, assignment_of, is_header, section_of, trimmed}
 use Rattle.cal_read.specs.declared.settings.Setting.{Setting}
 
--- the lines in the sections with this name, without their headers; `inside` says whether the first line belongs to one
+-- the lines in the sections with this name, without their headers; `inside` says whether the lines before the first
+-- header are in such a section
 unfoldable pub section_lines : List ℕ → Bool → List Line → List Line
 section_lines name inside [] = []
 section_lines name inside (line ∷ lines) =
@@ -18,6 +19,6 @@ section_lines name inside (line ∷ lines) =
 unfoldable pub settings_in : List ℕ → Bool → List Line → List Assignment
 settings_in name inside lines = filter_map assignment_of (section_lines name inside (map trimmed lines))
 
--- how contracts see a setting: by its text, not by where it is in memory
+-- how contracts see a setting: by the bytes of its key and its value, not by where these are in memory
 abbrev pub shown_setting : Setting → Assignment
 shown_setting setting = record { number = setting.number; key = string_bytes setting.key; value = string_bytes setting.value }

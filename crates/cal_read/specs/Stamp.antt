@@ -1,4 +1,5 @@
--- How a timestamp resolves to a moment: systemd.time(7), Parsing Timestamps. The first matching form decides.
+-- How a timestamp resolves to a moment: systemd.time(7), Parsing Timestamps. A timestamp is parsed in the first form
+-- that matches it.
 use Rattle.std.specs.Prelude.{ℕ, ◌/◌, ◌%◌, ◌==◌, Bool, true, false, not, ◌&&◌, if◌then◌else◌, ℤ, pos, int_lt, ◌+ℤ◌, ◌-ℤ◌, ◌*ℤ◌, List, [], ◌∷◌, Option, None, Some, Result, Ok, Err}
 use Rattle.std.specs.List.{list_any}
 use Rattle.std.specs.Option.{unwrap_or}
@@ -55,14 +56,14 @@ unfoldable pub today : ℤ → TimeZone → ℤ
 today now zone = day_of (local_shown_at zone now)
 
 -- the moment that is `micros` microseconds after midnight of the day on the zone's clock; a local time in a gap is
--- moved forward by the length of the gap, and of a local time in a fold the first occurrence is used
+-- moved forward by the length of the gap, and for a local time in a fold the first occurrence is used
 unfoldable pub settle_on : TimeZone → ℤ → ℕ → Result ℤ StampFault
 settle_on zone day micros =
     in_moments (micros_of (settle_of zone (day *ℤ pos 86_400 +ℤ pos (micros / 1_000_000))) +ℤ pos (micros % 1_000_000))
 
--- Words
+-- Civil times, word by word
 
--- the zone with a name, or the error if no zone has the name
+-- the zone that was found for a name, or the error if no zone has the name
 abbrev pub name_found : Option TimeZone → Result TimeZone StampFault
 name_found None = Err NoSuchZone
 name_found (Some zone) = Ok zone
@@ -77,12 +78,13 @@ offset_found (Some seconds) = Ok (fixed_offset_zone seconds)
 abbrev pub zone_of_word : (List ℕ → Option TimeZone) → List ℕ → Result TimeZone StampFault
 zone_of_word find w = if begins_with_letter w then name_found (find w) else offset_found (offset_in w)
 
--- the zone, or `StrayWord` if words come after the word for the zone
+-- the zone that the previous word stands for, or `StrayWord` if any words follow
 abbrev pub zone_alone : TimeZone → List (List ℕ) → Result TimeZone StampFault
 zone_alone zone [] = Ok zone
 zone_alone zone (w ∷ ws) = Err StrayWord
 
--- the zone of the remaining words: the local zone if there are none, and otherwise the zone of the only word
+-- the zone that the remaining words stand for: the local zone if there are none, and otherwise the zone of the only
+-- word
 abbrev pub zone_by_words : Setting → List (List ℕ) → Result TimeZone StampFault
 zone_by_words at [] = Ok at.local
 zone_by_words at (w ∷ ws) = zone_of_word at.find w >>= λ zone. zone_alone zone ws
@@ -94,7 +96,7 @@ pub record CivilStamp : Type 0 where
   pub micros : ℕ
   pub zone : TimeZone
 
--- the civil time with these parts, in the zone of the remaining words
+-- the civil time with this weekday, day number and time of day, in the zone that the remaining words stand for
 abbrev pub civil_stamp_in : Setting → Option Weekday → Option ℤ → ℕ → List (List ℕ) → Result CivilStamp StampFault
 civil_stamp_in at weekday day micros ws =
     zone_by_words at ws >>= λ zone. Ok (record { weekday = weekday; day = day; micros = micros; zone = zone })
@@ -123,7 +125,7 @@ abbrev pub weekday_found : Setting → Option Weekday → List (List ℕ) → Re
 weekday_found at None ws = Err BadWeekday
 weekday_found at (Some weekday) ws = after_weekday at (Some weekday) ws
 
--- the civil time of these words: if the first word begins with a letter, it is the weekday
+-- the civil time that the words stand for: if the first word begins with a letter, it is the weekday
 abbrev pub civil_time : Setting → List (List ℕ) → Result CivilStamp StampFault
 civil_time at [] = Err BadDate
 civil_time at (w ∷ ws) =
@@ -140,7 +142,7 @@ moment_of_civil_stamp now c =
     let day = unwrap_or c.day (today now c.zone) in
     if fits_weekday c.weekday day then settle_on c.zone day c.micros else Err WrongWeekday
 
--- All forms
+-- Timestamps of all forms
 
 abbrev pub moment_of_form : ℤ → Setting → Form → Result ℤ StampFault
 moment_of_form now at nothing = Err Empty

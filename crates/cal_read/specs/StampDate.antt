@@ -1,4 +1,4 @@
--- The date of a timestamp: systemd.time(7), Parsing Timestamps. The calendar is that of `jiff`.
+-- The date of a timestamp: systemd.time(7), Parsing Timestamps. Day numbers are computed in the calendar of `jiff`.
 use Rattle.std.specs.Prelude.{ℕ, ◌==◌, nat_le, Bool, ◌&&◌, if◌then◌else◌, ℤ, pos, List, [], ◌∷◌, length, Option, None, Some, Result, Ok, Err}
 use Rattle.std.specs.Char.{is_ascii_digit}
 use Rattle.std.specs.List.{list_all, slice_split}
@@ -10,7 +10,7 @@ use Rattle.cal_read.specs.declared.stamp.date.DateNumbers.{DateNumbers}
 use Rattle.cal_read.specs.declared.stamp.fault.StampFault.{StampFault}
 use Rattle.cal_read.specs.declared.stamp.fault.StampFault.TheVariants.{BadDate, NoSuchDate}
 
--- the number that a word of 1 to `most` digits stands for
+-- the number that a word of 1 to `most` digits stands for; `None` for any other word
 unfoldable pub digits_number : ℕ → List ℕ → Option ℕ
 digits_number most word =
     if nat_le 1 (length word) && nat_le (length word) most && list_all is_ascii_digit word then Some (digits_value 10 word)
@@ -24,7 +24,8 @@ abbrev pub date_by : Option ℕ → Option ℕ → Option ℕ → Option DateNum
 date_by (Some year) (Some month) (Some day) = Some (record { year = year; month = month; day = day })
 date_by year month day = None
 
--- the year has one to four digits, the month and the day one or two
+-- the date that the pieces of a word between hyphens stand for: the year has one to four digits, the month and the day
+-- one or two
 abbrev pub date_of_pieces : List (List ℕ) → Option DateNumbers
 date_of_pieces (year ∷ month ∷ day ∷ []) = date_by (digits_number 4 year) (digits_number 2 month) (digits_number 2 day)
 date_of_pieces pieces = None

@@ -1,7 +1,7 @@
 -- Which error a timestamp has, stated as a rule and not as a computation: systemd.time(7), Parsing Timestamps. The
--- words of a civil time are read from the left, and what a word must be depends on the words before it. The first word
--- that isn't what it must be has the error. If all words are valid, the weekday is checked, and then the range. The law
--- `first_error` says that the functions of `Stamp` follow this rule.
+-- words of a civil time are read from the left, and what a word can be depends on the words before it. The first word
+-- that isn't valid in its position decides the error. If all words are valid, the weekday is checked, and then the
+-- range. The law `first_error` says that the functions of `Stamp` follow this rule.
 use Rattle.std.specs.Prelude.{ℕ, ◌≡◌, ◌⊎◌, ◌||◌, true, false, ℤ, List, ◌∷◌, ◌++◌, Option, None, Some, is_some, Err}
 use Rattle.std.specs.List.{list_any}
 use Rattle.std.specs.Option.{option_to_list}
@@ -22,30 +22,32 @@ use Rattle.cal_read.specs.StampTime.{time_written}
 use Rattle.cal_read.specs.declared.stamp.fault.StampFault.{StampFault}
 use Rattle.cal_read.specs.declared.stamp.fault.StampFault.TheVariants.{Empty, BadWeekday, BadDate, WrongWeekday, BadSpan, NoSuchZone, StrayWord, OutOfRange}
 
--- the first word begins with a letter and is not the name of a weekday
+-- the first word begins with a letter and is not the name of a weekday, so the error is `BadWeekday`
 abbrev pub IsNoWeekday : List ℕ → StampFault → Type 0
 IsNoWeekday word fault = (begins_with_letter word ≡ true) × (day_named word ≡ None) × (fault ≡ BadWeekday)
 
--- the word has a colon and is not a time, or has no colon and is not a date
+-- the word has a colon and is not a time, or has no colon and is not a date; `fault` is the error of parsing it
 abbrev pub IsNoDateOrTime : List ℕ → StampFault → Type 0
 IsNoDateOrTime word fault =
     ((list_any is_colon word ≡ true) × (time_written word ≡ Err fault))
     ⊎ ((list_any is_colon word ≡ false) × (day_written word ≡ Err fault))
 
--- the word begins with a letter and is not the name of a zone, or begins with anything else and is not an offset
+-- the word begins with a letter and is not the name of a zone (`NoSuchZone`), or begins with anything else and is not
+-- an offset (`StrayWord`)
 abbrev pub IsNoZone : (List ℕ → Option TimeZone) → List ℕ → StampFault → Type 0
 IsNoZone find word fault =
     ((begins_with_letter word ≡ true) × (find word ≡ None) × (fault ≡ NoSuchZone))
     ⊎ ((begins_with_letter word ≡ false) × ((seconds : ℤ) → IsOffsetWord word seconds → ⊥) × (fault ≡ StrayWord))
 
--- the word after the date begins with a digit and is not a time, or begins with anything else and is not a zone
+-- the word after the date begins with a digit and is not a time, or begins with anything else and is not a zone;
+-- `fault` is the error of parsing it
 abbrev pub IsNoTimeOrZone : (List ℕ → Option TimeZone) → List ℕ → StampFault → Type 0
 IsNoTimeOrZone find word fault =
     ((begins_with_digit word ≡ true) × (time_written word ≡ Err fault))
     ⊎ ((begins_with_digit word ≡ false) × IsNoZone find word fault)
 
--- the error of a word, given the words for the weekday, the date, the time and the zone that came before it, each
--- `None` if it was left out
+-- `word` has the error `fault`, given the words for the weekday, the date, the time and the zone that came before it,
+-- each `None` if it was left out
 abbrev pub IsAtFault : Setting → Option (List ℕ) → Option (List ℕ) → Option (List ℕ) → Option (List ℕ) → List ℕ → StampFault → Type 0
 IsAtFault at weekday date time (Some zone) word fault = fault ≡ StrayWord
 IsAtFault at weekday date (Some time) None word fault = IsNoZone at.find word fault

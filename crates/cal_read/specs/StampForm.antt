@@ -1,4 +1,4 @@
--- The forms of timestamps: systemd.time(7), Parsing Timestamps.
+-- The forms of timestamps, and which of them a text has: systemd.time(7), Parsing Timestamps.
 use Rattle.std.specs.Prelude.{ℕ, ◌==◌, ◌&&◌, if◌then◌else◌, ℤ, pos, neg_ℤ, List, [], ◌∷◌, codes, Option, None, Some}
 use Rattle.std.specs.List.{list_any, before_last, after_last}
 use Rattle.std.specs.Str.{bytes_eq}
@@ -6,8 +6,8 @@ use Rattle.cal_text.specs.headline.Trim.{trim_matches}
 use Rattle.cal_text.specs.headline.Words.{is_blank, words}
 
 -- The forms of a timestamp: nothing; the present; the present plus a time span; the present minus a time span;
--- 1970-01-01 00:00:00 UTC plus a time span; the midnight at which a day begins, given by its distance from today in
--- days and by the words of its zone; and a civil time, given by its words.
+-- 1970-01-01 00:00:00 UTC plus a time span; the midnight at which a day begins, given by how many days after today it
+-- is and by the words of its zone; and a civil time, given by its words.
 pub data Form : Type 0 where
   nothing : Form
   present : Form
@@ -22,7 +22,8 @@ abbrev pub before_word : List ℕ → List ℕ → Option (List ℕ)
 before_word word text =
     if list_any is_blank text && bytes_eq (after_last is_blank text) word then Some (before_last is_blank text) else None
 
--- how many days after today the day is that `today`, `yesterday` (-1) or `tomorrow` names; `None` for any other word
+-- how many days after today the named day is: 0 for `today`, -1 for `yesterday`, 1 for `tomorrow`; `None` for any other
+-- word
 unfoldable pub day_shift : List ℕ → Option ℤ
 day_shift word =
     if bytes_eq word (codes "today") then Some (pos 0)
@@ -37,20 +38,21 @@ abbrev pub form_of_words : List (List ℕ) → Form
 form_of_words [] = civil []
 form_of_words (w ∷ ws) = form_by_day (day_shift w) w ws
 
--- the form of a text by its last word: if it is `left`, the text before it is a time span that is added to the present,
--- and if it is `ago`, a time span that is subtracted
+-- the form of a text that doesn't end with the word `left`, given the text before its last word if that word is `ago`
 abbrev pub form_by_ago : Option (List ℕ) → List ℕ → Form
 form_by_ago None text = form_of_words (words text)
 form_by_ago (Some span) text = earlier span
 
+-- the form of a text, given the text before its last word if that word is `left`
 abbrev pub form_by_left : Option (List ℕ) → List ℕ → Form
 form_by_left None text = form_by_ago (before_word (codes "ago") text) text
 form_by_left (Some span) text = later span
 
+-- the form of a text by its last word, `left` or `ago`, or otherwise by its first word
 unfoldable pub form_by_end : List ℕ → Form
 form_by_end text = form_by_left (before_word (codes "left") text) text
 
--- the first form that matches a text without leading and trailing blanks
+-- the first form that matches, for a text that has no leading or trailing blanks
 abbrev pub form_of_solid : List ℕ → Form
 form_of_solid [] = nothing
 form_of_solid (b ∷ bs) =

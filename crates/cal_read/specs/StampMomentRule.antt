@@ -24,7 +24,7 @@ LiesBefore second span time = (micros : ℕ) × (span_of span ≡ Ok micros) × 
 
 -- Days
 
--- the zone's clock at present shows a time on this day: at its midnight, or less than 86,400 seconds later
+-- the zone's clock at present shows a time on this day: midnight, or less than 86,400 seconds after midnight
 pub record IsPresentDay (now : ℤ) (zone : TimeZone) (day : ℤ) : Type 0 where
   pub begun : (day *ℤ pos 86_400) ≤ℤ local_shown_at zone now
   pub lasts : local_shown_at zone now <ℤ (day *ℤ pos 86_400 +ℤ pos 86_400)
@@ -34,14 +34,14 @@ abbrev pub IsDay : ℤ → TimeZone → Option ℤ → ℤ → Type 0
 IsDay now zone None day = IsPresentDay now zone day
 IsDay now zone (Some written) day = day ≡ written
 
--- the day is the weekday, if one is named: 1970-01-01 was a Thursday, three days after a Monday, and weekdays repeat
--- every seven days
+-- the day is the named weekday, if one is named: 1970-01-01 was a Thursday, three days after a Monday, and weekdays
+-- repeat every seven days
 abbrev pub FallsOn : Option Weekday → ℤ → Type 0
 FallsOn None day = Unit
 FallsOn (Some weekday) day = (week : ℤ) × (day +ℤ pos 3 ≡ week *ℤ pos 7 +ℤ pos (monday_zero weekday))
 
 -- the time is this many microseconds after midnight of the day on the zone's clock; a local time in a gap is moved
--- forward by the length of the gap, and of a local time in a fold the first occurrence is used
+-- forward by the length of the gap, and for a local time in a fold the first occurrence is used
 pub record IsTimeOfDay (zone : TimeZone) (day : ℤ) (micros : ℕ) (time : ℤ) : Type 0 where
   pub second : ℕ
   pub rest : ℕ
@@ -49,7 +49,8 @@ pub record IsTimeOfDay (zone : TimeZone) (day : ℤ) (micros : ℕ) (time : ℤ)
   pub below : rest < 1_000_000
   pub settled : time ≡ micros_of (settle_of zone (day *ℤ pos 86_400 +ℤ pos second)) +ℤ pos rest
 
--- the time is the midnight at which the day begins that is `shift` days after the present day, in the zone of the words
+-- the time is the midnight at which a day begins, in the zone that the words stand for; this day is `shift` days after
+-- the present day
 pub record IsMidnight (now : ℤ) (at : Setting) (shift : ℤ) (words : List (List ℕ)) (time : ℤ) : Type 0 where
   pub name : Option (List ℕ)
   pub zone : TimeZone
@@ -59,8 +60,7 @@ pub record IsMidnight (now : ℤ) (at : Setting) (shift : ℤ) (words : List (Li
   pub has_today : IsPresentDay now zone today
   pub is_midnight : IsTimeOfDay zone (today +ℤ shift) 0 time
 
--- the words are a civil time that resolves to this time, and its day is the weekday that is named, if a weekday is
--- named
+-- the words are a civil time that resolves to this time; if a weekday is named, the day is this weekday
 pub record IsCivilMoment (now : ℤ) (at : Setting) (words : List (List ℕ)) (time : ℤ) : Type 0 where
   pub stamp : CivilStamp
   pub day : ℤ

@@ -7,6 +7,6 @@ use Rattle.cal_zone.specs.declared.civil_fields.Civil.{Civil}
 abbrev pub ShowsYear : Civil → Type 0
 ShowsYear shown = IsBetween (pos 1_970) (pos 2_199) shown.year
 
--- the UTC offset is whole minutes
+-- the UTC offset is a whole number of minutes
 abbrev pub ShowsMinutes : Civil → Type 0
 ShowsMinutes shown = unsigned_abs shown.offset % 60 ≡ 0

@@ -1,6 +1,6 @@
 -- Which form a text has, stated as a rule and not as a computation: systemd.time(7), Parsing Timestamps. The law
--- `one_form` says that the functions of `StampForm` follow this rule. The seven forms are tried in this order; `core`
--- is the text without leading and trailing blanks.
+-- `one_form` says that the functions of `StampForm` follow this rule. The seven forms are tried in the order in which
+-- they are defined below; `core` is the text without leading and trailing blanks.
 use Rattle.std.specs.Prelude.{ℕ, ◌≡◌, ◌⊎◌, true, ℤ, pos, neg_ℤ, List, [], ◌∷◌, ◌++◌, codes}
 use Rattle.cal_text.specs.TrimRule.{IsTrimmed}
 use Rattle.cal_text.specs.headline.Words.{is_blank, words}
@@ -14,7 +14,8 @@ IsNothing core form = (core ≡ []) × (form ≡ nothing)
 abbrev pub IsPresent : List ℕ → Form → Type 0
 IsPresent core form = (core ≡ codes "now") × (form ≡ present)
 
--- forms 3 and 4: a sign (`+`, `-` or `@`) and a time span; so a text that begins with an offset is read as a time span
+-- form 3, with the sign `+` or `-`, and form 4, with `@`: a sign and a time span; so a text that begins with an offset
+-- is read as a time span
 abbrev pub IsBehindSign : List ℕ → (List ℕ → Form) → List ℕ → Form → Type 0
 IsBehindSign sign means core form = (span : List ℕ) × (core ≡ sign ++ span) × (form ≡ means span)
 
@@ -28,7 +29,7 @@ abbrev pub IsRelativeDay : List ℕ → ℤ → List ℕ → Form → Type 0
 IsRelativeDay word shift core form =
     (after : List (List ℕ)) × (words core ≡ word ∷ after) × (form ≡ from_today shift after)
 
--- form 7: any words, which are those of a civil time
+-- form 7: any words; they are parsed as a civil time
 abbrev pub IsCivilForm : List ℕ → Form → Type 0
 IsCivilForm core form = form ≡ civil (words core)
 

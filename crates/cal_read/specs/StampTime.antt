@@ -8,12 +8,12 @@ use Rattle.cal_read.specs.StampDate.{digits_number}
 use Rattle.cal_read.specs.declared.stamp.fault.StampFault.{StampFault}
 use Rattle.cal_read.specs.declared.stamp.fault.StampFault.TheVariants.{BadTime}
 
--- a number, if it is at most `greatest`
+-- the number if it is at most `greatest`, and `None` if it is greater
 abbrev pub up_to : ℕ → Option ℕ → Option ℕ
 up_to greatest None = None
 up_to greatest (Some n) = if nat_le n greatest then Some n else None
 
--- a number of one or two digits that is at most `greatest`
+-- the number in a word of one or two digits, if it is at most `greatest`
 unfoldable pub clock_number : ℕ → List ℕ → Option ℕ
 clock_number greatest word = up_to greatest (digits_number 2 word)
 

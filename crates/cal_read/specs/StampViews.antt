@@ -17,7 +17,7 @@ use Rattle.cal_read.specs.declared.stamp.form.RelativeDay.TheVariants.{Yesterday
 use Rattle.cal_read.specs.declared.stamp.setting.Setting as zones
 use Rattle.cal_read.specs.declared.stamp.civil_stamp.CivilStamp as civil_stamp
 
--- a result, with its moment as microseconds of Unix time
+-- the result of parsing a timestamp, with the moment as microseconds of Unix time
 abbrev pub micros_or_fault : Result Moment StampFault → Result ℤ StampFault
 micros_or_fault = result_map_both (λ moment. moment.micros) (λ fault. fault)
 

@@ -1,5 +1,5 @@
--- All errors in the texts of a timer, in the order of their lines: each invalid expression or exception, and each one over
--- the limit (systemd.timer(5), OnCalendar=). Invalid ones count towards the limit.
+-- All errors in the texts of a timer, in the order of their lines: each expression or exception that is invalid or over
+-- the limit (systemd.timer(5), OnCalendar=). Invalid expressions and exceptions count towards the limit.
 use Rattle.std.specs.Prelude.{ℕ, ◌+◌, nat_le, Bool, true, false, if◌then◌else◌, List, [], ◌∷◌, ◌++◌, map, min, Option, None, Some, Result}
 use Rattle.std.specs.Option.{option_to_list}
 use Rattle.cal_spec.specs.declared.spec_fault.SpecFault.{SpecFault}
@@ -13,7 +13,7 @@ use Rattle.cal_read.specs.declared.timer.fault.TimerFault.TheVariants.{TooMany}
 use Rattle.cal_read.specs.declared.timer.texts.FileFault.{FileFault}
 use Rattle.cal_read.specs.declared.timer.texts.UnitText.{UnitText}
 
--- all errors of the assignments that come after these others
+-- all errors of the assignments in the second list, which come after those in `before`
 unfoldable pub all_faults : {E : Type 0} → (List ℕ → Result E SpecFault) → List Assignment → List Assignment → List TimerFault
 all_faults read before [] = []
 all_faults read before (a ∷ after) = option_to_list (fault_following read before a) ++ all_faults read (before ++ a ∷ []) after
@@ -22,13 +22,14 @@ all_faults read before (a ∷ after) = option_to_list (fault_following read befo
 abbrev pub in_file : ℕ → TimerFault → FileFault
 in_file k fault = record { file = Some k; fault = fault }
 
--- all errors of texts that come after these assignments; the first text has the index `k`
+-- all errors of texts that come after the assignments in `before`; the first text has the index `k`
 unfoldable pub faults_of : {E : Type 0} → (List ℕ → Result E SpecFault) → List Assignment → ℕ → List UnitText → List FileFault
 faults_of read before k [] = []
 faults_of read before k (file ∷ files) =
     map (in_file k) (all_faults read before (assignments_at file)) ++ faults_of read (before ++ assignments_at file) (k + 1) files
 
--- The rest of this file follows the loops of the code, which count instead of keeping lists. Only private contracts use it.
+-- The rest of this file follows the loops of the code, which count the entries of each list but don't keep the lists.
+-- Only private contracts use it.
 
 -- the length of a list after an assignment, capped at the limit
 abbrev pub count_with : ℕ → Bool → Bool → ℕ
@@ -36,7 +37,7 @@ count_with n true empties = min (n + 1) max_expressions
 count_with n false true = 0
 count_with n false false = n
 
--- the lengths of both lists after an assignment
+-- the lengths of the lists of expressions and exceptions after an assignment
 abbrev pub counts_with : Counts → Assignment → Counts
 counts_with counts a = record {
   expressions = count_with counts.expressions (is_expression a) (is_reset a);
@@ -58,7 +59,7 @@ unfoldable pub counted_faults : {E : Type 0} → (List ℕ → Result E SpecFaul
 counted_faults read counts [] = []
 counted_faults read counts (a ∷ after) = option_to_list (fault_at read counts a) ++ counted_faults read (counts_with counts a) after
 
--- the lengths of both lists after assignments
+-- the lengths of the lists of expressions and exceptions after these assignments
 unfoldable pub counts_over : Counts → List Assignment → Counts
 counts_over counts [] = counts
 counts_over counts (a ∷ after) = counts_over (counts_with counts a) after

@@ -85,7 +85,7 @@ lists_of read assignments = unless_fault (first_fault read [] assignments) (some
 unfoldable pub timer_of : {E : Type 0} → (List ℕ → Result E SpecFault) → List ℕ → Result (Timer E) TimerFault
 timer_of read text = lists_of read (assignments_in false (logical_lines 1 (without_mark text)))
 
--- the number of the physical line that contains the first byte which isn't valid UTF-8
+-- the number of the physical line that contains the first byte that isn't valid UTF-8
 unfoldable pub broken_line : List ℕ → ℕ
 broken_line bytes = count_by (λ b. b == 10) (take (utf8_valid_len bytes) bytes) + 1
 

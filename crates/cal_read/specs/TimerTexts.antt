@@ -1,5 +1,5 @@
--- Timers that are read from several texts, as a unit file and its drop-ins: the assignments of each text follow those of
--- the texts before it (systemd.unit(5)). Each text starts outside any section.
+-- Timers that are read from several texts, such as a unit file and its drop-ins: the assignments of each text follow
+-- those of the texts before it (systemd.unit(5)). Each text starts outside any section.
 use Rattle.std.specs.Prelude.{◌≡◌, ◌<◌, ◌+◌, ℕ, false, List, [], length, take, Option, None, Some, Result}
 use Rattle.std.specs.List.{flat_map}
 use Rattle.cal_spec.specs.declared.spec_fault.SpecFault.{SpecFault}
@@ -19,8 +19,8 @@ assignments_at file = assignments_in false (logical_lines file.first (without_ma
 abbrev pub assignments_of : List UnitText → List Assignment
 assignments_of = flat_map assignments_at
 
--- The first error of several texts. With an index, the texts before the one with this index have no error, and with it
--- the first error is this one. Without an index, no assignment has an error, and there is no expression.
+-- The first error of several texts is `fault`, in the text with this index: the texts before it have no error. If there
+-- is no index, no assignment has an error, but there is no expression (`NothingToDo`).
 abbrev pub IsFirstOf : {E : Type 0} → (List ℕ → Result E SpecFault) → List UnitText → Option ℕ → TimerFault → Type 0
 IsFirstOf read files None fault = (first_fault read [] (assignments_of files) ≡ None) × (fault ≡ NothingToDo)
 IsFirstOf read files (Some k) fault =

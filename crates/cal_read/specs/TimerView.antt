@@ -1,5 +1,5 @@
--- How contracts see a timer: by the contents of its lists, not by where they are in memory. Also, what one assignment
--- does to the lists while a file is read.
+-- How contracts see a timer: by the contents of its lists, not by where they are in memory. The file also defines what
+-- one assignment does to the lists while a timer is read.
 use Rattle.std.specs.Prelude.{ℕ, nat_le, Bool, true, false, if◌then◌else◌, List, [], ◌∷◌, ◌++◌, length, map, Result, Ok, Err, string_bytes}
 use Rattle.cal_spec.specs.headline.Fields.{Fields}
 use Rattle.cal_spec.specs.declared.spec_fault.SpecFault.{SpecFault}
@@ -11,11 +11,11 @@ use Rattle.cal_read.specs.declared.timer.list.ReadLists.{ReadLists}
 use Rattle.cal_read.specs.declared.timer.fault.TimerFault.{TimerFault}
 use Rattle.cal_read.specs.declared.timer.fault.TimerFault.TheVariants.{BadLine, TooMany}
 
--- an entry of the code's list of expressions or of exceptions, as the definitions have it
+-- an entry of the list of expressions or of exceptions, converted from the type in the code to the type in `TimerText`
 abbrev pub shown : declared_line.TimerLine → TimerLine Fields
 shown line = record { number = line.number; text = string_bytes line.text; expr = line.expr }
 
--- the code's lists of expressions and exceptions, as the definitions have them
+-- the lists of expressions and exceptions, converted from the type in the code to the type in `TimerText`
 abbrev pub shown_lists : ReadLists → Timer Fields
 shown_lists lists = record { expressions = map shown lists.expressions.items; exceptions = map shown lists.exceptions.items }
 
@@ -44,8 +44,9 @@ abbrev pub with_list : {E A : Type 0} → Result (List (TimerLine E)) TimerFault
 with_list (Ok es) next = next es
 with_list (Err fault) next = Err fault
 
--- The lists after the remaining assignments, given the lists so far. This follows the loop of the code and only private
--- contracts use it; the lemma `resumed_is_entries` says that they are `entries_or_fault`.
+-- The lists after the remaining assignments, given the lists so far, or the first error. This follows the loop of the
+-- code and only private contracts use it; by the lemma `resumed_is_entries`, the result is `entries_or_fault` if the
+-- lists so far are empty.
 unfoldable pub resumed : {E : Type 0} → (List ℕ → Result E SpecFault) → Timer E → List Assignment → Result (Timer E) TimerFault
 resumed read lists [] = Ok lists
 resumed read lists (a ∷ after) =

@@ -22,10 +22,11 @@ const TIMER_KEYS: [&[u8]; 6] = [
     b"OnCalendar",
 ];
 
-/// The key of exceptions, this project's own. An assignment with an empty value clears the list of exceptions.
+/// The key of exceptions, which systemd itself ignores. An assignment with an empty value clears the list of
+/// exceptions.
 const EXCEPTION_KEY: &str = "X-ExceptOnCalendar";
 
-/// A key and its value, both without leading and trailing blanks.
+/// A key and its value, both without leading and trailing blanks and carriage returns.
 #[derive(Clone, Copy)]
 pub(crate) struct Assignment<'t> {
     /// The number of the assignment's line, from 1. If the line is continued, this is the number of its first physical

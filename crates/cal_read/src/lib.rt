@@ -1,4 +1,4 @@
-//! Timestamps and timer files (systemd.time(7), Parsing Timestamps; systemd.timer(5)).
+//! Parsing timestamps and timer files (systemd.time(7), Parsing Timestamps; systemd.timer(5)).
 #![tactic(auto)]
 
 mod assignments;

@@ -1,4 +1,4 @@
-//! The settings of one section of a unit file, in order (systemd.syntax(7)).
+//! The settings of one section of a unit file, such as `[Timer]`, in order (systemd.syntax(7)).
 
 ghost use Rattle.std.specs.Prelude.{◌≡◌, ◌+◌, ◌<◌, ◌^◌, ◌∷◌, ◌++◌, [], false, length, map, IfOk, MatchOption, OnErr, List};
 ghost use Rattle.std.specs.Option.{option_map, option_to_list};
@@ -12,7 +12,7 @@ use cal_lines::{first_logical, trim};
 use std::alloc::{AllocError, Global};
 use std::marker::Model;
 
-/// A key and its value, without leading and trailing blanks.
+/// A key and its value, both without leading and trailing blanks and carriage returns.
 #[derive(Debug, Drop)]
 pub struct Setting {
     /// The number of the setting's line. A continued line has the number of its first physical line.
@@ -34,7 +34,7 @@ impl Setting {
     }
 }
 
-/// The remaining settings of a section. Contracts see it as the list of these settings.
+/// The remaining settings in the sections with a given name. Contracts see it as the list of these settings.
 #[derive(Debug, Drop)]
 pub struct Settings<'t> {
     section: &'t str,
@@ -60,7 +60,7 @@ impl<'t> Model for Settings<'t> {
 
 impl<'t> Settings<'t> {
     /// Creates an iterator over the settings in all sections with this name. The first line of the text has the number
-    /// `first`, and belongs to no section. A byte order mark is not removed.
+    /// `first`. Lines before the first section header belong to no section. A byte order mark is not removed.
     pub fn new(section: &'t str, first: u32, text: &'t str) -> Settings<'t>
         requires { first + length text.now < 2 ^ 32 }
         ensures { result ≡ settings_in section.now false (logical_lines first text.now) }
@@ -107,8 +107,8 @@ impl<'t> Settings<'t> {
     }
 }
 
-/// Returns whether the line after `line` belongs to the section, and the assignment in `line` if it belongs to the
-/// section itself.
+/// Returns whether the section called `name` is open after `line`, and the assignment in `line` if `line` is an
+/// assignment of this section. `inside` says whether the section is open before `line`.
 fn take_line<'l>(
     name: &str,
     inside: bool,
@@ -128,7 +128,7 @@ fn take_line<'l>(
     (true, read_assignment(number, line))
 }
 
-/// Copies an assignment.
+/// Copies an assignment into a [`Setting`], which owns its key and value.
 fn setting_of(alloc: Global, assignment: Assignment<'_>) -> Result<Setting, AllocError>
     ensures { IfOk result (λ setting. shown_setting setting ≡ shown_assignment assignment.entry) }
 {
@@ -139,8 +139,8 @@ fn setting_of(alloc: Global, assignment: Assignment<'_>) -> Result<Setting, Allo
     })
 }
 
-/// Returns the settings in all sections with this name. The first line of the text has the number `first`, and belongs
-/// to no section.
+/// Returns the settings in all sections with this name. The first line of the text has the number `first`. Lines before
+/// the first section header belong to no section.
 pub fn read_settings(
     alloc: Global,
     section: &str,

@@ -1,4 +1,4 @@
-//! The forms of a timestamp.
+//! The forms of a timestamp, and finding the form that a text has.
 
 ghost use Rattle.std.specs.Prelude.{◌≡◌};
 ghost use Rattle.std.specs.Option.{option_map};

@@ -58,7 +58,8 @@ pub fn spans_count_from_the_present()
 {}
 
 /// `today`, `yesterday` and `tomorrow` resolve to the midnight at which the named day begins. Today is the day that the
-/// clock of the zone shows at present (systemd.time(7), Parsing Timestamps).
+/// clock of the zone shows at present (systemd.time(7), Parsing Timestamps). A midnight that the clock skips is moved
+/// forward by the length of the gap.
 pub fn relative_days_begin_at_midnight()
     ensures { (now : ℤ) (at : Setting) (text : List ℕ) (shift : ℤ) (words : List (List ℕ)) (time : ℤ)
         → HasForm text (from_today shift words)
@@ -66,8 +67,9 @@ pub fn relative_days_begin_at_midnight()
 {}
 
 /// A civil time resolves to the moment at which the clock of its zone shows its time of day on its day
-/// (systemd.time(7), Parsing Timestamps). If a weekday is named and the day isn't this weekday, the error is
-/// `WrongWeekday`, even if the time is also out of range.
+/// (systemd.time(7), Parsing Timestamps). A local time in a gap is moved forward by the length of the gap, and for a
+/// local time in a fold the first occurrence is used. If a weekday is named and the day isn't this weekday, the error
+/// is `WrongWeekday`, even if the time is also out of range.
 pub fn weekdays_are_checked()
     ensures right { (now : ℤ) (at : Setting) (text : List ℕ) (words : List (List ℕ)) (time : ℤ)
         → HasForm text (civil words)
@@ -77,9 +79,9 @@ pub fn weekdays_are_checked()
         → ((moment_in now at text ≡ Err WrongWeekday) ↔ (FallsOn c.weekday day → ⊥)) }
 {}
 
-/// The error of a civil time is that of the leftmost word that isn't valid in its position, or `BadDate` if the words
-/// end before a date or a time. If all words are valid, the weekday is checked (`WrongWeekday`), and then the range
-/// (`OutOfRange`). In the other forms, too, the range is checked last (systemd.time(7), Parsing Timestamps).
+/// The error of a civil time is the error of the leftmost word that isn't valid in its position, or `BadDate` if the
+/// words end before a date or a time. If all words are valid, the weekday is checked (`WrongWeekday`), and then the
+/// range (`OutOfRange`). In the other forms, too, the range is checked last (systemd.time(7), Parsing Timestamps).
 pub fn first_error()
     ensures { (now : ℤ) (at : Setting) (text : List ℕ) (form : Form) (fault : StampFault) → HasForm text form
         → ((moment_in now at text ≡ Err fault) ↔ HasError now at form fault) }
@@ -94,11 +96,12 @@ pub fn moments_are_in_range()
         → MeansTime now at form time → (IsMoment time → ⊥) → moment_in now at text ≡ Err OutOfRange }
 {}
 
-/// Parsing a printed instant gives the same instant, whatever the present, the local zone and the table are, if at this
-/// instant the clock of the zone in which it is printed shows a year from 1970 to 2199 and the UTC offset is whole
-/// minutes (systemd.time(7), Parsing Timestamps). In UTC, this holds for every instant of the years 1970 to 2199.
+/// Parsing a printed instant gives the same instant, whatever the present, the local zone and the table are. This holds
+/// if, at the instant, the clock of the zone in which it is printed shows a year from 1970 to 2199, and the UTC offset
+/// is a whole number of minutes (systemd.time(7), Parsing Timestamps). In UTC, it holds for every instant of the years
+/// 1970 to 2199.
 ///
-/// An offset that isn't whole minutes is printed with seconds, and the parser rejects such a word as a zone
+/// An offset that isn't a whole number of minutes is printed with seconds, and the parser rejects such a word as a zone
 /// (`StrayWord`). At the first instants, clocks west of UTC show 1969, and at the last instants most clocks show 2200;
 /// dates in these years are rejected (`NoSuchDate`).
 pub fn printed_instants_read_back()

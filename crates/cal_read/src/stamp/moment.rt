@@ -71,8 +71,8 @@ fn local_second(now: Instant, zone: Zone) -> i64
 /// Converts a day number and the microseconds after the day's midnight, both on the zone's clock, to a moment. Fails
 /// with `OutOfRange` if the result is before the first moment or after the last.
 ///
-/// If the zone's clock skips this local time, it is moved forward by the length of the gap; if the clock shows it
-/// twice, the first occurrence is used (systemd.time(7), Parsing Timestamps).
+/// A local time that the zone's clock skips is moved forward by the length of the gap. If the clock shows the local
+/// time twice, the first occurrence is used (systemd.time(7), Parsing Timestamps).
 #[tactic(auto, unfolding(crate::specs::Stamp::settle_on))]
 pub(crate) fn settle_on(zone: Zone, day: i64, micros: u64) -> Result<Moment, StampFault>
     requires day { IsBetween (neg_ℤ (pos 3)) (pos 84_009) day }

@@ -1,4 +1,4 @@
-//! Splitting the text of a timestamp.
+//! Removing a sign, or the word `left` or `ago`, from the text of a timestamp.
 
 ghost use Rattle.std.specs.Prelude.{◌≡◌, ◌<◌, drop, length, slice_index};
 ghost use Rattle.std.specs.Option.{option_copied};

@@ -74,6 +74,7 @@ fn read_second(word: &[u8]) -> Option<u64>
     }
 }
 
+/// Returns the sum of whole seconds and microseconds, in microseconds, or `None` if either is `None`.
 fn both(seconds: Option<u64>, micros: Option<u64>) -> Option<u64>
     requires seconds { IfSome seconds (λ seconds. seconds ≤ 59) }
     requires micros { IfSome micros (λ micros. micros ≤ 60_000_000) }

@@ -17,7 +17,8 @@ use crate::timer::texts::{FileFault, UnitText};
 use cal_spec::{SpecFault, read_expr};
 use std::alloc::{AllocError, Global};
 
-/// The lengths of both lists, each capped at the limit. Invalid expressions and exceptions count as well.
+/// The lengths of the lists of expressions and exceptions, each capped at the limit. Invalid expressions and exceptions
+/// count as well.
 #[derive(Clone, Copy)]
 struct Counts {
     expressions: usize,
@@ -61,7 +62,8 @@ fn count_with(count: usize, adds: bool, empties: bool) -> usize
     }
 }
 
-/// Returns the error of an assignment, if it has one. `counts` are the lengths of the lists before it.
+/// Returns the error of an assignment, or `None` if it has no error. `counts` are the lengths of the lists before the
+/// assignment.
 fn fault_at(
     alloc: Global,
     counts: Counts,
@@ -78,7 +80,7 @@ fn fault_at(
     Ok(None)
 }
 
-/// Returns the error of an assignment that adds to a list of this length, if it has one.
+/// Returns the error of an assignment that adds to a list of length `count`, or `None` if the assignment has no error.
 fn fault_beside(
     alloc: Global,
     count: usize,
@@ -140,9 +142,9 @@ fn take_faults(
 
 /// Returns all errors in the texts of a unit file and of its drop-ins, in the order of their lines.
 ///
-/// An expression or an exception is an error if it is invalid, or if its list already has 256. Invalid ones and those
-/// over the limit stay in the count until the list is cleared. That there is no expression is not among these errors. If
-/// there are any, [`crate::read_texts`] fails with the first one.
+/// An expression or an exception is an error if it is invalid, or if its list already has 256 elements. Invalid
+/// expressions and exceptions, too, count as elements until the list is cleared. [`TimerFault::NothingToDo`] is not
+/// among these errors. If this function returns any errors, [`crate::read_texts`] fails with the first one.
 pub fn find_faults(alloc: Global, files: &[UnitText<'_>]) -> Result<Vec<FileFault>, AllocError>
     requires { All (λ file. file.first + length file.text.now < 2 ^ 32) files.now }
     ensures { IfOk result (λ found. found.items ≡ faults_of expr_in [] 0 files.now) }

@@ -8,10 +8,10 @@ use std::alloc::{AllocError, AllocFailed};
 
 /// Why a timer file is invalid.
 ///
-/// The first error is reported: the input is checked first, then its bytes, then its lines in order. Lines are numbered
-/// from 1, and a logical line has the number of its first physical line.
+/// The first error is reported: errors in reading the input come first, then invalid UTF-8, and then the lines in
+/// order. Lines are numbered from 1, and a logical line has the number of its first physical line.
 ///
-/// The errors are numbered:
+/// Each error has a number, which never changes:
 ///
 /// | number | error         |
 /// |--------|---------------|
@@ -44,8 +44,8 @@ pub enum TimerFault {
 impl TimerFault {
     ghost use Rattle.cal_read.specs.TimerFault.{line_of, message_of};
 
-    /// Returns the message for users. For [`TimerFault::BadLine`], this is the message of the error of the expression;
-    /// for [`TimerFault::NoMemory`], it is empty.
+    /// Returns the message for users. For [`TimerFault::BadLine`], this is the message of the [`SpecFault`]; for
+    /// [`TimerFault::NoMemory`], it is empty.
     pub fn words(&self) -> &str
         ensures { result.now ≡ message_of self.now }
     {

@@ -95,8 +95,8 @@ pub(crate) fn without_mark(text: &str) -> &str
     text.strip_prefix("\u{FEFF}").unwrap_or(text)
 }
 
-/// Parses the logical lines of a text and applies them to the lists. The first line has the number `first`, and belongs
-/// to no section. An empty list of expressions is not an error here.
+/// Parses the logical lines of a text and applies them to the lists. The first line has the number `first`. Lines
+/// before the first section header belong to no section. An empty list of expressions is not an error here.
 pub(crate) fn take_text(
     alloc: Global,
     lists: &mut ReadLists,

@@ -1,5 +1,5 @@
-//! Laws of the definitions that the contracts of [`crate::read_timer`] and [`crate::read_texts`] use. Each law is a function that does nothing
-//! and whose contract is the law.
+//! Laws of the definitions that the contracts of [`crate::read_timer`] and [`crate::read_texts`] use. Each law is a
+//! function that does nothing and whose contract is the law.
 
 ghost use Rattle.std.specs.Prelude.{◌≡◌, ◌∷◌, ◌++◌, [], ℕ, Bool, List, Result, Some, codes, false, filter, map, slice_get, true, if◌then◌else◌};
 ghost use Rattle.std.specs.List.{list_any};
@@ -53,8 +53,8 @@ pub fn one_list_of_exceptions()
         → listed (before ++ reset ∷ []) ≡ listed before }
 {}
 
-/// A list of assignments has exactly one result. If no assignment has an error, it is the lists of expressions and
-/// exceptions, or `NothingToDo` if the list of expressions is empty. Otherwise it is the first error.
+/// A list of assignments has exactly one result. If no assignment has an error, the result is the lists of expressions
+/// and exceptions, or `NothingToDo` if the list of expressions is empty. Otherwise the result is the first error.
 pub fn one_judgement()
     ensures some { (read : List ℕ → Result Fields SpecFault) (all : List Assignment)
         → JudgesTimer read all (lists_of read all) }
@@ -62,19 +62,20 @@ pub fn one_judgement()
         (result : Result (Timer Fields) TimerFault) → JudgesTimer read all result → result ≡ lists_of read all }
 {}
 
-/// Reading a single text whose first line has the number 1 is reading a timer file with this text.
+/// Reading a single text whose first line has the number 1 has the same result as reading a timer file with this text.
 pub fn one_text_is_a_timer_file()
     ensures { (read : List ℕ → Result Fields SpecFault) (file : UnitText) → file.first ≡ 1
         → lists_of read (assignments_of (file ∷ [])) ≡ timer_of read file.text.now }
 {}
 
-/// The settings of the section `Timer` are the assignments of a timer file.
+/// The settings of the section `Timer`, as [`crate::Settings`] returns them, are the assignments of a timer file.
 pub fn settings_of_the_section_timer()
     ensures { (inside : Bool) (lines : List Line) → settings_in (codes "Timer") inside lines ≡ assignments_in inside lines }
 {}
 
-/// The first of all errors is the first error, and the errors of several texts are those of all their assignments, in
-/// order. So if [`crate::find_faults`] returns any errors, [`crate::read_texts`] fails with the first one.
+/// The first element of the list of all errors is the error that `first_fault` returns, and the errors of several texts
+/// are the errors of all their assignments, in order. So if [`crate::find_faults`] returns any errors,
+/// [`crate::read_texts`] fails with the first one.
 pub fn first_of_all_faults()
     ensures first { (read : List ℕ → Result Fields SpecFault) (before after : List Assignment)
         → first_fault read before after ≡ slice_get (all_faults read before after) 0 }

@@ -16,7 +16,7 @@ use cal_lines::trim;
 use cal_spec::{SpecFault, read_expr};
 use std::alloc::Global;
 
-/// The maximum number of expressions in a list.
+/// The maximum length of the list of expressions, and of the list of exceptions.
 pub(crate) const MAX_EXPRESSIONS: usize = 256;
 
 /// The name of the section whose assignments are read.
@@ -54,8 +54,8 @@ impl ReadLists {
     }
 }
 
-/// Applies a logical line to the lists. `inside` says whether the line is in the section `Timer`. Returns whether the
-/// next line is in this section.
+/// Applies a logical line to the lists. `inside` says whether the section `Timer` is open before the line. Returns
+/// whether it is open after the line.
 pub(crate) fn take_line(
     alloc: Global,
     lists: &mut ReadLists,

@@ -1,4 +1,4 @@
-//! The calendar expressions of a timer file (systemd.timer(5), OnCalendar=).
+//! The calendar expressions and the exceptions of a timer file (systemd.timer(5), OnCalendar=).
 
 ghost use Rattle.std.specs.Prelude.{◌≡◌, map};
 ghost use Rattle.cal_read.specs.TimerView.{shown, shown_lists};
@@ -20,7 +20,7 @@ pub struct TimerLine {
     /// The number of the expression's line, from 1. If the line is continued, this is the number of its first physical
     /// line.
     pub number: u32,
-    /// The expression as it is written in the file, without leading and trailing blanks.
+    /// The expression as it is written in the file, without leading and trailing blanks and carriage returns.
     pub text: String,
     /// The parsed expression.
     pub expr: Expr,

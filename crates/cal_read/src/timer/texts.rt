@@ -23,7 +23,8 @@ pub struct UnitText<'t> {
 /// Why a timer that is read from several texts is invalid.
 #[derive(Clone, Copy, PartialEq, Eq, Debug)]
 pub struct FileFault {
-    /// The index of the text that contains the invalid line, or `None` if the error is that no text has an expression.
+    /// The index of the text that contains the invalid line, or `None` if all lines are valid, but the list of
+    /// expressions is empty.
     pub file: Option<usize>,
     /// The error, with the number of its line.
     pub fault: TimerFault,
@@ -35,9 +36,9 @@ pub struct FileFault {
 /// The settings of each text follow those of the texts before it, so a drop-in can clear a list that the unit file
 /// filled. A section ends with its text.
 ///
-/// The error is that of the first invalid line, or [`TimerFault::NothingToDo`] if all lines are valid and there is no
-/// expression. Fails with [`TimerFault::NoMemory`] only if allocation fails; the index is then that of the text which was
-/// being read, if any.
+/// The error of the first invalid line is returned, or [`TimerFault::NothingToDo`] if all lines are valid and there is
+/// no expression. Fails with [`TimerFault::NoMemory`] only if allocation fails; `file` is then the index of the text
+/// that was being read, if any.
 pub fn read_texts(alloc: Global, files: &[UnitText<'_>]) -> Result<Timer, FileFault>
     requires { All (λ file. file.first + length file.text.now < 2 ^ 32) files.now }
     ensures lists { MatchResult result

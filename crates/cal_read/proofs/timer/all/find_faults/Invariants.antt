@@ -1,4 +1,4 @@
--- The errors so far and those of the remaining texts are all errors.
+-- The errors so far, followed by those of the remaining texts, are all errors.
 use Rattle.std.proofs.Common.{◌≡◌, ◌++◌, [], drop}
 use Rattle.cal_spec.specs.Expr.{expr_in}
 use Rattle.cal_read.specs.TimerFaults.{counted_files, faults_of}
