@@ -1,4 +1,4 @@
--- Every day number in the range of `jiff`'s calendar has exactly one date, which is `date_of` of the number.
+-- `date_of` is the inverse of `epoch_day`: every day number in the range of `jiff`'s calendar has exactly one date.
 use Rattle.std.specs.Prelude.{◌≡◌, ℕ, ℤ, pos, negsuc, ◌≤ℤ◌}
 use Rattle.std.proofs.Common.{ap, arith, sym, ◌∙◌}
 use Rattle.std.proofs.Props.{props}
@@ -22,7 +22,6 @@ pub epoch_day-date_of : (day : ℤ) → IsEpochDay day → epoch_day (date_of da
 unfolding date_of
 epoch_day-date_of day h = grind (arith, signed_arith, place_among-within)
 
--- dates with the same day number are equal
 same_date : (a b : Date) → epoch_day a ≡ epoch_day b → a ≡ b
 same_date a b e =
     let p = epoch_day_injective a b e in
@@ -38,7 +37,7 @@ same_date a b e =
 pub date_of-epoch_day : (d : Date) → date_of (epoch_day d) ≡ d
 date_of-epoch_day d = same_date (date_of (epoch_day d)) d (epoch_day-date_of (epoch_day d) (epoch_day_range d))
 
--- if the day number of a date is `day`, which is 0 (1970-01-01) or greater, the date is `civil_date day`
+-- `date_of-epoch_day` for dates in 1970 or later, whose day numbers are natural numbers, as `civil_date` takes them
 pub date_numbered : (d : Date) (day : ℕ) → epoch_day d ≡ pos day → d ≡ civil_date day
 unfolding civil_date
 date_numbered d day number = sym (date_of-epoch_day d) ∙ ap date_of number

@@ -1,21 +1,22 @@
--- How a fixed UTC offset is computed from its word: systemd.time(7), Calendar Events and Parsing Timestamps.
+-- Which words are read as zones, and how `+hh:mm` and `-hh:mm` are parsed as UTC offsets: systemd.time(7), Calendar
+-- Events and Parsing Timestamps.
 use Rattle.std.specs.Prelude.{ℕ, ℤ, ◌+◌, ◌*◌, ◌≤◌, ◌%◌, ◌≡◌, ◌||◌, ◌&&◌, ◌==◌, Bool, pos, neg_ℤ, unsigned_abs, nat_le, if◌then◌else◌, List, [], ◌∷◌, Option, None, Some, option_map}
 use Rattle.std.specs.Char.{is_ascii_digit}
 use Rattle.std.specs.Str.Parse.{digits_value}
 use Rattle.cal_civil.specs.headline.ZoneName.{begins_with_letter}
 use Rattle.cal_civil.specs.headline.OffsetWord.{begins_with_sign}
 
--- whether a word, at a position where a zone may stand, is read as a zone: it begins with a letter or a sign
+-- whether a word, at a position where a zone is allowed, is parsed as a zone: it begins with a letter or a sign
 abbrev pub begins_zone : List ℕ → Bool
 begins_zone word = begins_with_letter word || begins_with_sign word
 
--- the number that two bytes stand for, if both are digits and the number is at most `greatest`
+-- the number that two bytes stand for, or `None` if they aren't both digits or the number is greater than `greatest`
 unfoldable pub two_digits : ℕ → ℕ → ℕ → Option ℕ
 two_digits greatest tens ones =
     let number = digits_value 10 (tens ∷ ones ∷ []) in
     if is_ascii_digit tens && is_ascii_digit ones && nat_le number greatest then Some number else None
 
--- hours and minutes as a number of seconds, if both are given
+-- hours and minutes as a number of seconds, or `None` if one of them is missing
 abbrev pub hour_minute_seconds : Option ℕ → Option ℕ → Option ℕ
 hour_minute_seconds (Some hours) (Some minutes) = Some (hours * 3_600 + minutes * 60)
 hour_minute_seconds hours minutes = None
@@ -31,8 +32,6 @@ offset_in [] = None
 offset_in (sign ∷ clock) =
     if sign == 43 then option_map pos (hour_minute_in clock)
     else (if sign == 45 then option_map (λ seconds. neg_ℤ (pos seconds)) (hour_minute_in clock) else None)
-
--- The values of words for offsets
 
 -- a UTC offset that a word can stand for: a whole number of minutes, at most 25:59 east or west of UTC
 pub record AreWholeMinutes (seconds : ℤ) : Type 0 where

@@ -12,8 +12,8 @@ use jiff_core::civil::Date;
 /// The number of seconds in a day.
 pub const DAY: i64 = 86_400;
 
-/// The end of the supported local seconds: the years 1970 to 2199 have 84,006 days, and this is the first local second
-/// of 2200.
+/// The first local second of 2200, where the range of supported local seconds ends. The years 1970 to 2199
+/// have 84,006 days.
 pub const LOCAL_END: i64 = 84_006 * DAY;
 
 /// Returns the day number of a local second of the years 1970 to 2199: 0 for 1970-01-01, up to 84,005.

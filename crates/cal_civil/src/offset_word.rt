@@ -6,9 +6,9 @@ ghost use Rattle.cal_civil.specs.OffsetWord.{begins_zone, hour_minute_in, offset
 
 use crate::begins_with_letter;
 
-/// Returns whether `word`, at a position where a zone may stand, is read as a zone: it begins with a letter, as names
-/// do, or with `+` or `-`, as offsets do (systemd.time(7), Calendar Events and Parsing Timestamps). The rest of the
-/// word may still be invalid.
+/// Returns whether `word`, at a position where a zone is allowed, is parsed as a zone: it begins with a letter, as
+/// names do, or with `+` or `-`, as offsets do (systemd.time(7), Calendar Events and Parsing Timestamps). What follows
+/// in the word may still be invalid.
 pub fn begins_zone(word: &[u8]) -> bool
     ensures { result ≡ begins_zone word.now }
 {
@@ -29,7 +29,7 @@ pub fn read_offset(word: &[u8]) -> Option<i32>
     }
 }
 
-/// Parses `hh:mm`, up to 25:59, as a number of seconds. Returns `None` for any other text.
+/// Parses `hh:mm`, up to 25:59, and returns it as a number of seconds. Returns `None` for any other text.
 #[tactic(auto, unfolding(crate::specs::OffsetWord::hour_minute_in))]
 fn read_hour_minute(text: &[u8]) -> Option<u32>
     ensures value { result ≡ hour_minute_in text.now }
@@ -41,7 +41,7 @@ fn read_hour_minute(text: &[u8]) -> Option<u32>
     }
 }
 
-/// Parses two ASCII digits. Returns `None` if a byte isn't a digit or the number is greater than `greatest`.
+/// Parses two ASCII digits. Returns `None` if a byte isn't a digit, or if the number is greater than `greatest`.
 #[tactic(auto, unfolding(crate::specs::OffsetWord::two_digits))]
 fn two_digits(tens: u8, ones: u8, greatest: u32) -> Option<u32>
     ensures value { result ≡ two_digits greatest tens ones }

@@ -32,7 +32,7 @@ pub fn weekday_name(weekday: Weekday) -> &'static [u8]
     }
 }
 
-/// Returns the first three letters of a weekday's name, the form that is printed.
+/// Returns the short name of a weekday, which is the one that is printed: the first three letters of its name.
 #[tactic(auto, unfolding(crate::specs::headline::Weekday::name_of))]
 pub fn short_weekday_name(weekday: Weekday) -> &'static [u8]
     ensures name { result.now ≡ short_name_of weekday }

@@ -1,4 +1,4 @@
-//! The names of zones.
+//! The form of zone names.
 
 ghost use Rattle.std.specs.Prelude.{◌≡◌};
 ghost use Rattle.std.specs.List.{list_all};

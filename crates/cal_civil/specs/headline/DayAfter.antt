@@ -67,12 +67,11 @@ last_of_december d last december =
     let bounds = days_in_month_bounds d.year d.month in
     omega (arith, d.day_in.1)
 
--- if a date has the year 9999, the month 12 and the day 31, its day number is what `days_from_civil` returns for these
+-- the day number of 9999-12-31, in the form in which `days_from_civil-max` states its value
 epoch_day_is : (d : Date) → d.year ≡ pos 9999 → d.month ≡ 12 → d.day ≡ 31 → epoch_day d ≡ days_from_civil (pos 9999) 12 31
 epoch_day_is d year month day = rw (year, month, day)
 
--- if a date is the last day of December, and is before 9999-12-31, the last date, with the day number 2,932,896, there
--- is a date with the next day number
+-- 31 December of every year before 9999 has a next date; 2,932,896 is the day number of 9999-12-31, the last date
 next_of_december : (d : Date) → epoch_day d <ℤ pos 2_932_896 → month_length d ≤ d.day → 12 ≤ d.month → DateOn (epoch_day d +ℤ pos 1)
 next_of_december d before last late =
     let december : d.month ≡ 12 = omega (arith, d.month_in.1) in
@@ -82,7 +81,7 @@ next_of_december d before last late =
     (λ y. let year : d.year ≡ pos 9999 = omega (arith, signed_arith, d.year_in.1) in
     absurd (omega (arith, signed_arith, days_from_civil-max, epoch_day_is d year december day)))
 
--- if a date is before 9999-12-31, there is a date with the next day number
+-- every date before 9999-12-31 has a next date
 next : (d : Date) → epoch_day d <ℤ pos 2_932_896 → DateOn (epoch_day d +ℤ pos 1)
 next d before =
     elim (cases_lt d.day (month_length d)) [
@@ -118,8 +117,8 @@ date_counted (suc n) h =
     let after = next before.date (not_last n (epoch_day before.date) h before.is) in
     record { date = after.date; is = one_more n (epoch_day before.date) (epoch_day after.date) before.is after.is }
 
--- the position of a day in the range from -9999-01-01 (0) to 9999-12-31 (7,304,483); positions outside the range, which
--- no caller has, are mapped to the nearer end of the range
+-- the position of a day in `jiff`'s calendar, from 0 (-9999-01-01) to 7,304,483 (9999-12-31); a position outside this
+-- range, which no caller passes, is replaced by the nearer end of the range
 unfoldable pub place_among : ℤ → ℕ
 place_among (pos n) = min n 7_304_483
 place_among (negsuc n) = 0

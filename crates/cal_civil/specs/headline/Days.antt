@@ -1,4 +1,5 @@
--- The date of a day number, which counts days from 1970-01-01: the one date of `jiff`'s calendar with this number.
+-- The date of `jiff`'s calendar that has a given day number. Day numbers count the days from 1970-01-01,
+-- which is day 0.
 use Rattle.std.specs.Prelude.{ℤ}
 use Rattle.jiff_core.specs.declared.civil.date.Date.{Date}
 use Rattle.cal_civil.specs.headline.DayAfter.{dated}

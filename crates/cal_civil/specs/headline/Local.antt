@@ -4,8 +4,8 @@ use Rattle.std.specs.Int.{int_div_euclid, int_rem_euclid}
 use Rattle.jiff_core.specs.declared.civil.date.Date.{Date}
 use Rattle.cal_civil.specs.headline.Days.{date_of}
 
--- the number of local seconds in the years 1970 to 2199; the lemma below states this value, and no other proof unfolds
--- it, so that no proof builds a list of this length
+-- The number of local seconds in the years 1970 to 2199. Other proofs use the lemma below, which states the value, and
+-- don't unfold the definition, so that no proof builds a list of this length.
 pub seconds_in_all : ℕ
 seconds_in_all = 7_258_118_400
 
@@ -21,7 +21,7 @@ day_of local = int_div_euclid local (pos 86_400)
 abbrev pub second_of_day : ℤ → ℕ
 second_of_day local = unsigned_abs (int_rem_euclid local (pos 86_400))
 
--- the hour, the minute and the second of a time that is given in seconds since midnight
+-- the hour, the minute and the second of a time of day that is given in seconds since midnight
 abbrev pub hour_of : ℕ → ℕ
 hour_of second = second / 3_600
 

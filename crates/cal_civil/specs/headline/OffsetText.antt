@@ -2,7 +2,7 @@
 use Rattle.std.specs.Prelude.{ℕ, ◌-◌, ◌/◌, ◌%◌, ◌==◌, if◌then◌else◌, ℤ, pos, int_lt, unsigned_abs, List, [], ◌∷◌, ◌++◌, length, codes, decimal, replicate}
 use Rattle.cal_bytes.specs.headline.Bytes.{joined}
 
--- the zeros before `n` if it is printed with at least `width` digits
+-- the zeros that are printed before `n` so that it has at least `width` digits
 abbrev pub zeros : ℕ → ℕ → List ℕ
 zeros width n = replicate (width - length (decimal n)) 48
 
@@ -10,7 +10,7 @@ zeros width n = replicate (width - length (decimal n)) 48
 abbrev pub sign_text : ℤ → List ℕ
 sign_text offset = if int_lt offset (pos 0) then codes "-" else codes "+"
 
--- the pieces of `+02:00`: sign, hours, colon and minutes
+-- the pieces that are joined to a text such as `+02:00`: sign, hours, colon and minutes
 abbrev pub minutes_pieces : ℤ → List (List ℕ)
 minutes_pieces offset =
     let ahead = unsigned_abs offset in

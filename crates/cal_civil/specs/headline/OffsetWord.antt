@@ -1,5 +1,5 @@
--- Fixed UTC offsets, `+hh:mm` or `-hh:mm`, which can be written instead of a zone's name: systemd.time(7), Calendar
--- Events and Parsing Timestamps. This form is this project's own.
+-- Fixed UTC offsets, `+hh:mm` or `-hh:mm`, which can be written where systemd.time(7), Calendar Events and Parsing
+-- Timestamps, allows the name of a zone. This form is this project's own.
 use Rattle.std.specs.Prelude.{ℕ, ℤ, ◌+◌, ◌*◌, ◌≤◌, ◌≡◌, ◌⊎◌, ◌||◌, ◌==◌, Bool, true, false, pos, neg_ℤ, List, [], ◌∷◌, ◌++◌, length, codes}
 use Rattle.std.specs.Char.{is_ascii_digit}
 use Rattle.std.specs.List.{list_all}
@@ -13,13 +13,13 @@ abbrev pub begins_with_sign : List ℕ → Bool
 begins_with_sign [] = false
 begins_with_sign (b ∷ bs) = is_sign b
 
--- `text` is `n` in two digits
+-- `text` is the number `n`, written with two digits
 pub record AreTwoDigits (text : List ℕ) (n : ℕ) : Type 0 where
   pub two : length text ≡ 2
   pub digits : list_all is_ascii_digit text ≡ true
   pub value : digits_value 10 text ≡ n
 
--- `text` is hours from 00 to 25, a colon, and minutes from 00 to 59, together `seconds` seconds
+-- `text` is `hh:mm`, with hours from 00 to 25 and minutes from 00 to 59, which are `seconds` seconds
 pub record IsHourMinute (text : List ℕ) (seconds : ℕ) : Type 0 where
   pub hour : List ℕ
   pub minute : List ℕ
@@ -32,7 +32,7 @@ pub record IsHourMinute (text : List ℕ) (seconds : ℕ) : Type 0 where
   pub minutes_in : minutes ≤ 59
   pub sum : seconds ≡ hours * 3_600 + minutes * 60
 
--- `word` is a sign followed by hours and minutes, and stands for a UTC offset of `seconds`
+-- `word` is a sign followed by `hh:mm`, and stands for a UTC offset of `seconds` seconds
 pub record IsOffsetWord (word : List ℕ) (seconds : ℤ) : Type 0 where
   pub clock : List ℕ
   pub distance : ℕ
