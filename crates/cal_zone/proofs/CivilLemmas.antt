@@ -1,4 +1,4 @@
--- Civil times and the local seconds that they stand for.
+-- The fields of a civil time, computed from the local second that it stands for.
 use Rattle.std.proofs.Common.{◌≡◌, ℤ, arith}
 use Rattle.jiff.specs.Types.{DateTime, Offset, TimeZone}
 use Rattle.jiff.specs.Words.{civil_nanos, epoch_day, nanos_of_seconds, offset_at}
@@ -14,18 +14,17 @@ use Rattle.cal_zone.specs.headline.Zone.{local_shown_at}
 use Rattle.cal_zone.proofs.YearLemmas.{year-from_1969, year-to_2200}
 use Rattle.cal_zone.proofs.ZoneLemmas.{offset_at-in_range}
 
--- if a civil time is that of the local second `local`, its day number is the day number of `local`
+-- if `dt` is the civil time of the local second `local`, both have the same day number and the same time of day
 pub epoch_day-whole : (dt : DateTime) (local : ℤ) → civil_nanos dt ≡ nanos_of_seconds local → epoch_day dt.date ≡ day_of local
 unfolding civil_nanos
 epoch_day-whole dt local e = omega (arith, signed_arith, dt.time.hour_in, dt.time.minute_in, dt.time.second_in, dt.time.subsec_in)
 
--- if a civil time is that of the local second `local`, it is as many seconds after midnight as `local` is
 pub time_seconds-whole : (dt : DateTime) (local : ℤ) → civil_nanos dt ≡ nanos_of_seconds local → time_seconds dt.time ≡ second_of_day local
 unfolding civil_nanos
 time_seconds-whole dt local e = omega (arith, signed_arith, dt.time.hour_in, dt.time.minute_in, dt.time.second_in, dt.time.subsec_in)
 
--- if `dt` is what the zone's clock shows at `second`, the fields of `dt` with the UTC offset at `second` are those of
--- `civil_of`
+-- if the zone's clock shows `dt` at `second`, then `civil_of` returns the fields of `dt` with the UTC
+-- offset at `second`
 pub civil_at_offset-civil_of : (tz : TimeZone) (second : ℤ) (dt : DateTime) → civil_nanos dt ≡ nanos_of_seconds (local_shown_at tz second)
     → civil_at_offset (offset_at tz (nanos_of_seconds second)) dt ≡ civil_of tz second
 unfolding civil_of

@@ -1,4 +1,4 @@
--- Numbers below 100 with two digits.
+-- The two digits with which a number below 100 is printed.
 use Rattle.std.proofs.Common.{◌≡◌, ◌+◌, ◌/◌, ◌%◌, ◌<◌, ◌≤◌, ℕ, decimal, [], ◌∷◌, ◌++◌, refl, arith}
 use Rattle.std.proofs.lemmas.Bool.{cases_lt}
 use Rattle.std.proofs.lemmas.Fmt.{decimal_digit, decimal_step}
@@ -11,7 +11,7 @@ below_ten n h = grind (arith, signed_arith, decimal_digit)
 from_ten : (n : ℕ) → 10 ≤ n → n < 100 → zeros 2 n ++ decimal n ≡ (48 + n / 10) ∷ (48 + n % 10) ∷ []
 from_ten n from h = rw (decimal_step n from (omega arith), decimal_digit (n / 10) (omega arith)) refl
 
--- a number below 100 that is padded with zeros to two digits consists of the digit of its tens and the digit of its
--- ones
+-- a number below 100, padded with zeros to two digits, is the digit for its tens followed by the digit for its ones; 48
+-- is the byte of `0`
 pub two_digits_are : (n : ℕ) → n < 100 → zeros 2 n ++ decimal n ≡ (48 + n / 10) ∷ (48 + n % 10) ∷ []
 two_digits_are n h = grind (arith, signed_arith, cases_lt, below_ten, from_ten)

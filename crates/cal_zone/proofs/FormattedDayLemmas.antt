@@ -1,4 +1,4 @@
--- The texts of the instants of one day.
+-- The instants of one day with the same UTC offset are printed with the same day and zone, and only the time differs.
 use Rattle.std.proofs.Common.{◌≡◌, ◌∙◌, ◌+◌, ◌*◌, ℕ, ℤ, pos, ◌+ℤ◌, ◌-ℤ◌, ◌≤ℤ◌, ◌<ℤ◌, unsigned_abs, codes, List, [], ◌∷◌, ◌++◌, refl, ap, arith}
 use Rattle.std.specs.Int.Signed.{pos-nat_abs, yes_non_neg}
 use Rattle.std.proofs.lemmas.List.{append-nil, append_assoc}
@@ -20,8 +20,8 @@ use Rattle.cal_zone.specs.declared.zone.Zone.{Zone}
 abbrev pub seconds_shown : Civil → ℕ
 seconds_shown c = c.hour * 3_600 + c.minute * 60 + c.second
 
--- if the UTC offset at `second` is that at `here`, and `second` is less than a day after `midnight`, the midnight
--- before `here`, then the clock shows the date of `here` at `second`, with the time since `midnight`
+-- `midnight` is the start of the day of `here`. If `second` has the same UTC offset as `here`, and is less than a day
+-- after `midnight`, then the clock at `second` shows the date of `here`, and the time that has passed since `midnight`.
 pub day_goes_on : (tz : TimeZone) (here second midnight : ℤ) → offset_at tz (nanos_of_seconds second) ≡ offset_at tz (nanos_of_seconds here)
     → midnight ≡ here -ℤ pos (seconds_shown (civil_of tz here)) → midnight ≤ℤ second → second <ℤ (midnight +ℤ pos 86_400)
     → civil_of tz second ≡ at_second (civil_of tz here) (unsigned_abs (second -ℤ midnight))
@@ -64,8 +64,8 @@ shown_on_day c since word =
     ap (λ shown. shown ++ word) (shown_parts (at_second c since) ∙ ap (λ date. joined (weekday_name c.weekday ∷ codes " " ∷ date ∷ codes " " ∷ time ∷ codes " " ∷ [])) (same_date c since))
     ∙ regrouped (weekday_name c.weekday) (date_text c) time (codes " ") word
 
--- if the clock shows the day of `shown` at `second`, `since` seconds after midnight, the text of `second` consists of
--- the text of this day, the time and the zone
+-- if the clock at `second` shows the day of `shown`, and a time `since` seconds after midnight, then `second` is
+-- printed as this day, this time and the zone
 pub text_on_day : (zone : Zone) (second : ℤ) (shown : Civil) (since : ℕ) → civil_of (zone_of zone) second ≡ at_second shown since
     → instant_text zone second ≡ joined (day_text shown ∷ time_text (hour_of since) (minute_of since) (second_of since) ∷ (codes " " ++ zone_word (is_utc zone) shown.offset) ∷ [])
 unfolding instant_text

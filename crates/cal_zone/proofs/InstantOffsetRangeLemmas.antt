@@ -37,8 +37,8 @@ beside_within : (low high moment at other : ℤ) → IsApart low high (pos 0) mo
 beside_within low high moment at other (inl h) a b c d = grind (arith, signed_arith, le_yes, not_lt_test)
 beside_within low high moment at other (inr h) a b c d = grind (arith, signed_arith, le_no, lt_test)
 
--- `moment` is in the year from `low` to `high`; the lemmas below show this of the start and the end that a rule has for
--- daylight saving time in a year
+-- `moment` is not before `low` and not after `high`, the first and the last nanosecond of a year. The lemmas below show
+-- this for the times at which a rule starts and ends daylight saving time in that year.
 abbrev pub IsIn : ℤ → ℤ → ℤ → Type 0
 IsIn low high moment = (low ≤ℤ moment) × (moment ≤ℤ high)
 
@@ -67,7 +67,7 @@ pub ordered_in : (low high : ℤ) (w : ℤ × ℤ) (b : Bool) → IsIn low high 
 ordered_in low high w true p q = (p, q)
 ordered_in low high w false p q = (q, p)
 
--- if `moment` is in a year in `jiff`'s range of timestamps, the rule has a transition at `moment`
+-- `transition_of` returns a transition for every `moment` in a year that is within `jiff`'s range of timestamps
 no_none : (b : Bool) (moment : ℤ × OffsetInfo) → b ≡ true → (if b then Some moment else None) ≡ None → ⊥
 no_none true moment e f = cc
 no_none false moment e f = cc
@@ -76,8 +76,8 @@ transition_some : (rule : Posix) (d : Dst) (w : ℤ × ℤ) (low high moment : �
     → IsIn low high moment → transition_of rule d w moment ≡ None → ⊥
 transition_some rule d w low high moment from to p e = grind (arith, signed_arith, no_none, int_le, and_from, le_yes)
 
--- if the rule has no transition after `low`, neither the start nor the end of daylight saving time in the year `y` (in
--- ascending order in `o`) is between `low` and `high`
+-- `o` is the start and the end of daylight saving time in the year `y`, in ascending order. If the rule has no
+-- transition after `low`, neither of them is between `low` and `high`.
 passed_ends : (rule : Posix) (d : Dst) (y first last low high : ℤ) (o : ℤ × ℤ) → o.0 ≤ℤ o.1 → (a b : Bool) → int_lt low o.0 ≡ a → int_lt low o.1 ≡ b
     → neg_ℤ (pos 377_705_023_201_000_000_000) ≤ℤ first → last ≤ℤ pos 253_402_207_200_999_999_999 → IsIn first last o.0 → IsIn first last o.1
     → (if a then transition_of rule d (utc_window d y rule.std_offset) o.0 else (if b then transition_of rule d (utc_window d y rule.std_offset) o.1 else next_year rule d y)) ≡ None
@@ -86,14 +86,15 @@ passed_ends rule d y first last low high o rises true b e f from to p q g = absu
 passed_ends rule d y first last low high o rises false true e f from to p q g = absurd (transition_some rule d (utc_window d y rule.std_offset) first last o.1 from to q g)
 passed_ends rule d y first last low high o rises false false e f from to p q g = grind (arith, signed_arith)
 
+-- the first and the last nanosecond in `jiff`'s range of timestamps
 abbrev lowest : ℤ
 lowest = neg_ℤ (pos 377_705_023_201_000_000_000)
 
 abbrev highest : ℤ
 highest = pos 253_402_207_200_999_999_999
 
--- if the first transition after `low`, if there is one, is at `high` or later, daylight saving time neither starts nor
--- ends between `low` and `high` in the year `y`
+-- if the rule has no transition after `low` and before `high`, daylight saving time neither starts nor ends between
+-- `low` and `high` in the year `y`
 window_constant : (rule : Posix) (d : Dst) (y low high : ℤ) (next : Option (ℤ × OffsetInfo)) → next_by rule d y low ≡ next → IfSome next (λ change. high ≤ℤ change.0)
     → first_nanosecond y ≤ℤ last_nanosecond y → lowest ≤ℤ first_nanosecond y → last_nanosecond y ≤ℤ highest
     → IsApart low high (pos 0) (utc_window d y rule.std_offset).0 × IsApart low high (pos 0) (utc_window d y rule.std_offset).1
@@ -109,11 +110,11 @@ not_after : (next : Option (ℤ × OffsetInfo)) (at : ℤ) → IfSome next (λ c
 not_after (Some change) at h = omega (arith, signed_arith)
 not_after None at h = h
 
--- the first nanosecond of a year isn't after the last one; and the year of a second from 0 to 7,258,500,000 is in
--- `jiff`'s range of timestamps and ends at 7,300,000,000 or earlier
 pub year_order : (y : ℤ) → first_nanosecond y ≤ℤ last_nanosecond y
 year_order y = let long = days_in_year_bounds y in omega (arith, signed_arith)
 
+-- the year of a second of Unix time from 0 to 7,258,500,000 is within `jiff`'s range of timestamps, and ends at
+-- 7,300,000,000 or earlier
 instant_year : (from : ℤ) → pos 0 ≤ℤ from → from ≤ℤ pos 7_258_500_000
     → (lowest ≤ℤ first_nanosecond (datetime_of from).date.year) × (last_nanosecond (datetime_of from).date.year ≤ℤ highest) × (year_end (datetime_of from).date.year ≤ℤ pos 7_300_000_000)
 unfolding datetime_of
@@ -124,8 +125,8 @@ instant_year from begun bound =
     let long = days_in_year_bounds (date_of (day_of from)).year in
     (omega (arith, signed_arith), omega (arith, signed_arith), omega (arith, signed_arith))
 
--- by a rule with daylight saving time, the UTC offset at `second` is that at `from`, if `second` is before the next
--- transition and before the end of the year of `from`
+-- a rule with daylight saving time has the same UTC offset at `second` as at `from`, if `second` is before the next
+-- transition and in the year of `from`
 constant_in_summer : (rule : Posix) (d : Dst) (from second : ℤ) → rule.dst ≡ Some d → pos 0 ≤ℤ from → from ≤ℤ pos 7_258_500_000 → from ≤ℤ second
     → IsBeforeTransition (next_by rule d (year_of_nanos (nanos_of_seconds from)) (nanos_of_seconds from)) from second
     → ByPosix.offset_at rule (nanos_of_seconds second) ≡ ByPosix.offset_at rule (nanos_of_seconds from)
@@ -160,8 +161,8 @@ constant_by_rule rule from second begun bound later same = elim (no_dst rule.dst
       (subst (λ next. IsBeforeTransition next from second) (ap (λ dst. match_some dst None (λ d. next_by rule d (year_of_nanos (nanos_of_seconds from)) (nanos_of_seconds from))) some.1) same)
 ]
 
--- after the last transition of a table, when the table's POSIX rule decides, if there is one, the UTC offset at
--- `second` is that at `from`, if `second` is before the next transition and before the end of the year of `from`
+-- After the last transition of a table, its POSIX rule decides, if it has one. With or without a rule, the UTC offset
+-- at `second` is the same as at `from`, if `second` is before the next transition and in the year of `from`.
 constant_by : (rule : Option Posix) (type : Offset) (from second : ℤ) → pos 0 ≤ℤ from → from ≤ℤ pos 7_258_500_000 → from ≤ℤ second
     → IsBeforeTransition (match_some rule None (λ tz. ByPosix.next_at tz (nanos_of_seconds from))) from second
     → match_some rule type (λ tz. ByPosix.offset_at tz (nanos_of_seconds second)) ≡ match_some rule type (λ tz. ByPosix.offset_at tz (nanos_of_seconds from))
@@ -198,17 +199,16 @@ constant_until_transition (Fixed o) from second begun bound later same = refl
 constant_until_transition (ByRule rule) from second begun bound later same = ap (λ o. o.seconds) (constant_by_rule rule from second begun bound later same)
 constant_until_transition (ByTable table) from second begun bound later same = grind (arith, signed_arith, cases_lt, vec_len, constant_between, constant_after_table)
 
--- a number below the maximum of `a` and `b`, and not below `a`, is below `b`
 pub max_before : (a b x : ℤ) → x <ℤ int_max a b → a ≤ℤ x → x <ℤ b
 max_before a b x = grind (arith, signed_arith)
 
--- if `range` has a constant UTC offset and contains `from`, the UTC offset is constant in `from..to`, if `to` isn't
--- after the end of `range`
+-- `range` has a constant UTC offset and contains `from`. If it doesn't end before `to`, the UTC offset is
+-- constant in `from..to`.
 pub constant_within : (tz : TimeZone) (from to : ℤ) (range : InstantOffsetRange) → IsInstantOffsetRangeAt tz from range → to ≤ℤ range.to → HasConstantOffset tz from to
 constant_within tz from to range at within = grind (arith, signed_arith)
 
--- if `next`, a range that contains the end of `range`, has the same constant UTC offset as `range`, which contains
--- `from`, the UTC offset is constant in `from..to`, if `to` isn't after the end of `next`
+-- Two consecutive ranges with the same UTC offset: `range` contains `from`, and `next` contains `turn`, the end of
+-- `range`. If `next` doesn't end before `to`, the UTC offset is constant in `from..to`.
 pub constant_over : (tz : TimeZone) (from turn to : ℤ) (range next : InstantOffsetRange) → IsInstantOffsetRangeAt tz from range → turn ≡ range.to → IsInstantOffsetRangeAt tz turn next → to ≤ℤ next.to
     → next.offset.seconds ≡ range.offset.seconds → HasConstantOffset tz from to
 constant_over tz from turn to range next at ends after within same = λ second later before.

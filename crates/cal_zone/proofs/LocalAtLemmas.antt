@@ -8,17 +8,16 @@ use Rattle.cal_zone.specs.headline.Place.{place_of}
 use Rattle.cal_zone.specs.headline.Zone.{local_shown_at}
 use Rattle.cal_zone.proofs.PlaceLemmas.{place_of-Some}
 
--- if the clock shows a time outside the years 1970 to 2199 at an instant, this instant isn't the place of a local
--- second
+-- if the clock shows a time outside the years 1970 to 2199 at an instant, this instant isn't the place of any local
+-- second of these years
 pub local_at-outside : (tz : TimeZone) (instant shown : ℤ) → shown ≡ local_shown_at tz instant → (pos 0 ≤ℤ shown → pos 7_258_118_400 ≤ℤ shown) → IsLocalAt tz instant None
 local_at-outside tz instant shown at outside = grind (arith, signed_arith, place_of-Some)
 
 -- if the local second that the clock shows at an instant has another place or no place, this instant isn't the place of
--- a local second
+-- any local second
 pub local_at-elsewhere : (tz : TimeZone) (instant shown : ℤ) → shown ≡ local_shown_at tz instant → (place_of tz shown ≡ Some instant → ⊥) → IsLocalAt tz instant None
 local_at-elsewhere tz instant shown at elsewhere = grind (arith, signed_arith, place_of-Some)
 
--- if `shown` is a local second of the years 1970 to 2199 and its place is `instant`, then `shown` is the local second
--- at `instant`, as `IsLocalAt` defines it
+-- a local second of the years 1970 to 2199 whose place is `instant` is the result that `IsLocalAt` describes
 pub local_at-here : (tz : TimeZone) (instant shown : ℤ) → pos 0 ≤ℤ shown → shown <ℤ pos 7_258_118_400 → place_of tz shown ≡ Some instant → IsLocalAt tz instant (Some shown)
 local_at-here tz instant shown low high placed = ((low, omega (arith, signed_arith)), placed)

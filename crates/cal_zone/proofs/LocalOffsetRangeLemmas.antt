@@ -1,4 +1,4 @@
--- Ranges of local seconds with a constant UTC offset.
+-- Far enough from the transitions of a zone file's table, local seconds are converted with a constant UTC offset.
 --
 -- The "count" at a second is the number of the table's transitions at or before it.
 use Rattle.std.proofs.Common.{◌≡◌, ◌∙◌, ◌-◌, ◌<◌, ◌≤◌, ℕ, zero, suc, ℤ, pos, ◌+ℤ◌, ◌-ℤ◌, ◌≤ℤ◌, ◌<ℤ◌, Option, Some, None, true, false, cond, int_le, int_lt, get_or, length, map, List, refl, sym, ap, arith, vec_len}
@@ -31,7 +31,7 @@ use Rattle.cal_civil.proofs.DayLemmas.{epoch_day-date_of}
 use Rattle.cal_zone.proofs.PlaceLemmas.{by_the_offset, place_at-there, place_of-Some, place_of-tried}
 use Rattle.cal_text.proofs.General.{none_by_view}
 
--- the minimum and the maximum of two UTC offsets are in the range of offsets
+-- the smaller and the larger of two UTC offsets are in the range of UTC offsets too
 min_in_range : (x y : ℤ) → IsOffsetSeconds x → IsOffsetSeconds y → IsOffsetSeconds (int_min x y)
 min_in_range x y p q = elim (int_lt y x) as (λ b. IsOffsetSeconds (cond b y x)) [ true ↦ q | false ↦ p ]
 
@@ -45,7 +45,7 @@ start_near row = grind (arith, signed_arith, min_in_range)
 end_near : (row : Transition) → IsOffsetSeconds (civil_end row -ℤ row.second)
 end_near row = grind (arith, signed_arith, max_in_range)
 
--- transitions with an index below the count are at or before the second
+-- the transitions with an index below the count at `second` are at or before `second`
 transition_passed : (z : Table) (second : ℤ) (row : ℕ) → row < count_at z second → (transition_at z row).second ≤ℤ second
 transition_passed z second row l = grind (arith, signed_arith, prefix_len_passes, int_le)
 
@@ -54,9 +54,9 @@ pub count_stays : (z : Table) (from second : ℤ) → count_at z from < vec_len 
     → second <ℤ (transition_at z (count_at z from)).second → count_at z second ≡ count_at z from
 count_stays z from second some begun within = grind (arith, signed_arith, prefix_len_is, int_le, le_yes, transition_passed, le_no)
 
--- if `local` is at least 93,599 seconds (the largest UTC offset) after `from`, and more than 93,599 seconds before the
--- next transition after `from`, then the number of transitions whose gap or fold has begun by `local` is the count at
--- `from`
+-- `local` is at least 93,599 seconds (the largest UTC offset) after `from`, and more than 93,599 seconds before the
+-- next transition after `from`. Then the transitions whose gap or fold has begun by `local` are as many as the
+-- count at `from`.
 civil_count_stays : (z : Table) (from local : ℤ) → count_at z from < vec_len z.transitions → (from +ℤ pos 93_599) ≤ℤ local
     → (local +ℤ pos 93_599) <ℤ (transition_at z (count_at z from)).second → civil_count_at z local ≡ count_at z from
 civil_count_stays z from local some begun within =
@@ -82,8 +82,8 @@ outside z from local begun = outside_after z (count_at z from) local
 pub no_rule : (z : Table) (rows : ℕ) → rows < vec_len z.transitions → rule_after z rows ≡ None
 no_rule z rows some = grind (arith, signed_arith, vec_len)
 
--- if a whole number of seconds is rounded down to seconds, it stays the same; and the civil time of a local second,
--- counted in seconds, is this local second
+-- a second that is converted to nanoseconds and back stays the same, and so does a local second that is converted to a
+-- civil time and back
 pub floor_second-whole : (second : ℤ) → floor_second (nanos_of_seconds second) ≡ second
 floor_second-whole second = omega (arith, signed_arith)
 
@@ -91,8 +91,8 @@ civil_seconds-datetime_of : (local : ℤ) → IsEpochDay (day_of local) → civi
 unfolding civil_seconds datetime_of time_of
 civil_seconds-datetime_of local day = omega (arith, signed_arith, epoch_day-date_of (day_of local) day)
 
--- between two transitions of a table, the UTC offset at an instant is that of the earlier transition, and so is the
--- only UTC offset of a civil time that is farther than 93,599 seconds from both transitions
+-- From `from` until the next transition of the table, all instants have the same UTC offset. A civil time in between
+-- that is far enough (93,599 seconds) from both ends is unambiguous, with this offset.
 pub offset_between : (z : Table) (from second : ℤ) → count_at z from < vec_len z.transitions → from ≤ℤ second
     → second <ℤ (transition_at z (count_at z from)).second
     → OfTable.offset_at z (nanos_of_seconds second) ≡ (type_after z (count_at z from)).offset
@@ -119,11 +119,12 @@ place_of-between z from local within_years some begun within =
     (let in_range = offset.in_range in omega (arith, signed_arith))
     (let in_range = offset.in_range in omega (arith, signed_arith))))
 
+-- In the four lemmas below, `rows` is a copy of the transitions of a table, with the same contents. The function
+-- `transitions` of a table returns such a copy.
 pub length_of_copy : (z : Table) (rows : List Transition) → map transition_text rows ≡ map transition_text z.transitions.items → length rows ≡ vec_len z.transitions
 length_of_copy z rows copy = grind (arith, signed_arith, length-map)
 
--- if `rows` is a copy of a table's transitions, which is what functions on a table return, each transition in `rows`
--- has the same content as the table's transition with the same index
+-- a transition in a copy has the same content as the transition of the table with the same index
 pub transition_of_copy : (z : Table) (rows : List Transition) → map transition_text rows ≡ map transition_text z.transitions.items
     → (row : ℕ) (d : Transition) → row < length rows → transition_text (get_or rows row d) ≡ transition_text (transition_at z row)
 transition_of_copy z rows copy row d l =
@@ -132,12 +133,12 @@ transition_of_copy z rows copy row d l =
     ∙ ap (λ texts. get_or texts row no_row) copy
     ∙ get_or-map transition_text z.transitions.items row (no_transition z) no_row (omega arith)
 
--- the transitions of a copy are in ascending order, as those of the table are
+-- the transitions in a copy are in ascending order, as they are in the table
 pub ordered_copy : (z : Table) (rows : List Transition) → map transition_text rows ≡ map transition_text z.transitions.items
     → (row later : ℕ) (d : Transition) → row ≤ later → later < length rows → (get_or rows row d).second ≤ℤ (get_or rows later d).second
 ordered_copy z rows copy row later d le l = grind (arith, signed_arith, seconds_rise)
 
--- a second has the same count in a copy as in the table
+-- the count at a second is the same in a copy as in the table
 pub count_of_copy : (z : Table) (rows : List Transition) → map transition_text rows ≡ map transition_text z.transitions.items
     → (second : ℤ) (count : ℕ) (d : Transition) → count ≤ length rows → IsPartitionPoint (λ t. int_le t.second second ≡ true) (λ t. int_le t.second second ≡ false) rows count
     → count ≡ count_at z second
@@ -147,8 +148,7 @@ count_of_copy z rows copy second count d bound point =
     (λ row l. sym (ap (λ text. int_le text.second second) (transition_of_copy z rows copy row d (omega arith))) ∙ point.0 row d (omega arith) l)
     (λ l. sym (ap (λ text. int_le text.second second) (transition_of_copy z rows copy count d (omega arith))) ∙ point.1 count d (omega arith) (omega arith)))
 
--- after the first `rows` transitions of a table, which are at least one, the local time type is the one that the last
--- of these transitions sets
+-- after one or more transitions of a table, the local time type is the one that the last of these transitions sets
 pub type_after-last : (z : Table) (rows : ℕ) → 0 < rows → type_after z rows ≡ (transition_at z (rows - 1)).after
 type_after-last z rows some = grind (arith, signed_arith)
 
@@ -166,7 +166,7 @@ place_of-same_offsets tz local other place same_offsets placed =
     ∙ place_at-there tz local offset (same_offsets.instants offset ∙ there)
     ∙ ap Some (omega (arith, signed_arith))
 
--- according to a rule without daylight saving time, the clock behaves the same around all local seconds
+-- under a rule without daylight saving time, the clock behaves the same around all local seconds
 ambiguous_standard : (std : Offset) (dst : Option Dst) (shown : DateTime) → dst ≡ None → ambiguous_at_by std dst shown ≡ Unambiguous std
 ambiguous_standard std dst shown none = rw none refl
 
@@ -180,7 +180,7 @@ pub same_offsets_standard : (rule : Posix) (local other : ℤ) → rule.dst ≡ 
 unfolding offset_at ambiguous_at
 same_offsets_standard rule local other none = grind (arith, signed_arith, ambiguous_standard, offset_standard)
 
--- according to the POSIX rule of a table, if it has one, the clock behaves the same around both local seconds
+-- under the POSIX rule of a table, if it has one, the clock behaves the same around both local seconds
 abbrev pub HaveSameOffsetsBy : Option Posix → ℤ → ℤ → Type 0
 HaveSameOffsetsBy None local other = Unit {0}
 HaveSameOffsetsBy (Some rule) local other = HaveSameOffsets (ByRule rule) local other
@@ -228,8 +228,8 @@ offset_after_table z from second all begun = grind (arith, signed_arith, floor_s
 pub rule_after_table : (z : Table) → rule_after z (vec_len z.transitions) ≡ z.posix_tz
 rule_after_table z = grind (arith, signed_arith, vec_len)
 
--- if all transitions are at least 93,599 seconds before `other`, and the clock behaves the same around both local
--- seconds according to the POSIX rule of the table, then it also does so according to the table
+-- All transitions are at least 93,599 seconds before `other`. If the clock behaves the same around both local seconds
+-- under the POSIX rule of the table, then it also does so in the zone of the table.
 pub same_offsets_after_table : (z : Table) (local other : ℤ) → IsLocalSecond local → IsLocalSecond other → vec_len z.transitions ≤ count_at z (other -ℤ pos 93_599) → other ≤ℤ local
     → HaveSameOffsetsBy z.posix_tz local other → HaveSameOffsets (zone_of_table z) local other
 unfolding offset_at ambiguous_at

@@ -1,4 +1,4 @@
--- UTC offsets of `jiff`.
+-- A UTC offset of `jiff` is determined by its number of seconds.
 use Rattle.std.proofs.Common.{◌≡◌, suc, ℤ, pos, negsuc, neg_ℤ, min, ap, arith}
 use Rattle.std.proofs.Props.{props}
 use mathlib.Core.HLevel.{is_prop→PathP}
@@ -7,7 +7,6 @@ use Rattle.jiff.specs.Types.{Offset}
 use Rattle.jiff.specs.Words.{IsOffsetSeconds}
 use Rattle.cal_zone.specs.headline.FixedOffsetZone.{offset_of_seconds}
 
--- offsets with the same number of seconds are equal
 pub same_offset : (a b : Offset) → a.seconds ≡ b.seconds → a ≡ b
 same_offset a b e =
     λ i. record {
@@ -15,8 +14,7 @@ same_offset a b e =
       in_range = is_prop→PathP (λ j. IsOffsetSeconds (e j)) (λ j. hlevel props) a.in_range b.in_range i;
     }
 
--- if `seconds` is in `jiff`'s range of UTC offsets, `offset_of_seconds seconds` is the offset of exactly `seconds`
--- seconds
+-- `offset_of_seconds` keeps every number of seconds in `jiff`'s range of UTC offsets
 pub nearest : (seconds : ℤ) → IsOffsetSeconds seconds → (offset_of_seconds seconds).seconds ≡ seconds
 unfolding offset_of_seconds
 nearest (pos n) h = let least : min n 93_599 ≡ n = omega (arith, signed_arith, h.1) in ap pos least

@@ -1,4 +1,4 @@
--- The conversion from local seconds to Unix time.
+-- Lemmas on the conversions from local seconds to Unix time, `settle_of` and `place_of`.
 use Rattle.std.proofs.Common.{◌≡◌, ◌∙◌, ℤ, pos, ◌-ℤ◌, Bool, Some, None, refl, sym, ap, arith, int_eq, true, false, if◌then◌else◌}
 use Rattle.std.proofs.lemmas.Bool.Decides.{Decides-int_eq}
 use Rattle.std.proofs.lemmas.Int.{ints}
@@ -32,7 +32,7 @@ pub place_of-UTC : (local : ℤ) → place_of UTC local ≡ Some local
 unfolding place_of
 place_of-UTC local = rw (settle_of-UTC local, local_shown_at-UTC local, (Decides-int_eq local local).1 refl)
 
--- `settle_of` is the instant that `jiff`'s compatible conversion picks for the civil time of a local second
+-- `settle_of` returns the instant that `jiff`'s compatible conversion picks for the civil time of a local second
 pub picked_instant-settle_of : (tz : TimeZone) (local : ℤ) → IsEpochDay (day_of local) → picked_instant tz (datetime_of local) ≡ nanos_of_seconds (settle_of tz local)
 unfolding settle_of
 picked_instant-settle_of tz local h = omega (arith, signed_arith, civil_nanos-datetime_of local h)
@@ -58,8 +58,8 @@ pub place_of-fixed_zone : (o : Offset) (local : ℤ) → place_of (fixed_zone o)
 unfolding place_of
 place_of-fixed_zone o local = rw (settle_of-fixed_zone o local, local_shown_at-fixed_zone o local, (Decides-int_eq local local).1 refl)
 
--- if `shown` is the civil time of `local`, and `offsets` is what `jiff` reports for it, then the instant of `shown` at
--- the offset that `jiff`'s compatible conversion picks is `settle_of` of `local`
+-- `shown` is the civil time of `local`, and `offsets` is what `jiff` reports for it. Then `settle_of` returns the
+-- instant of `shown` at the offset that `jiff`'s compatible conversion picks from `offsets`.
 pub instant_of-settled : (tz : TimeZone) (offsets : AmbiguousOffset) (shown : DateTime) (local : ℤ) → IsEpochDay (day_of local)
     → shown ≡ datetime_of local → offsets ≡ ambiguous_at tz shown → instant_of shown (compatible_offset offsets) ≡ nanos_of_seconds (settle_of tz local)
 unfolding settle_of
@@ -100,7 +100,7 @@ one_local_second tz a b place e f = sym (place_of-Some tz a place e).1 ∙ (plac
 same_where : (a b c d : ℤ) → (a ≡ b → c ≡ d) → (c ≡ d → a ≡ b) → int_eq a b ≡ int_eq c d
 same_where a b c d to from = grind (arith, ints)
 
--- the place of a local second stays the same if only the offset that `jiff`'s compatible conversion picks is tried
+-- to find the place of a local second, it is enough to try the offset that `jiff`'s compatible conversion picks
 pub place_of-tried : (tz : TimeZone) (local : ℤ) (offsets : AmbiguousOffset) → ambiguous_at tz (datetime_of local) ≡ offsets
     → place_of tz local ≡ place_at tz local (compatible_offset offsets)
 unfolding place_of place_at settle_of local_shown_at

@@ -38,12 +38,13 @@ pub record IsBeside (moment at other : ℤ) : Type 0 where
   pub le : int_le moment at ≡ int_le moment other
   pub lt : int_lt at moment ≡ int_lt other moment
 
--- `moment` is outside the range from `low` to `high`, or inside it by at most `by`
+-- `moment` is at most `by` inside the range from `low` to `high`: it is outside this range, or inside it and at most
+-- `by` away from one of its ends
 abbrev pub IsApart : ℤ → ℤ → ℤ → ℤ → Type 0
 IsApart low high by moment = (moment ≤ℤ (low +ℤ by)) ⊎ (high ≤ℤ (moment +ℤ by))
 
--- if `moment` is outside the range from `low` to `high`, or inside it by at most `by`, then two times that are inside
--- this range by more than `by` are on the same side of `moment`
+-- if `moment` is at most `by` inside the range from `low` to `high`, then two times that are at least `far`, which is
+-- more than `by`, inside this range are on the same side of `moment`
 beside : (low high by far moment at other : ℤ) → IsApart low high by moment → by <ℤ far → (low +ℤ far) ≤ℤ at → (at +ℤ far) ≤ℤ high → (low +ℤ far) ≤ℤ other → (other +ℤ far) ≤ℤ high
     → IsBeside moment at other
 beside low high by far moment at other (inl h) more a b c d = record {
@@ -55,8 +56,8 @@ beside low high by far moment at other (inr h) more a b c d = record {
   lt = lt_test at moment (omega (arith, signed_arith)) ∙ sym (lt_test other moment (omega (arith, signed_arith)));
 }
 
--- if `moment` is outside the range from `low` to `high`, or inside it by at most `by`, then a time that differs from
--- `moment` by at most `more` is outside the range, or inside it by at most `by` plus `more`
+-- if `moment` is at most `by` inside the range from `low` to `high`, then a time that differs from `moment` by at most
+-- `more` is at most `by` plus `more` inside this range
 apart_near : (low high by more moment near : ℤ) → IsApart low high by moment → near ≤ℤ (moment +ℤ more) → moment ≤ℤ (near +ℤ more) → IsApart low high (by +ℤ more) near
 apart_near low high by more moment near (inl h) a b = inl (omega (arith, signed_arith))
 apart_near low high by more moment near (inr h) a b = inr (omega (arith, signed_arith))
@@ -93,9 +94,8 @@ near_by low high a b kept other more p q some h (inr x) y = omega (arith, signed
 clamped_near : (low high a b more : ℤ) → low ≤ℤ high → pos 0 ≤ℤ more → a ≤ℤ (b +ℤ more) → clamp_to low high a ≤ℤ (clamp_to low high b +ℤ more)
 clamped_near low high a b more order some h = grind (arith, signed_arith, clamped, near_by)
 
--- if `moment` is outside the range from `low` to `high`, or inside it by at most `by`, and is shifted by at most `more`
--- and then clamped to the civil times of `jiff`, then the result is outside the range, or inside it by at most `by`
--- plus `more`
+-- if `moment` is at most `by` inside the range from `low` to `high`, and `moved` differs from `moment` by at most
+-- `more`, then `moved`, clamped to the civil times of `jiff`, is at most `by` plus `more` inside this range
 kept_low : (low high by more moment moved kept : ℤ) → moment ≤ℤ (low +ℤ by) → civil_min ≤ℤ low → pos 0 ≤ℤ by → pos 0 ≤ℤ more → moved ≤ℤ (moment +ℤ more)
     → (kept ≤ℤ moved) ⊎ (kept ≤ℤ civil_min) → IsApart low high (by +ℤ more) kept
 kept_low low high by more moment moved kept h from some also a (inl k) = inl (omega (arith, signed_arith))
@@ -114,8 +114,9 @@ apart_kept : (low high by more moment moved : ℤ) → civil_min ≤ℤ low → 
 apart_kept low high by more moment moved from to some also a b (inl h) = grind (arith, signed_arith, kept_low, clamped, civil_order)
 apart_kept low high by more moment moved from to some also a b (inr h) = grind (arith, signed_arith, kept_high, clamped, civil_order)
 
--- when daylight saving time starts or ends in the year from `low` to `high`, in UTC for a clock at the UTC offset
--- `seconds`, or in local time if `seconds` is 0; by the lemma below, the two differ by at most one UTC offset
+-- The nanosecond at which daylight saving time starts or ends in the year from `low` to `high`: in UTC, if `seconds` is
+-- the UTC offset of the clock until then, or in local time, if `seconds` is 0. By the lemma below, the two differ by at
+-- most one UTC offset.
 abbrev pub moment_on : Option ℤ → ℤ → ℤ → ℤ → ℤ → ℤ
 moment_on day low high time seconds = match_some day high (λ d. clamp_to low high (d *ℤ nanos_per_day +ℤ nanos_of_seconds (time -ℤ seconds)))
 
@@ -137,9 +138,9 @@ apart_wall low high by y d seconds order offset apart =
     let near = moment_near (rule_day y d.date) (first_nanosecond y) (last_nanosecond y) d.time seconds order offset in
     apart_near low high by (pos 93_599_000_000_000) _ _ apart near.0 near.1
 
--- `at` and `other` are on the same side of the start and the end of daylight saving time, and of the other ends of the
--- gap and the fold there; by the lemma below, both are then unambiguous, both in the gap or both in the fold, with the
--- same offsets
+-- Here `w` is in local time. `at` and `other` are on the same side of all ends of the gap and the fold around the start
+-- and the end of daylight saving time. By the lemma below, `jiff` then reports the same for both: unambiguous, in the
+-- gap or in the fold, with the same offsets.
 pub record AreBeside (std dst : Offset) (w : ℤ × ℤ) (at other : ℤ) : Type 0 where
   pub start : IsBeside w.0 at other
   pub end : IsBeside w.1 at other
@@ -152,8 +153,7 @@ ambiguous_beside std dst w at other h = grind (arith, signed_arith)
 pub window_beside : (w : ℤ × ℤ) (at other : ℤ) → IsBeside w.0 at other → IsBeside w.1 at other → in_window w at ≡ in_window w other
 window_beside w at other start end = rw (start.le, start.lt, end.le, end.lt) refl
 
--- if the start and the end of daylight saving time in a year are ordered by `ordered`, the second isn't before the
--- first
+-- `ordered` puts the start and the end of daylight saving time in ascending order
 pub ordered_rises : (w : ℤ × ℤ) → (ordered w).0 ≤ℤ (ordered w).1
 ordered_rises w = grind (arith, signed_arith, int_le)
 
@@ -188,9 +188,9 @@ window_apart rule d y low high next e h =
     let ends = window_by rule d y low high next e h in
     ordered_apart low high (utc_window d y rule.std_offset) ends.0 ends.1
 
--- if daylight saving time starts with the year and its end, at standard time, is outside the year, then `utc_window`
--- has the last nanosecond of the year in place of the end; the end is then outside the range from `low` to `high`, or
--- inside it by at most one UTC offset
+-- If daylight saving time starts with the year, and its end, read at standard time, is outside the year, then
+-- `utc_window` has the last nanosecond of the year instead of the end. The two lemmas below show that the end is then
+-- at most one UTC offset inside the range from `low` to `high`.
 end_passed : (low high first last end std : ℤ) → first ≤ℤ low → low ≤ℤ civil_max → IsOffsetSeconds std → clamp_to civil_min civil_max (end +ℤ nanos_of_seconds std) <ℤ first
     → ((end +ℤ nanos_of_seconds std) ≤ℤ clamp_to civil_min civil_max (end +ℤ nanos_of_seconds std)) ⊎ (civil_max ≤ℤ clamp_to civil_min civil_max (end +ℤ nanos_of_seconds std))
     → IsApart low high (pos 93_599_000_000_000) end
@@ -203,8 +203,8 @@ end_to_come : (low high first last end std : ℤ) → high ≤ℤ (last +ℤ pos
 end_to_come low high first last end std to from offset h (inl k) = inr (omega (arith, signed_arith))
 end_to_come low high first last end std to from offset h (inr k) = absurd (omega (arith, signed_arith))
 
--- `low..high` begins in the year from `first` to `last`, and both `low` and `high` are in the range of `jiff`'s civil
--- times
+-- `low..high` is not empty, it begins in the year from `first` to `last`, and both `low` and `high` are in the range of
+-- `jiff`'s civil times
 pub record IsPart (first last low high : ℤ) : Type 0 where
   pub from : first ≤ℤ low
   pub to : low <ℤ last
@@ -224,8 +224,8 @@ end_left_out low high first last end std false part to offset e f =
 abbrev pub window_of : Bool → ℤ → ℤ → ℤ → ℤ × ℤ
 window_of whole start last end = if whole then (start, last) else (start, end)
 
--- if `low..high` begins before `last`, the last nanosecond of a year, and `last` isn't inside it, then it ends with the
--- year or before
+-- `last` is the last nanosecond of a year. If `low..high` begins before it, and doesn't contain it, then `low..high`
+-- ends in that year.
 ends_with_year : (low high last : ℤ) → low <ℤ last → IsApart low high (pos 0) last → high ≤ℤ (last +ℤ pos 1)
 ends_with_year low high last within (inl h) = absurd (omega (arith, signed_arith))
 ends_with_year low high last within (inr h) = omega (arith, signed_arith)
@@ -245,7 +245,8 @@ unfolding utc_window
 moments_apart d y std low high part p q =
     window_parts low high (first_nanosecond y) (last_nanosecond y) (rule_nanos y d.rule.start std.seconds) (rule_nanos y d.rule.end d.offset.seconds) std.seconds _ part std.in_range refl p q
 
--- a date is not before the first day of its year, and before the first day of the next year
+-- the day number of a date is at least that of the first day of its year, and less than that of the first day
+-- of the next year
 pub in_its_year : (d : Date) → (first_day d.year ≤ℤ epoch_day d) × (epoch_day d <ℤ (first_day d.year +ℤ pos (days_in_year d.year)))
 unfolding day_count days_of_months
 in_its_year d =
@@ -259,7 +260,7 @@ in_its_year d =
 pub of_the_year : (d : Date) (y : ℤ) → IsYear y → first_day y ≤ℤ epoch_day d → epoch_day d <ℤ (first_day y +ℤ pos (days_in_year y)) → d.year ≡ y
 of_the_year d y year from to = grind (arith, signed_arith, days_from_civil-day_count, day_count-year_is, civil)
 
--- if `second` isn't before `past`, and is before the end of the year of `past`, both are in the same year
+-- a second from `past` to the end of the year of `past` is in the same year as `past`
 pub year_goes_on : (past second : ℤ) → IsEpochDay (day_of past) → IsEpochDay (day_of second) → past ≤ℤ second → second <ℤ year_end (datetime_of past).date.year
     → (datetime_of second).date.year ≡ (datetime_of past).date.year
 unfolding datetime_of
@@ -269,8 +270,8 @@ year_goes_on past second past_in second_in later before =
     let next = epoch_day-date_of (day_of second) second_in in
     of_the_year (date_of (day_of second)) (date_of (day_of past)).year (date_of (day_of past)).year_in (omega (arith, signed_arith)) (omega (arith, signed_arith))
 
--- if `second` isn't before `past`, and is before the end of the year of `past`, then `year_of_nanos`, by which `jiff`
--- finds the year of an instant in UTC, also returns the year of `past` for `second`
+-- `year_of_nanos`, with which `jiff` finds the year of an instant in UTC, returns the year of `past` for every second
+-- from `past` to the end of that year
 pub utc_year : (past second : ℤ) → IsEpochDay (day_of past) → IsEpochDay (day_of second) → past ≤ℤ second → second <ℤ year_end (datetime_of past).date.year
     → year_of_nanos (nanos_of_seconds second) ≡ (datetime_of past).date.year
 utc_year past second past_in second_in later before =
@@ -283,8 +284,8 @@ year_begun past past_in =
     let day = epoch_day-date_of (day_of past) past_in in
     omega (arith, signed_arith)
 
--- according to a rule with daylight saving time, whether a civil time is unambiguous, in a gap or in a fold follows
--- from the start and the end of daylight saving time, in local time, in the year of the civil time
+-- under a rule with daylight saving time, whether a civil time is unambiguous, in a gap or in a fold depends on the
+-- local times at which daylight saving time starts and ends in its year
 pub ambiguous_in : (std : Offset) (dst : Option Dst) (d : Dst) (shown : DateTime) (y n : ℤ) → dst ≡ Some d → shown.date.year ≡ y → civil_nanos shown ≡ n
     → ambiguous_at_by std dst shown ≡ ambiguous_by std d.offset (rule_nanos y d.rule.start (pos 0), rule_nanos y d.rule.end (pos 0)) n
 ambiguous_in std dst d shown y n e f g = grind (arith, signed_arith)
@@ -293,7 +294,7 @@ pub offset_in : (rule : Posix) (d : Dst) (y n : ℤ) → rule.dst ≡ Some d →
     → ByPosix.offset_at rule n ≡ match_some (if in_window (utc_window d y rule.std_offset) n then Some d else None) rule.std_offset (λ dst. dst.offset)
 offset_in rule d y n e f = rw (e, f) refl
 
--- how far a range stays away from the start and the end of daylight saving time, in nanoseconds: four times the largest
+-- how many nanoseconds a range stays away from the start and the end of daylight saving time: four times the largest
 -- UTC offset, and one second
 abbrev pub far : ℤ
 far = pos 374_397_000_000_000
@@ -327,7 +328,8 @@ pub next_found : (rule : Posix) (dst : Option Dst) (n : ℤ) (change : ℤ × Of
 next_found rule None n change e = absurd (cc)
 next_found rule (Some d) n change e = (d, refl, e)
 
--- after the last transition of a table, the next transition is the next one of its POSIX rule, if it has a rule
+-- after the last transition of a table, the next transition is the next one of its POSIX rule; without a
+-- rule, there is none
 pub next_after_table : (z : Table) (past : ℤ) → vec_len z.transitions ≤ count_at z past → OfTable.next_at z (nanos_of_seconds past) ≡ match_some z.posix_tz None (λ rule. ByPosix.next_at rule (nanos_of_seconds past))
 next_after_table z past all = grind (arith, signed_arith, vec_len, floor_second-whole, count_after_table)
 

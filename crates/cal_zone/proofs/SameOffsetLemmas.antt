@@ -1,5 +1,5 @@
--- From one transition of a POSIX rule to the next, local times are converted with the same UTC offset, also across a
--- new year.
+-- From one transition of a POSIX rule to the next, local times are converted with the same UTC offset, even
+-- across a new year.
 --
 -- In these lemmas, `moment` is a nanosecond at which a POSIX rule starts or ends daylight saving time, and `w` is the
 -- pair of the start and the end in one year, in UTC.
@@ -47,9 +47,9 @@ civil_apart rule d y low high local other has years other_in year other_year fro
     ∙ ambiguous_beside rule.std_offset d.offset _ (nanos_of_seconds local) (nanos_of_seconds other) walls
     ∙ sym (ambiguous_in rule.std_offset rule.dst d (datetime_of other) y (nanos_of_seconds other) has other_year (civil_nanos-datetime_of other other_in))
 
--- if `other` is 374,397 seconds after `past`, and `local` isn't before `other`, is in the year of `past` and is at
--- least 374,397 seconds before the first transition after `past`, then `jiff` reports the same for their civil times:
--- unambiguous, in a gap or in a fold, with the same offsets
+-- `other` is 374,397 seconds after `past`, and `local` isn't before `other`. If `local` is in the year of `past`, and
+-- at least 374,397 seconds before the first transition after `past`, then `jiff` reports the same for the civil times
+-- of `local` and `other`: unambiguous, in a gap or in a fold, with the same offsets.
 civil_in_year : (rule : Posix) (d : Dst) (past other local : ℤ) (next : ℤ × OffsetInfo) → rule.dst ≡ Some d → next_by rule d (datetime_of past).date.year (nanos_of_seconds past) ≡ Some next
     → pos 0 ≤ℤ past → (past +ℤ pos 374_397) ≡ other → other ≤ℤ local → IsLocalSecond local → nanos_of_seconds (local +ℤ pos 374_397) ≤ℤ next.0
     → local <ℤ year_end (datetime_of past).date.year → ambiguous_at (ByRule rule) (datetime_of local) ≡ ambiguous_at (ByRule rule) (datetime_of other)
@@ -75,8 +75,8 @@ civil_in_year rule d past other local next has e from begun later years before_n
     (year_goes_on past other past_in other_in (omega (arith, signed_arith)) (omega (arith, signed_arith)))
     part.civil_from part.civil_to moments.0 moments.1 (omega (arith, signed_arith)) later (omega (arith, signed_arith))
 
--- if the first transition after `low`, an instant in the year `y`, is later than the start and the end of daylight
--- saving time in this year (in ascending order in `o`), it is the first transition of the next year
+-- `o` is the start and the end of daylight saving time in the year `y`, in ascending order. If the first transition
+-- after `low`, an instant of this year, is later than both, then it is the first transition of the next year.
 next_in_next_year : (rule : Posix) (d : Dst) (y low : ℤ) (next : ℤ × OffsetInfo) (o : ℤ × ℤ) (a b : Bool) → o.0 <ℤ next.0 → o.1 <ℤ next.0 → int_lt low o.0 ≡ a → int_lt low o.1 ≡ b
     → (if a then transition_of rule d (utc_window d y rule.std_offset) o.0 else (if b then transition_of rule d (utc_window d y rule.std_offset) o.1 else next_year rule d y)) ≡ Some next
     → next_year rule d y ≡ Some next
@@ -89,13 +89,12 @@ of_next_year : (rule : Posix) (d : Dst) (y : ℤ) (next : ℤ × OffsetInfo) (b 
 of_next_year rule d y next true e g = absurd (cc)
 of_next_year rule d y next false e g = let under = le-false (pos 9999) y e in (omega (arith, signed_arith), g)
 
--- if `high` isn't later than the earlier of the start and the end of daylight saving time in a year, it isn't later
--- than either of them
 ordered_above : (high : ℤ) (w : ℤ × ℤ) → high ≤ℤ (ordered w).0 → (high ≤ℤ w.0) × (high ≤ℤ w.1)
 ordered_above high w = grind (arith, signed_arith, int_le)
 
--- if `high` is after the start of the year, and not after the start and the end of daylight saving time by
--- `utc_window`, then it isn't after those by the rule: daylight saving time doesn't last all year
+-- If `high` is after the start of the year, but not after either time that `utc_window` returns, then daylight saving
+-- time doesn't last all year. So these two times are those at which the rule starts and ends daylight saving time, and
+-- `high` isn't after either of them.
 parts_above : (high first last start end : ℤ) (some b : Bool) → first <ℤ high → (int_same start first && some) ≡ b → high ≤ℤ (window_of b start last end).0 → high ≤ℤ (window_of b start last end).1
     → (high ≤ℤ start) × (high ≤ℤ end)
 parts_above high first last start end some true above e p q = grind (arith, signed_arith, and_parts)
@@ -121,9 +120,7 @@ year_comes y second year under second_in begun before =
     let day = epoch_day-date_of (day_of second) second_in in
     of_the_year (date_of (day_of second)) (y +ℤ pos 1) (omega (arith, signed_arith), omega (arith, signed_arith)) (omega (arith, signed_arith)) (omega (arith, signed_arith))
 
--- if `other` is 374,397 seconds after `past`, in the next year, and `local` isn't before `other` and is at least
--- 374,397 seconds before the first transition after `past`, then `jiff` reports the same for their civil times:
--- unambiguous, in a gap or in a fold, with the same offsets
+-- Like `civil_in_year`, but for an `other` after the year of `past`. Both local seconds are then in the next year.
 civil_in_next_year : (rule : Posix) (d : Dst) (past other local : ℤ) (next : ℤ × OffsetInfo) → rule.dst ≡ Some d → next_by rule d (datetime_of past).date.year (nanos_of_seconds past) ≡ Some next
     → pos 0 ≤ℤ past → (past +ℤ pos 374_397) ≡ other → other ≤ℤ local → IsLocalSecond local → nanos_of_seconds (local +ℤ pos 374_397) ≤ℤ next.0
     → year_end (datetime_of past).date.year ≤ℤ other → ambiguous_at (ByRule rule) (datetime_of local) ≡ ambiguous_at (ByRule rule) (datetime_of other)
@@ -162,9 +159,9 @@ year_not_over past past_in =
     let day = epoch_day-date_of (day_of past) past_in in
     omega (arith, signed_arith)
 
--- if `other` is 374,397 seconds after `past`, and `local` isn't before `other` and is far enough before the first
--- transition after `past`, and the UTC offset is constant from `past` until more than 93,599 seconds after `local`,
--- then the clock behaves the same around `local` and `other`
+-- `other` is 374,397 seconds after `past`, and `local` isn't before `other`. If `local` is far enough before the first
+-- transition after `past` (`IsClearOfTransition`), and the UTC offset is constant from `past` until more than 93,599
+-- seconds after `local`, then the clock behaves the same around `local` and `other`.
 pub same_offsets_by_next : (rule : Posix) (past other local constant_until : ℤ) → IsClearOfTransition (ByPosix.next_at rule (nanos_of_seconds past)) past local → HasConstantOffset (ByRule rule) past constant_until
     → (past +ℤ pos 374_397) ≡ other → other ≤ℤ local → IsLocalSecond local → (local +ℤ pos 93_599) <ℤ constant_until → HaveSameOffsets (ByRule rule) local other
 same_offsets_by_next rule past other local constant_until clear same from later years before_until =
@@ -190,8 +187,8 @@ by_rule : (rule : Option Posix) (past other local constant_until : ℤ) → IsCl
 by_rule None past other local constant_until clear same from later years before_until = tt
 by_rule (Some rule) past other local constant_until clear same from later years before_until = same_offsets_by_next rule past other local constant_until clear (same rule refl) from later years before_until
 
--- if the UTC offset is constant after the last transition of a table, it is constant according to the table's POSIX
--- rule
+-- if the UTC offset is constant in a range after the last transition of a table, it is also constant there under the
+-- table's POSIX rule
 constant_by_rule : (z : Table) (rule : Posix) (past constant_until : ℤ) → vec_len z.transitions ≤ count_at z past → HasConstantOffset (zone_of_table z) past constant_until → z.posix_tz ≡ Some rule
     → HasConstantOffset (ByRule rule) past constant_until
 unfolding offset_at

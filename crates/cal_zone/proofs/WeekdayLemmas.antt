@@ -1,4 +1,4 @@
--- The numbers of the weekdays.
+-- `weekday_name` returns the short name of the weekday with a given number.
 use Rattle.std.proofs.Common.{◌≡◌, ℕ, ◌-◌, refl, ap, ◌∙◌}
 use Rattle.std.specs.Prelude.{slice_index_or}
 use Rattle.jiff.specs.Words.{monday_zero}
@@ -16,7 +16,7 @@ in_week Friday = refl
 in_week Saturday = refl
 in_week Sunday = refl
 
--- if `n` is the number of a weekday, where 1 is Monday, then `weekday_name n` is the short name of this weekday
+-- `n` is the number of `day`, where 1 is Monday; `monday_zero`, the number that `jiff` uses, is one less
 pub numbered : (day : Weekday) (n : ℕ) → monday_zero day ≡ n - 1 → short_name_of day ≡ weekday_name n
 unfolding weekday_name
 numbered day n e = ap short_name_of (in_week day) ∙ ap (λ k. short_name_of (slice_index_or week k Sunday)) e

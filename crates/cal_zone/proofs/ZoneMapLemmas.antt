@@ -1,4 +1,4 @@
--- Zone tables as finite maps.
+-- Looking up and inserting a zone in the `BTreeMap` of a zone table does the same in the finite map that contracts see.
 use Rattle.std.proofs.Common.{◌≡◌, ℕ, List, [], ◌∷◌, map, refl, ap, sym, ◌∙◌, cond, true, false}
 use Rattle.std.specs.BTreeMap.{BTreeMap, get_by_text, is_at, UpdatesBy}
 use Rattle.std.specs.Cmp.{eq_by_cmp_equiv}
@@ -24,11 +24,11 @@ find-lookup : (q : List ℕ) (es : List (String Global × TimeZone))
 find-lookup q [] = refl
 find-lookup q (e ∷ es) = ap (cond (is_eq (slice_cmp nat_cmp q (string_bytes e.0))) (Some e.1)) (find-lookup q es)
 
--- looking a name up in the map returns what looking it up in the tree returns
+-- looking up a name in the finite map returns the same as looking it up in the `BTreeMap`
 pub get-zone_map_in : (zones : BTreeMap (String Global) TimeZone) (q : List ℕ) → get (zone_map_in zones) q ≡ get_by_text zones q
 get-zone_map_in zones q = get-from_entries nat_list_cmp_total _ q ∙ find-lookup q zones.entries
 
--- a name other than `UTC` is looked up in the tree
+-- a name other than `UTC` is looked up in the `BTreeMap`
 pub zone_named-zone_map_in : (zones : BTreeMap (String Global) TimeZone) (table : ZoneMap) (name : List ℕ) → zone_map_in zones ≡ table → is_utc_name name ≡ false
     → zone_named table name ≡ get_by_text zones name
 unfolding zone_named
@@ -39,7 +39,7 @@ zone_named-zone_map_in zones table name view other =
 same_test : (name q : List ℕ) → bytes_eq name q ≡ eq_by_cmp (slice_cmp nat_cmp) q name
 same_test name q = sym (is_eq-slice_cmp name q) ∙ (eq_by_cmp_equiv nat_list_cmp_total).symm name q
 
--- if the tree is updated at one name, so is the map
+-- if the `BTreeMap` is updated at one name, so is the finite map
 pub zone_map_in-insert : (old new : BTreeMap (String Global) TimeZone) (name : List ℕ) (zone : TimeZone)
     → UpdatesBy string_cmp (λ key. slice_cmp nat_cmp name (string_bytes key)) old new (Some zone)
     → zone_map_in new ≡ insert (zone_map_in old) name zone

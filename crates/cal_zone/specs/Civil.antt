@@ -1,4 +1,4 @@
--- Civil times, field by field.
+-- The fields of a civil time, and their ranges.
 use Rattle.std.specs.Prelude.{ℕ, ◌+◌, ◌≤◌, ℤ, pos}
 use Rattle.std.specs.Int.{IsInRange}
 use Rattle.jiff.specs.Types.{DateTime}
@@ -6,7 +6,7 @@ use Rattle.jiff.specs.Words.{weekday_of, IsBetween, IsOffsetSeconds}
 use Rattle.cal_zone.specs.declared.civil_fields.Civil.{Civil}
 use Rattle.cal_civil.specs.headline.Local.{hour_of, minute_of, second_of}
 
--- the fields of a date and time of day of `jiff`, with a UTC offset; weekday 1 is Monday
+-- the fields of a `DateTime` of `jiff` and a UTC offset; weekday 1 is Monday
 abbrev pub civil_at_offset : ℤ → DateTime → Civil
 civil_at_offset offset shown = record {
   year = shown.date.year;
@@ -19,7 +19,7 @@ civil_at_offset offset shown = record {
   offset = offset;
 }
 
--- the fields are in the ranges that they have at every instant
+-- each field is in its range; at the supported instants, clocks show the years 1969 to 2200
 pub record IsCivil (shown : Civil) : Type 0 where
   pub year : IsBetween (pos 1969) (pos 2200) shown.year
   pub month : IsInRange 1 12 shown.month

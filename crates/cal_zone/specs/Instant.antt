@@ -9,10 +9,10 @@ last_instant = pos 7_258_211_998
 abbrev pub last_moment : ℤ
 last_moment = pos 7_258_211_998_999_999
 
--- whole seconds of Unix time, up to the last instant
+-- a whole second of Unix time, from 0 to the last instant
 abbrev pub IsInstant : ℤ → Type 0
 IsInstant secs = (pos 0 ≤ℤ secs) × (secs ≤ℤ last_instant)
 
--- whole microseconds of Unix time, up to the last moment
+-- a whole microsecond of Unix time, from 0 to the last moment
 abbrev pub IsMoment : ℤ → Type 0
 IsMoment micros = (pos 0 ≤ℤ micros) × (micros ≤ℤ last_moment)

@@ -19,7 +19,8 @@ pub record IsInstantOffsetRangeAt (tz : TimeZone) (second : ℤ) (range : Instan
   pub within : second <ℤ range.to
   pub constant_offset : IsInstantOffsetRange tz range
 
--- `second` is before the transition `next`, if there is one, and before the end of the year of `from`, in UTC
+-- `second` is before the transition `next`, if there is one, and before the end (in UTC) of the year that
+-- contains `from`
 pub record IsBeforeTransition (next : Option (ℤ × OffsetInfo)) (from second : ℤ) : Type 0 where
   pub before_change : IfSome next (λ change. nanos_of_seconds second <ℤ change.0)
   pub before_end : second <ℤ year_end (datetime_of from).date.year

@@ -32,9 +32,9 @@ pub record IsLocalOffsetRangeAt (tz : TimeZone) (local : ℤ) (range : LocalOffs
 abbrev pub IsTransitionSecond : Table → ℕ → ℤ → Type 0
 IsTransitionSecond table index second = (index < vec_len table.transitions) × (second ≡ (transition_at table index).second)
 
--- the clock behaves the same around both local seconds: their civil times are both unambiguous, both in a gap or both
--- in a fold, with the same offsets; and for each offset that is subtracted from both local seconds, the zone has the
--- same UTC offset at the two instants
+-- The clock behaves the same around `local` and `other`. First, `jiff` reports the same for their civil times:
+-- unambiguous, in a gap or in a fold, with the same offsets. Second, whichever offset is subtracted from both, the zone
+-- has the same UTC offset at the two instants that result.
 pub record HaveSameOffsets (tz : TimeZone) (local other : ℤ) : Type 0 where
   pub civil : ambiguous_at tz (datetime_of local) ≡ ambiguous_at tz (datetime_of other)
   pub instants : (offset : Offset) → offset_at tz (nanos_of_seconds (local -ℤ offset.seconds)) ≡ offset_at tz (nanos_of_seconds (other -ℤ offset.seconds))
@@ -52,9 +52,9 @@ abbrev pub HasConstantOffset : TimeZone → ℤ → ℤ → Type 0
 HasConstantOffset tz from to =
     (second : ℤ) → from ≤ℤ second → second <ℤ to → offset_at tz (nanos_of_seconds second) ≡ offset_at tz (nanos_of_seconds from)
 
--- `next`, the first transition after the instant `past`, is at least 374,397 seconds (four times the largest UTC
--- offset, and one second) after `local`; and `local` is before the end of the year of `past`, or this year ends at most
--- 374,397 seconds after `past`
+-- `next`, the first transition after the instant `past`, is at least 374,397 seconds after `local`: four times the
+-- largest UTC offset, and one second. In addition, `local` is before the end of the year of `past`, or this year ends
+-- at most 374,397 seconds after `past`.
 pub record IsClearOfTransition (next : Option (ℤ × OffsetInfo)) (past local : ℤ) : Type 0 where
   pub change : ℤ × OffsetInfo
   pub is : next ≡ Some change

@@ -4,8 +4,7 @@ use Rattle.std.specs.Ordering.{int_eq}
 use Rattle.jiff.specs.Types.{Offset, TimeZone}
 use Rattle.jiff.specs.Words.{nanos_of_seconds, offset_at}
 
--- `local` minus the offset as a second of Unix time, if the zone really has this UTC offset at this second, or else
--- `None`
+-- the second of Unix time that is `local` minus `offset`, or `None` if the zone has another UTC offset at that second
 unfoldable pub place_at : TimeZone → ℤ → Offset → Option ℤ
 place_at tz local offset =
     let second = local -ℤ offset.seconds in

@@ -1,10 +1,11 @@
--- What contracts see of a zone's rules.
+-- How contracts see the rules of a zone: as a `TimeZone` of `jiff`.
 use Rattle.jiff.specs.Types.{TimeZone, Tzif}
 use Rattle.jiff_tz.specs.declared.tzif.Tzif.{Tzif as Table}
 use Rattle.cal_zone.specs.declared.rules.RulesKind.{RulesKind}
 use Rattle.cal_zone.specs.declared.rules.RulesKind.TheVariants.{Posix, File}
 
--- the zone with the table of a zone file, wherever in memory the table is
+-- the zone with the table of a zone file; where the table is in memory makes no difference, so the pointer
+-- to it is always 0
 abbrev pub zone_of_table : Table → TimeZone
 zone_of_table table = Tzif (record { ref_ptr = (0, 0); now = table })
 

@@ -1,4 +1,4 @@
--- Adding to a zone table.
+-- When a zone can be added to a zone table, and with which errors adding it fails.
 use Rattle.std.specs.Prelude.{◌≡◌, ℕ, Bool, true, false, List, is_some}
 use Rattle.cal_zone.specs.headline.ZoneMap.{ZoneMap}
 use Rattle.cal_civil.specs.headline.ZoneName.{is_zone_name}
@@ -10,7 +10,7 @@ use Rattle.cal_zone.specs.headline.ZoneTable.{zone_named}
 abbrev pub is_taken : ZoneMap → List ℕ → Bool
 is_taken table name = is_some (zone_named table name)
 
--- `name` is valid and not taken
+-- `name` is a valid name for a zone, and is not taken
 pub record IsAddable (table : ZoneMap) (name : List ℕ) : Type 0 where
   pub named : is_zone_name name ≡ true
   pub free : is_taken table name ≡ false

@@ -1,9 +1,9 @@
-//! Civil dates and times, field by field.
+//! The fields of a civil date and time.
 
 /// A civil date and time of day, with its UTC offset.
 #[derive(Clone, Copy, Debug, PartialEq, Eq)]
 pub struct Civil {
-    /// 1969 to 2200 for every instant.
+    /// 1969 to 2200: the years that clocks show at the supported instants.
     pub year: i16,
     /// 1 to 12.
     pub month: u8,

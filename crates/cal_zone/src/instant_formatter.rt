@@ -1,4 +1,5 @@
-//! Conversion of many instants of one zone to civil time, with caches that make it fast for instants close together.
+//! Conversion of many instants of one zone to civil time and text, with caches that make it fast for instants
+//! close together.
 
 ghost use Rattle.std.specs.Prelude.{◌≡◌, ◌+◌, ◌≤◌, ◌++◌, length};
 ghost use Rattle.cal_bytes.specs.declared.short_text.TheConstants.{SHORT_TEXT_ROOM};

@@ -51,7 +51,7 @@ fn all_instants(offset: Offset) -> InstantOffsetRange
 }
 
 /// Returns the range with a constant UTC offset that starts at `instant`. It ends at the next transition or at the end
-/// of the year in UTC, whichever is earlier.
+/// of the year in UTC, whichever is earlier, but contains at least `instant`.
 fn instant_range_by_rules(rules: &Rules, instant: Instant) -> InstantOffsetRange
     ensures { IsInstantOffsetRangeAt rules.now instant.secs result }
 {
@@ -70,9 +70,10 @@ fn instant_range_by_rules(rules: &Rules, instant: Instant) -> InstantOffsetRange
 
 /// Returns the end of a range of instants that starts at `from` and has a constant UTC offset.
 ///
-/// [`instant_range_by_rules`] ends a range with the year even if there is no transition. So if the range at `from` is
-/// followed by a range with the same offset that ends at a supported instant, the end of the second range is returned.
-/// Returns `from`, so that the result is an empty range, if the range at `from` ends after the last supported instant.
+/// A range that [`instant_range_by_rules`] returns ends with the year at the latest, even if the offset doesn't change
+/// then. So this function also examines the range that follows. If that range has the same offset and ends at a
+/// supported instant, its end is returned, and otherwise the end of the first range. If the first range ends after the
+/// last supported instant, the result is `from`, which makes the range empty.
 pub(crate) fn constant_offset_until(rules: &Rules, from: Instant) -> Instant
     ensures { HasConstantOffset rules.now from.secs result.secs }
 {
@@ -87,7 +88,7 @@ pub(crate) fn constant_offset_until(rules: &Rules, from: Instant) -> Instant
     }
 }
 
-/// Returns the end of the range that starts at `second` and has a constant UTC offset, given the zone's first
+/// Returns the end of the range that starts at `second` and has a constant UTC offset. `next` is the zone's first
 /// transition after `second`, if there is one.
 fn instant_range_end(next: Option<Transition>, second: i64) -> i64
     requires { CanSettle second }

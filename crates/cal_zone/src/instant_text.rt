@@ -41,7 +41,8 @@ pub fn write_instant<W: Sink>(out: &mut W, zone: Zone, instant: Instant) -> Resu
     put_all(out, text.as_slice())
 }
 
-/// Appends weekday, date and time, with a trailing space for the zone to follow.
+/// Appends everything in a printed instant that comes before the zone: the weekday, the date and the time, each
+/// followed by a space.
 #[tactic(auto, unfolding(crate::specs::headline::InstantText::shown_text, crate::specs::InstantText::day_text))]
 fn push_civil(text: &mut ShortText, shown: &Civil)
     requires ranges { IsCivil shown.now }
@@ -54,7 +55,7 @@ fn push_civil(text: &mut ShortText, shown: &Civil)
     push(text, b" ");
 }
 
-/// Appends weekday and date, such as `Sat 2020-02-29 `, with a trailing space.
+/// Appends the weekday and the date, followed by a space, such as `Sat 2020-02-29 `.
 #[tactic(auto, unfolding(crate::specs::InstantText::day_text, crate::specs::headline::InstantText::date_text))]
 pub(crate) fn push_day(text: &mut ShortText, shown: &Civil)
     requires ranges { IsCivil shown.now }
@@ -114,7 +115,7 @@ fn two_digits(number: u8) -> [u8; 2]
     [digits[1], digits[2]]
 }
 
-/// Appends the zone of a printed time: `UTC` if `is_utc`, and otherwise the UTC offset.
+/// Appends the last word of a printed instant: `UTC` if `is_utc`, and otherwise the UTC offset.
 #[tactic(auto, unfolding(crate::specs::headline::InstantText::zone_word))]
 pub(crate) fn push_zone(text: &mut ShortText, is_utc: bool, offset: i32)
     requires room { length text.old.items + 40 ≤ SHORT_TEXT_ROOM }

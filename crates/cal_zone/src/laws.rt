@@ -1,7 +1,7 @@
 //! Laws of local seconds, dates, zones and offsets, for the proofs of other crates.
 //!
-//! A law is a function that does nothing at run time: its contract states a fact, which a proof gets by naming the
-//! function.
+//! A law is a function that does nothing at run time. Its contract states a fact, and a proof uses this fact by
+//! naming the function.
 ghost use Rattle.std.specs.Prelude.{◌≡◌, ℕ, ◌/◌, ◌<◌, ℤ, pos, ◌≤ℤ◌, ◌<ℤ◌, ◌+ℤ◌, ◌-ℤ◌, ◌*ℤ◌, List, Some, None, false};
 ghost use Rattle.std.specs.FinMap.{insert};
 ghost use Rattle.jiff.specs.Types.{Date, Fold, Gap, Offset, TimeZone, UTC, Unambiguous};
@@ -35,7 +35,7 @@ pub fn local_seconds_are_counted()
         × ((epoch_day date *ℤ pos 86_400 +ℤ pos second) <ℤ pos seconds_in_all) }
 {}
 
-/// The civil time of the local second `local` is `local` seconds after 1970-01-01 00:00:00, and `settle_of` is the
+/// The civil time of the local second `local` is `local` seconds after 1970-01-01 00:00:00, and `settle_of` returns the
 /// instant that `jiff`'s compatible conversion picks for this civil time. In UTC, the place of `local` is the same
 /// number, `local`.
 pub fn places_are_those_of_jiff()
@@ -51,8 +51,8 @@ pub fn places_show_their_local_time()
     ensures { (tz : TimeZone) (local place : ℤ) → place_of tz local ≡ Some place → local_shown_at tz place ≡ local }
 {}
 
-/// A local second and its place differ by the zone's UTC offset at the place, and so by at most 93,599 seconds,
-/// whatever the conversion of `jiff` does.
+/// A local second and its place differ by the zone's UTC offset at the place, and so by at most 93,599 seconds. This is
+/// true whatever `jiff`'s conversion returns.
 pub fn places_are_near()
     ensures by_the_offset { (tz : TimeZone) (local place : ℤ) → place_of tz local ≡ Some place
         → local -ℤ place ≡ offset_at tz (nanos_of_seconds place) }
@@ -65,7 +65,7 @@ pub fn places_are_of_one_local_second()
     ensures { (tz : TimeZone) (a b place : ℤ) → place_of tz a ≡ Some place → place_of tz b ≡ Some place → a ≡ b }
 {}
 
-/// How the place of a local second follows from what `jiff` reports of its civil time: that it occurs once, is in a
+/// How the place of a local second follows from what `jiff` reports for its civil time: that it occurs once, is in a
 /// gap, or is in a fold.
 ///
 /// Only one UTC offset is tried: the only offset that `jiff` reports, or for a gap or a fold the offset before the
@@ -103,9 +103,9 @@ pub fn tables_change_at_one_name()
         → zone_named (insert table name zone) other ≡ zone_named table other }
 {}
 
-/// A word is an offset if and only if it is a sign, two digits of hours from 00 to 25, a colon and two digits of
-/// minutes from 00 to 59 (systemd.time(7), Calendar Events and Parsing Timestamps), and no word stands for two offsets.
-/// An offset of whole minutes, up to 25:59, is printed as a word that is parsed as the same offset.
+/// A word is an offset if and only if it is a sign, two digits for hours from 00 to 25, a colon, and two digits for
+/// minutes from 00 to 59 (systemd.time(7), Calendar Events and Parsing Timestamps). No word stands for two offsets. An
+/// offset of whole minutes, up to 25:59, is printed as a word that is parsed as the same offset.
 pub fn one_offset_word()
     ensures found { (word : List ℕ) (seconds : ℤ) → offset_in word ≡ Some seconds → IsOffsetWord word seconds }
     ensures only { (word : List ℕ) (seconds : ℤ) → IsOffsetWord word seconds → offset_in word ≡ Some seconds }

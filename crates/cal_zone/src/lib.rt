@@ -1,7 +1,7 @@
 //! Instants, zones and civil time.
 //!
-//! A *local second* counts the seconds of a zone's civil clock from 1970-01-01 00:00:00 on that clock; the *place* of a
-//! local second is the instant at which the clock shows it, for the first time if it does so twice.
+//! A *local second* is a second of a zone's civil clock, counted from 1970-01-01 00:00:00 on that clock. The *place* of
+//! a local second is the instant at which the clock shows it, or the earlier instant if the clock shows it twice.
 #![tactic(auto)]
 
 mod civil_fields;

@@ -26,8 +26,8 @@ use jiff_tz::{TimeZone, Transition, posix, tzif};
 /// second.
 const MAX_OFFSET: i64 = 93_599;
 
-/// How many seconds a range stays away from the transitions of a POSIX rule. A rule fixes a transition in UTC, while
-/// gap and fold are in local time; the two can be up to four offsets apart.
+/// How many seconds a range stays away from the transitions of a POSIX rule. A rule fixes a transition in UTC, but the
+/// gap or the fold is in local time, and the two can be up to four offsets apart.
 pub(crate) const TRANSITION_MARGIN: i64 = 4 * MAX_OFFSET + 1;
 
 /// The local seconds `from..to`, all at the same UTC offset in seconds.
@@ -63,7 +63,8 @@ fn all_local_seconds(offset: i64) -> LocalOffsetRange
     }
 }
 
-/// Returns the range with a constant UTC offset that starts at `local`, by the transitions of a zone file's table.
+/// Returns the range with a constant UTC offset that starts at `local`, according to the transitions of a
+/// zone file's table.
 ///
 /// It ends [`MAX_OFFSET`] before the next transition, since that transition can affect local seconds up to one offset
 /// earlier. Returns `None` if `local` is already that close to the transition, or if no transition follows: from there
@@ -84,13 +85,13 @@ pub(crate) fn local_range_in_table(table: &Tzif, local: i64) -> Option<LocalOffs
     })
 }
 
-/// Returns the end of a range of local seconds that starts at `local` and in which the UTC offsets of a table don't
-/// change, if the last transition of the table is at least [`TRANSITION_MARGIN`] before `local`. Otherwise returns
-/// `local`, so that the range is empty.
+/// Returns the end of a range of local seconds that starts at `local` and has a constant UTC offset, if the last
+/// transition of the table is at least [`TRANSITION_MARGIN`] before `local`. Otherwise returns `local`, which makes
+/// the range empty.
 ///
-/// After the last transition the table's POSIX rule decides. If there is no such rule, or it has no daylight saving
-/// time, the range extends to [`LOCAL_END`]. The caller guarantees a constant UTC offset from [`TRANSITION_MARGIN`]
-/// before `local` until `constant_until`.
+/// After the last transition, the table's POSIX rule decides. If there is no such rule, or if it has no daylight saving
+/// time, the range extends to [`LOCAL_END`]. The caller guarantees that the UTC offset is constant from
+/// [`TRANSITION_MARGIN`] before `local` until `constant_until`.
 pub(crate) fn range_end_after_table(table: &Tzif, local: i64, constant_until: Instant) -> i64
     requires local_in { IsLocalSecond local }
     requires constant { HasConstantOffset (zone_of_table table.now) (local -ℤ pos 374_397) constant_until.secs }
@@ -110,10 +111,11 @@ pub(crate) fn range_end_after_table(table: &Tzif, local: i64, constant_until: In
     }
 }
 
-/// Returns the end of a range of local seconds that starts at `local` and in which the UTC offsets of a zone don't
-/// change, if the zone is a POSIX rule. For every other zone, returns `local`, so that the range is empty.
+/// Returns the end of a range of local seconds that starts at `local` and has a constant UTC offset, if the zone is a
+/// POSIX rule. For every other zone, returns `local`, which makes the range empty.
 ///
-/// The caller guarantees a constant UTC offset from [`TRANSITION_MARGIN`] before `local` until `constant_until`.
+/// The caller guarantees that the UTC offset is constant from [`TRANSITION_MARGIN`] before `local` until
+/// `constant_until`.
 pub(crate) fn range_end_in_zone(zone: TimeZone<'_>, local: i64, constant_until: Instant) -> i64
     requires local_in { IsLocalSecond local }
     requires constant { HasConstantOffset zone (local -ℤ pos 374_397) constant_until.secs }
@@ -140,12 +142,12 @@ fn range_end_by_rule(rule: posix::TimeZone, local: i64, constant_until: Instant)
     LOCAL_END
 }
 
-/// Returns the end of a range of local seconds without a gap or a fold, given the first transition of a POSIX rule
-/// after `past`.
+/// Returns the end of a range of local seconds without a gap or a fold. `next` is the first transition of a POSIX
+/// rule after `past`.
 ///
-/// The range starts [`TRANSITION_MARGIN`] after `past` and ends [`TRANSITION_MARGIN`] before the transition. It also
-/// ends with the year of `past`, unless it starts after that year: a POSIX rule is evaluated year by year. Returns
-/// `past`, so that the range is empty, if there is no transition or if `past` is before 1970.
+/// The range starts [`TRANSITION_MARGIN`] after `past` and ends [`TRANSITION_MARGIN`] before the transition. Since a
+/// POSIX rule is evaluated year by year, the range also ends with the year of `past`, unless it starts after that year.
+/// Returns `past`, which makes the range empty, if there is no transition or if `past` is before 1970.
 fn range_end_before_transition(next: Option<Transition>, past: i64) -> i64
     requires { past ≤ℤ pos 7_258_500_000 }
     ensures { IsClearOfTransitionUntil (option_map transition_view next) past result }
@@ -164,7 +166,7 @@ fn range_end_before_transition(next: Option<Transition>, past: i64) -> i64
     }
 }
 
-/// Returns the first second of the year after the one that contains `second`, in UTC.
+/// Returns the end of the year that contains `second`: the first second of the next year, in UTC.
 pub(crate) fn year_after(second: i64) -> i64
     requires { CanSettle second }
     ensures value { result ≡ year_end (datetime_of second).date.year }

@@ -17,8 +17,8 @@ impl Moment {
     /// The last moment, in microseconds of Unix time.
     pub const LAST: i64 = 7_258_211_998_999_999;
 
-    /// Returns the moment `micros` microseconds after 1970-01-01 00:00:00 UTC, or `None` if `micros` is not in 0 to
-    /// 7,258,211,998,999,999.
+    /// Returns the moment `micros` microseconds after 1970-01-01 00:00:00 UTC, or `None` if `micros` is negative or
+    /// greater than [`Moment::LAST`].
     pub fn new(micros: i64) -> Option<Moment>
         ensures some { IsSome result ↔ IsMoment micros }
         ensures value { IfSome result (λ moment. moment.micros ≡ micros) }

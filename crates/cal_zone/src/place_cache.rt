@@ -67,7 +67,7 @@ impl<'z> PlaceCache<'z> {
         self.zone
     }
 
-    /// Returns the place of `local`, as [`place`] does, or `None` if the clock skips it.
+    /// Returns the place of `local`, as the function [`place`] does, or `None` if the clock skips it.
     pub fn place(&mut self, local: i64) -> Option<i64>
         requires { IsLocalSecond local }
         ensures value { result ≡ place_of (zone_of self.old) local }
@@ -97,8 +97,8 @@ impl<'z> PlaceCache<'z> {
         None
     }
 
-    /// Returns the local second whose place is `instant`, as [`local_at`] does, or `None` if there is no such local
-    /// second.
+    /// Returns the local second whose place is `instant`, as the function [`local_at`] does, or `None` if there is no
+    /// such local second.
     pub fn local_at(&mut self, instant: Instant) -> Option<i64>
         ensures value { IsLocalAt (zone_of self.old) instant.secs result }
         ensures zone { self.new ≡ self.old }
@@ -115,7 +115,7 @@ impl<'z> PlaceCache<'z> {
         self.local_outside(instant)
     }
 
-    /// Computes [`PlaceCache::local_at`] for an instant outside the cached range, by the zone's rules. Then caches a
+    /// Computes [`PlaceCache::local_at`] by the zone's rules, for an instant outside the cached range. Then caches a
     /// range that contains the result, if one is found, for the calls that follow.
     #[cold]
     #[inline(never)]
@@ -130,8 +130,8 @@ impl<'z> PlaceCache<'z> {
         Some(local)
     }
 
-    /// Computes [`PlaceCache::place`] for a local second outside the cached range, by the zone's rules. Caches a range
-    /// that contains `local`, if one is found, for the calls that follow.
+    /// Computes [`PlaceCache::place`] by the zone's rules, for a local second outside the cached range. Also caches a
+    /// range that contains `local`, if one is found, for the calls that follow.
     #[cold]
     #[inline(never)]
     fn place_outside(&mut self, local: i64) -> Option<i64>
@@ -145,8 +145,8 @@ impl<'z> PlaceCache<'z> {
         place(self.zone, local)
     }
 
-    /// Caches a range with a constant offset that contains `local`. If none is found, puts the next search off by
-    /// [`SEEK_RETRY_DISTANCE`].
+    /// Caches a range that contains `local` and has a constant offset. If none is found, the next search starts at
+    /// least [`SEEK_RETRY_DISTANCE`] later.
     fn seek(&mut self, local: i64)
         requires { IsLocalSecond local }
         ensures { self.new ≡ self.old }

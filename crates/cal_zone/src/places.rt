@@ -30,8 +30,8 @@ pub fn place(zone: Zone, local: i64) -> Option<i64>
 }
 
 /// Converts a local second from -300,000 to 7,258,500,000 to Unix time, resolving gaps and folds as `jiff`'s compatible
-/// conversion does: a local second that the clock skips is moved forward by the length of the gap, and of a local
-/// second that it shows twice the first occurrence is taken. (systemd.time(7), Parsing Timestamps.)
+/// conversion does: a local second that the clock skips is moved forward by the length of the gap, and one that the
+/// clock shows twice resolves to its first occurrence. (systemd.time(7), Parsing Timestamps.)
 pub fn settle(zone: Zone, local: i64) -> i64
     requires { CanSettle local }
     ensures value { result ≡ settle_of (zone_of zone.entry) local }
@@ -78,7 +78,7 @@ fn settle_by(rules: &Rules, local: i64) -> i64
     timestamp.as_second()
 }
 
-/// Returns the local second that the clock shows at a second of Unix time. The second must be in the range of the
+/// Returns the local second that the clock shows at a second of Unix time, which must be in the range of the
 /// results of [`settle`].
 fn local_shown_by(rules: &Rules, second: i64) -> i64
     requires { IsNearSettled second }

@@ -2,14 +2,14 @@
 
 ghost use Rattle.std.specs.Prelude.{◌≡◌};
 
-/// Why the rules of a zone, or its name in a table, are invalid.
+/// Why the rules of a zone can't be parsed, or why a zone can't be added to a table.
 #[derive(Clone, Copy, PartialEq, Eq, Debug)]
 pub enum ZoneFault {
     /// The name doesn't have the form of a zone's name.
     BadName = 1,
-    /// Not a valid POSIX rule.
+    /// The text is not a valid POSIX rule.
     BadRule = 2,
-    /// Not a valid zone file.
+    /// The bytes are not a valid zone file.
     BadFile = 3,
     /// The zone file has more than 1,048,576 bytes.
     TooLarge = 4,

@@ -7,7 +7,7 @@ use Rattle.cal_civil.specs.headline.Days.{date_of}
 use Rattle.cal_civil.specs.headline.Local.{day_of, second_of_day, hour_of, minute_of, second_of}
 use Rattle.cal_zone.specs.headline.Zone.{local_shown_at}
 
--- a date, a time in seconds since midnight and a UTC offset, field by field; weekday 1 is Monday
+-- the fields of a date, a time of day (in seconds since midnight) and a UTC offset; weekday 1 is Monday
 abbrev pub shown_fields : Date → ℕ → ℤ → Civil
 shown_fields date second offset = record {
   year = date.year;
@@ -20,7 +20,7 @@ shown_fields date second offset = record {
   offset = offset;
 }
 
--- the civil time in a zone at a second of Unix time
+-- the civil time that clocks in a zone show at a second of Unix time
 unfoldable pub civil_of : TimeZone → ℤ → Civil
 civil_of tz second =
     let local = local_shown_at tz second in

@@ -13,7 +13,7 @@ east_in n = (omega (arith, signed_arith), omega (arith, signed_arith))
 pub west_in : (n : ℕ) → IsOffsetSeconds (neg_ℤ (pos (min (suc n) 93_599)))
 west_in n = (omega (arith, signed_arith), omega (arith, signed_arith))
 
--- the offset of `seconds` seconds; offsets beyond 25:59:59, which no caller has, are mapped to the nearer limit
+-- the offset of `seconds` seconds; an offset beyond 25:59:59, which no caller passes, is replaced by the nearer limit
 unfoldable pub offset_of_seconds : ℤ → Offset
 offset_of_seconds (pos n) = record { seconds = pos (min n 93_599); in_range = east_in n }
 offset_of_seconds (negsuc n) = record { seconds = neg_ℤ (pos (min (suc n) 93_599)); in_range = west_in n }

@@ -26,13 +26,13 @@ time_of second h = record {
 unfoldable pub datetime_of : ℤ → DateTime
 datetime_of local = record { date = date_of (day_of local); time = time_of (second_of_day local) (omega (arith, signed_arith)) }
 
--- the second of Unix time that `jiff`'s compatible conversion returns for a local second: a local second in a gap is
--- moved forward, and of a local second in a fold the first occurrence is taken
+-- The second of Unix time that `jiff`'s compatible conversion returns for a local second. The conversion moves a local
+-- second in a gap forward, and picks the first occurrence of a local second in a fold.
 unfoldable pub settle_of : TimeZone → ℤ → ℤ
 settle_of tz local = local -ℤ (compatible_offset (ambiguous_at tz (datetime_of local))).seconds
 
--- the place of a local second: the second of Unix time that it is converted to, if the zone's clock shows the local
--- second at that time; so a local second that the clock skips has no place, and the place of a local second that the
--- clock shows twice is its first occurrence
+-- The place of a local second: the second of Unix time that it is converted to, if the zone's clock shows the local
+-- second then. So a local second that the clock skips has no place, and the place of one that the clock shows twice is
+-- its first occurrence.
 unfoldable pub place_of : TimeZone → ℤ → Option ℤ
 place_of tz local = if int_eq (local_shown_at tz (settle_of tz local)) local then Some (settle_of tz local) else None

@@ -1,4 +1,4 @@
--- What contracts see of a zone.
+-- What contracts use of a zone: the `TimeZone` of `jiff` that it stands for, and whether it is UTC itself.
 use Rattle.std.specs.Prelude.{Bool, true, false, ℤ, ◌+ℤ◌}
 use Rattle.jiff.specs.Types.{Offset, TimeZone, UTC}
 use Rattle.jiff.specs.Words.{fixed_zone, nanos_of_seconds, offset_at}
@@ -11,7 +11,7 @@ use Rattle.cal_zone.specs.declared.zone.Zone.{Zone}
 abbrev pub utc : Zone
 utc = record { kind = Utc }
 
--- whether a zone is UTC itself, and not a zone that merely never differs from UTC
+-- whether a zone is UTC itself, and not just a zone whose UTC offset is always 0
 abbrev pub is_utc_kind : ZoneKind → Bool
 is_utc_kind Utc = true
 is_utc_kind (Fixed ahead) = false

@@ -1,4 +1,4 @@
--- What contracts see of a zone table: a finite map from names to zones.
+-- How contracts see a zone table: as a finite map from names to zones.
 use Rattle.std.specs.Cmp.Lexicographic.{slice_cmp}
 use Rattle.std.specs.FinMap.{FinMap}
 use Rattle.std.specs.Ordering.{nat_cmp}

@@ -1,5 +1,5 @@
--- Which zone a name stands for. This rule is this project's own: in systemd.time(7), names are those of the machine's
--- zones.
+-- Which zone a name stands for. This rule is this project's own: in systemd.time(7), a name stands for a zone
+-- of the machine.
 use Rattle.std.specs.Prelude.{ℕ, List, Option, Some, if◌then◌else◌}
 use Rattle.std.specs.FinMap.{get}
 use Rattle.jiff.specs.Types.{TimeZone, UTC}

@@ -10,7 +10,7 @@ use Rattle.cal_zone.specs.headline.Place.{datetime_of, settle_of}
 use Rattle.cal_zone.proofs.PlaceLemmas.{instant_of-settled, settle_of-near}
 use Rattle.cal_zone.proofs.places.settle_by.Goals as goal
 
--- the instant that `jiff`'s compatible conversion picks for the civil time of `local` is `settle_of` of `local`
+-- `settle_of` returns the instant that `jiff`'s compatible conversion picks for the civil time of `local`
 picked : (tz zone : TimeZone) (shown : DateTime) (local : ℤ) → CanSettle local → shown ≡ datetime_of local → ambiguous_at zone shown ≡ ambiguous_at tz shown
     → instant_of shown (compatible_offset (ambiguous_at zone shown)) ≡ nanos_of_seconds (settle_of tz local)
 picked tz zone shown local within e of =

@@ -1,4 +1,4 @@
--- The zone of a file depends on its table only, and not on where in memory the table is.
+-- The zone of a zone file depends only on its table, and not on where in memory the table is.
 use Rattle.std.proofs.Common.{sym, ap, ◌∙◌}
 use Rattle.jiff.specs.Words.{offset_at, ambiguous_at, next_at}
 use Rattle.cal_zone.specs.Rules.{zone_of_rules}
