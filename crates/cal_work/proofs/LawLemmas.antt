@@ -1,4 +1,5 @@
--- Lemmas behind the law `known_systems_decide`: if everything about a system is known, the program sees exactly that.
+-- Lemmas for the law `known_systems_decide`: if everything about a system is known, the program sees
+-- exactly what is known.
 use Rattle.std.proofs.Common.{◌≡◌, ◌⊎◌, inl, inr, ℕ, ℤ, ◌<◌, ◌≤◌, Bool, true, false, List, [], ◌∷◌, length, Option, None, Some, Result, Ok, Err, IfOk, IfNone, refl, sym, arith, nat_le}
 use Rattle.std.specs.Prelude.{IsSome}
 use Rattle.std.specs.FinMap.{empty}
@@ -46,21 +47,21 @@ seen_known limit (Some (Some all)) (Some (Err whole.ReadFailed)) some h sure = a
 seen_known limit (Some (Some all)) (Some (Err whole.TooLarge)) some h sure = inl (rw (past_limit (nat_le (length all) limit) all limit refl h) refl)
 seen_known limit (Some (Some all)) (Some (Err whole.NoMemory)) some h sure = inr refl
 
--- if something is known about a file, and the file could be opened, then `known_seen` has a result of reading it too
+-- if something is known about a file, and the file could be opened, then `known_seen` has a result of reading it
 known_open : (limit : ℕ) (known : Option (Option (List ℕ))) (came : Result (List ℕ) WholeFault) → IsSome known → SeesBytes known limit (Some came) → (c : Result (List ℕ) WholeFault) × (known_seen limit known ≡ Some c)
 unfolding known_seen
 known_open limit None came some h = absurd (false≢true some)
 known_open limit (Some None) came some h = absurd (some_none came h)
 known_open limit (Some (Some all)) came some h = (taken_of (nat_le (length all) limit) all, refl)
 
--- Consecutive steps
+-- Two sequences of steps agree (`IsOr`) if their first steps agree, and the steps after them do too
 
 and_then_or : {A B : Type 0} (next other : A → Result B Stop) (r s : Result A Stop) → IsOr r s → ((x : A) → r ≡ Ok x → IsOr (next x) (other x)) → IsOr (and_then next r) (and_then other s)
 and_then_or next other (Ok x) s (inl e) h = rw (sym e) (h x refl)
 and_then_or next other (Err stop) s (inl e) h = rw (sym e) (inl refl)
 and_then_or next other r s (inr e) h = rw e (inr refl)
 
--- Zone files
+-- Loading the zone files
 
 after_load : (known : Known) (items : List ZoneItem) (found : List ZoneFound) (name : List ℕ)
     → ((more : ZoneMap) → SeesZones known more items found → IsOr (table_by more items found) (table_by more items (known_zones known items found)))
@@ -69,9 +70,9 @@ after_load : (known : Known) (items : List ZoneItem) (found : List ZoneFound) (n
 after_load known items found name later (Ok more) h = later more h
 after_load known items found name later (Err fault) h = inl refl
 
--- If allocation failed while a zone file was read, then the outcome is either the known outcome or the stop for running
--- out of memory. It is the known outcome if the name of the zone is bad, because the name is checked before the file is
--- read.
+-- If memory ran out while a zone file was read, then the outcome is the known outcome or the stop for running
+-- out of memory. It is the known outcome if the name of the zone is invalid, since the name is checked before
+-- the file is read.
 zone_unread : {A : Type 0} (next other : ZoneMap → Result A Stop) (table : ZoneMap) (item : ZoneItem) (f : ZoneFound) (c : Result (List ℕ) WholeFault) (seen : Seen) (b : Bool) → is_zone_name item.name ≡ b → f.seen ≡ Some (Err whole.NoMemory) → seen ≡ Some c
     → IsOr (and_then next (or_load_stop item.name (loaded table item f))) (and_then other (or_load_stop item.name (loaded table item (record { seen = seen; zone = f.zone }))))
 unfolding loaded
@@ -90,7 +91,7 @@ zones_known known table (item ∷ items) (f ∷ found) all h =
           zone_unread (λ more. table_by more items found) (λ more. table_by more items (known_zones known items found)) table item f open_file.0 _ (is_zone_name item.name) refl e open_file.1
     ]
 
--- The clock and the timer file
+-- Reading the clock and the timer file
 
 present_known : (given clock : Option ℤ) (time : Option (Option ℤ)) → IsSome time → IfNone given (GivesTime time clock) → present_by given clock ≡ present_by given (known_time time)
 unfolding present_by
@@ -108,7 +109,7 @@ run_known known asked seen true is all h =
       | inr e ↦ rw (e, is) (inr refl)
     ]
 
--- The whole work
+-- All steps together
 
 ask_known : (known : Known) (ask : Ask) (world : World) → TellsAll known → Fits known ask world → IsOr (outcome_of ask world) (outcome (known_world known ask world))
 unfolding outcome outcome_of known_world

@@ -1,4 +1,4 @@
--- Lemmas on how the work ends: the bytes on both outputs, the flushed buffer, and the status.
+-- Lemmas on the end of the work: the report of a stop, the flush of standard output, and the exit status.
 use Rattle.std.proofs.Common.{arith, ◌≡◌, ℕ, Bool, true, false, List, [], Option, Result, Ok, Err, refl, sym, ◌∙◌}
 use Rattle.std.specs.Io.KnownBytes.{append_known}
 use Rattle.std.proofs.KnownBytes.{Appends-kept}
@@ -26,9 +26,9 @@ use Rattle.cal_report.proofs.AnswerLemmas.{writes_nothing}
 use Rattle.cal_report.proofs.ReportLemmas.{nothing_front, whole_front}
 use Rattle.cal_text.proofs.General.{append_known-nil}
 
--- What was written for a stop
+-- What is written for a stop
 
--- if an output or an allocation failed during the run, which then wrote a prefix of each text, `WritesOf` holds
+-- if a run wrote a prefix of each text, because an output or an allocation failed, then `WritesOf` holds
 fault_written : (fault : RunFault) (expected : Result Report Stop) (out out' err err' : Option (List ℕ)) → ended_status {T = Unit} (Err fault) expected ≡ 1 → AppendsFront out out' (out_text expected) → AppendsFront err err' (err_text expected)
     → WritesOf {T = Unit} (Err fault) (fault_stop fault).status expected out out' err err'
 fault_written OutFailed expected out out' err err' status o e = record { by_status = refl; out_bytes = o; err_bytes = e }
@@ -38,8 +38,8 @@ fault_written NoMemory expected out out' err err' status o e = record { by_statu
 same_status : (r : Result Unit RunFault) (shown : Stop) → ended_status r (Err shown) ≡ status_by r shown.status
 same_status r shown = grind arith
 
--- `stop_text` is all that the stop reports, and is reported on this output; nothing is required of a stop that is
--- reported later
+-- `stop_text` is all that the stop reports, and it is reported on this output; nothing is required of a stop that
+-- is reported later
 TextsFit : Outlet → declared_stop.Stop → Type 0
 TextsFit OnOut stop = ((shown_stop stop).out ≡ stop_text stop) × ((shown_stop stop).err ≡ [])
 TextsFit OnErr stop = ((shown_stop stop).out ≡ []) × ((shown_stop stop).err ≡ stop_text stop)
@@ -72,8 +72,8 @@ texts_fit (Open path) = (refl, refl)
 texts_fit (Run fault) = tt
 
 module _ (stop : declared_stop.Stop) (r : Result Unit RunFault) (expected : Result Report Stop) (out out1 out' err err1 err' : Option (List ℕ)) (s : StopsAs stop expected) (at_out : out1 ≡ out) (at_err : err1 ≡ err) where
-  -- if a stop before any run was reported on the output where it belongs, then what was written agrees with the
-  -- definitions, as `WritesOf` says
+  -- if the work stopped before the run, and the stop was reported as `TellsOn` says, then what was written agrees with
+  -- `expected`, as `WritesOf` says
   early_written : (outlet : Outlet) → outlet_of stop ≡ outlet → TextsFit outlet stop → TellsOn outlet (stop_text stop) r out1 out' err1 err' → WritesOf r (shown_stop stop).status expected out out' err err'
   unfolding TextsFit
   early_written OnOut is fits (w, same) =
@@ -110,9 +110,9 @@ tells_stop LocalName r out1 out' err1 err' t expected out err s = early_written 
 tells_stop Clock r out1 out' err1 err' t expected out err s = early_written Clock r expected out out1 out' err err1 err' s.0 s.1 s.2 OnErr refl (texts_fit Clock) t
 tells_stop (Open path) r out1 out' err1 err' t expected out err s = early_written (Open path) r expected out out1 out' err err1 err' s.0 s.1 s.2 OnErr refl (texts_fit (Open path)) t
 
--- The buffer
+-- What of a text has reached standard output, and what is left in its buffer
 
--- If a write failed, the bytes that reached the output and those still in the buffer make a prefix of the text.
+-- If a write failed, the bytes that reached the output and those still in the buffer make up a prefix of the text.
 reaches_front : (before written reached : Option (List ℕ)) (text : List ℕ) (b : Bool) → AppendsFront before written text → Flushes written reached b → (held : List ℕ) × AppendsFront before (append_known reached held) text
 reaches_front before written reached text true w s =
     ([], record { front = w.front; rest = w.rest; whole = w.whole; written = rw (append_known-nil reached) (Appends-kept before written reached w.front w.written s) })
@@ -129,7 +129,7 @@ reaches_flushed (Err fault) before written reached text w s = reaches_front befo
 pub reaches_unflushed : (before written reached : Option (List ℕ)) (text : List ℕ) → Writes {T = Unit} {E = RunFault} before written (Ok tt) text → Flushes written reached false → Reaches {T = Unit} before reached (Err OutFailed) text
 reaches_unflushed before written reached text w s = reaches_front before written reached text false (whole_front before written text w) s
 
--- The whole work
+-- From the arguments to the exit status
 
 -- if `Writes` holds on standard error for the result before the flush, then it also holds for the result after the
 -- flush

@@ -1,5 +1,5 @@
--- Lemmas on the program's work: what the steps found makes up one world, and what was written is the outcome in that
--- world.
+-- Lemmas on the steps of the work: what all steps found makes up one world, and what was written is the
+-- outcome in that world.
 use Rattle.std.proofs.Common.{◌≡◌, ℕ, ℤ, ◌+◌, ◌<◌, ◌≤◌, Bool, true, false, ◌&&◌, List, [], ◌∷◌, length, Option, None, Some, Result, Ok, Err, IfNone, refl, sym, ap, subst, ◌∙◌, arith, length-append, nat_le}
 use Rattle.std.specs.Prelude.{IsSome, is_some, is_ok, MatchResult}
 use Rattle.std.specs.FinMap.{empty}
@@ -47,13 +47,13 @@ use Rattle.cal_report.proofs.ReportLemmas.{nothing_front}
 use Rattle.std.proofs.lemmas.Option.{none-some, same_Some}
 use Rattle.cal_text.proofs.General.{no_ok, some_none}
 
--- Stops
+-- How a stop agrees with the definitions
 
--- if `stop` doesn't stand for a failed output, and `shown` is its report, then it agrees with the result `Err shown`
+-- a stop that doesn't stand for a failed output agrees with its own report, `shown`
 pub is_stop : {X : Type 0} (stop : declared_stop.Stop) (shown : Stop) → is_out_stop stop ≡ false → is_err_stop stop ≡ false → shown_stop stop ≡ shown → StopsAs {X = X} stop (Err shown)
 is_stop stop shown out err is = record { before_out = out; before_err = err; stopped = refl; same = λ h. ap (λ s. Err s) (sym is) }
 
--- if a step stopped, all the steps after it stop with the same report
+-- if a step stops, then so do all the steps together, with the same report
 pub stops : {A B : Type 0} (stop : declared_stop.Stop) (next : A → Result B Stop) (expected : Result A Stop) → StopsAs stop expected → StopsAs stop (and_then next expected)
 stops stop next (Ok value) s = absurd (false≢true s.stopped)
 stops stop next (Err shown) s = record { before_out = s.before_out; before_err = s.before_err; stopped = refl; same = λ h. ap (λ r. and_then next r) (s.same h) }
@@ -61,15 +61,13 @@ stops stop next (Err shown) s = record { before_out = s.before_out; before_err =
 stop_inside : {A : Type 0} (x y : Result A Stop) (a b : Stop) → x ≡ Err a → y ≡ Err b → x ≡ y → a ≡ b
 stop_inside x y a b p q h = cc
 
--- if a stop agrees with the result of a step that is the stop `shown`, then it also does if the step has another type
--- of values
+-- whether a stop agrees with `Err shown` doesn't depend on the type of the values that the step returns
 pub stops_other : {A B : Type 0} (stop : declared_stop.Stop) (shown : Stop) → StopsAs {X = A} stop (Err shown) → StopsAs {X = B} stop (Err shown)
 stops_other {A = A} stop shown s = record { before_out = s.before_out; before_err = s.before_err; stopped = refl; same = λ h. ap (λ x. Err x) (stop_inside {A = A} (Err shown) (Err (shown_stop stop)) shown (shown_stop stop) refl refl (s.same h)) }
 
 -- What the program sees of a file
 
--- if a result of reading a file agrees with what is known about its bytes, then it also does if nothing is known about
--- them
+-- a result of reading a file that agrees with its known bytes is also possible if nothing is known about the bytes
 unknown_comes : (old : Option (List ℕ)) (limit : ℕ) (came : Result (List ℕ) WholeFault) → Comes old limit came → Comes None limit came
 unknown_comes old limit (Ok bytes) c = (c.0, tt)
 unknown_comes old limit (Err whole.ReadFailed) c = tt
@@ -97,7 +95,8 @@ comes_beyond (Some xs) (Some ys) limit h =
     let more : limit < length h.front = h.is_more in
     omega (arith, e, more)
 
--- what reading would return for a file that was opened but not read: some result that agrees with what is known
+-- what reading could return for a file that was opened but not read: a result that agrees with what is known
+-- about its bytes
 came_within : Bool → List ℕ → Result (List ℕ) WholeFault
 came_within true all = Ok all
 came_within false all = Err whole.TooLarge
@@ -116,13 +115,13 @@ unfolding came_of came_within
 came_uncut None limit = refl
 came_uncut (Some all) limit = grind arith
 
--- Zone files
+-- Loading the zone files
 
 reads_unnamed : (name : List ℕ) (came : Result (List ℕ) WholeFault) → is_zone_name name ≡ false → ReadsZone name (Some came) None
 reads_unnamed name (Ok bytes) h = λ named. absurd (false≢true (sym h ∙ named))
 reads_unnamed name (Err fault) h = tt
 
--- if a zone file was opened, and then loaded or rejected, the result agrees with the definitions, as `Loads` says
+-- what loading an opened zone file returns agrees with the definition `loaded`, as `Loads` says
 pub loads : (known : Known) (before after : ZoneMap) (item : ZoneItem) (r : Result Unit LoadFault) (old new : Option (List ℕ)) (may failed : Bool) → Opens (known.file item.path) (Some old) → may ≡ known.may_fail item.path
     → failed ≡ is_load_read_failed r → MatchResult r (λ done. IsLoaded old new before after item.name) (IsLoadFault old new before item.name) → (may ≡ false → failed ≡ false) → Loads known before after item r
 unfolding loaded
@@ -184,7 +183,7 @@ loads known before after item (Err (Zone zone.NameTaken)) old new may failed ope
   loads = rw (h.is_taken.0, h.is_taken.1) refl;
 }
 
--- if a zone file can't be opened, `ReadFailed` agrees with the definitions, as `Loads` says
+-- if a zone file can't be opened, the error `ReadFailed` agrees with the definition `loaded`, as `Loads` says
 pub loads_none : (known : Known) (table : ZoneMap) (item : ZoneItem) → Opens (known.file item.path) None → Loads known table table item (Err ReadFailed)
 unfolding loaded
 loads_none known table item opens = record {
@@ -193,8 +192,9 @@ loads_none known table item opens = record {
   loads = refl;
 }
 
--- The loop over the zone files, for what is found of the remaining files (`rest`): adding all files (`found`) in order
--- to the empty table gives the same table or stop as adding the remaining files to the current table.
+-- The invariant of the loop over the zone files. `left` are the files that remain to be loaded, `rest` is what is found
+-- of them, and `found` is what is found of all files. Adding all files to the empty table gives the same table or stop
+-- as adding the remaining files to `table`, the table so far.
 pub record Continues (known : Known) (items : List ZoneItem) (table : ZoneMap) (left : List ZoneItem) (rest : List ZoneFound) : Type 0 where
   pub found : List ZoneFound
   pub sees : SeesZones known empty items found
@@ -203,7 +203,7 @@ pub record Continues (known : Known) (items : List ZoneItem) (table : ZoneMap) (
 abbrev pub GoesOn : Known → List ZoneItem → ZoneMap → List ZoneItem → Type 0
 GoesOn known items table left = (rest : List ZoneFound) → SeesZones known table left rest → Continues known items table left rest
 
--- if `GoesOn` holds, and the next file was loaded, then `GoesOn` holds for the new table and the remaining files
+-- if `GoesOn` holds, and the next file is loaded, then `GoesOn` holds for the new table and the files that remain
 pub next_loaded : (known : Known) (items left more : List ZoneItem) (item : ZoneItem) (table after : ZoneMap) → left ≡ item ∷ more → GoesOn known items table left → Loads known table after item (Ok tt) → GoesOn known items after more
 unfolding table_by
 next_loaded known items left more item table after is goes l rest h =
@@ -212,7 +212,7 @@ next_loaded known items left more item table after is goes l rest h =
     let on = first (l.found ∷ rest) (l.sees, rw is_loaded h) in
     record { found = on.found; sees = on.sees; same = on.same ∙ (rw is_loaded refl) }
 
--- if `GoesOn` holds, and the next file can't be loaded, then the stop for this file agrees with the definitions, as
+-- if `GoesOn` holds, and the next file can't be loaded, then the stop for this file agrees with `table_by`, as
 -- `ReadsZones` says
 pub next_stops : {T : Type 0} (view : T → ZoneMap) (known : Known) (items left more : List ZoneItem) (item : ZoneItem) (table after : ZoneMap) (fault : LoadFault) (stop : declared_stop.Stop) → left ≡ item ∷ more
     → GoesOn known items table left → Loads known table after item (Err fault) → StopsAs {X = Unit} stop (Err (load_stop item.name fault)) → ReadsZones view known items (Err stop)
@@ -224,14 +224,14 @@ next_stops view known items left more item table after fault stop is goes l s =
     let same : table_by empty items on.found ≡ Err (load_stop item.name fault) = on.same ∙ (rw is_refused refl) in
     record { found = on.found; sees = on.sees; answers = rw same (stops_other stop (load_stop item.name fault) s) }
 
--- if `GoesOn` holds, and no files are left, then the table agrees with the definitions, as `ReadsZones` says
+-- if `GoesOn` holds, and no files remain, then the table agrees with `table_by`, as `ReadsZones` says
 pub none_left : {T : Type 0} (view : T → ZoneMap) (known : Known) (items left : List ZoneItem) (table : ZoneMap) (result : T) → left ≡ [] → table ≡ view result → GoesOn known items table left → ReadsZones view known items (Ok result)
 unfolding table_by
 none_left view known items left table result is same goes =
     let on = (rw is at goes) [] tt in
     record { found = on.found; sees = on.sees; answers = on.same ∙ ap (λ m. Ok m) same }
 
--- The local zone
+-- Determining the local zone
 
 pub finds_rule : (rule : List ℕ) (table : ZoneMap) (zone : ClockZone) (rules : TimeZone) → IsSome (rule_read rule) → IsPosixZone rule rules → zone_of zone ≡ rules → is_utc zone ≡ false → FindsLocal (λ z. z) (by_rule rule) table (Ok zone)
 unfolding local_by
@@ -267,7 +267,7 @@ local_refused (of_name name) table h = absurd h
 
 -- How the work ended
 
--- if a stop before any run agrees with the definitions, and nothing was written, then the work ended as `EndsAs` says
+-- if a stop before the run agrees with `expected`, and nothing was written, then the work ended as `EndsAs` says
 pub early : (stop : declared_stop.Stop) (expected : Result Report Stop) (out err : Option (List ℕ)) → StopsAs stop expected → EndsAs (Err stop) expected out out err err
 early (Command fault) expected out err s = (s, refl, refl)
 early (Zones name fault) expected out err s = (s, refl, refl)
@@ -279,8 +279,8 @@ early (Run OutFailed) expected out err s = absurd (false≢true (sym s.before_ou
 early (Run ErrFailed) expected out err s = absurd (false≢true (sym s.before_err))
 early (Run NoMemory) expected out err s = (refl, nothing_front out (out_text expected), nothing_front err (err_text expected))
 
--- if what a run wrote and returned agrees with a report, as `IsReported` says, then the work ended as `EndsAs` says for
--- this report
+-- if what a run wrote and returned agrees with `report`, as `IsReported` says, then the work ended with this report,
+-- as `EndsAs` says
 run_ends : (r : Result Status RunFault) (read : Result (List ℕ) WholeFault) (report : Report) (out out' err err' : Option (List ℕ)) → IsReported r out out' err err' read report → EndsAs (ran r) (Ok report) out out' err err'
 run_ends (Ok status) read report out out' err err' t = (ap exit_status (sym t.status), t.out, t.err)
 run_ends (Err OutFailed) read report out out' err err' t = (refl, t.out, t.err)
@@ -290,15 +290,14 @@ run_ends (Err NoMemory) read report out out' err err' t = (refl, t.out, t.err)
 still_front : (a b : Option (List ℕ)) (text : List ℕ) → b ≡ a → AppendsFront a b text
 still_front a b text is = rw is (nothing_front a text)
 
--- if the input of a run could not be read because allocation failed, then the work ended as `EndsAs` says for the stop
--- `memory_stop`
+-- if memory ran out while the input of a run was read, then the work ended with `memory_stop`, as `EndsAs` says
 unread_ends : (r : Result Status RunFault) (report : Report) (out out' err err' : Option (List ℕ)) → IsReported r out out' err err' (Err whole.NoMemory) report → EndsAs (ran r) (Err memory_stop) out out' err err'
 unread_ends (Ok status) report out out' err err' t = absurd (t.had refl)
 unread_ends (Err OutFailed) report out out' err err' t = (refl, still_front out out' _ (t.unread refl).0, still_front err err' _ (t.unread refl).1)
 unread_ends (Err ErrFailed) report out out' err err' t = (refl, still_front out out' _ (t.unread refl).0, still_front err err' _ (t.unread refl).1)
 unread_ends (Err NoMemory) report out out' err err' t = (refl, still_front out out' _ (t.unread refl).0, still_front err err' _ (t.unread refl).1)
 
--- if a run doesn't use its input, its report is the same for all results of reading the input
+-- if a run doesn't use its input, its report doesn't depend on the result of reading the input
 same_from : (asked : Request) (a b : Result (List ℕ) WholeFault) (t : Bool) (base : Result ℤ StampFault) → is_timer asked.verb ≡ t → (t && is_ok base) ≡ false → report_from asked a base ≡ report_from asked b base
 same_from asked a b t (Err fault) is h = refl
 same_from asked a b t (Ok base) is h = grind arith
@@ -320,7 +319,7 @@ report_had asked None limit h timer = rw timer refl
 report_had asked (Some all) limit h timer = rw timer (within_had asked all (nat_le (length all) limit) h)
 
 -- if the timer file was opened, and what the run wrote and returned agrees with the report for what was read from the
--- file, then the run agrees with the definitions, as `Runs` says
+-- file, then the run agrees with `run_by`, as `Runs` says
 timer_by : (known : Known) (asked : Request) (r : Result Status RunFault) (old new : Option (List ℕ)) (may failed : Bool) (out out' err err' : Option (List ℕ)) (read : Result (List ℕ) WholeFault) (b : Bool)
     → reads_input asked ≡ b → is_timer asked.verb ≡ true → Opens (known.file (file_name asked)) (Some old) → may ≡ known.may_fail (file_name asked) → (may ≡ false → failed ≡ false)
     → failed ≡ is_read_failed read → ReadsIf b old new read → IsReported r out out' err err' read (report asked read) → Runs known asked (ran r) out out' err err'
@@ -357,8 +356,8 @@ pub timer_runs : (known : Known) (asked : Request) (r : Result Status RunFault) 
 timer_runs known asked r old new may failed out out' err err' timer opens mays sure by =
     timer_by known asked r old new may failed out out' err err' by.read (reads_input asked) refl timer opens mays sure by.fails by.input by.holds
 
--- if the verb isn't `timer`, and the run fulfils its contract (`ByReading`), then the run agrees with the definitions,
--- as `Runs` says
+-- if the verb isn't `timer`, and the run fulfills its contract (`ByReading`), then the run agrees with
+-- `run_by`, as `Runs` says
 pub texts_run : (known : Known) (asked : Request) (r : Result Status RunFault) (old new : Option (List ℕ)) (failed : Bool) (out out' err err' : Option (List ℕ))
     → is_timer asked.verb ≡ false → ByReading asked old new failed (IsReported r out out' err err') → Runs known asked (ran r) out out' err err'
 unfolding run_by
@@ -366,8 +365,8 @@ texts_run known asked r old new failed out out' err err' plain by =
     let same : report asked by.read ≡ report asked (Ok []) = unread_same asked by.read (Ok []) (and_left (is_timer asked.verb) (is_ok (base_in asked)) plain) in
     record { seen = None; sees = rw plain tt; ends = rw plain (rw (sym same) (run_ends r by.read _ out out' err err' by.holds)) }
 
--- if the timer file can't be opened, and nothing was written, then the stop for this file agrees with the definitions,
--- as `Runs` says
+-- if the timer file can't be opened, and nothing was written, then the stop for this file agrees with
+-- `run_by`, as `Runs` says
 pub file_stops : (known : Known) (asked : Request) (stop : declared_stop.Stop) (out err : Option (List ℕ)) → is_timer asked.verb ≡ true → Opens (known.file (file_name asked)) None → StopsAs {X = Unit} stop (Err (unopened_stop (file_name asked)))
     → Runs known asked (Err stop) out out err err
 unfolding run_by
@@ -377,7 +376,7 @@ file_stops known asked stop out err timer opens s = record {
   ends = rw timer (early stop (Err (unopened_stop (file_name asked))) out err (stops_other stop (unopened_stop (file_name asked)) s));
 }
 
--- The whole work, by the step that it reached
+-- All steps together, for each step at which the work can end
 
 module _ (known : Known) (ask : Ask) (stop : declared_stop.Stop) (out err : Option (List ℕ)) where
   pub zones_stop : ReadsZones (λ table. table) known ask.zones (Err stop) → Answered known ask (Err stop) out out err err
@@ -420,8 +419,8 @@ ran_whole known ask result out out' err err' table local now z l clock is_time i
       ends = rw (z.answers, l.answers, is_now) r.ends;
     }
 
--- if the arguments were accepted, and the work that they ask for agrees with the definitions (`Answered`), then so does
--- the work from the arguments on (`AnsweredArguments`)
+-- if the arguments were accepted, and the work that they ask for agrees with `outcome_of` (`Answered`), then the whole
+-- work agrees with `outcome` (`AnsweredArguments`)
 pub arguments_answered : (known : Known) (arguments : List (List ℕ)) (ask : Ask) (result : Result Status declared_stop.Stop) (out out' err err' : Option (List ℕ)) → IsAskOf arguments (Ok ask) → Answered known ask result out out' err err' → AnsweredArguments known arguments result out out' err err'
 unfolding outcome outcome_of
 arguments_answered known arguments ask result out out' err err' asks a = record {
@@ -440,7 +439,7 @@ command_stops command.BadLocal = is_stop (Command command.BadLocal) (command_sto
 command_stops command.NoMemory = is_stop (Command command.NoMemory) (command_stop no_memory) refl refl refl
 
 -- if the arguments were rejected or ask for help, and nothing was written, then the stop for the arguments agrees with
--- the definitions (`AnsweredArguments`)
+-- `outcome` (`AnsweredArguments`)
 pub arguments_refused : (known : Known) (arguments : List (List ℕ)) (fault : declared_fault.CommandFault) (out err : Option (List ℕ)) → IsAskOf arguments (Err (shown_fault fault)) → AnsweredArguments known arguments (Err (Command fault)) out out err err
 unfolding outcome
 arguments_refused known arguments fault out err asks = record {

@@ -1,4 +1,4 @@
--- The definitions of the work, tried on the example system.
+-- The example system meets the conditions of the law `known_systems_decide`.
 use Rattle.std.proofs.Common.{refl}
 use Rattle.cal_command.proofs.WorkedRows.{daily_asked}
 use Rattle.cal_command.specs.WorkedArguments.{daily_arguments}

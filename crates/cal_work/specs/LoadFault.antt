@@ -4,7 +4,6 @@ use Rattle.cal_zone.specs.ZoneFault.{message_of as zone_message}
 use Rattle.cal_work.specs.declared.zone_files.LoadFault.{LoadFault}
 use Rattle.cal_work.specs.declared.zone_files.LoadFault.TheVariants.{ReadFailed, Zone}
 
--- the message for the user
 abbrev pub message_of : LoadFault → List ℕ
 message_of ReadFailed = codes "cannot be read"
 message_of (Zone fault) = zone_message fault

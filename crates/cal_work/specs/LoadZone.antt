@@ -1,5 +1,6 @@
 -- When loading a zone file (RFC 8536) succeeds, what it adds to the zone table, and why it fails. The option `--zones`
--- is this project's own.
+-- is this project's own. In these definitions, `old` and `new` are the bytes that are left to read before and after
+-- loading, if they are known.
 use Rattle.std.specs.Prelude.{◌≡◌, ℕ, Bool, true, false, List, Option, Result, Ok, Err}
 use Rattle.std.specs.FinMap.{insert}
 use Rattle.jiff.specs.Types.{TimeZone}
@@ -13,7 +14,7 @@ use Rattle.cal_zone.specs.declared.zone_fault.ZoneFault.TheVariants.{BadName, Ba
 use Rattle.cal_work.specs.declared.zone_files.LoadFault.{LoadFault}
 use Rattle.cal_work.specs.declared.zone_files.LoadFault.TheVariants.{ReadFailed, Zone}
 
--- The bytes read are a valid zone file, the name was free, and the table has gained this zone.
+-- The file was loaded: the bytes read are a valid zone file, the name was free, and the table has gained this zone.
 pub record IsLoaded (old new : Option (List ℕ)) (before after : ZoneMap) (name : List ℕ) : Type 0 where
   pub bytes : List ℕ
   pub given : GivesAll old new file_limit bytes
@@ -36,8 +37,8 @@ pub record HasTakenName (old new : Option (List ℕ)) (table : ZoneMap) (name : 
   pub is_zone : IsFileZone name bytes zone
   pub is_taken : IsAddFault table name NameTaken
 
--- Why a zone file can't be loaded. The name is checked before the file is read, the bytes once the file is read to its
--- end, and whether the name is free last of all.
+-- Whether loading can fail with this error. The name is checked before the file is read, the bytes after the file is
+-- read to its end, and whether the name is free last of all.
 abbrev pub IsZoneLoadFault : Option (List ℕ) → Option (List ℕ) → ZoneMap → List ℕ → ZoneFault → Type 0
 IsZoneLoadFault old new table name BadName = (is_zone_name name ≡ false) × (new ≡ old)
 IsZoneLoadFault old new table name BadRule = ⊥

@@ -25,13 +25,13 @@ use Rattle.cal_work.specs.declared.zone_files.LoadFault.TheVariants.{ReadFailed,
 use Rattle.cal_request.specs.declared.request.RunFault.{RunFault}
 use Rattle.cal_request.specs.declared.request.RunFault.TheVariants as run
 
--- what is seen of a zone file, and the zone that `jiff` reads from it, if it accepts the file
+-- what the program sees of a zone file, and the zone that `jiff` reads from it, if it accepts the file
 pub record ZoneFound : Type 0 where
   pub seen : Seen
   pub zone : Option TimeZone
 
--- Everything that the outcome depends on: the parsed arguments, what is found of each zone file in order, the local
--- zone, the clock's seconds, and what is seen of the timer file.
+-- Everything that the outcome depends on: the parsed arguments, what is found of each zone file, in order, the local
+-- zone, the clock's time in seconds, and what the program sees of the timer file.
 pub record World : Type 0 where
   pub parsed : Result Ask CommandFault
   pub zones : List ZoneFound
@@ -39,14 +39,14 @@ pub record World : Type 0 where
   pub clock : Option ℤ
   pub file : Seen
 
--- the result of the step `next` if the step before it returned a value, and otherwise the stop of the step before it
+-- the result of the step `next` if the step before it returned a value, and otherwise the stop of that step
 abbrev pub and_then : {A B F : Type 0} → (A → Result B F) → Result A F → Result B F
 and_then next (Ok value) = next value
 and_then next (Err stop) = Err stop
 
--- The zone files
+-- The first step: loading the zone files
 
--- the table with the zone added, if `jiff` accepts the file and the name is free
+-- the table with the zone added, or an error if `jiff` rejects the file or the name is taken
 abbrev pub with_zone : ZoneMap → List ℕ → Option TimeZone → Result ZoneMap LoadFault
 with_zone table name None = Err (Zone BadFile)
 with_zone table name (Some zone) = if is_taken table name then Err (Zone NameTaken) else Ok (insert table name zone)
@@ -77,17 +77,18 @@ table_by table (item ∷ items) [] = Ok table
 table_by table (item ∷ items) (f ∷ found) =
     and_then (λ more. table_by more items found) (or_load_stop item.name (loaded table item f))
 
--- The local zone
+-- The second step: determining the local zone
 
+-- the local zone, or the stop if the rule or the name that the arguments give for it is invalid
 unfoldable pub local_by : LocalZone → ZoneMap → ClockZone → Result ClockZone Stop
 local_by in_utc table zone = Ok utc
 local_by (ahead seconds) table zone = Ok zone
 local_by (by_rule rule) table zone = if is_some (rule_read rule) then Ok zone else Err rule_stop
 local_by (of_name name) table zone = if is_some (zone_named table name) then Ok zone else Err name_stop
 
--- The present instant
+-- The third step: determining the present instant
 
--- the instant with this many seconds, if it is in the supported range
+-- the instant with this number of seconds of Unix time, if it is in the supported range
 unfoldable pub instant_in : ℤ → Option ℤ
 instant_in secs = if not (int_lt secs (pos 0)) && not (int_lt last_instant secs) then Some secs else None
 
@@ -99,12 +100,12 @@ abbrev pub clock_by : Option ℤ → Result ℤ Stop
 clock_by None = Err clock_stop
 clock_by (Some secs) = or_clock_stop (instant_in secs)
 
--- the present instant: the instant that the arguments give, or else the time of the clock
+-- the instant that the arguments give as the present, if they give one, and otherwise the time of the clock
 unfoldable pub present_by : Option ℤ → Option ℤ → Result ℤ Stop
 present_by (Some now) clock = Ok now
 present_by None clock = clock_by clock
 
--- The run
+-- The fourth step: reading the timer file and running the request
 
 -- the result of reading the timer file, or the stop if the file can't be opened or memory runs out
 abbrev pub input_by : List ℕ → Seen → Result (Result (List ℕ) WholeFault) Stop
@@ -122,7 +123,7 @@ input_if false path seen = Ok (Ok [])
 unfoldable pub run_by : Request → Seen → Result Report Stop
 run_by asked seen = and_then (λ read. Ok (report asked read)) (input_if (is_timer asked.verb) (file_name asked) seen)
 
--- The whole work
+-- All steps together
 
 abbrev pub asked_at : Ask → ZoneMap → ClockZone → ℤ → Request
 asked_at ask table local now = record {
@@ -152,7 +153,7 @@ outcome_of_parsed (Err fault) world = Err (command_stop fault)
 unfoldable pub outcome : World → Result Report Stop
 outcome world = outcome_of_parsed world.parsed world
 
--- What an outcome writes, and its status
+-- What an outcome writes, and its exit status
 
 abbrev pub out_text : Result Report Stop → List ℕ
 out_text (Ok report) = report.out
@@ -166,12 +167,12 @@ abbrev pub outcome_status : Result Report Stop → ℕ
 outcome_status (Ok report) = exit_status report.status
 outcome_status (Err stop) = stop.status
 
--- The status if standard error failed: 1 if the outcome is a report, and the status of the stop if it is a stop.
+-- The exit status if standard error failed: 1 if the outcome is a report, and the status of the stop if it is a stop.
 abbrev pub cut_status : Result Report Stop → ℕ
 cut_status (Ok report) = 1
 cut_status (Err stop) = stop.status
 
--- the status, depending on which output or allocation failed, if any did
+-- the exit status, which depends on the outcome, and on which output or allocation failed, if any did
 abbrev pub ended_status : {T : Type 0} → Result T RunFault → Result Report Stop → ℕ
 ended_status (Ok all) outcome = outcome_status outcome
 ended_status (Err run.OutFailed) outcome = 1

@@ -1,4 +1,4 @@
--- What the program reports if it stops before everything is done, and its status then.
+-- What the program reports if it stops before everything is done, and the exit status of such a stop.
 use Rattle.std.specs.Prelude.{ℕ, Bool, true, false, List, [], ◌∷◌, string_bytes, codes}
 use Rattle.cal_bytes.specs.headline.Bytes.{joined}
 use Rattle.cal_zone.specs.declared.zone_fault.ZoneFault.{ZoneFault}
@@ -83,7 +83,7 @@ fault_stop run.OutFailed = with_line (own_line (codes "output failed")) 1
 fault_stop run.ErrFailed = with_line [] 1
 fault_stop run.NoMemory = memory_stop
 
--- the report of each stop
+-- the report for each variant of the code's type `Stop`
 abbrev pub shown_stop : declared_stop.Stop → Stop
 shown_stop (Command fault) = command_stop (shown_fault fault)
 shown_stop (Zones name fault) = load_stop (string_bytes name) fault
@@ -93,7 +93,7 @@ shown_stop Clock = clock_stop
 shown_stop (Open path) = unopened_stop (string_bytes path)
 shown_stop (Run fault) = fault_stop fault
 
--- the text that is written for a stop, whichever output it goes to
+-- the text that is written for a stop, to whichever output it goes
 abbrev pub command_text : declared_fault.CommandFault → List ℕ
 command_text (command.Help text) = string_bytes text
 command_text fault = (command_stop (shown_fault fault)).err
@@ -126,7 +126,8 @@ outlet_of Clock = OnErr
 outlet_of (Open path) = OnErr
 outlet_of (Run fault) = Later fault
 
--- whether a stop stands for a failure of standard output, for a failure of standard error, or for running out of memory
+-- whether a stop stands for a failure of standard output, a failure of standard error, or running out of memory: first
+-- for the outlet of the stop, then for the stop itself
 abbrev pub is_out_outlet : Outlet → Bool
 is_out_outlet (Later run.OutFailed) = true
 is_out_outlet outlet = false

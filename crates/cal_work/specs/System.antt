@@ -4,9 +4,10 @@ use Rattle.cal_streams.specs.Whole.{is_read_failed}
 use Rattle.cal_streams.specs.declared.whole.WholeFault.{WholeFault}
 use Rattle.cal_streams.specs.declared.whole.WholeFault.TheVariants.{ReadFailed, TooLarge, NoMemory}
 
--- What is known about a system. For each path: `Some (Some bytes)` if the file has these bytes, `Some None` if it can't
--- be opened, and `None` if nothing is known; and whether reading the file may fail. For the clock: `Some (Some
--- seconds)` if it shows this Unix time, `Some None` if it has no time, and `None` if nothing is known.
+-- What is known about a system. `file` maps a path to `Some (Some bytes)` if the file has these bytes, to `Some None`
+-- if it can't be opened, and to `None` if nothing is known about it. `may_fail` says whether reading the file may fail.
+-- `time` is `Some (Some seconds)` if the clock shows this Unix time, `Some None` if the clock has no time, and `None`
+-- if nothing is known about it.
 pub record Known : Type 0 where
   pub file : List ℕ → Option (Option (List ℕ))
   pub may_fail : List ℕ → Bool
@@ -20,15 +21,15 @@ abbrev pub GivesTime : Option (Option ℤ) → Option ℤ → Type 0
 GivesTime None came = Unit {0}
 GivesTime (Some time) came = came ≡ time
 
--- Opening a file agrees with what is known about the file: it fails if the file can't be opened, and succeeds with all
--- bytes still to be read if the bytes are known. If `opened` is `Some None`, the file was opened, and its bytes are not
--- known.
+-- What opening a file returned, `opened`, agrees with what is known about the file. `opened` is `None` if the file
+-- can't be opened, `Some (Some bytes)` if it was opened and these bytes are left to read, and `Some None` if it was
+-- opened and its bytes are not known.
 abbrev pub Opens : Option (Option (List ℕ)) → Option (Option (List ℕ)) → Type 0
 Opens None opened = Unit {0}
 Opens (Some None) opened = opened ≡ None
 Opens (Some (Some bytes)) opened = opened ≡ Some (Some bytes)
 
--- What is seen of a file: `None` if it can't be opened, and otherwise its bytes or why they could not be read.
+-- What the program sees of a file: `None` if it can't be opened, and otherwise its bytes or why they could not be read.
 abbrev pub Seen : Type 0
 Seen = Option (Result (List ℕ) WholeFault)
 
@@ -40,7 +41,7 @@ Comes known limit (Err ReadFailed) = Unit {0}
 Comes known limit (Err TooLarge) = IfSome known (λ all. limit < length all)
 Comes known limit (Err NoMemory) = Unit {0}
 
--- what is seen of a file agrees with what is known about it
+-- what the program sees of a file agrees with what is known about it
 abbrev pub SeesBytes : Option (Option (List ℕ)) → ℕ → Seen → Type 0
 SeesBytes None limit None = Unit {0}
 SeesBytes None limit (Some came) = Comes None limit came
@@ -53,8 +54,8 @@ abbrev pub is_cut : Seen → Bool
 is_cut None = false
 is_cut (Some came) = is_read_failed came
 
--- What the program sees of the file at a path, by what is known about that file. If it is known that reading can't
--- fail, then no read fails.
+-- What the program sees of the file at `path` agrees with what is known about this file: about its bytes, and that no
+-- read fails if it is known that reading can't fail.
 pub record Sees (known : Known) (limit : ℕ) (path : List ℕ) (seen : Seen) : Type 0 where
   pub bytes : SeesBytes (known.file path) limit seen
   pub sure : known.may_fail path ≡ false → is_cut seen ≡ false

@@ -22,6 +22,7 @@ abbrev pub taken_of : Bool → List ℕ → Result (List ℕ) WholeFault
 taken_of true all = Ok all
 taken_of false all = Err TooLarge
 
+-- what the program sees of a file about which this is known, if no read fails and memory doesn't run out
 unfoldable pub known_seen : ℕ → Option (Option (List ℕ)) → Seen
 known_seen limit None = None
 known_seen limit (Some None) = None
@@ -31,15 +32,16 @@ abbrev pub known_time : Option (Option ℤ) → Option ℤ
 known_time None = None
 known_time (Some time) = time
 
--- each zone file is seen as it is known to be, with the zone that `jiff` reads from it
+-- what the program finds of each zone file: it sees the bytes that the file is known to have, and the zone that `jiff`
+-- reads from it is the one in `found`
 unfoldable pub known_zones : Known → List ZoneItem → List ZoneFound → List ZoneFound
 known_zones known [] found = []
 known_zones known (item ∷ items) [] = []
 known_zones known (item ∷ items) (f ∷ found) =
     record { seen = known_seen file_limit (known.file item.path); zone = f.zone } ∷ known_zones known items found
 
--- The world of a known system. What `clap` makes of the arguments is given, and the zones that `jiff` reads are those
--- of another world.
+-- The world of a known system. `ask` is what `clap` makes of the arguments. The local zone and the zones that `jiff`
+-- reads from the files are those of `world`.
 unfoldable pub known_world : Known → Ask → World → World
 known_world known ask world = record {
   parsed = Ok ask;

@@ -1,4 +1,5 @@
--- What each step of the program's work returns, in terms of the world that it found.
+-- What each step of the code returns, compared with what the definitions in Outcome.antt return for it, in a world that
+-- agrees with what is known.
 use Rattle.std.specs.Prelude.{◌≡◌, ℕ, ℤ, Bool, false, List, Option, None, Some, Result, Ok, Err, IsErr, IsSome, IfOk, IfNone}
 use Rattle.std.specs.FinMap.{empty}
 use Rattle.std.specs.Io.KnownBytes.{Appends}
@@ -33,24 +34,25 @@ abbrev pub is_err_cut : {T : Type 0} → Result T declared_stop.Stop → Bool
 is_err_cut (Ok x) = false
 is_err_cut (Err stop) = is_err_stop stop
 
--- `stop`, a stop before any run, agrees with the result `expected` by the definitions: it doesn't stand for a failed
--- output, `expected` is a stop too, and it is the same stop unless `stop` stands for running out of memory.
+-- `stop`, with which the work ended before the run, agrees with `expected`, the result of the definitions: `stop`
+-- doesn't stand for a failed output, `expected` is a stop too, and both are the same stop, unless `stop` stands for
+-- running out of memory.
 pub record StopsAs {X : Type 0} (stop : declared_stop.Stop) (expected : Result X Stop) : Type 0 where
   pub before_out : is_out_stop stop ≡ false
   pub before_err : is_err_stop stop ≡ false
   pub stopped : IsErr expected
   pub same : is_for_memory stop ≡ false → expected ≡ Err (shown_stop stop)
 
--- the result of a step agrees with the result `expected` by the definitions; `view` maps a value of the code to a value
--- of the definitions
+-- what a step returned agrees with `expected`, the result of the definitions; `view` maps a value of the code to a
+-- value of the definitions
 abbrev pub Answers : {A B : Type 0} → (A → B) → Result A declared_stop.Stop → Result B Stop → Type 0
 Answers view (Ok value) expected = expected ≡ Ok (view value)
 Answers view (Err stop) expected = StopsAs stop expected
 
--- The steps
+-- The results of the steps
 
--- the result of loading one zone file agrees with the result `expected` by the definitions; `table` is the table after
--- it
+-- what loading one zone file returned agrees with `expected`, the result of the definitions; `table` is the zone
+-- table after loading
 abbrev pub LoadsAs : Result Unit LoadFault → ZoneMap → Result ZoneMap LoadFault → Type 0
 LoadsAs (Ok done) table expected = expected ≡ Ok table
 LoadsAs (Err fault) table expected = expected ≡ Err fault
@@ -60,7 +62,7 @@ pub record Loads (known : Known) (before after : ZoneMap) (item : ZoneItem) (res
   pub sees : SeesZone known item found
   pub loads : LoadsAs result after (loaded before item found)
 
--- the result of reading all zone files agrees with the definitions, for what was found of the files
+-- what reading all zone files returned agrees with `table_by`, for what was found of the files
 pub record ReadsZones {T : Type 0} (view : T → ZoneMap) (known : Known) (items : List ZoneItem) (result : Result T declared_stop.Stop) : Type 0 where
   pub found : List ZoneFound
   pub sees : SeesZones known empty items found
@@ -81,35 +83,34 @@ IsBadRule (ahead seconds) = ⊥
 IsBadRule (by_rule rule) = IsSome (rule_read rule) → ⊥
 IsBadRule (of_name name) = ⊥
 
--- the result of determining the local zone agrees with the definitions, for a `zone` that is the local zone as `jiff`
--- has it
+-- what determining the local zone returned agrees with `local_by`; `zone` is the local zone as `jiff` represents it
 pub record FindsLocal {T : Type 0} (view : T → ClockZone) (local : LocalZone) (table : ZoneMap) (result : Result T declared_stop.Stop) : Type 0 where
   pub zone : ClockZone
   pub is_local : IfOk (local_by local table zone) (IsLocal local table)
   pub answers : Answers view result (local_by local table zone)
 
--- the result of reading the clock agrees with the definitions, for the time that the clock showed
+-- what reading the clock returned agrees with `clock_by`, for the time that the clock showed
 pub record Reads {T : Type 0} (view : T → ℤ) (known : Known) (result : Result T declared_stop.Stop) : Type 0 where
   pub clock : Option ℤ
   pub is_time : GivesTime known.time clock
   pub answers : Answers view result (clock_by clock)
 
--- the result of determining the present instant agrees with the definitions, for the time that the clock showed, which
+-- what determining the present instant returned agrees with `present_by`, for the time that the clock showed, which
 -- matters only if the arguments give no instant
 pub record Presents {T : Type 0} (view : T → ℤ) (known : Known) (given : Option ℤ) (result : Result T declared_stop.Stop) : Type 0 where
   pub clock : Option ℤ
   pub asked : IfNone given (GivesTime known.time clock)
   pub answers : Answers view result (present_by given clock)
 
--- How the work ended
+-- How the work ended, and what it had written by then
 
 -- the result of a run, converted to the result of the work
 abbrev pub ran : Result Status RunFault → Result Status declared_stop.Stop
 ran (Ok status) = Ok status
 ran (Err fault) = Err (Run fault)
 
--- how the work ended with this stop agrees with the definitions: a run that ended early wrote a prefix of each text,
--- and a stop before any run wrote nothing
+-- The work ended with this stop, and this agrees with the outcome `expected`: a run that ended early wrote a prefix of
+-- each text of the outcome, and a stop before the run wrote nothing.
 abbrev pub StopEnds : declared_stop.Stop → Result Report Stop → Option (List ℕ) → Option (List ℕ) → Option (List ℕ) → Option (List ℕ) → Type 0
 StopEnds (Run fault) expected out out' err err' =
     (ended_status {T = Unit} (Err fault) expected ≡ 1) × AppendsFront out out' (out_text expected) × AppendsFront err err' (err_text expected)
@@ -120,8 +121,7 @@ EndsAs (Ok status) expected out out' err err' =
     (outcome_status expected ≡ exit_status status) × Appends out out' (out_text expected) × Appends err err' (err_text expected)
 EndsAs (Err stop) expected out out' err err' = StopEnds stop expected out out' err err'
 
--- the result of running a request, and what the run wrote, agree with the definitions, for what was seen of the timer
--- file
+-- what running a request returned and wrote agrees with `run_by`, for what the program saw of the timer file
 pub record Runs (known : Known) (asked : Request) (result : Result Status declared_stop.Stop) (out out' err err' : Option (List ℕ)) : Type 0 where
   pub seen : Seen
   pub sees : SeesFile known asked seen
@@ -137,10 +137,10 @@ pub record AnsweredArguments (known : Known) (arguments : List (List ℕ)) (resu
   pub fits : FitsArguments known arguments world
   pub ends : EndsAs result (outcome world) out out' err err'
 
--- What is written at the end
+-- After the work has ended: the report of a stop, the flush of standard output, and the exit status
 
--- The status once the output is flushed: 1 if standard output or an allocation failed, and otherwise `status`, the
--- status before it.
+-- The exit status after the output is flushed: 1 if standard output or an allocation failed, and otherwise `status`,
+-- the exit status before the flush.
 abbrev pub status_by : {T : Type 0} → Result T RunFault → ℕ → ℕ
 status_by (Ok all) status = status
 status_by (Err OutFailed) status = 1
@@ -152,8 +152,8 @@ pub record WritesOf {T : Type 0} (written : Result T RunFault) (status : ℕ) (e
   pub out_bytes : Writes out out' written (out_text expected)
   pub err_bytes : Writes err err' written (err_text expected)
 
--- the second result is the first one after a flush of standard output: a flush that fails changes the result only if
--- nothing failed before, and then to `OutFailed`
+-- The second result is the first one after a flush of standard output. A flush that fails changes the result only if
+-- nothing failed before, and then to `OutFailed`.
 abbrev pub IsFlushed : {T : Type 0} → Result T RunFault → Result T RunFault → Type 0
 IsFlushed (Ok all) (Ok flushed) = Unit {0}
 IsFlushed (Ok all) (Err fault) = fault ≡ OutFailed

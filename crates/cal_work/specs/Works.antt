@@ -26,9 +26,10 @@ use Rattle.cal_work.specs.System.{Known, Seen, Sees, GivesTime}
 use Rattle.cal_request.specs.declared.request.RunFault.{RunFault}
 use Rattle.cal_work.specs.declared.arguments_to_bytes.Ended.{Ended}
 
--- The world agrees with what is known, as far as the program asked for it
+-- A world that agrees with what is known, as far as the program asked for it
 
--- the third argument is the zone that `jiff` reads from a zone file with these bytes, or `None` if it rejects the file
+-- whether the third argument is the zone that `jiff` reads from a zone file with these bytes, or `None` if it
+-- rejects the file
 abbrev pub IsReadZone : List ℕ → List ℕ → Option TimeZone → Type 0
 IsReadZone name bytes None = IsFileFault name bytes BadFile
 IsReadZone name bytes (Some zone) = IsFileZone name bytes zone
@@ -50,7 +51,7 @@ SeesZones known table (item ∷ items) [] = ⊥
 SeesZones known table (item ∷ items) (f ∷ found) =
     SeesZone known item f × IfOk (loaded table item f) (λ more. SeesZones known more items found)
 
--- the local zone is the zone that the arguments ask for, as `jiff` has it
+-- `zone` is the local zone that the arguments ask for, as `jiff` represents it
 abbrev pub IsLocal : LocalZone → ZoneMap → ClockZone → Type 0
 IsLocal in_utc table zone = zone ≡ utc
 IsLocal (ahead seconds) table zone =
@@ -58,7 +59,7 @@ IsLocal (ahead seconds) table zone =
 IsLocal (by_rule rule) table zone = (is_utc zone ≡ false) × IsPosixZone rule (zone_of zone)
 IsLocal (of_name name) table zone = (is_utc zone ≡ is_utc_name name) × (zone_named table name ≡ Some (zone_of zone))
 
--- for the verb `timer`, what is seen of the timer file agrees with what is known about it
+-- for the verb `timer`, what the program sees of the timer file agrees with what is known about it
 abbrev pub SeesIf : Bool → Known → List ℕ → Seen → Type 0
 SeesIf true known path seen = Sees known timer_file_limit path seen
 SeesIf false known path seen = Unit {0}
@@ -76,12 +77,12 @@ pub record Fits (known : Known) (ask : Ask) (world : World) : Type 0 where
   pub zones : SeesZones known empty ask.zones world.zones
   pub after : IfOk (table_by empty ask.zones world.zones) (FitsAt known ask world)
 
--- the arguments parse as the world says, and the other parts of the world fit what they ask for
+-- `world.parsed` is what the arguments parse to, and everything else in the world fits what they ask for
 pub record FitsArguments (known : Known) (arguments : List (List ℕ)) (world : World) : Type 0 where
   pub parsed : IsAskOf arguments world.parsed
   pub fits : IfOk world.parsed (λ ask. Fits known ask world)
 
--- What is written
+-- What reaches the outputs
 
 -- The whole text reached the output, unless something failed. In that case the bytes that reached the output and the
 -- bytes left in a buffer that could not be flushed (`held`) are together a prefix of the text.

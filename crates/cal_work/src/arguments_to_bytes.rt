@@ -1,7 +1,7 @@
 //! The program's whole work, from the arguments to the bytes on both outputs and the exit status (systemd-analyze(1)).
 //!
 //! The order is: the arguments, the zone files one after another, the local zone, the clock, opening the timer file,
-//! the run. The first step that fails ends the work, and only its error is reported.
+//! and the run. The first step that fails ends the work, and only its error is reported.
 
 ghost use Rattle.std.specs.Prelude.{◌≡◌, ℕ, List, Option, Result, Ok, Err, Some, None, true, false, is_err, map, option_map, IfOk, IfErr};
 ghost use Rattle.cal_bytes.specs.Bytes.{Writes};
@@ -32,7 +32,7 @@ use std::convert::AsStr;
 /// How the work ended.
 #[derive(Clone, Copy, PartialEq, Eq, Debug)]
 pub struct Ended {
-    /// Exit status.
+    /// The exit status.
     pub status: u8,
     /// Whether everything was written. If not, the reason was reported on standard error, unless standard error is what
     /// failed.
@@ -72,7 +72,8 @@ pub fn work<S: System, T: AsStr, O: Output, E: Sink>(
     }
 }
 
-/// Returns the status once the output is flushed: 1 if the output or an allocation failed, and otherwise `status`.
+/// Returns the exit status after the output is flushed: 1 if the output or an allocation failed, and
+/// otherwise `status`.
 fn status_by(written: Result<(), RunFault>, status: u8) -> u8
     ensures { result ≡ status_by written status }
 {
@@ -139,7 +140,7 @@ fn answer<S: System, O: Sink, E: Sink>(
     run_request(alloc, system, &ask.request, now, local, &table, out, err)
 }
 
-// The steps
+// The steps of `answer`
 
 /// Reads the zone files, in order, into a new table.
 fn read_zones<S: System>(alloc: Global, system: &S, items: &[ZoneItem]) -> Result<ZoneTable, Stop>
@@ -245,7 +246,7 @@ fn read_system_clock<S: System>(system: &S) -> Result<Instant, Stop>
     }
 }
 
-/// Returns the instant with this many seconds, if it is in the supported range.
+/// Returns the instant `secs` seconds after 1970-01-01 00:00:00 UTC, or `None` if it is outside the supported range.
 #[tactic(auto, unfolding(crate::specs::Outcome::instant_in))]
 fn instant_in(secs: i64) -> Option<Instant>
     ensures { option_map (λ now. now.secs) result ≡ instant_in secs }
@@ -253,7 +254,7 @@ fn instant_in(secs: i64) -> Option<Instant>
     Instant::new(secs)
 }
 
-/// Runs a request. For a timer, opens its file first.
+/// Runs a request. For the verb `timer`, opens the timer file first.
 fn run_request<S: System, O: Sink, E: Sink>(
     alloc: Global,
     system: &S,

@@ -84,7 +84,7 @@ fn command_outlet(fault: &CommandFault) -> Outlet
     }
 }
 
-/// Returns where an unusable zone file is reported.
+/// Returns where the error for a zone file that can't be loaded is reported.
 fn load_outlet(fault: LoadFault) -> Outlet
     ensures { result ≡ load_outlet fault }
 {

@@ -9,8 +9,8 @@ ghost use Rattle.cal_work.specs.WorkLaw.{IsOr, TellsAll, known_outcome};
 ghost use Rattle.cal_work.specs.WorkedSystem.{bare_system, daily_world};
 ghost use Rattle.cal_work.specs.Works.{FitsArguments};
 
-/// If everything about the system's files and clock is known, no read fails and `clap` accepts the arguments, there is
-/// only one possible outcome, unless memory runs out: the outcome that is computed from the arguments, the system and
+/// If everything about the system's files and clock is known, no read fails and `clap` accepts the arguments, then,
+/// unless memory runs out, there is only one possible outcome. It can be computed from the arguments, the system and
 /// the zones that `jiff` reads.
 pub fn known_systems_decide()
     ensures { (known : Known) (arguments : List (List ℕ)) (world : World) → TellsAll known → takes_arguments arguments ≡ true

@@ -1,4 +1,4 @@
-//! Loads zone files into the table of zones.
+//! Loading of zone files into the table of zones.
 
 ghost use Rattle.std.specs.Prelude.{◌≡◌, true, false, MatchResult, OnErr};
 ghost use Rattle.cal_civil.specs.headline.ZoneName.{is_zone_name};
@@ -12,15 +12,17 @@ use std::alloc::Global;
 
 /// Why a zone file can't be loaded.
 ///
+/// The errors are numbered:
+///
 /// | number | error |
 /// |---|---|
 /// | 1 | `ReadFailed` |
 /// | 2 | `Zone` |
 #[derive(Clone, Copy, PartialEq, Eq, Debug)]
 pub enum LoadFault {
-    /// Reading the file failed.
+    /// The file can't be opened, or reading it failed.
     ReadFailed,
-    /// The name or the contents of the file are rejected.
+    /// The name or the file is rejected, or memory ran out.
     Zone(ZoneFault),
 }
 

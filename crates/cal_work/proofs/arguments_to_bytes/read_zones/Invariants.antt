@@ -1,4 +1,5 @@
--- Whatever is found of the remaining files, it continues what was found of the earlier files, as `GoesOn` says.
+-- The loop over the zone files keeps `GoesOn`: whatever is found of the files that remain, adding them to the table so
+-- far gives what adding all files to the empty table gives.
 use Rattle.std.proofs.Common.{drop, map}
 use Rattle.cal_command.specs.Ask.{shown_item}
 use Rattle.cal_work.proofs.WorkLemmas.{GoesOn}
