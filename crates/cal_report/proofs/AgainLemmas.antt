@@ -1,5 +1,5 @@
--- Lemmas on the request that continues after some elapse times of a report: its base time is parsed as the last of
--- them.
+-- Lemmas on the request that continues after some elapse times of a report: its base time resolves to the last of these
+-- elapse times.
 use Rattle.std.proofs.Common.{◌≡◌, ◌≤◌, ◌*◌, ◌/◌, ◌∙◌, inl, inr, ℕ, zero, suc, ℤ, pos, negsuc, List, [], ◌∷◌, Option, None, Some, Result, Ok, take, drop, length, length-take, refl, sym, ap, subst, arith, get_or}
 use Rattle.std.proofs.lemmas.Option.{slice_get-get_or}
 use Rattle.std.specs.List.{slice_get}

@@ -1,4 +1,5 @@
--- Lemmas for the theorem on cut output of several texts: the output consists of the reports of the accepted texts.
+-- Lemmas for the law `cut_output_resumes`, on several texts: the whole output consists of the reports of the accepted
+-- texts.
 use Rattle.std.proofs.Common.{◌≡◌, ◌∙◌, ℕ, ℤ, List, [], ◌∷◌, Option, None, Some, Result, Ok, Err, map, codes, refl, sym, ap}
 use Rattle.std.specs.Prelude.{is_err}
 use Rattle.std.specs.List.{AllByRecursion, AllZip, filter_map, flat_map, join_by}

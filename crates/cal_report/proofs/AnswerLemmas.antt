@@ -13,8 +13,8 @@ use Rattle.cal_request.specs.Status.{is_fine, status_and}
 use Rattle.cal_request.specs.declared.request.Status.{Status}
 use Rattle.cal_request.specs.declared.request.Status.TheVariants.{Fine, Refused}
 
--- the text of the remaining reports, with an empty line between consecutive reports; if a report was already written,
--- as the flag says, an empty line also comes before the first remaining report
+-- the remaining reports, with an empty line between consecutive reports, and also one before the first if the flag says
+-- that a report was already written
 pub left_of : Bool → List (List ℕ) → List ℕ
 left_of true reports = flat_map (λ report. codes "\n" ++ report) reports
 left_of false reports = join_by (λ report. report) (codes "\n") reports
@@ -81,7 +81,7 @@ unfolding status_left texts_status
 status_left-none Refused answer = refl
 status_left-none Fine answer = refl
 
--- One iteration of the loop over the texts
+-- One iteration of the loop over the texts: what remains to be written
 
 pub out_next : (a b c : Option (List ℕ)) (answer : List ℕ → Answer) (is_later fine : Bool) (answered : Status) (text : List ℕ) (texts rest : List (List ℕ)) (all : List ℕ) → texts ≡ text ∷ rest → answered ≡ status_in (answer text) → fine ≡ is_fine answered → Leaves a b (reports_left is_later answer texts) all → Appends b c (later_text is_later (answer text)) → Leaves a c (reports_left (is_later || fine) answer rest) all
 out_next a b c answer is_later fine answered text texts rest all e s f l w =
@@ -108,9 +108,10 @@ pub writes_nothing : {T E : Type 0} (a : Option (List ℕ)) (r : Result T E) →
 writes_nothing a (Ok x) = Appends-nil a
 writes_nothing a (Err e) = record { front = []; rest = []; whole = refl; written = Appends-nil a }
 
--- Answering one more text
+-- One iteration of the loop over the texts: what is written so far
 
--- the reports of `done` and any later texts are the reports of `done`, followed by the reports of the later texts
+-- the reports of `done` and any later texts are the reports of `done`, followed by the reports of the later texts as
+-- `reports_left` joins them
 abbrev pub GoesOn : (List ℕ → Answer) → Bool → List (List ℕ) → Type 0
 GoesOn answer is_later done = (rest : List (List ℕ)) → reports_text answer (done ++ rest) ≡ reports_text answer done ++ reports_left is_later answer rest
 

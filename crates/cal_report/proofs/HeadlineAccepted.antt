@@ -1,4 +1,4 @@
--- Lemmas for the main theorem: if the status is `Fine`, every argument was accepted.
+-- Lemmas for the law `headline`: if the status is `Fine`, all arguments, or the timer file, were accepted.
 use Rattle.std.proofs.Common.{◌≡◌, ◌<◌, ◌-◌, ◌++◌, ◌∙◌, ℕ, suc, ℤ, Bool, true, false, not, cond, List, [], ◌∷◌, Option, None, Some, Result, Ok, Err, map, take, drop, filter, length, refl, sym, ap, subst, arith, append_assoc}
 use Rattle.std.proofs.lemmas.List.{take-append-drop}
 use Rattle.std.specs.Prelude.{is_err, nat_le, if◌then◌else◌}
@@ -42,8 +42,8 @@ use Rattle.cal_text.proofs.General.{some_found}
 
 -- If the status is `Fine`, every text was accepted
 
--- the second part of the theorem `one_normal_form_of_fields`, a premise below: `normal_fields` returns a normal form of
--- valid fields (the first part is `HaveOneNormalForm`)
+-- the clause `some` of the law `one_normal_form_of_fields`, which the lemmas below take as a premise: `normal_fields`
+-- returns a normal form of valid fields (`HaveOneNormalForm` is the clause `only`)
 abbrev pub AreNormalForms : Type 0
 AreNormalForms = (f : Fields) → IsValidFields f → IsNormalFieldsOf f (normal_fields f)
 

@@ -1,4 +1,4 @@
--- Lemmas for the main theorem: that elapse times are instants, how a list of elapse times continues after one of its
+-- Lemmas for the law `headline`: that elapse times are instants, how a list of elapse times continues after one of its
 -- elements, and what the clock of the zone shows at an elapse time.
 use Rattle.std.proofs.Common.{◌≡◌, ◌<◌, ◌+◌, ◌++◌, ◌∙◌, ℕ, suc, ℤ, pos, ◌≤ℤ◌, ◌<ℤ◌, ◌-ℤ◌, true, List, Option, None, Some, Result, Ok, Err, map, take, drop, refl, sym, ap, subst, arith}
 use Rattle.std.proofs.Math.Seq.{take-add}
@@ -28,7 +28,7 @@ use Rattle.cal_report.specs.TimestampReport.{stamp_in}
 use Rattle.cal_request.specs.headline.Request.{Request}
 use Rattle.cal_report.proofs.HeadlineLemmas.{one_elapses}
 
--- Instants
+-- Elapse times are instants
 
 second_low : (stamp : Result ℤ StampFault) (base : ℤ) → second_or_fault stamp ≡ Ok base → pos 0 ≤ℤ base
 second_low (Ok micros) base h = grind (arith, ints, signed_arith)

@@ -1,4 +1,4 @@
--- Lemmas for the main theorem: what is printed for accepted expressions and timer files, and that nothing else can be
+-- Lemmas for the law `headline`: what is printed for accepted expressions and timer files, and that nothing else can be
 -- printed.
 use Rattle.std.proofs.Common.{◌≡◌, ◌<◌, ◌++◌, ◌∙◌, ℕ, ℤ, Bool, true, false, List, [], ◌∷◌, Option, None, Some, Result, Ok, map, take, length, codes, refl, sym, ap, subst, arith, append-nil}
 use Rattle.std.specs.Prelude.{is_err, nat_le, if◌then◌else◌}
@@ -40,7 +40,8 @@ use Rattle.cal_request.specs.declared.request.Verb.TheVariants as verb
 
 -- Accepted expressions are parsed as the definitions say
 
--- a theorem of `cal_spec` that the lemmas below take as a premise: valid fields have only one normal form
+-- the clause `only` of the law `one_normal_form_of_fields` of `cal_spec`, which the lemmas below take as a premise:
+-- valid fields have no normal form other than the one that `normal_fields` returns
 abbrev pub HaveOneNormalForm : Type 0
 HaveOneNormalForm = (f g : Fields) → IsValidFields f → IsNormalFieldsOf f g → g ≡ normal_fields f
 
@@ -245,8 +246,8 @@ unfolding unzoned
 all_there asked lists s h =
     rw (none_lacks asked lists.expressions s.expressions h.expressions, none_lacks asked lists.exceptions s.exceptions h.exceptions) refl
 
--- if the base time is valid, and the answer to the timer file is the report `text`, then the run writes only `text`, to
--- standard output, and its status is `Fine`
+-- if the base time is valid, and the answer to the timer file is the report `text`, then `text` goes to standard
+-- output, nothing goes to standard error, and the status is `Fine`
 report_of_file : (asked : Request) (bytes : List ℕ) (base : ℤ) (text : List ℕ) → asked.verb ≡ verb.Timer → base_in asked ≡ Ok base
     → timer_answer asked base (file_name asked) (Ok bytes) ≡ Ok text → report asked (Ok bytes) ≡ record { out = text; err = []; status = Fine }
 unfolding report

@@ -1,4 +1,5 @@
--- Lemmas on a prefix of the reports of several texts, which consists of complete reports and a prefix of the next one.
+-- Lemmas for the law `cut_output_resumes`, on several texts: an output that was cut off consists of complete reports
+-- and a prefix of the next report.
 use Rattle.std.proofs.Common.{◌≡◌, ◌⊎◌, ◌<◌, ◌++◌, ◌∙◌, inl, inr, ℕ, ℤ, Bool, List, [], ◌∷◌, Option, None, Some, Result, Ok, map, length, codes, refl, sym, ap, subst, arith, append-nil, append_assoc, length-append, take}
 use Rattle.std.proofs.Math.Seq.{take-append_seam}
 use Rattle.std.proofs.lemmas.List.{append_cancel_left, length-map}
@@ -70,8 +71,8 @@ cut_among c xs (ys ∷ lists) front rest e =
           })
     ]
 
--- if `b` and `last` are the complete lists and the last prefix of a division as in `CutAmong`, and so are `d` and
--- `more` of a division of the same prefix, then `b` is `d` and `last` is `more`
+-- There is only one way to divide a prefix as in `CutAmong`: if one division has the complete lists `b` and then the
+-- prefix `last`, and another has `d` and then `more`, then `b` is `d` and `last` is `more`.
 one_cut : {A : Type 0} (c : A) (lists b d : List (List A)) (x y : List A) (a e : List (List A)) (last rest more others : List A)
     → lists ≡ b ++ (x ∷ a) → lists ≡ d ++ (y ∷ e) → x ≡ last ++ rest → y ≡ more ++ others
     → flat_map (λ xs. xs ++ (c ∷ [])) b ++ last ≡ flat_map (λ xs. xs ++ (c ∷ [])) d ++ more → (b ≡ d) × (last ≡ more)
@@ -100,8 +101,8 @@ one_cut c (v ∷ lists) (z ∷ b) (w ∷ d) x y a e last rest more others p q cu
     let later = one_cut c lists b d x y a e last rest more others left right cut cut_again parts in
     (ap (λ zs. z ∷ zs) later.0 ∙ ap (λ front. front ∷ d) heads, later.1)
 
--- `xs` consists of elements `first` that `f` maps to `before`, an element `x` that `f` maps to `y`, and further
--- elements
+-- `xs` consists of elements `first` that `f` maps to `before`, an element `x` that `f` maps to `y`, and the elements
+-- `others`
 record MapAmong {A B : Type 0} (f : A → B) (xs : List A) (before : List B) (y : B) (after : List B) : Type 0 where
   first : List A
   x : A
@@ -196,8 +197,8 @@ module _ (one : HaveOneNormalForm) (asked : Request) (read : Result (List ℕ) W
             (accepted_alone asked parts.x.text parts.x accepted) begins;
       }
 
-  -- if standard output consists of the reports of these expressions, at least one, then each prefix `front` of it can
-  -- be continued as `ResumesAmong` says
+  -- if standard output consists of the reports of these expressions, and there is at least one, then every prefix
+  -- `front` of it can be continued as `ResumesAmong` says
   reports_resume : (es : List Expression) (front rest : List ℕ) → AllByRecursion (IsAccepted asked) es → AreReportsOf asked base es (report asked read).out
       → 0 < length es → (report asked read).out ≡ front ++ rest → ResumesAmong asked base es read front
   reports_resume [] front rest all reports some cut = absurd (omega arith)
@@ -212,8 +213,8 @@ module _ (one : HaveOneNormalForm) (asked : Request) (read : Result (List ℕ) W
   texts_resume some es front rest among any cut =
       reports_resume es front rest (all_accepted asked asked.texts es among) (reports_are_among one some asked read base es verb sought among) any cut
 
--- if `front` is divided in two ways as in `ResumesAmong`, both ways have the same complete reports `before` and the
--- same prefix `last` of the next report
+-- if `front` is divided in two ways as in `ResumesAmong`, both divisions have the same expressions `before`, whose
+-- reports are complete, and the same prefix `last` of the next report
 pub one_place : (asked : Request) (base : ℤ) (es : List Expression) (read : Result (List ℕ) WholeFault) (front : List ℕ) (p q : ResumesAmong asked base es read front)
     → (p.before ≡ q.before) × (p.last ≡ q.last)
 one_place asked base es read front p q =

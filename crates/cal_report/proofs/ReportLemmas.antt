@@ -30,7 +30,7 @@ pub error_reported : (r : Result Status RunFault) (a d e : Option (List ℕ)) (r
     → answer ≡ Err line → IfOk r (λ status. status ≡ Refused) → HadMemory read → Writes d e r line → IsReported r a a d e read (whole_report answer)
 error_reported r a d e read line answer is status had err = rw is (record { status = status; had = if_ok r (HadMemory read) had; out = writes_nothing a r; err = err; unread = λ h. absurd (had h) })
 
--- The contract of `run` in each of its cases
+-- The contract of `run`: an invalid base time, and a verb other than `timer`
 
 nothing_had : HadMemory (Ok [])
 nothing_had h = cc
@@ -61,7 +61,7 @@ texts_reported asked a b c d e failed r base is plain works status out err =
       holds = rw (is, plain) (record { status = status; had = if_ok r (HadMemory (Ok [])) nothing_had; out = out; err = err; unread = λ h. absurd (nothing_had h) });
     }
 
--- the empty text is a prefix of every text, and every text is a prefix of itself
+-- a run that wrote nothing wrote a prefix of any text, and a run that wrote a whole text wrote a prefix of it
 pub nothing_front : (a : Option (List ℕ)) (text : List ℕ) → AppendsFront a a text
 nothing_front a text = record { front = []; rest = text; whole = refl; written = Appends-nil a }
 

@@ -1,5 +1,5 @@
--- Lemmas for the theorem on cut output: how many elapse times have a complete first line in a prefix of a report, and
--- what a request shows that continues after them.
+-- Lemmas for the law `cut_output_resumes`, on one report: how many elapse times have a complete first line in a prefix
+-- of the report, and what a request that continues after them shows.
 use Rattle.std.proofs.Common.{◌≡◌, ◌↔◌, ◌≤◌, ◌<◌, ◌+◌, ◌++◌, ◌∙◌, ℕ, zero, suc, ℤ, Bool, true, false, List, [], ◌∷◌, Option, None, Some, Result, Ok, Err, map, take, drop, length, codes, nat_le, refl, sym, ap, subst, arith, append-nil, append_assoc, length-append}
 use Rattle.std.proofs.Math.Seq.{take-append_seam}
 use Rattle.std.proofs.lemmas.Bool.Decides.{nat_tests}
@@ -82,7 +82,7 @@ end_of_later local now number start x before elapse =
     = ap (λ (n : ℕ). length (first_line local n elapse)) (omega arith) in
     omega (arith, same, length-append (elapse_text local now number x) (elapse_texts local now (number + 1) before))
 
--- of the first lines of all elapse times, the one of the first elapse time `x` ends first
+-- no first line ends before the first line of the first elapse time, `x`
 end_low : (local : Zone) (now : ℤ) (number start : ℕ) (x : ℤ) (xs before : List ℤ) (elapse : ℤ) (after : List ℤ)
     → x ∷ xs ≡ before ++ (elapse ∷ after) → start + length (first_line local number x) ≤ line_end local now number start before elapse
 end_low local now number start x xs [] elapse after split =
@@ -314,7 +314,7 @@ module _ (asked : Request) (base : ℤ) (shown : List ℤ) (k : ℕ) (again : Re
       ∙ (ap (λ (z : Zone). headings s ++ elapses_text z again.now (drop k shown)) begun.local
       ∙ ap (λ (i : ℤ). headings s ++ elapses_text asked.local i (drop k shown)) begun.now))
 
--- How a prefix of a report resumes
+-- How to continue a prefix of a report
 
 of_reports : (asked : Request) (base : ℤ) (e : Expression) (text : List ℕ) (reports : List (List ℕ))
     → AllZip (λ e report. IsReportOf asked base (alone e) report) (e ∷ []) reports
@@ -370,7 +370,7 @@ file_resumes one asked bytes base s front rest verb sought file all cut =
     (timer_report_is one again bytes begun.from s (begun.verb ∙ verb) begun.sought file
     (all_accepted_again asked base shown k again begun s all)).0)
 
--- What a run writes, complete or cut
+-- What a run writes, whether or not it is cut off
 
 -- whatever a call returns, what it wrote is a prefix of what it should have written
 pub front_written : {T E : Type 0} (result : Result T E) (old new : Option (List ℕ)) (text : List ℕ) → Writes old new result text → AppendsFront old new text

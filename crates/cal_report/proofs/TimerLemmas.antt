@@ -1,4 +1,5 @@
--- Lemmas on the report of a timer file: merging the elapse times line by line, and the headings of the lines.
+-- Lemmas on the report of a timer file: all zones are known, the merge yields the elapse times of the file, and the
+-- headings are those of its lines.
 use Rattle.std.proofs.Common.{◌≢◌, Result, Ok, ◌≡◌, ℕ, zero, suc, ◌+◌, ◌<◌, ◌++◌, Bool, true, false, List, [], ◌∷◌, length, map, take, drop, get_or, Option, None, Some, ℤ, pos, ◌≤ℤ◌, refl, ap, ◌∙◌, string_bytes, arith}
 use Rattle.std.specs.List.{find, flat_map}
 use Rattle.std.specs.Option.{option_map, unwrap_or}
@@ -46,7 +47,7 @@ pub zoned_at : (asked : Request) (lines : List declared_line.TimerLine) (i : ℕ
 zoned_at asked lines i line h is none =
     false_from_ne_true (lacks_zone asked (shown line)) (λ lacks. line_found (lacks_zone asked) lines i line h is lacks (none_mapped (find (lacks_zone asked) (map shown lines)) none))
 
--- if the smaller of two line numbers is missing, then both are missing
+-- the smaller of two line numbers is missing only if both are missing
 lesser_none : (a b : Option ℕ) → lesser_line a b ≡ None → (a ≡ None) × (b ≡ None)
 lesser_none None b h = (refl, h)
 lesser_none (Some x) None h = cc
@@ -90,6 +91,6 @@ pub plan_answers : (asked : Request) (base : ℤ) (read : Result (List ℕ) Whol
 unfolding timer_answer timer_report
 plan_answers asked base read lists merge is m name = rw (is, m.found, merge_whole asked base lists merge m) refl
 
--- if parsing returns lists, or an error other than `NoMemory`, then reading didn't run out of memory
+-- if the timer file was parsed to `lists`, then reading it didn't run out of memory
 pub had_lists : (read : Result (List ℕ) WholeFault) (lists : Timer Fields) → timer_text expr_in read ≡ Ok lists → HadMemory read
 had_lists read lists is none = let never = rw none at is in cc

@@ -18,8 +18,8 @@ use Rattle.cal_request.specs.headline.Request.{Request}
 use Rattle.cal_report.specs.headline.CalendarReport.{heading_text}
 use Rattle.cal_report.specs.headline.ReportLines.{original_label}
 
--- the report of an expression that has these elapse times: its heading, and its first elapse times, at most
--- `asked.iterations` of them
+-- the report of an expression with these elapse times: its heading, and the first `asked.iterations` of its elapse
+-- times
 abbrev pub report_of_elapses : Request → List ℕ → Fields → List ℤ → List ℕ
 report_of_elapses asked text fields elapses =
     joined (heading_text original_label text fields ∷ elapses_text asked.local asked.now (take asked.iterations elapses) ∷ [])
@@ -28,9 +28,8 @@ report_of_elapses asked text fields elapses =
 unfoldable pub calendar_report : Request → ℤ → List ℕ → Fields → TimeZone → List ℕ
 calendar_report asked base text fields tz = report_of_elapses asked text fields (elapses_after (timed fields tz ∷ []) base)
 
--- The zone in which an expression is evaluated: the local zone if the expression has no zone suffix, the fixed zone
--- with its UTC offset if it has one, and otherwise the zone of its name in the table, or `None` if the table doesn't
--- have it.
+-- The zone in which an expression with this zone suffix is evaluated: the local zone if there is no suffix, the fixed
+-- zone at a UTC offset, or the zone of a name in the table. The result is `None` if the table has no zone of that name.
 unfoldable pub zone_for : Request → Option ZoneSuffix → Option TimeZone
 zone_for asked None = Some (zone_of asked.local)
 zone_for asked (Some (of_name name)) = zone_named asked.zones name

@@ -23,8 +23,8 @@ use Rattle.cal_request.specs.declared.request.Verb.{Verb}
 use Rattle.cal_request.specs.declared.request.Verb.TheVariants.{Calendar, Timer, Timestamp, Timespan}
 use Rattle.cal_report.specs.headline.Report.{Report}
 
--- the answer to one argument of this verb, for this base time; not meant for `timer`, whose argument is the name of a
--- file: `timer_answer` defines the answer to it
+-- The answer to one argument of this verb, for this base time. The equation for `Timer` is never used: the argument of
+-- `timer` is the name of a file, and `timer_answer` is the answer to that file.
 abbrev pub answer_by : Verb → Request → ℤ → List ℕ → Answer
 answer_by Calendar asked base text = calendar_answer asked base text
 answer_by Timestamp asked base text = timestamp_answer asked text
@@ -92,9 +92,9 @@ abbrev pub ReadsIf : Bool → Option (List ℕ) → Option (List ℕ) → Result
 ReadsIf true old new read = ReadsWhole old new timer_file_limit read
 ReadsIf false old new read = (new ≡ old) × (read ≡ Ok [])
 
--- How the bytes that a run wrote and its result agree with a report. If the run returns `Ok`, it wrote the whole report
--- and returns its status, and reading the input didn't run out of memory. If the run returns an error, it wrote a
--- prefix of the report, and nothing at all if reading the input ran out of memory.
+-- The bytes that a run wrote and its `result` agree with `report`. If the run returns `Ok`, it wrote the whole report
+-- and returns the report's status, and reading the input didn't run out of memory. If the run returns an error, it
+-- wrote a prefix of the report, and nothing at all if reading the input ran out of memory.
 pub record IsReported (result : Result Status RunFault) (out_old out_new err_old err_new : Option (List ℕ)) (read : Result (List ℕ) WholeFault) (report : Report) : Type 0 where
   pub status : IfOk result (λ status. status ≡ report.status)
   pub had : IfOk result (λ status. HadMemory read)
@@ -102,8 +102,8 @@ pub record IsReported (result : Result Status RunFault) (out_old out_new err_old
   pub err : Writes err_old err_new result report.err
   pub unread : read ≡ Err NoMemory → (out_new ≡ out_old) × (err_new ≡ err_old)
 
--- `holds_of` is true of some result of reading the input, together with the report of the request for this result.
--- `failed`, whether the input has failed, is true if and only if reading it failed.
+-- There is a result `read` of reading the input such that `holds_of` is true of `read` and of the report of the request
+-- for `read`. `failed` says whether the input has failed, which is so if and only if reading it failed.
 pub record ByReading (asked : Request) (old new : Option (List ℕ)) (failed : Bool) (holds_of : Result (List ℕ) WholeFault → Report → Type 0) : Type 0 where
   pub read : Result (List ℕ) WholeFault
   pub input : ReadsIf (reads_input asked) old new read

@@ -1,5 +1,5 @@
--- How to continue a cut output: which of the elapse times shown have a complete first line in a prefix of a report, and
--- which request shows the remaining ones (systemd-analyze(1), calendar, --iterations= and --base-time=;
+-- How to continue an output that was cut off: which of the elapse times shown have a complete first line in a prefix of
+-- a report, and which request shows the remaining ones (systemd-analyze(1), calendar, --iterations= and --base-time=;
 -- systemd.timer(5), OnCalendar=).
 use Rattle.std.specs.Prelude.{◌≡◌, ◌↔◌, ◌≤◌, ◌<◌, ◌+◌, ◌-◌, ◌++◌, ℕ, zero, suc, ℤ, List, [], ◌∷◌, Option, None, Some, Result, Ok, take, drop, length, slice_get, codes, option_map}
 use Rattle.std.specs.List.{AllZip, filter_map, flat_map}
@@ -21,7 +21,7 @@ pub record AreShown (asked : Request) (base : ℤ) (s : Schedule) (shown : List 
 abbrev pub showing : Request → Schedule → List ℤ → List ℕ
 showing asked s shown = headings s ++ elapses_text asked.local asked.now shown
 
--- the report up to and including the line feed of the first line of `elapse`, if exactly the elapse times `before` come
+-- the report up to and including the line feed of the first line of `elapse`, if `before` are the elapse times shown
 -- before `elapse`
 abbrev pub up_to_line : Request → Schedule → List ℤ → ℤ → List ℕ
 up_to_line asked s before elapse =
@@ -44,8 +44,8 @@ abbrev pub IsBaseAfter : ℤ → List ℤ → ℕ → ℤ → Type 0
 IsBaseAfter base shown zero from = from ≡ base
 IsBaseAfter base shown (suc before) from = slice_get shown before ≡ Some from
 
--- `again` is the request that continues `asked` after the first `k` elapse times shown: its base time is the last of
--- them, and it asks for `k` elapse times fewer.
+-- `again` is a request that continues `asked` after the first `k` elapse times shown: its base time is the last of
+-- them, and it asks for `k` fewer elapse times. If `k` is 0, it has the old base time.
 pub record IsBegunAgain (asked : Request) (base : ℤ) (shown : List ℤ) (k : ℕ) (again : Request) : Type 0 where
   pub verb : again.verb ≡ asked.verb
   pub texts : again.texts ≡ asked.texts
@@ -63,12 +63,13 @@ abbrev pub base_after : Option (List ℕ) → List ℤ → ℕ → Option (List 
 base_after base shown zero = base
 base_after base shown (suc before) = option_map base_text (slice_get shown before)
 
--- the request that continues `asked` after the first `k` elapse times shown, and asks for `k` elapse times fewer
+-- the request that continues `asked` after the first `k` elapse times shown, and asks for `k` fewer elapse times
 abbrev pub begun_again : Request → List ℤ → ℕ → Request
 begun_again asked shown k = record asked { iterations = asked.iterations - k; base = base_after asked.base shown k }
 
--- How to continue a prefix `front` of the report: exactly one `number` is the number of elapse times whose first line
--- is complete in `front`, and every request that continues after these elapse times shows exactly the remaining ones.
+-- How to continue a prefix `front` of the report. Exactly the first `number` elapse times have a complete first line in
+-- `front`, and this is true of no other number. Every request that continues after these elapse times shows exactly the
+-- remaining ones.
 pub record Resumes (asked : Request) (base : ℤ) (s : Schedule) (read : Result (List ℕ) WholeFault) (front : List ℕ) : Type 0 where
   pub shown : List ℤ
   pub these : AreShown asked base s shown
@@ -79,7 +80,7 @@ pub record Resumes (asked : Request) (base : ℤ) (s : Schedule) (read : Result 
   pub others : (again : Request) → IsBegunAgain asked base shown number again
       → (report again read).out ≡ showing asked s (drop number shown)
 
--- whether a text is rejected (`None`), or is the text of this accepted expression (`Some`)
+-- the text is rejected (`None`), or it is the text of this accepted expression (`Some`)
 abbrev pub IsReadAs : Request → List ℕ → Option Expression → Type 0
 IsReadAs asked text None = IsRejected asked text
 IsReadAs asked text (Some e) = (text ≡ e.text) × IsAccepted asked e
@@ -98,9 +99,9 @@ for_text asked text = record asked { texts = text ∷ [] }
 abbrev pub report_of_one : Request → Result (List ℕ) WholeFault → Expression → List ℕ
 report_of_one asked read e = (report (for_text asked e.text) read).out
 
--- How to continue a prefix `front` of the reports of several expressions. It consists of the complete reports of the
--- expressions in `before`, each followed by an empty line, and of a prefix `last` of the report of `e`. To continue
--- `last`, proceed as if `e` had been the only argument.
+-- How to continue a prefix `front` of the reports of several expressions. The prefix consists of the complete reports
+-- of the expressions in `before`, each followed by an empty line, and of a prefix `last` of the report of `e`. To
+-- continue `last`, proceed as if `e` had been the only argument.
 pub record ResumesAmong (asked : Request) (base : ℤ) (es : List Expression) (read : Result (List ℕ) WholeFault) (front : List ℕ) : Type 0 where
   pub before : List Expression
   pub e : Expression

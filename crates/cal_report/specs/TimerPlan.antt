@@ -34,8 +34,8 @@ timer_error_line (errors.Timer fault) = line_of fault
 timer_error_line (errors.NoSuchZone line) = Some line
 timer_error_line errors.NoMemory = None
 
--- the error says that the line with this number names a zone missing from the zone table; if there is no number, no
--- error does
+-- the error says that the line with this number names a zone missing from the zone table; without a number, this is
+-- true of no error
 abbrev pub IsUnzoned : Option ℕ → TimerError → Type 0
 IsUnzoned None error = ⊥
 IsUnzoned (Some number) error = error ≡ errors.NoSuchZone number
@@ -59,8 +59,8 @@ pub record IsAdded (asked : Request) (base : ℤ) (list exceptions : List (Timer
   pub are_kept : AreKept (map (timed_entry asked) list) (map (timed_entry asked) exceptions) kept
   pub is : new ≡ record { started = false; lists = old.lists ++ each_after kept base; exceptions = old.exceptions }
 
--- no line names a zone missing from the zone table, and the merge yields the elapse times of all expressions without
--- those of the exceptions
+-- no line names a zone missing from the zone table, and the merge yields the elapse times of all expressions, without
+-- the elapse times of the exceptions
 pub record IsMergeOf (asked : Request) (base : ℤ) (lists : Timer Fields) (merge : Merge) : Type 0 where
   pub found : unzoned asked lists ≡ None
   pub is : merged merge ≡ elapses_of_lists asked base lists

@@ -30,8 +30,8 @@ error_line_at name (Some line) message = joined (name ∷ codes ":" ∷ decimal 
 abbrev pub lacks_zone : Request → TimerLine Fields → Bool
 lacks_zone asked e = is_none (zone_for asked e.expr.zone)
 
--- the expression in its zone, or in UTC if its zone is missing from the zone table; `answer_unless` gives no report of
--- a file with a missing zone
+-- the expression in its zone, or in UTC if its zone is missing from the zone table; UTC is then only a placeholder,
+-- since `answer_unless` is an error line if a zone is missing
 unfoldable pub timed_entry : Request → TimerLine Fields → Timed
 timed_entry asked e = timed e.expr (unwrap_or (zone_for asked e.expr.zone) UTC)
 
@@ -40,7 +40,7 @@ timed_entry asked e = timed e.expr (unwrap_or (zone_for asked e.expr.zone) UTC)
 unfoldable pub headings_text : List ℕ → List (TimerLine Fields) → List ℕ
 headings_text label = flat_map (λ e. heading_text label e.text e.expr)
 
--- the headings of the expressions, and after them those of the exceptions
+-- the headings of the expressions, followed by the headings of the exceptions
 abbrev pub lists_text : Timer Fields → List ℕ
 lists_text lists = joined (headings_text original_label lists.expressions ∷ headings_text except_label lists.exceptions ∷ [])
 

@@ -11,7 +11,7 @@ use Rattle.cal_report.specs.Answer.{Answer}
 abbrev pub micro_label : List ℕ
 micro_label = codes "\n      " ++ (206 ∷ 188 ∷ codes "s: ")
 
--- the time span as the user gave it, in microseconds, and in the form in which spans are printed
+-- the time span as the user gave it, its number of microseconds, and the span in units, as in `1h 30min`
 unfoldable pub timespan_report : List ℕ → ℕ → List ℕ
 timespan_report text micros =
     joined (codes "Original: " ∷ text ∷ micro_label ∷ decimal micros ∷ codes "\n   Human: " ∷ span_text micros ∷ codes "\n" ∷ [])

@@ -1,4 +1,4 @@
--- The definitions that the statement of the main theorem, `headline`, rests on.
+-- The definitions of this crate that the law `headline` rests on.
 pub mod CalendarReport
 pub mod ElapseLines
 pub mod Headline

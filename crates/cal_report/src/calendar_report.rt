@@ -40,7 +40,7 @@ pub fn write_calendar<W: Sink, S: Rising>(
     )
 }
 
-/// Writes two lines: `label` and the expression as the user gave it, and the expression's normal form.
+/// Writes two lines: one with `label` and the expression as it was given, and one with its normal form.
 #[tactic(auto, using(cal_bytes::proofs::PutLemmas::puts), unfolding(crate::specs::headline::CalendarReport::heading_text))]
 pub fn put_heading<W: Sink>(
     out: &mut W,

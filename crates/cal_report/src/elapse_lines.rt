@@ -40,7 +40,8 @@ pub fn put_elapses<W: Sink, S: Rising>(
     }
 }
 
-/// Writes the elapse times after the first, which is already written, with labels that count from 2.
+/// Writes the elapse times after the first one, which is already written, up to `iterations` in total. Their labels
+/// count from 2.
 fn put_more<W: Sink, S: Rising>(
     out: &mut W,
     elapses: &mut S,

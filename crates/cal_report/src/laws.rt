@@ -1,5 +1,5 @@
-//! The main theorem about the program, and the theorem on resuming a cut output. Each is the contract of a function
-//! that does nothing when it is called.
+//! The law `headline`, which says what a report contains, and the law `cut_output_resumes`, which says how to continue
+//! a report that was cut off. Each law is the contract of a function that does nothing when it is called.
 
 ghost use Rattle.std.specs.Prelude.{◌≡◌, ◌+◌, ◌++◌, ◌∷◌, [], ℕ, ℤ, pos, ◌<ℤ◌, ◌-ℤ◌, ◌<◌, Bool, List, Ok, None, Option, Some, Result, map, suc, take, drop, length, slice_get, true};
 ghost use Rattle.std.specs.Io.KnownBytes.{Appends};
@@ -33,10 +33,11 @@ use cal_spec::laws::one_normal_form_of_fields;
 /// instant alone; an iteration count n gives the first n, and starting again at any printed instant gives exactly the
 /// rest; want of memory aside.
 ///
-/// A matching instant is the place of a local second that matches. In a timer file it is also not an elapse of an
-/// exception.
+/// A matching instant is the place of a local second that matches. For a timer file, an elapse of an exception is not a
+/// matching instant.
 pub fn headline()
-    // If every expression is accepted, the report consists of a heading for each, followed by its first elapse times.
+    // If every expression is accepted, the report shows each of them in order: its heading, and then its first elapse
+    // times.
     ensures calendar { (asked : Request) (read : Result (List ℕ) WholeFault) (base : ℤ) (es : List Expression)
         → asked.verb ≡ Calendar → base_in asked ≡ Ok base
         → asked.texts ≡ map (λ (e : Expression). e.text) es → AllByRecursion (IsAccepted asked) es
@@ -88,8 +89,8 @@ pub fn headline()
         → AreElapses ts exceptions base xs → AreElapses ts exceptions base ys → xs ≡ ys }
 
     // Each elapse time is an instant, and `@` with the seconds of an instant is a valid base time for the same instant.
-    // If an elapse time is the next base time, the elapse times after it are exactly those that follow it in the list,
-    // so a list can be printed in parts.
+    // If one of the elapse times is the next base time, the elapse times after this base are exactly those that follow
+    // it in the list. So a list can be printed in parts.
     ensures instants { (asked : Request) (base : ℤ) (s : Schedule) (xs : List ℤ) → IsInstant asked.now
         → base_in asked ≡ Ok base → AreElapsesOf s base xs → AreInstants xs }
     ensures based { (asked : Request) (secs : ℤ) → IsInstant secs → base_in (started_at asked secs) ≡ Ok secs }
@@ -122,13 +123,13 @@ pub fn headline()
 /// reduced by their number, prints exactly the remaining ones, with labels that count from 1 again. If no elapse time
 /// has a complete first line, the original request has to be run again.
 pub fn cut_output_resumes()
-    // For a request of one calendar expression whose report begins with `front`.
+    // If one calendar expression is requested, and its report begins with `front`.
     ensures calendar { (asked : Request) (read : Result (List ℕ) WholeFault) (base : ℤ) (e : Expression)
         (front rest : List ℕ) → asked.verb ≡ Calendar → base_in asked ≡ Ok base → asked.texts ≡ e.text ∷ []
         → IsAccepted asked e → (report asked read).out ≡ front ++ rest → Resumes asked base (alone e) read front }
-    // For any number of texts, of which `es` are the accepted expressions. The prefix consists of some complete reports
-    // and of a prefix of the next report, and this last report resumes as if its expression had been requested alone.
-    // There is only one way to divide the prefix like that.
+    // If any number of texts is requested, of which `es` are the accepted expressions. The prefix `front` consists of
+    // some complete reports and of a prefix of the next report. That report can be continued as if its expression had
+    // been requested alone. There is only one way to divide `front` like that.
     ensures several { (asked : Request) (read : Result (List ℕ) WholeFault) (base : ℤ) (es : List Expression)
         (front rest : List ℕ) → asked.verb ≡ Calendar → base_in asked ≡ Ok base → AreAcceptedAmong asked asked.texts es
         → 0 < length es → (report asked read).out ≡ front ++ rest → ResumesAmong asked base es read front }
@@ -141,7 +142,7 @@ pub fn cut_output_resumes()
         → AreAcceptedAmong asked texts es → AreAcceptedAmong asked texts fs → es ≡ fs }
     ensures nothing { (asked : Request) (read : Result (List ℕ) WholeFault) (base : ℤ) → asked.verb ≡ Calendar
         → base_in asked ≡ Ok base → AreAcceptedAmong asked asked.texts [] → (report asked read).out ≡ [] }
-    // For a timer file whose report begins with `front`.
+    // If a timer file is requested, and its report begins with `front`.
     ensures timer { (asked : Request) (bytes : List ℕ) (base : ℤ) (s : Schedule) (front rest : List ℕ)
         → asked.verb ≡ Timer → base_in asked ≡ Ok base → IsFileOf bytes s → AreAllAccepted asked s
         → (report asked (Ok bytes)).out ≡ front ++ rest → Resumes asked base s (Ok bytes) front }

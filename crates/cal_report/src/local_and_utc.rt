@@ -50,7 +50,7 @@ impl<'z> LocalAndUtc<'z> {
         self.local.push(text, instant);
     }
 
-    /// Appends a labelled line with the instant in UTC, at most 102 bytes. Appends nothing if the local zone is UTC.
+    /// Appends a line with a label and the instant in UTC, at most 102 bytes. Appends nothing if the local zone is UTC.
     #[tactic(auto, unfolding(crate::specs::headline::ReportLines::utc_line))]
     pub fn push_utc_line(&mut self, text: &mut ShortText, instant: Instant)
         requires room { length text.old.items + 102 ≤ SHORT_TEXT_ROOM }

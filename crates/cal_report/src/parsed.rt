@@ -71,7 +71,7 @@ impl TextError {
 /// Parses `text` as an argument of the request's verb, which must not be [`Verb::Timer`].
 ///
 /// Everything that the report of this argument needs is allocated here, so that writing the report cannot run out of
-/// memory. Timestamps and time spans allocate nothing.
+/// memory. Parsing a timestamp or a time span allocates nothing.
 #[tactic(auto, unfolding(crate::specs::TimespanReport::timespan_answer, crate::specs::TimestampReport::timestamp_answer))]
 pub fn read_text<'a>(
     alloc: Global,
@@ -140,9 +140,9 @@ fn read_calendar<'a>(
     }
 }
 
-/// Returns the zone in which an expression is evaluated: the local zone if the expression has no zone suffix, the fixed
-/// zone with its UTC offset if it has one, and otherwise the zone of its name in the table, or `None` if the table
-/// doesn't have it.
+/// Returns the zone in which an expression is evaluated. Without a zone suffix this is the local zone, with a UTC
+/// offset it is the fixed zone at that offset, and with a zone name it is the zone of that name in the table. Returns
+/// `None` if the table has no zone of that name.
 #[tactic(auto, unfolding(crate::specs::CalendarReport::zone_for))]
 pub fn zone_for<'a>(context: Context<'a>, expr: &Expr) -> Option<Zone<'a>>
     ensures { option_map zone_of result ≡ zone_for (asked_by context.entry) expr.now.zone }
@@ -156,7 +156,8 @@ pub fn zone_for<'a>(context: Context<'a>, expr: &Expr) -> Option<Zone<'a>>
     }
 }
 
-/// Writes the report of a parsed argument. If it `is_later` than another report, an empty line comes first.
+/// Writes the report of a parsed argument. `is_later` says whether another report precedes it; if so, an empty line is
+/// written first.
 #[tactic(auto, using(cal_bytes::proofs::PutLemmas::puts))]
 pub fn put_report<W: Sink>(
     out: &mut W,

@@ -42,7 +42,7 @@ use std::alloc::Global;
 /// only if `err` did; each writer then has a prefix of what it should have received. Fails with [`RunFault::NoMemory`]
 /// if allocation fails. All allocations for an argument happen before the first byte of its report is written. So if
 /// one of these allocations fails, the earlier arguments are answered completely, and nothing is written for this
-/// argument and the later ones. Timestamps and time spans allocate nothing.
+/// argument and the later ones. Requests for timestamps and time spans allocate nothing.
 #[tactic(auto, unfolding(crate::specs::Report::report))]
 pub fn run<R: Source, O: Sink, E: Sink>(
     alloc: Global,
@@ -216,8 +216,8 @@ pub fn file_name(request: &Request) -> &str
     }
 }
 
-/// Writes an error line about `text`, an argument or the name of a file. `line` is the number of the invalid line of
-/// the file, if the error concerns one line.
+/// Writes an error line that begins with `text`: an argument, the name of the timer file, or `--base-time`. `line` is
+/// the number of the invalid line of the file, if the error concerns one line. Returns [`Status::Refused`].
 fn report_error<E: Sink>(
     err: &mut E,
     text: &str,

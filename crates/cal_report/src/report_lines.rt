@@ -14,10 +14,10 @@ use cal_zone::{Instant, Moment};
 /// The label before an expression or a timestamp, which is shown as the user gave it.
 pub const ORIGINAL_LABEL: &[u8] = b"  Original form: ";
 
-/// The label before an exception of a timer file, which is shown as it is written in the file.
+/// The label before an exception of a timer file. The exception is shown as it is written in the file.
 pub const EXCEPT_LABEL: &[u8] = b"    Except form: ";
 
-/// Writes `label` and the text as the user gave it, and begins the next line with the label `Normalized form:`.
+/// Writes a line with `label` and `text`, and begins the next line with the label `Normalized form:`.
 pub fn put_text<W: Sink>(out: &mut W, label: &[u8], text: &str) -> Result<(), WriteFault>
     requires { W.is_failed out.old ≡ false }
     ensures { Puts W.Sink out.old out.new result (text_line label.now text.now) }
@@ -60,7 +60,7 @@ fn direction<'a>(now: Moment, moment: Moment) -> &'a [u8]
     }
 }
 
-/// Returns the time span between two moments, whichever is earlier.
+/// Returns the time span between two moments, whichever of them is earlier.
 fn distance(now: Moment, moment: Moment) -> Span
     ensures { result.micros ≡ unsigned_abs (moment.micros -ℤ now.micros) }
 {

@@ -32,8 +32,8 @@ use cal_read::{Timer, TimerFault, TimerLine, read_timer};
 use cal_spec::Expr;
 use std::alloc::{AllocError, Global};
 
-/// A parsed timer file, together with the iterator over the elapse times of its expressions without those of its
-/// exceptions.
+/// A parsed timer file, together with the iterator over the elapse times of its expressions, without the elapse times
+/// of its exceptions.
 #[derive(Drop)]
 pub struct TimerPlan<'a> {
     timer: Timer,
@@ -113,8 +113,9 @@ pub fn read_plan<'a, R: Source>(
     }
 }
 
-/// Creates the iterator over the elapse times of all expressions without those of the exceptions. Each expression and
-/// each exception is evaluated in its own zone.
+/// Creates the iterator over the elapse times of all expressions, without the elapse times of the exceptions. Each
+/// expression and each exception is evaluated in its own zone. Fails with [`TimerError::NoSuchZone`] if one of these
+/// zones isn't in the zone table.
 fn merge_of<'a>(
     alloc: Global,
     context: Context<'a>,
@@ -165,8 +166,8 @@ fn first_unzoned(context: Context<'_>, lines: &[TimerLine]) -> Option<u32>
     None
 }
 
-/// Adds the elapse times of expressions to a merge. The zones of all expressions must be known, and nothing may have
-/// been removed from the merge yet.
+/// Adds the elapse times of expressions to a merge. The zones of all expressions must be known, and the merge must not
+/// have returned an elapse time yet.
 ///
 /// Skips an expression that an exception covers: the merge would suppress all its elapse times anyway, but one by one,
 /// which could take very long.
@@ -232,7 +233,7 @@ fn is_same_zone(one: &Expr, other: &Expr) -> bool
 }
 
 /// Adds the elapse times of exceptions to a merge, which then suppresses them. The zones of all exceptions must be
-/// known, and nothing may have been removed from the merge yet.
+/// known, and the merge must not have returned an elapse time yet.
 fn add_exceptions<'a>(
     alloc: Global,
     context: Context<'a>,
@@ -292,7 +293,7 @@ pub fn write_timer<W: Sink>(
     )
 }
 
-/// Writes the headings of the expressions, and after them those of the exceptions.
+/// Writes the headings of the expressions, followed by the headings of the exceptions.
 #[tactic(auto, using(cal_bytes::proofs::PutLemmas::puts))]
 fn put_lists<W: Sink>(out: &mut W, timer: &Timer) -> Result<(), WriteFault>
     requires { W.is_failed out.old ≡ false }

@@ -1,5 +1,5 @@
-//! The report of one time span (systemd-analyze(1), timespan): the span as given, in microseconds, and in the form in
-//! which spans are printed.
+//! The report of one time span (systemd-analyze(1), timespan): the span as given, its number of microseconds, and the
+//! span as [`format_span`] prints it, as in `1h 30min`.
 
 ghost use Rattle.std.specs.Prelude.{◌≡◌, false};
 ghost use Rattle.cal_bytes.specs.Puts.{Puts};

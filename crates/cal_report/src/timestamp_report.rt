@@ -15,7 +15,7 @@ use cal_bytes::{Fill, ShortText, Sink, WriteFault, padding, push, push_all, put_
 use cal_zone::{Instant, Moment, Zone};
 use itoa::Buffer;
 
-/// Writes the report of a timestamp. `text` is the timestamp as the user gave it, and `moment` what it resolves to.
+/// Writes the report of a timestamp. `text` is the timestamp as the user gave it, and `moment` is what it resolves to.
 #[tactic(auto, using(cal_bytes::proofs::PutLemmas::puts), unfolding(crate::specs::TimestampReport::timestamp_report))]
 pub fn write_timestamp<W: Sink>(
     out: &mut W,

@@ -58,7 +58,7 @@ pub record Schedule : Type 0 where
   pub expressions : List Expression
   pub exceptions : List Expression
 
--- the schedule with one expression and no exceptions
+-- the schedule with this one expression and no exceptions
 abbrev pub alone : Expression → Schedule
 alone e = record { expressions = e ∷ []; exceptions = [] }
 
@@ -72,7 +72,7 @@ pub record AreAllAccepted (asked : Request) (s : Schedule) : Type 0 where
 abbrev pub AreElapsesOf : Schedule → ℤ → List ℤ → Type 0
 AreElapsesOf s base xs = AreElapses (map meaning s.expressions) (map meaning s.exceptions) base xs
 
--- the headings of the expressions, and after them those of the exceptions
+-- the headings of the expressions, followed by the headings of the exceptions
 abbrev pub headings : Schedule → List ℕ
 headings s =
     flat_map (λ e. heading_text original_label e.text e.fields) s.expressions
@@ -130,8 +130,8 @@ pub record IsFine (report : Report) : Type 0 where
 abbrev pub assigned_in : List ℕ → List Assignment
 assigned_in bytes = assignments_in false (logical_lines 1 (without_mark bytes))
 
--- every assigned expression and exception is valid according to the grammar, and fewer than `max_expressions` of the
--- same kind precede it
+-- every assigned expression and exception is valid according to the grammar, and the assignments before it leave fewer
+-- than `max_expressions` of its kind in the list
 abbrev pub AreSpelled : List Assignment → Type 0
 AreSpelled all =
     (before : List Assignment) (a : Assignment) (after : List Assignment) → all ≡ before ++ (a ∷ after)

@@ -11,7 +11,7 @@ use Rattle.cal_zone.specs.declared.zone.Zone.{Zone}
 abbrev pub original_label : List ℕ
 original_label = codes "  Original form: "
 
--- the label before an exception of a timer file
+-- the label before an exception of a timer file; the exception is shown as it is written in the file
 abbrev pub except_label : List ℕ
 except_label = codes "    Except form: "
 

@@ -1,5 +1,5 @@
--- The writer hasn't failed, and the elapse times that the source still has are left to be written, with labels that
--- count from `number`.
+-- What remains to be written are the elapse times that the source still has, up to the number of iterations, with
+-- labels that count from `number`. The writer hasn't failed, and all these elapse times are instants.
 use Rattle.std.proofs.Common.{◌≡◌, ◌+◌, ◌-◌, take}
 use Rattle.cal_bytes.proofs.PutLemmas.{PutsUpTo}
 use Rattle.cal_report.specs.ElapseLines.{AreInstants}
