@@ -9,8 +9,8 @@ use std::process::Abort;
 use std::test::Fail;
 
 /// A test of `read_whole`: the bytes of the source, how many of them each call returns, what the source does after its
-/// last byte, the limit, the expected error, and the expected number of calls. There is one call for each piece, and
-/// one more that finds the end or the failure.
+/// last byte, the limit, the expected error, and the expected number of calls. Unless the source exceeds the limit, one
+/// more call after the last byte finds the end or the failure.
 type Reading = (&'static str, usize, Then, usize, Option<WholeFault>, u64);
 
 static READINGS: [Reading; 8] = [
@@ -18,7 +18,7 @@ static READINGS: [Reading; 8] = [
     ("abcde", 3, Then::Zero, 9, None, 3),
     // An empty source, with a limit of 0.
     ("", 1, Then::Zero, 0, None, 1),
-    // Exactly as many bytes as the limit.
+    // As many bytes as the limit allows.
     ("0123456789", 1, Then::Zero, 10, None, 11),
     // The source fails at its third call, before the limit is reached.
     ("xx", 1, Then::Error, 9, Some(WholeFault::ReadFailed), 3),
@@ -105,8 +105,8 @@ fn readers_end_or_go_on(rt: HostRuntime) {
     }
 }
 
-/// A sink that `abc` is written to: how many bytes it takes in each call and in all, what it does after that, the bytes
-/// it has in the end, and the expected number of calls.
+/// A sink that `abc` is written to: how many bytes it takes in each call and in total, what it does after that, the
+/// bytes that it has in the end, and the expected number of calls.
 type Writer = (usize, usize, Then, &'static str, u64);
 
 static WRITERS: [Writer; 8] = [
@@ -128,7 +128,7 @@ fn write(writer: Faulty) -> (Option<WriteFault>, Faulty) {
     (fault, port.into_inner())
 }
 
-/// Expects each sink to get all of `abc` or, if it fails, a prefix.
+/// Expects each sink to get all of `abc`, or a prefix if it fails.
 fn expect_written(rt: &(impl Abort + AllocGlobal), writers: &[Writer]) {
     for (step, limit, then, written, calls) in writers {
         assert!(rt; *step > 0);
@@ -153,7 +153,7 @@ fn hold_back(alloc: Global, limit: usize) -> Result<((Option<usize>, bool, bool)
     Ok((answers, writer))
 }
 
-/// A buffer passes on what it holds when it is flushed, as far as the sink takes it.
+/// When a buffer is flushed, it passes on the bytes that it holds, as far as the sink takes them.
 #[test]
 fn held_back_until_flushed(rt: HostRuntime) -> Result<(), Fail> {
     for (limit, is_flushed, written) in [(3, true, "abc"), (2, false, "ab")] {

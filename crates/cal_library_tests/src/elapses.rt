@@ -1,5 +1,5 @@
-//! The elapses of expressions in zones, each by itself and several merged. Expected instants are worked out by hand, or
-//! found by testing every local second.
+//! The elapses of one expression in a zone, and of several expressions merged. Expected instants are worked out by
+//! hand, or found by testing every local second.
 
 mod filter;
 mod merges;
@@ -42,7 +42,8 @@ pub(crate) fn elapses_of<'z>(
     elapses_from(alloc, &expr, zone, base)
 }
 
-/// Expects the source to return these values in this order. Before each one, `has` must not deny it.
+/// Expects the source to return these values in this order. Just before it returns a number, `has` must not say that
+/// the source doesn't have the number.
 fn expect_answers<S: Rising>(rt: &impl Abort, source: &mut S, answers: &[Option<i64>]) {
     for answer in answers {
         if let Some(number) = *answer {
@@ -52,7 +53,7 @@ fn expect_answers<S: Rising>(rt: &impl Abort, source: &mut S, answers: &[Option<
     }
 }
 
-/// An expression, a base time, and the first elapses after it; `None` if there are no more.
+/// An expression, a base time, and the first elapses after it, followed by `None` if there are no more.
 type Row = (&'static str, i64, &'static [Option<i64>]);
 
 /// Expects the first elapses of each expression to be those of its row.
@@ -70,7 +71,7 @@ fn expect_elapses(
 
 /// UTC offsets in seconds, each with a row for a zone at that offset.
 static AT_OFFSETS: [(i32, Row); 6] = [
-    // The last local second of 2199 at -10:00. It elapses after 2199 has ended in UTC, and it is the last elapse.
+    // The last local second of 2199 at -10:00. It is the last elapse, and comes after 2199 has ended in UTC.
     (
         -36_000,
         ("23:59:59", 7_258_118_398, &[Some(7_258_154_399), None]),
@@ -97,8 +98,8 @@ static AT_OFFSETS: [(i32, Row); 6] = [
             &[Some(1_704_067_203), Some(1_704_067_204)],
         ),
     ),
-    // At the largest offset east the first local midnights are before 1970, and at the largest offset west the elapses
-    // go up to the last supported instant.
+    // At the largest offset east, the first two local midnights are before 1970 in UTC. At the largest offset west, the
+    // last elapse is the last supported instant.
     (93_599, ("daily", 0, &[Some(79_201)])),
     (
         -93_599,

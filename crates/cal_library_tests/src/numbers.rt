@@ -1,4 +1,4 @@
-//! Sources of rising numbers and merges of them, for the modules that try merges.
+//! Sources of rising numbers and merges of them, for the modules that test merges.
 
 ghost use Rattle.std.specs.Prelude.{◌≡◌, false, IfOk};
 ghost use Rattle.std.specs.List.Sorted.{IsStrictlySortedBy};
@@ -8,14 +8,14 @@ use cal_elapse::{Listed, Merge, Rising};
 use std::alloc::{AllocError, Global};
 use std::process::Abort;
 
-/// The source of these numbers.
+/// Returns a source of these numbers.
 pub fn listed(alloc: Global, numbers: &[i64]) -> Result<Listed, AllocError>
     requires { IsStrictlySortedBy int_cmp numbers.now }
 {
     Ok(Listed::new(Vec::from_slice(alloc, numbers)?))
 }
 
-/// Adds a source to a merge that was not asked for a number yet.
+/// Adds a source to a merge that has not returned a number yet.
 pub fn add<S: Rising + Drop>(merge: &mut Merge<S>, source: S) -> Result<(), AllocError>
     requires { merge.old.started ≡ false }
     ensures { merge.new.started ≡ false }
@@ -26,7 +26,7 @@ pub fn add<S: Rising + Drop>(merge: &mut Merge<S>, source: S) -> Result<(), Allo
     }
 }
 
-/// Adds an exception to a merge that was not asked for a number yet.
+/// Adds an exception to a merge that has not returned a number yet.
 pub fn add_except<S: Rising + Drop>(merge: &mut Merge<S>, exception: S) -> Result<(), AllocError>
     requires { merge.old.started ≡ false }
     ensures { merge.new.started ≡ false }
@@ -45,7 +45,7 @@ pub struct Silent<S: Rising> {
 }
 
 impl<S: Rising> Silent<S> {
-    /// Creates a source of the same numbers.
+    /// Creates a source of the numbers of `source`.
     pub fn new(source: S) -> Self {
         Silent { source }
     }
@@ -61,7 +61,7 @@ impl<S: Rising> Rising for Silent<S> {
     ghost rises = { λ silent. S.rises silent.source };
 }
 
-/// The merge of two lists.
+/// Returns the merge of two lists.
 pub fn merge_two(alloc: Global, one: &[i64], two: &[i64]) -> Result<Merge<Listed>, AllocError>
     requires one { IsStrictlySortedBy int_cmp one.now }
     requires two { IsStrictlySortedBy int_cmp two.now }
@@ -73,7 +73,7 @@ pub fn merge_two(alloc: Global, one: &[i64], two: &[i64]) -> Result<Merge<Listed
     Ok(merge)
 }
 
-/// The merge of two lists, without the numbers of a third.
+/// Returns the merge of two lists, without the numbers of a third list.
 pub fn merge_without(
     alloc: Global,
     one: &[i64],
@@ -90,7 +90,8 @@ pub fn merge_without(
     Ok(merge)
 }
 
-/// Checks that the source returns these numbers and, if it can tell, that it has each of them until it is returned.
+/// Checks that the source returns these numbers, and that `has`, if it can tell, says that the source has each number
+/// until it returns it.
 pub fn expect_first<S: Rising>(rt: &impl Abort, source: &mut S, numbers: &[i64]) {
     for number in numbers {
         assert!(rt; source.has(*number) != Some(false));
@@ -99,7 +100,7 @@ pub fn expect_first<S: Rising>(rt: &impl Abort, source: &mut S, numbers: &[i64])
     }
 }
 
-/// The source gives these numbers, and then nothing.
+/// Checks that the source returns these numbers, and then `None` twice.
 pub fn expect_numbers<S: Rising>(rt: &impl Abort, source: &mut S, numbers: &[i64]) {
     expect_first(rt, source, numbers);
     assert_eq!(rt; (source.next(), source.next()), (None, None));

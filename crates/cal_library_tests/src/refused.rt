@@ -1,7 +1,8 @@
 //! Calls that allocate. `tests/refused` makes each of their allocations fail in turn.
 //!
-//! A test succeeds if every allocation did. Otherwise it fails with the call's `NoMemory` or `AllocError`, after it has
-//! checked that the call left its arguments unchanged. `tests/refused` checks which of the two has to happen.
+//! A test succeeds if every allocation succeeds. Otherwise it fails with the call's `NoMemory` or `AllocError`, after
+//! it has checked that the call left its arguments unchanged. `tests/refused` checks that a test fails if and only if
+//! an allocation has failed.
 
 ghost use Rattle.std.specs.Prelude.{◌≡◌, false};
 
@@ -24,7 +25,7 @@ fn a_whole_reader(rt: HostRuntime) -> Result<(), Fail> {
     Ok(())
 }
 
-/// The place of the turn of the year.
+/// Returns the instant of local midnight on 2024-01-01.
 fn new_year(rules: &Rules) -> Option<i64> {
     place(Zone::rules(rules), 1_704_067_200)
 }
@@ -38,7 +39,7 @@ fn a_rule(rt: HostRuntime) -> Result<(), Fail> {
     Ok(())
 }
 
-/// If `add` fails, the table is unchanged and the rules are handed back.
+/// If `add` fails, the table is unchanged and the rules are returned to the caller.
 #[test]
 fn a_zone_file_and_a_table(rt: HostRuntime) -> Result<(), Fail> {
     let mut table = ZoneTable::new(rt.alloc());
@@ -73,7 +74,7 @@ fn expressions(rt: HostRuntime) -> Result<(), Fail> {
     Ok(())
 }
 
-/// A set that was made doesn't allocate.
+/// Once the set is created, its functions don't allocate.
 #[test]
 fn pending_instants(rt: HostRuntime) -> Result<(), Fail> {
     let mut pending = Pending::new(rt.alloc())?;
@@ -82,7 +83,7 @@ fn pending_instants(rt: HostRuntime) -> Result<(), Fail> {
     Ok(())
 }
 
-/// Elapses that were made don't allocate.
+/// Once the elapses are created, `next` doesn't allocate.
 #[test]
 fn elapses(rt: HostRuntime) -> Result<(), Fail> {
     let base = instant(1_552_651_200)?;
@@ -93,7 +94,7 @@ fn elapses(rt: HostRuntime) -> Result<(), Fail> {
     Ok(())
 }
 
-/// Adds a source of these numbers. If that fails, the source is handed back unchanged.
+/// Adds a source of these numbers to a merge. If that fails, expects the source to be returned unchanged.
 fn add(
     rt: &impl Abort,
     merge: &mut Merge<Listed>,
@@ -112,7 +113,7 @@ fn add(
     }
 }
 
-/// The merge has the lists that were added, and its `next` doesn't allocate.
+/// The merge has the lists that could be added, and its `next` doesn't allocate.
 #[test]
 fn merged_lists(rt: HostRuntime) -> Result<(), Fail> {
     let mut merge = Merge::new(rt.alloc());
@@ -131,7 +132,7 @@ fn merged_lists(rt: HostRuntime) -> Result<(), Fail> {
     Ok(two?)
 }
 
-/// If an exception can't be added, it is handed back and the merge is unchanged.
+/// If an exception can't be added, it is returned to the caller, and the merge is unchanged.
 #[test]
 fn an_exception(rt: HostRuntime) -> Result<(), Fail> {
     let mut merge = merge_two(rt.alloc(), &[1, 5, 9], &[5, 7])?;
@@ -149,7 +150,7 @@ fn an_exception(rt: HostRuntime) -> Result<(), Fail> {
     }
 }
 
-/// The file has these expressions and exceptions.
+/// Expects the file to have these expressions and exceptions.
 fn expect_lists(
     rt: &(impl Abort + AllocGlobal),
     file: &[u8],

@@ -1,4 +1,5 @@
-//! The search for the next matching local second, and the bit sets below it. Expected results are worked out by hand.
+//! The search for the next matching local second, the set of pending instants, and the search for a word that is not 0.
+//! Expected results are worked out by hand.
 
 ghost use Rattle.std.specs.Prelude.{◌≡◌, []};
 
@@ -9,7 +10,8 @@ use std::alloc::AllocError;
 use std::process::Abort;
 use std::test::Fail;
 
-/// Searches from a local second on. Returns `None` if `from` is outside the supported range.
+/// Searches for the first match from the local second `from` on. Returns `None` if `from` is outside the supported
+/// range.
 fn found_from(expr: &Expr, from: i64) -> Option<Found> {
     if from < 0 || from > 7_258_118_400 {
         return None;
@@ -22,13 +24,13 @@ fn found_from(expr: &Expr, from: i64) -> Option<Found> {
 type Search = (&'static str, i64, Option<i64>, u32);
 
 static SEARCHES: [Search; 8] = [
-    // Leap days: the first one, the next one, the one after 2096, since the year 2100 has none, and the end of the
-    // range.
+    // Leap days: the first one, the one after it, the one in 2104 (after 2096, since 2100 is not a leap year), and none
+    // at the end of the range.
     ("*-2-29 0:0:0", 0, Some(68_169_600), 3),
     ("*-2-29 0:0:0", 68_169_601, Some(194_400_000), 5),
     ("*-2-29 0:0:0", 3_981_398_400, Some(4_233_686_400), 8),
     ("*-2-29 0:0:0", 7_258_118_400, None, 0),
-    // A date that doesn't fall on the given weekday, and day 31 of all the months that don't have one.
+    // A date that doesn't fall on the given weekday, and day 31 of the months that don't have one.
     ("Mon 2024-01-02", 0, None, 1),
     ("*-2,4,6,9,11-31", 0, None, 1_150),
     // The last second of the range, and a match in the next year.
@@ -50,7 +52,7 @@ fn finds_the_next(rt: HostRuntime) -> Result<(), Fail> {
     expect_found(&rt, &SEARCHES)
 }
 
-/// Puts two instants into an empty set, and then the first one again. They may be at most 187,199 seconds apart.
+/// Puts two instants into an empty set, and then the first one again. The two may be at most 187,199 seconds apart.
 pub(crate) fn put_three(rt: &impl Abort, pending: &mut Pending, one: i64, other: i64)
     requires { pending.old ≡ [] }
 {
@@ -89,7 +91,8 @@ fn each_once_rising(rt: HostRuntime) -> Result<(), AllocError> {
     Ok(())
 }
 
-/// No words at all, and as many words as the set of pending instants has: first all 0, then only the last one not 0.
+/// Tries no words at all, and as many words as the set of pending instants has: first all of them 0, and then all but
+/// the last one.
 #[test]
 fn first_set_word(rt: HostRuntime) {
     let mut cells = [0; 2_925];
@@ -98,7 +101,7 @@ fn first_set_word(rt: HostRuntime) {
     assert_eq!(rt; first_set(&cells), Some(2_924));
 }
 
-/// The single word that is not 0 is found at every index of every length up to 70.
+/// The only word that is not 0 is found at each index, among any number of words up to 70.
 #[test]
 fn each_index(rt: HostRuntime) {
     for length in 0..=70 {

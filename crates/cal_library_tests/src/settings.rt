@@ -4,10 +4,11 @@ use cal_read::{Setting, Settings, read_settings};
 use std::process::Abort;
 use std::test::Fail;
 
-/// The settings of a section, each with its line, its key and its value.
+/// The name of a section, and its settings: the line number, the key and the value of each.
 type Row = (&'static str, &'static [(u32, &'static str, &'static str)]);
 
-/// The first example of systemd.syntax(7), and then the first section again. A continued line loses its leading blanks.
+/// The first example of systemd.syntax(7), and then the first section again. A continuation line loses its leading
+/// blanks.
 const EXAMPLE: &str = "\
 [Section A]
 KeyOne=value 1
@@ -81,7 +82,7 @@ fn sections(rt: HostRuntime) -> Result<(), Fail> {
     Ok(())
 }
 
-/// After the last setting there is none, however often it is asked for.
+/// After the last setting, every call returns `None`.
 #[test]
 fn one_after_another(rt: HostRuntime) -> Result<(), Fail> {
     let mut settings = Settings::new("Timer", 7, "Persistent=no\n[Timer]\nOnCalendar=daily\n");

@@ -1,5 +1,5 @@
-//! Constants and helpers that both test crates use. The helpers parse inputs that are known to be valid, and the test
-//! fails if one is rejected or allocation fails.
+//! Constants and helpers that both test crates use. The helpers expect valid input: a test fails if its input is
+//! rejected, or if allocation fails.
 
 use cal_base::{Instant, Rules};
 use cal_spec::{Expr, read_expr};
@@ -12,7 +12,7 @@ pub const NEW_YEAR: i64 = 1_704_067_200;
 /// A POSIX rule: one hour ahead of UTC, two hours in summer.
 pub const SUMMER_TIME: &str = "CET-1CEST,M3.5.0,M10.5.0/3";
 
-/// A POSIX rule that goes forward by an hour, and back ten minutes later.
+/// A POSIX rule by which the clock goes forward by an hour, and back ten minutes later.
 pub const FORWARD_AND_BACK: &str = "AAA0BBB,M3.5.0/2,M3.5.0/3:10";
 
 /// Parses a calendar expression.

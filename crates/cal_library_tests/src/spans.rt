@@ -59,12 +59,12 @@ const FRACTIONS: &str = "\
 0.123456789012345678901234567890s -> 123456|0.1ms -> 100|0.999999999999999999999999999999ms -> 999|\
 0.123456789012345678901234567890ms -> 123|0.999999999999999999999999999999us -> 0";
 
-/// Spans up to the largest one.
+/// The largest span, and other spans with many digits.
 const UP_TO_THE_LIMIT: &str = "\
 9223372036854775806us 1us -> 9223372036854775807|9223372036854.775807 -> 9223372036854775807|\
 1000000000000000000us -> 1000000000000000000|0000000000000000000000001us -> 1";
 
-/// Spans above the largest one.
+/// Spans that are longer than the largest one.
 static ABOVE_THE_LIMIT: [(SpanFault, &str); 1] = [(
     SpanFault::TooLarge,
     "\
@@ -73,7 +73,7 @@ static ABOVE_THE_LIMIT: [(SpanFault, &str); 1] = [(
 5s 18446744073709551615y",
 )];
 
-/// If several parts are invalid, the leftmost error is reported.
+/// Invalid spans, by their error. If several parts of a span are invalid, the leftmost error is reported.
 static FIRST_FAULTS: [(SpanFault, &str); 4] = [
     (SpanFault::Empty, "| \t "),
     (
@@ -104,7 +104,7 @@ fn expect_values(rt: &impl Abort, rows: &str) -> Result<(), Fail> {
     Ok(())
 }
 
-/// Expects each span to be rejected with this error. They are separated by `|`.
+/// Expects each span to be rejected with this error. The spans are separated by `|`.
 fn expect_fault(rt: &impl Abort, fault: SpanFault, texts: &str) {
     for text in texts.split('|') {
         assert!(rt; micros(text) == Err(fault), "at {text:?}");
@@ -158,7 +158,7 @@ static FAULTS: [(SpanFault, u8, &str); 4] = [
     (SpanFault::TooLarge, 4, "time span too large"),
 ];
 
-/// Each error has its number, and is shown by its message.
+/// Each error has this number, and is displayed as this message.
 #[test]
 fn numbers_and_shown_words(rt: HostRuntime) -> Result<(), Fail> {
     for (fault, number, message) in &FAULTS {

@@ -19,8 +19,8 @@ mod zones;
 /// The present in most of these tests: Fri 2012-11-23 10:15:22 UTC.
 const PRESENT: i64 = 1_353_665_722;
 
-/// Timestamps, separated by `|`. In `moments`, each has an arrow and the microseconds of its moment; in `refusals` are
-/// the ones that are rejected, by their error.
+/// Timestamps, separated by `|`. In `moments`, an arrow and the microseconds of its moment follow each timestamp. In
+/// `refusals`, each error has the timestamps that are rejected with it.
 struct Table {
     moments: &'static str,
     refusals: &'static [(StampFault, &'static str)],
@@ -33,7 +33,7 @@ struct Setting {
     table: Table,
 }
 
-/// What a timestamp is read against: the present, the local zone and the named zones.
+/// What the moment of a timestamp depends on: the present, the local zone and the named zones.
 #[derive(Clone, Copy)]
 struct Place<'a> {
     now: Instant,
@@ -41,7 +41,7 @@ struct Place<'a> {
     table: &'a ZoneTable,
 }
 
-/// A timestamp of each form: at +08:00, in UTC, and in UTC one minute after the start of 1970.
+/// A timestamp of each form, in three settings: at +08:00, in UTC, and in UTC one minute after the start of 1970.
 static EACH_FORM: [Setting; 3] = [
     Setting {
         now: PRESENT,

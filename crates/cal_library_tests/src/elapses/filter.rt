@@ -1,4 +1,4 @@
-//! Elapses compared with a filter that tests every local second.
+//! Elapses compared with the matches that are found by testing every local second.
 
 use super::has_local;
 use super::merges::merge_elapses;
@@ -80,7 +80,7 @@ fn expect_all<S: Rising>(rt: &impl Abort, source: &mut S, instants: &[i64], limi
     assert!(rt; source.next().unwrap_or(i64::MAX) > limit, "after {limit}");
 }
 
-/// Three days around the clock changes of `FORWARD_AND_BACK`, which goes forward an hour and back ten minutes later.
+/// Three days around the transitions of the rule `FORWARD_AND_BACK`: forward by an hour, and back ten minutes later.
 const FORWARD_AND_SOON_BACK: TestedRange = TestedRange {
     base: 1_711_756_800,
     limit: 1_712_016_000,

@@ -1,4 +1,4 @@
-//! Lists of numbers, and elapses, that are given as one: those of several sources, without those of exceptions.
+//! Merges of lists of numbers, and of the elapses of expressions, without the numbers of exceptions.
 
 use super::elapses_of;
 use crate::numbers::{
@@ -17,7 +17,7 @@ fn no_source(rt: HostRuntime) {
     expect_numbers(&rt, &mut merge, &[]);
 }
 
-/// The greatest number is one like the others, and a number that two lists share is given once.
+/// `i64::MAX` is a number like any other, and a number that is in both lists is returned once.
 #[test]
 fn two_lists(rt: HostRuntime) -> Result<(), AllocError> {
     let alloc = rt.alloc();
@@ -28,7 +28,7 @@ fn two_lists(rt: HostRuntime) -> Result<(), AllocError> {
     Ok(())
 }
 
-/// An exception takes a number out of each list that has it, and one that no list has takes out nothing.
+/// If a number of an exception is in a list, the merge leaves it out. If it is in no list, nothing changes.
 #[test]
 fn exceptions(rt: HostRuntime) -> Result<(), AllocError> {
     let alloc = rt.alloc();
@@ -39,7 +39,7 @@ fn exceptions(rt: HostRuntime) -> Result<(), AllocError> {
     Ok(())
 }
 
-/// A source that can't tell what it has suppresses the same numbers as an exception.
+/// An exception suppresses its numbers even if its `has` can't tell which numbers are still to come.
 #[test]
 fn silent_exceptions(rt: HostRuntime) -> Result<(), AllocError> {
     let alloc = rt.alloc();
@@ -51,7 +51,7 @@ fn silent_exceptions(rt: HostRuntime) -> Result<(), AllocError> {
     Ok(())
 }
 
-/// The elapses of these texts in a zone after a base, as one.
+/// Returns the merge of the elapses of these expressions that are later than `base`.
 pub(super) fn merge_elapses<'z>(
     alloc: Global,
     texts: &[&str],
@@ -65,9 +65,9 @@ pub(super) fn merge_elapses<'z>(
     Ok(merge)
 }
 
-/// Half past midnight and half past one in UTC, without half past two of a clock that is an hour ahead, and two in
-/// summer; a base, and the first elapses after it. Where the clock skips half past two nothing is taken out, and where
-/// it shows it twice the first of both.
+/// Bases, each with the first elapses after it. The expression is `0,1:30` in UTC, and the exception is `02:30` in a
+/// zone that is one hour ahead of UTC, and two hours in summer. On 2024-03-31, when the clock skips 02:30, nothing is
+/// suppressed. On 2024-10-27, when the clock shows 02:30 twice, only the first occurrence is suppressed.
 static IN_GAP_AND_FOLD: [(i64, &[i64]); 2] = [
     (
         1_711_756_800,
@@ -76,7 +76,7 @@ static IN_GAP_AND_FOLD: [(i64, &[i64]); 2] = [
     (1_729_987_200, &[1_729_992_600]),
 ];
 
-/// Those elapses after that base.
+/// Returns the elapses of `0,1:30` in UTC after `base`, without the elapses of `02:30` in the local zone.
 fn without_half_past_two<'z>(
     alloc: Global,
     local: Zone<'z>,

@@ -14,8 +14,8 @@ struct Table {
     refused: &'static [(SpecFault, &'static str)],
 }
 
-/// An expression may have up to 4,096 bytes; one byte more is reported before any other error. A zone name may have up
-/// to 255 bytes.
+/// An expression may have up to 4,096 bytes. If it is longer, that is reported before any other error. A zone name may
+/// have up to 255 bytes.
 static BYTES: [Table; 4] = [
     Table {
         piece: " ",

@@ -28,7 +28,7 @@ static FAULT_WORDS: [Row; 22] = [
     ("20:00 ", "+26:00", ""),
     ("12:00 ", "A\u{e4}", " \u{e4}"),
     ("", "\u{c4}", ""),
-    // Both words are wrong, and so is the first alone.
+    // If both words are invalid, the first one is at fault.
     ("", "Foo", " 25:00"),
     // A carriage return and a line feed are not blanks.
     ("", "12:00\r", ""),
@@ -89,7 +89,8 @@ fn blanks(alloc: Global, count: usize) -> Result<String, AllocError> {
     Ok(text)
 }
 
-/// A text that is too long has the word at fault that ends past 4,096 bytes. If only blanks do, no word is at fault.
+/// In a text that is too long, the first word that ends past byte 4,096 is at fault. If only blanks are past byte
+/// 4,096, no word is at fault.
 #[test]
 fn long_texts(rt: HostRuntime) -> Result<(), Fail> {
     let mut text = blanks(rt.alloc(), 4_092)?;

@@ -18,8 +18,8 @@ const RANGE_ENDS: &str = "\
 *:05..10/6 -> *-*-* *:05:00|*:05..05 -> *-*-* *:05:00|*:20..39/5 -> *-*-* *:20..35/5:00|\
 *-*~3..10/3 -> *-*~03..09/3 00:00:00";
 
-/// Leap days, the last Monday of May, a day that never comes, the last second of the day twice, every second, half past
-/// twelve twice, and a time of day with single digits.
+/// Leap days, the last Monday of May, a day that never comes, the last second of the day and half past twelve (with and
+/// without a date), every second, and a time of day with single digits.
 const NAMED_EXPRESSIONS: &str = "\
 *-2-29 0:0:0 -> *-02-29 00:00:00|Mon *-05~07/1 -> Mon *-05~07/1 00:00:00|2100-02-29 -> 2100-02-29 00:00:00|\
 23:59:59 -> *-*-* 23:59:59|*-*-* 23:59:59 -> *-*-* 23:59:59|*:*:* -> *-*-* *:*:*|\

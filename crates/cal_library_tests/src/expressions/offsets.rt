@@ -1,4 +1,5 @@
-//! Fixed offsets in place of a zone name: where one may stand, the smallest and the largest, and what is not an offset.
+//! Expressions with a fixed offset in place of a zone name: where it may stand, the smallest and the largest offset,
+//! and words that are not offsets.
 
 use super::normal_texts::expect_normal_texts;
 use super::refusals::{Refused, expect_refusals};
@@ -32,7 +33,7 @@ const BOUNDS: &str = "\
 12:00 -24:00 -> *-*-* 12:00:00 -24:00|12:00 +25:00 -> *-*-* 12:00:00 +25:00|\
 12:00 +25:59 -> *-*-* 12:00:00 +25:59|12:00 -25:59 -> *-*-* 12:00:00 -25:59";
 
-/// Words with a sign in the zone's place that are not offsets, and words after a zone.
+/// Words in place of a zone that look like offsets but are not, and words after a zone.
 static NO_OFFSETS: [Refused; 1] = [(
     StrayWord,
     "\
@@ -64,7 +65,7 @@ static ORDER: [Refused; 5] = [
     (NoRepeat, "20/4:00 +02:00|20/4:00 +x"),
 ];
 
-/// Expressions with the offset of their zone in seconds, or with its name.
+/// Expressions, each with the offset in seconds or the name in its zone suffix.
 static ZONES: [(&str, Option<i32>, Option<&str>); 9] = [
     ("daily", None, None),
     ("daily utc", None, Some("UTC")),

@@ -78,7 +78,7 @@ static TIMES: [Refused; 2] = [
     ),
 ];
 
-/// Values that are too large or out of range, ranges that run backwards, and repetitions.
+/// Values that are too large or out of range, ranges that run backwards, and invalid repetitions.
 static NUMBERS: [Refused; 6] = [
     (
         NumberTooLarge,
@@ -105,7 +105,7 @@ static NUMBERS: [Refused; 6] = [
     ),
 ];
 
-/// Expressions with two errors; the one reported is the first by the documented order.
+/// Expressions with several errors, listed by the one that is reported according to the documented order.
 static ORDER: [Refused; 11] = [
     (
         BadDate,
@@ -136,7 +136,7 @@ static ORDER: [Refused; 11] = [
     (BadWeekday, "Mon,, 13-1|Mon,, daily 5|Foo1 25:0"),
 ];
 
-/// Expects each expression to be rejected with this error. They are separated by `|`.
+/// Expects each expression to be rejected with this error. The expressions are separated by `|`.
 fn expect_faults(rt: &impl Abort, alloc: Global, fault: SpecFault, lines: &str) {
     for text in lines.split('|') {
         expect_fault(rt, alloc, text, fault);

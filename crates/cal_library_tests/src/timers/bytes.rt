@@ -1,4 +1,4 @@
-//! Files that are not UTF-8: the error has the line of the first wrong byte.
+//! Timer files that are not UTF-8: the error has the line of the first wrong byte.
 
 use super::read;
 use cal_read::TimerFault;
@@ -22,7 +22,7 @@ static WRONG_BYTES: [(&[u8], u32); 13] = [
     (b"\xEF\xBB\xBF\n\xF0\x9F\x98", 2),
     // A surrogate.
     (b"\n\xED\xA0\x80", 2),
-    // Characters of two and of three bytes whose last byte starts another character.
+    // Characters of two and three bytes, with the first byte of a character in place of the last byte.
     (b"\n\xC3\xC3", 2),
     (b"\n\xE2\x82\xC3", 2),
     // An overlong encoding of a line feed.

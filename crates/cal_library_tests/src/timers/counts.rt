@@ -13,10 +13,12 @@ pub(super) const EXCEPTION: &str = "X-ExceptOnCalendar=Sat";
 
 pub(super) const RESET: &str = "OnCalendar=";
 
-/// The lines after `[Timer]`, each with the number of its copies, and the expressions or the error of that file.
+/// The lines of a file after `[Timer]`, each with the number of its copies, and the expressions or the error of the
+/// file.
 type Counted = (&'static [(u32, &'static str)], Result<Lines, TimerFault>);
 
-/// A file may have 256 expressions at a time; the error has the line of the first one over the limit.
+/// A file may have up to 256 expressions, not counting those that a reset has dropped. The error has the line of the
+/// first expression over the limit.
 static COUNTED: [Counted; 4] = [
     (
         &[(256, DAILY), (1, RESET), (1, "OnCalendar=hourly")],

@@ -32,7 +32,7 @@ static READ: [(&[u8], Lines, Lines); 4] = [
 
 /// Files, each with the error it is rejected with.
 static REFUSED: [(&str, TimerFault); 4] = [
-    // A file needs an expression: exceptions alone are nothing to do.
+    // A file needs an expression: exceptions alone are not enough.
     ("[Timer]\nX-ExceptOnCalendar=Sat", TimerFault::NothingToDo),
     (
         "[Timer]\nOnCalendar=daily\nX-ExceptOnCalendar=Sat\nOnBootSec=",

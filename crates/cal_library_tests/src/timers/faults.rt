@@ -1,4 +1,4 @@
-//! All errors of the texts of a timer.
+//! Finding all errors in the texts of a timer, instead of only the first one.
 
 use super::counts::{DAILY, EXCEPTION, RESET, counted_file};
 use super::texts::unit_texts;
@@ -7,12 +7,12 @@ use cal_spec::SpecFault;
 use std::process::Abort;
 use std::test::Fail;
 
-/// Texts, and all their errors: the index of a text, a line and the error in it.
+/// Texts, and all their errors, each with the index of its text and its line.
 type Row = (&'static [&'static str], &'static [(usize, u32, SpecFault)]);
 
 static BAD_LINES: [Row; 5] = [
     (&[], &[]),
-    // That there is no expression is not among these errors.
+    // `find_faults` doesn't report that there is no expression.
     (&["[Timer]\nOnCalendar=daily", "[Timer]\nOnCalendar="], &[]),
     // Each invalid expression and exception is an error, with the index of its text and its line in that text.
     (
@@ -29,7 +29,7 @@ static BAD_LINES: [Row; 5] = [
             (3, 2, SpecFault::NoRepeat),
         ],
     ),
-    // Even if a later setting clears the list.
+    // An invalid expression is an error even if a later setting clears the list.
     (
         &[
             "[Timer]\nOnCalendar=25:00",
@@ -59,7 +59,7 @@ fn expect_faults(
     Ok(())
 }
 
-/// The error of an invalid expression or exception.
+/// Returns the error of an invalid expression or exception.
 fn bad_line((file, line, fault): (usize, u32, SpecFault)) -> FileFault {
     FileFault {
         file: Some(file),
@@ -67,7 +67,7 @@ fn bad_line((file, line, fault): (usize, u32, SpecFault)) -> FileFault {
     }
 }
 
-/// The error of an expression or exception over the limit.
+/// Returns the error of an expression or exception over the limit.
 fn too_many(file: usize, line: u32) -> FileFault {
     FileFault {
         file: Some(file),
@@ -92,7 +92,8 @@ fn bad_lines(rt: HostRuntime) -> Result<(), Fail> {
     Ok(())
 }
 
-/// Each expression over the limit is an error, and so is each exception, until the list is cleared. Invalid ones count.
+/// Until a reset, each expression and each exception over the limit is an error. Invalid expressions count toward the
+/// limit.
 #[test]
 fn several_too_many(rt: HostRuntime) -> Result<(), Fail> {
     let unit = counted_file(rt.alloc(), &[(255, DAILY), (256, EXCEPTION)])?;

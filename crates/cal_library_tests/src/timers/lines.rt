@@ -1,4 +1,4 @@
-//! Line ends, byte order marks, comments and continued lines.
+//! Line ends, byte order marks, comments and continued lines in timer files.
 
 use super::{Row, expect_files};
 use cal_read::TimerFault;
@@ -63,7 +63,7 @@ static CONTINUED_LINES: [Row; 10] = [
         "[Timer]\nOnCalendar=Mon\\\n \\\n12:00",
         Ok(&[(2, "Mon  12:00")]),
     ),
-    // A backslash at the end of the file is dropped.
+    // A backslash at the end of the file becomes a space, which is trimmed.
     ("[Timer]\nOnCalendar=daily\\", Ok(&[(2, "daily")])),
     (
         "[Ti\\\nmer]\n[Timer]\nOnCalendar=daily",

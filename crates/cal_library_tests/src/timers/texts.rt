@@ -1,4 +1,4 @@
-//! Timers that are read from several texts, as a unit file and its drop-ins.
+//! Timers that are read from several texts, such as a unit file and its drop-ins.
 
 ghost use Rattle.std.specs.Prelude.{◌+◌, ◌<◌, ◌^◌, All, IfOk, length};
 
@@ -50,7 +50,7 @@ static READ: [Row; 9] = [
         &[(2, "daily")],
         &[],
     ),
-    // So does a continued line, and a comment inside one.
+    // A continued line ends with its text too, and so does a comment inside a continued line.
     (
         &[
             "[Timer]\nOnCalendar=Mon \\",
@@ -88,7 +88,8 @@ static READ: [Row; 9] = [
     ),
 ];
 
-/// Texts, and the index of a text and the error that they are rejected with.
+/// Texts that are rejected, the index of the text with the error (`None` if all texts together lack an expression), and
+/// the error.
 static REFUSED: [(&[&str], Option<usize>, TimerFault); 7] = [
     (&[], None, TimerFault::NothingToDo),
     (&["[Unit]", "[Timer]"], None, TimerFault::NothingToDo),
@@ -197,7 +198,7 @@ fn refused(rt: HostRuntime) -> Result<(), Fail> {
     Ok(())
 }
 
-/// The limit of 256 expressions is that of all texts together.
+/// The limit of 256 expressions applies to all texts together.
 #[test]
 fn one_too_many(rt: HostRuntime) -> Result<(), Fail> {
     let unit = counted_file(rt.alloc(), &[(200, DAILY), (256, EXCEPTION)])?;

@@ -46,7 +46,7 @@ static TIMES: Table = Table {
     )],
 };
 
-/// Six digits of a fraction count, and the rest is dropped.
+/// The first six digits of a fraction count, and the rest is dropped.
 static FRACTIONS: Table = Table {
     moments: "\
 1:2:3.4 -> 1353632523400000|1:2:3.456789 -> 1353632523456789|1:2:3.4567891 -> 1353632523456789|\
@@ -61,7 +61,8 @@ static FRACTIONS: Table = Table {
     )],
 };
 
-/// Weekday names may be short or whole, in any case. No comma or other characters may follow.
+/// Weekday names may be whole or abbreviated to three letters, in upper or lower case. No comma or other character may
+/// follow them.
 static WEEKDAYS: Table = Table {
     moments: "\
 Fri 2012-11-23 -> 1353628800000000|friday 2012-11-23 -> 1353628800000000|FRI\t2012-11-23 -> 1353628800000000|\
@@ -91,7 +92,7 @@ Fri..Fri 2012-11-23|UTC|utc 1:2|a|daily|infinity|T1:2|x2012-11-23|Fri\n2012-11-2
     ],
 };
 
-/// What may follow a date or a time.
+/// Words that may follow a date or a time, and words that may not.
 static WORDS_AFTER: Table = Table {
     moments: "\
 2012-11-23 1:2 -> 1353632520000000|2012-11-23\t \t1:2:3\tUTC -> 1353632523000000|\

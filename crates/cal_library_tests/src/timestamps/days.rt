@@ -32,7 +32,7 @@ Fri 0:0 UTC -> 1353628800000000",
     },
 ];
 
-/// The words in other cases, and words that can't follow a day.
+/// Misspelled words for days, and words that can't follow a word for a day.
 static REFUSED_DAYS: Table = Table {
     moments: "",
     refusals: &[
@@ -51,7 +51,7 @@ today Mars/One|yesterday Fri|tomorrow today|today U!|12:00 today|2012-11-23 toda
     ],
 };
 
-/// Presents, each with what timestamps resolve to. The clock skips the midnight of 2024-03-10, and shows that of
+/// Presents, each with what timestamps then resolve to. The clock skips midnight on 2024-03-10, and shows midnight on
 /// 2024-11-03 twice.
 static DAYS_OF_A_CHANGE: [(i64, Table); 2] = [
     // The day whose midnight is skipped.
@@ -64,7 +64,7 @@ today -> 1710046800000000|yesterday -> 1709960400000000|tomorrow -> 171012960000
             refusals: &[],
         },
     ),
-    // The day whose midnight comes twice.
+    // The day whose midnight occurs twice.
     (
         1_730_653_200,
         Table {

@@ -1,11 +1,12 @@
-//! Fixed offsets in place of a zone name, and reading back printed instants.
+//! Timestamps with a fixed offset in place of a zone name, and parsing printed instants.
 
 use super::{PRESENT, Setting, Table, expect_in_utc, expect_settings};
 use cal_base::SpanFault;
 use cal_read::StampFault::*;
 use std::test::Fail;
 
-/// An offset after each kind of word that it can follow, the smallest and the largest, and what is not an offset.
+/// An offset after each kind of word that it can follow, the smallest and the largest offset, and words that are not
+/// offsets.
 static OFFSETS: Table = Table {
     moments: "\
 2012-11-23 11:12 +08:00 -> 1353640320000000|today +08:00 -> 1353600000000000|\
@@ -43,7 +44,8 @@ today -|today UTC +02:00|yesterday +02:00 UTC|tomorrow +02:00 12:00",
     ],
 };
 
-/// The first and the last moment, and offsets that shift a local time into the supported range or out of it.
+/// The first moment, the last one that can be written with an offset, and offsets that shift a local time into the
+/// supported range or out of it.
 static RANGE_ENDS: [Setting; 1] = [Setting {
     now: PRESENT,
     east: 7_200,
@@ -57,8 +59,9 @@ static RANGE_ENDS: [Setting; 1] = [Setting {
     },
 }];
 
-/// Instants as reports print them: in both occurrences of a repeated local time, after a skipped one, and at the ends
-/// of the range. An instant can't be read back if its offset has seconds, or if its local year is 1969 or 2200.
+/// Instants as reports print them: at both occurrences of a repeated local time, on the days before and after one that
+/// is skipped, and at the ends of the range. A printed instant is not a valid timestamp if its offset has seconds, or
+/// if its local year is 1969 or 2200.
 static LINES_OF_REPORTS: [Setting; 1] = [Setting {
     now: 0,
     east: 19_800,

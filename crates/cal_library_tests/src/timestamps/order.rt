@@ -47,7 +47,7 @@ static WEEKDAYS_AFTER_WORDS: Table = Table {
     ],
 };
 
-/// The range is checked last.
+/// Whether the moment is in the supported range is checked last.
 static RANGE_LAST: [Setting; 2] = [
     Setting {
         now: PRESENT,

@@ -1,11 +1,11 @@
-//! The present, and spans counted from the present or from 0.
+//! Timestamps that are `now`, and time spans counted from the present or from the start of 1970.
 
 use super::{Table, expect_in_utc};
 use cal_base::SpanFault;
 use cal_read::StampFault::*;
 use std::test::Fail;
 
-/// Blanks alone are empty.
+/// A timestamp with only blanks is empty.
 static BLANKS_ALONE: Table = Table {
     moments: "",
     refusals: &[(Empty, "|\x20|\t|\x20\t \t")],
@@ -35,7 +35,7 @@ static AFTER_AND_BEFORE: Table = Table {
     )],
 };
 
-/// Spans counted from 0.
+/// Spans counted from the start of 1970.
 static COUNTED_FROM_0: Table = Table {
     moments: "\
 @0 -> 0|@ 5 min -> 300000000|\x20@1.5\x20 -> 1500000|@1d -> 86400000000|@7258211998.999999 -> 7258211998999999",

@@ -24,7 +24,7 @@ Fri 1:2\tTest/Fixed\x20 -> 1353628920000000|today Test/Fixed -> 1353625200000000
     ],
 };
 
-/// The present day is that of the named zone, even if the local zone has another one.
+/// `today` and times without a date are on the present day of the named zone, even if the local zone has another day.
 static DAYS_OF_THE_ZONE_NAMED: Table = Table {
     moments: "\
 today East -> 1353664800000000|1:2 East -> 1353668520000000|Sat 1:2 East -> 1353668520000000|\

@@ -8,7 +8,7 @@ use std::alloc::Global;
 use std::process::Abort;
 use std::test::Fail;
 
-/// Returns whether the first three midnights in the zone are strictly increasing.
+/// Returns whether three more midnights follow [`NEW_YEAR`] in the zone, strictly increasing.
 fn rises(alloc: Global, zone: Zone<'_>) -> Result<bool, Fail> {
     let mut midnights = elapses_of(alloc, "daily", zone, NEW_YEAR)?;
     let mut last = NEW_YEAR;

@@ -13,7 +13,7 @@ A|z|UTC|Europe/Berlin|Etc/GMT+12|America/Port-au-Prince|America/Argentina/Rio_Ga
 const NO_NAMES: &str = "\
 | |1x|/a|_a|+a|-a|a b| a|a |a.b|a:b|a,b|a\0|é|aé|Zürich";
 
-/// Expects each text to be a valid name, or each to be invalid. They are separated by `|`.
+/// Expects all texts to be valid names, or all to be invalid. The texts are separated by `|`.
 fn expect_names(rt: &impl Abort, texts: &str, are_names: bool) {
     for text in texts.split('|') {
         assert_eq!(rt; is_zone_name(text.as_bytes()), are_names, "{text}");
@@ -53,14 +53,14 @@ fn midnight(table: &ZoneTable, name: &str) -> Option<i64> {
     place(table.find(name)?, NEW_YEAR)
 }
 
-/// Expects to find a zone under each name with this midnight, or no zone.
+/// Expects each name to find a zone in which New Year 2024 begins at this instant, or no zone.
 fn expect_found(rt: &impl Abort, table: &ZoneTable, rows: &[(&str, Option<i64>)]) {
     for (name, instant) in rows {
         assert_eq!(rt; midnight(table, name), *instant, "{name}");
     }
 }
 
-/// Names that can't be added if `Test/Fixed` is in the table; `UTC` always is.
+/// Names that can't be added to a table that has `Test/Fixed`. `UTC` is in every table.
 static REFUSED: [(&str, ZoneFault); 7] = [
     ("Test/Fixed", ZoneFault::NameTaken),
     ("utc", ZoneFault::NameTaken),
@@ -86,7 +86,8 @@ fn expect_refused(
     Ok(())
 }
 
-/// What each name finds if `Test/Fixed` is the only zone besides UTC.
+/// Names, each with the instant at which New Year 2024 begins in the zone that it finds, or `None` if it finds no zone.
+/// `Test/Fixed` is the only zone besides UTC.
 static FOUND: [(&str, Option<i64>); 6] = [
     ("Test/Fixed", Some(1_704_063_600)),
     ("uTc", Some(NEW_YEAR)),

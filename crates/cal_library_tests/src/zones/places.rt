@@ -5,7 +5,7 @@ use cal_base::{PlaceCache, Zone, place, settle};
 use std::process::Abort;
 use std::test::Fail;
 
-/// Expects each local second to have this instant, or none, both from `place` and from one `PlaceCache` for all.
+/// Expects `place`, and one `PlaceCache` for all rows, to convert each local second to this instant, or to none.
 fn expect_places(rt: &impl Abort, zone: Zone, rows: &[(i64, Option<i64>)]) {
     let mut place_cache = PlaceCache::new(zone);
     for (local, instant) in rows {
@@ -16,7 +16,7 @@ fn expect_places(rt: &impl Abort, zone: Zone, rows: &[(i64, Option<i64>)]) {
             *instant,
             "by the cache at {local}"
         );
-        // The cache may now know a range with a constant offset, and then answers from that range.
+        // The second conversion may use a constant-offset range that the cache has kept from the first one.
         assert_eq!(rt; place_cache.place(*local), *instant, "once more at {local}");
     }
 }

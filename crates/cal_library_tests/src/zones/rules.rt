@@ -1,5 +1,5 @@
-//! Valid and invalid rules, and zone files. The rules follow POSIX (Environment Variables, `TZ`), with the longer rule
-//! times of RFC 8536 and names of at most 15 bytes.
+//! Valid and invalid POSIX rules and zone files. The rules follow POSIX (Environment Variables, `TZ`), with the longer
+//! rule times of RFC 8536 and names of at most 15 bytes.
 
 use crate::shared::{NEW_YEAR, zone_file};
 use cal_base::{Rules, Zone, ZoneFault, place};
@@ -38,7 +38,7 @@ fn posix_rules(rt: HostRuntime) {
     expect_faults(&rt, REFUSED, Some(ZoneFault::BadRule));
 }
 
-/// Returns the error for these bytes as the zone file with this name, if any.
+/// Returns the error that a zone file with this name and these bytes is rejected with, if any.
 fn file_fault(alloc: Global, name: &str, bytes: &[u8]) -> Option<ZoneFault> {
     Rules::file(alloc, name, bytes).err()
 }
@@ -55,7 +55,7 @@ fn reads_a_zone_file(rt: HostRuntime) -> Result<(), Fail> {
     Ok(())
 }
 
-/// Expects the bytes to be rejected as the zone file with each name, with its error.
+/// Expects a zone file of these bytes to be rejected under each name, with the error next to the name.
 fn expect_refused(rt: &(impl Abort + AllocGlobal), bytes: &[u8], rows: &[(&str, ZoneFault)]) {
     for (name, fault) in rows {
         assert_eq!(rt; file_fault(rt.alloc(), name, bytes), Some(*fault), "{name}");
