@@ -1,4 +1,4 @@
-//! Command lines: which arguments ask for what, and which errors the others are reported with.
+//! Command lines: what valid arguments ask for, and the errors of invalid ones.
 
 use cal_command::{Ask, CommandFault, LocalZone, ZoneItem};
 use cal_request::Verb;
@@ -141,8 +141,8 @@ fn commands(rt: HostRuntime) -> Result<(), Fail> {
     check(&rt, COMMANDS)
 }
 
-/// Several bad values at once, of which one is reported, in the order `--iterations`, `--now`, `--zones`, `--local`;
-/// and requests for help or the version.
+/// Several bad values at once, of which the first in the order `--iterations`, `--now`, `--zones`, `--local` is
+/// reported; and requests for help or the version.
 const OTHERS: &str = "\
 calendar|--iterations=0|--now=5|daily -> bad iterations
 calendar|--local=5x|--zones=x|--now=5|--iterations=0|daily -> bad iterations
@@ -270,7 +270,7 @@ fn at_most_sixty_four_zone_files(rt: HostRuntime) -> Result<(), Fail> {
     expect_shown(&rt, &more, "bad zones")
 }
 
-/// Arguments that print a text of help or usage.
+/// Arguments for which the program prints a help text or a usage text.
 const HELP_OR_USAGE: &str = "\
 --help
 --version
@@ -295,7 +295,7 @@ fn is_narrow(text: &str) -> bool {
     text.lines().all(|row| row.len() <= 80)
 }
 
-/// Texts of help and usage end with exactly one line feed and fit into 80 columns.
+/// Help texts and usage texts end with exactly one line feed and fit into 80 columns.
 #[test]
 fn texts_fit_a_terminal(rt: HostRuntime) -> Result<(), Fail> {
     for line in HELP_OR_USAGE.lines() {

@@ -19,8 +19,8 @@ use std::alloc::{AllocError, Global};
 use std::process::Abort;
 use std::test::Fail;
 
-/// A request, its surroundings, and everything that it should write. The run succeeds; its status is `Refused` exactly
-/// if something is expected on standard error.
+/// A request with its present, local zone and timer file, and everything that its run should write. The run succeeds.
+/// Its status is `Refused` if something is expected on standard error, and otherwise `Fine`.
 #[derive(Clone, Copy)]
 struct Row<'a> {
     /// What the row tests, for failure messages.
@@ -47,7 +47,7 @@ enum Local {
     Summer,
 }
 
-/// The defaults of a row: one elapse of each expression, counted from the start of 2024, in UTC.
+/// The defaults of a row: the next elapse of each expression after the start of 2024, in UTC.
 const CALENDAR: Row<'static> = Row {
     about: "",
     verb: Verb::Calendar,
@@ -99,7 +99,7 @@ fn known_zones(alloc: Global) -> Result<KnownZones, Fail> {
     }
 }
 
-/// Expects each row to write its texts.
+/// Runs each row, and expects it to write its texts.
 fn check(rt: &(impl Abort + AllocGlobal), rows: &[Row<'_>]) -> Result<(), Fail> {
     let zones = known_zones(rt.alloc())?;
     for row in rows {
@@ -218,7 +218,7 @@ fn request(rt: &(impl Abort + AllocGlobal), row: Row<'_>) -> Result<Request, All
     })
 }
 
-/// The texts of requests, and the name of the timer file in each: the first text, or the empty name.
+/// The texts of requests, each with what `file_name` returns: the first text, or an empty name if there are no texts.
 const NAMES: [(&[&str], &str); 3] = [(&["t"], "t"), (&["a/b", "c"], "a/b"), (&[], "")];
 
 #[test]

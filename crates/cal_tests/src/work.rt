@@ -1,4 +1,5 @@
-//! The program's whole work, over systems in memory: the bytes on both outputs, and the status.
+//! Tests of `work`, which does all that the program does, with files and a clock in memory: the bytes on both outputs,
+//! and the status.
 
 mod disk;
 mod memory;
@@ -26,7 +27,7 @@ impl Done {
     }
 }
 
-/// Does what the arguments in `line`, which are separated by `|`, ask for.
+/// Runs the program with the arguments in `line`, which are separated by `|`.
 fn perform<S: System>(alloc: Global, system: &S, line: &str) -> Result<Done, Fail> {
     let arguments: Vec<&str> = line.split('|').collect(alloc)?;
     perform_arguments(alloc, system, arguments.as_slice())
@@ -46,7 +47,7 @@ fn perform_arguments<S: System>(
 /// Arguments, separated by `|`, with the expected texts on standard output and standard error and the expected status.
 type Row<'a> = (&'a str, &'a str, &'a str, u8);
 
-/// Expects the program to do what the row says.
+/// Runs the program with the row's arguments, and expects the row's outputs and status.
 fn check<S: System>(rt: &(impl Abort + AllocGlobal), system: &S, row: Row<'_>) -> Result<(), Fail> {
     let done = perform(rt.alloc(), system, row.0)?;
     expect_done(rt, &done, row);

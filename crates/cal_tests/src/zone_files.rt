@@ -16,7 +16,7 @@ fn midnight(table: &ZoneTable, name: &str) -> Option<i64> {
     place(table.find(name)?, 1_704_067_200)
 }
 
-/// Returns that midnight in `UTC`, `Test/Fixed`, `Test/A` and `1x`.
+/// Returns the instants of local midnight on 2024-01-01 in `UTC`, `Test/Fixed`, `Test/A` and `1x`.
 fn midnights(table: &ZoneTable) -> [Option<i64>; 4] {
     [
         midnight(table, "UTC"),
@@ -26,12 +26,13 @@ fn midnights(table: &ZoneTable) -> [Option<i64>; 4] {
     ]
 }
 
-/// The instants of that midnight in UTC, and in a zone one hour ahead of UTC.
+/// The instant of local midnight on 2024-01-01 in UTC.
 const IN_UTC: Option<i64> = Some(1_704_067_200);
 
+/// The instant of local midnight on 2024-01-01 in a zone that is one hour ahead of UTC.
 const HOUR_AHEAD: Option<i64> = Some(1_704_063_600);
 
-/// A file to be loaded under a name, and what is expected to be in the table afterwards.
+/// A file to be loaded under a name, the expected result, and the midnights of the table afterwards.
 #[derive(Clone, Copy)]
 struct Row<'a> {
     name: &'a str,
@@ -95,13 +96,14 @@ fn one_name_more(rt: HostRuntime) -> Result<(), Fail> {
     check(&rt, &[first, second])
 }
 
-/// Limits for the source of a zone file: one that cuts the file short, and one that leaves it whole.
+/// A limit for the source of a zone file that cuts the file short.
 const CUTTING_LIMIT: usize = 9;
 
+/// A limit for the source of a zone file that leaves the file whole.
 const AMPLE_LIMIT: usize = 999;
 
-/// A name, the source's limit, what the source does after that, and the expected error. Of several errors, an invalid
-/// name comes first, then errors while reading, then invalid contents, and a name that is taken comes last.
+/// A name, the source's limit, what the source does after that, and the expected error. If there are several errors, an
+/// invalid name is reported first, then an error in reading, then invalid contents, and last a name that is taken.
 static REFUSALS: [(&str, usize, Then, LoadFault); 8] = [
     ("1x", CUTTING_LIMIT, Then::Error, Zone(BadName)),
     ("1x", CUTTING_LIMIT, Then::Endless, Zone(BadName)),
@@ -153,7 +155,7 @@ fn check_bytes(
     check(rt, &[row])
 }
 
-/// The largest size that is read, and one byte more.
+/// The last two files have the largest size that a zone file may have, and one byte more.
 #[test]
 fn bytes_that_are_no_zone_file(rt: HostRuntime) -> Result<(), Fail> {
     check_bytes(&rt, b"hello", BadFile)?;

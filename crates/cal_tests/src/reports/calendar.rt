@@ -3,7 +3,7 @@
 use super::{CALENDAR, NOON_THIRTY, Row, check};
 use std::test::Fail;
 
-/// The last supported local second, from one second before.
+/// One second before the last supported local second, which is the only elapse left.
 const LAST_SECOND: Row<'static> = Row {
     about: "last second",
     texts: &["*-*-* 23:59:59"],
@@ -101,7 +101,7 @@ Normalized form: Wed *-*-* 17:48:00
        From now: 2d 17h 48min left
 ";
 
-/// Expressions of various kinds.
+/// Leap days, last Mondays of a month, a date that doesn't exist, and lists of weekdays.
 static EXPRESSIONS: [Row<'static>; 4] = [
     LEAP_DAYS,
     Row {

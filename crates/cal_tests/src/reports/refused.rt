@@ -1,5 +1,5 @@
-//! Reports, with each allocation refused in turn by `tests/refused`. It checks that a test fails with `NoMemory` or
-//! `AllocError` exactly if an allocation failed.
+//! Reports for which `tests/refused` makes each allocation fail in turn. It checks that a test fails with `NoMemory` or
+//! `AllocError` if and only if an allocation has failed.
 
 use super::calendar::LEAP_DAYS;
 use super::timers::{CONTINUED_TIMER, EXCEPT_TIMER};
@@ -12,7 +12,7 @@ use cal_zone::{Rules, ZoneTable};
 use std::process::Abort;
 use std::test::Fail;
 
-/// Runs the row over writers that have their room beforehand.
+/// Runs the row with writers whose memory is allocated before the run.
 fn check_refused(rt: &(impl Abort + AllocGlobal), row: Row<'_>) -> Result<(), Fail> {
     let request = request(rt, row)?;
     let now = instant(row.now)?;
@@ -30,7 +30,8 @@ fn check_refused(rt: &(impl Abort + AllocGlobal), row: Row<'_>) -> Result<(), Fa
     Ok(())
 }
 
-/// The row's texts were written; or a verb that allocates ran out of memory, and nothing was written.
+/// Expects the row's texts to be written. If a verb that allocates ran out of memory, expects nothing to be written
+/// instead, and fails with `NoMemory`.
 fn expect_texts_or_none(
     rt: &impl Abort,
     row: Row<'_>,
@@ -60,7 +61,7 @@ fn a_timer_with_an_exception(rt: HostRuntime) -> Result<(), Fail> {
     check_refused(&rt, EXCEPT_TIMER)
 }
 
-/// Time spans and timestamps don't allocate: only what comes before the run can fail.
+/// Reports on time spans and timestamps don't allocate: only allocations before the run can fail.
 #[test]
 fn time_spans(rt: HostRuntime) -> Result<(), Fail> {
     check_refused(&rt, SPAN_LIST)

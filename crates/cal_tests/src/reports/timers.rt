@@ -91,7 +91,7 @@ pub(super) const EXCEPT_TIMER: Row<'static> = Row {
     ..TIMER
 };
 
-/// The exception has only midnights, so noon on Saturday stays.
+/// The exception elapses only at midnight, so noon on Saturday is still listed.
 const MIDNIGHTS: &str = "  Original form: 12:00
 Normalized form: *-*-* 12:00:00
     Except form: Sat,Sun
@@ -206,7 +206,7 @@ Normalized form: *-*-* *:00:00
 const TOMORROW: &str = "    Next elapse: Tue 2024-01-02 00:00:00 UTC\n       From now: 1d left\n";
 
 /// The number of lines `OnCalendar=daily`, the lines after them, the number of headings in the report, the text after
-/// the headings, and the error line. A file may have 256 expressions at a time, and a reset starts the count again.
+/// the headings, and the error line. A file may have up to 256 expressions, and a reset starts the count again.
 static MANY: [(usize, &str, usize, &str, &str); 3] = [
     (256, "", 256, TOMORROW, ""),
     (256, RESET, 0, HOURLY, ""),
@@ -235,10 +235,10 @@ fn as_many_expressions_as_there_may_be(rt: HostRuntime) -> Result<(), Fail> {
     Ok(())
 }
 
-/// How many bytes a source returns in each call and in all, and what it does after that.
+/// How many bytes a source returns in each call and in total, and what it does after that.
 type Reader = (usize, usize, Then);
 
-/// Expects the row to write its texts if its file is read from this source.
+/// Runs the row with its file read from this source, and expects the row's texts.
 fn check_reader(
     rt: &(impl Abort + AllocGlobal),
     zones: &KnownZones,
@@ -275,7 +275,7 @@ fn slow_readers(rt: HostRuntime) -> Result<(), Fail> {
     Ok(())
 }
 
-/// Returns the row for a file that can't be read; its only output is this error line.
+/// Returns the row for the case that its file can't be read: the only output is this error line.
 fn unread<'a>(row: Row<'a>, err: &'a str) -> Row<'a> {
     Row {
         out: "",
@@ -284,7 +284,7 @@ fn unread<'a>(row: Row<'a>, err: &'a str) -> Row<'a> {
     }
 }
 
-/// A file can't be read if its source fails after any number of bytes, even after all of them.
+/// If the source of a file fails, the file can't be read, even if the source has already returned all bytes.
 #[test]
 fn failing_readers(rt: HostRuntime) -> Result<(), Fail> {
     for row in &READ {

@@ -4,7 +4,7 @@ use super::{CALENDAR, Local, Row, check};
 use cal_request::Verb;
 use std::test::Fail;
 
-/// A list of time spans, one of them invalid.
+/// Several time spans, one of them invalid.
 pub(super) const SPAN_LIST: Row<'static> = Row {
     about: "span list",
     texts: &["1year 0.000001s", "300ms20s 5day", ".7", "0", "5x"],
@@ -68,7 +68,7 @@ today Mars/One: no such zone
 11:12 UTC x: stray word
 ";
 
-/// A list of timestamps, most of them invalid, in a local zone that is 8 hours ahead of UTC.
+/// Several timestamps, most of them invalid, in a local zone that is 8 hours ahead of UTC.
 pub(super) const STAMP_LIST: Row<'static> = Row {
     about: "stamp list",
     texts: &[

@@ -1,4 +1,4 @@
-//! Reports to writers that are slow or fail.
+//! Reports to writers that are slow or fail, and requests that continue a report that was cut off.
 
 use super::timers::{CONTINUED_TIMER, EXCEPT_TIMER};
 use super::times::{SPAN_LIST, STAMP_LIST};
@@ -13,7 +13,7 @@ use std::alloc::AllocError;
 use std::process::Abort;
 use std::test::Fail;
 
-/// A report and a refusal.
+/// A valid expression and an invalid one: a report and an error line.
 const ONE_REFUSED: Row<'static> = Row {
     about: "noon thirty and a refused text",
     texts: &["*-*-* 12:30:00", "x"],
@@ -31,7 +31,7 @@ static ROWS: [Row<'static>; 6] = [
     STAMP_LIST,
 ];
 
-/// Writers that take one byte a call get the same bytes.
+/// Runs the row with writers that take one byte in each call, and expects them to get all bytes.
 fn check_slow(
     rt: &(impl Abort + AllocGlobal),
     row: Row<'_>,
@@ -55,21 +55,22 @@ fn slow_writers(rt: HostRuntime) -> Result<(), Fail> {
     Ok(())
 }
 
-/// What a writer that failed has, how the run ended, and which of both writers had failed.
+/// The bytes that the failing writer got, the result of the run, and whether the writer of reports and the writer of
+/// error lines failed.
 type Cut<'a> = (&'a [u8], Result<Status, RunFault>, (bool, bool));
 
-/// The run of the row was cut so.
+/// Expects the row's run to have ended like this.
 fn expect_cut(rt: &impl Abort, row: Row<'_>, cut: Cut<'_>, wanted: Cut<'_>) {
     assert_eq!(rt; cut, wanted, "at {}", row.about);
 }
 
-/// How a run ends whose writer fails once it has all that it takes: well, if that is the whole text.
+/// Returns the expected result of a run: `fault` if an output was cut off, and otherwise the row's status.
 fn end_of_cut(row: Row<'_>, is_cut: bool, fault: RunFault) -> Result<Status, RunFault> {
     if is_cut { Err(fault) } else { Ok(status(row)) }
 }
 
-/// A writer of reports that fails once it has this prefix of them has exactly that, and the run says that it failed,
-/// unless nothing is missing.
+/// Checks a run whose writer of reports fails after `front`, a prefix of the reports: the writer has exactly that
+/// prefix, and the run reports the failure unless nothing is missing.
 fn check_cut_out(
     rt: &(impl Abort + AllocGlobal),
     row: Row<'_>,
@@ -90,7 +91,7 @@ fn check_cut_out(
     Ok(())
 }
 
-/// The reports of a row, cut after each of their bytes, and at last after none.
+/// Checks the row with its reports cut off at every length, from no bytes to all of them.
 fn check_cuts_out(rt: &(impl Abort + AllocGlobal), row: Row<'_>, then: Then) -> Result<(), Fail> {
     let text = row.out.as_bytes();
     let zones = known_zones(rt.alloc())?;
@@ -125,7 +126,8 @@ Normalized form: Sat,Sun *-*-* 12:00:00
        From now: 3d 12h left
 ";
 
-/// What is left of the elapses of every second, by how many of them were given: the last of these is the base.
+/// [`EVERY_SECOND`], and the requests that continue its report. The row at index `n` continues after the first `n`
+/// elapses: its base is the last of these.
 static EVERY_SECOND_RESUMED: [Row<'static>; 3] = [
     EVERY_SECOND,
     FROM_THE_FIRST,
@@ -138,7 +140,7 @@ static EVERY_SECOND_RESUMED: [Row<'static>; 3] = [
     },
 ];
 
-/// The same of a timer file with an exception.
+/// [`EXCEPT_TIMER`], and the request that continues its report after the first elapse.
 static EXCEPT_TIMER_RESUMED: [Row<'static>; 2] = [
     EXCEPT_TIMER,
     Row {
@@ -156,7 +158,7 @@ fn second_runs(rt: HostRuntime) -> Result<(), Fail> {
     check(&rt, &EXCEPT_TIMER_RESUMED)
 }
 
-/// Puts the instants of the elapses whose first lines are complete in a text at the end of a list.
+/// Appends to `instants` the instants of those elapses whose first line is complete in `text`.
 fn push_instants<'t>(instants: &mut Vec<&'t str>, text: &'t str) -> Result<(), AllocError> {
     let Some((whole, _)) = text.rsplit_once('\n') else {
         return Ok(());
@@ -169,7 +171,8 @@ fn push_instants<'t>(instants: &mut Vec<&'t str>, text: &'t str) -> Result<(), A
     Ok(())
 }
 
-/// Appends the instants of the complete elapses in a prefix of a report, and those that a second run prints.
+/// Appends the instants of those elapses whose first line is complete in `front`, and then the instants that the run
+/// which continues after them prints.
 fn push_resumed(
     instants: &mut Vec<&'static str>,
     front: &'static str,
@@ -182,8 +185,8 @@ fn push_resumed(
     Ok(())
 }
 
-/// What is complete in the first run's report, cut after each of its bytes, and what a second run gives is together
-/// the whole.
+/// Cuts the report `text` off at every length. Expects the elapses whose first line is then complete, and the elapses
+/// of the run that continues after them, to be all elapses of the report.
 fn expect_resumed(
     rt: &(impl Abort + AllocGlobal),
     text: &'static str,
@@ -205,8 +208,8 @@ fn each_cut_is_resumed(rt: HostRuntime) -> Result<(), Fail> {
     expect_resumed(&rt, EXCEPT_TIMER.out, &EXCEPT_TIMER_RESUMED)
 }
 
-/// Checks a run whose writer of error lines fails after a prefix of them: the writer has exactly that prefix, the run
-/// reports that it failed unless nothing is missing, and all reports are written.
+/// Checks a run whose writer of error lines fails after `front`, a prefix of the error lines: the writer has exactly
+/// that prefix, the run reports the failure unless nothing is missing, and the row's reports are written.
 fn check_cut_err(
     rt: &(impl Abort + AllocGlobal),
     row: Row<'_>,
@@ -228,7 +231,7 @@ fn check_cut_err(
         (err.bytes(), ended, failed),
         (front, ends, (false, is_cut)),
     );
-    // Nothing was offered after the failure.
+    // Nothing was offered to the writer after it had failed.
     let is_last = err.calls() == front.len() as u64 + u64::from(is_cut);
     assert!(rt;
         is_last && out.as_slice() == row.out.as_bytes(),
@@ -238,7 +241,7 @@ fn check_cut_err(
     Ok(())
 }
 
-/// The refusals of a row, cut after each of their bytes, and at last after none.
+/// Checks the row with its error lines cut off at every length, from no bytes to all of them.
 fn check_cuts_err(rt: &(impl Abort + AllocGlobal), row: Row<'_>, then: Then) -> Result<(), Fail> {
     let text = row.err.as_bytes();
     let zones = known_zones(rt.alloc())?;
@@ -248,7 +251,7 @@ fn check_cuts_err(rt: &(impl Abort + AllocGlobal), row: Row<'_>, then: Then) -> 
     Ok(())
 }
 
-/// A base that is rejected is reported on standard error, where that can be written.
+/// An invalid base time, for which only an error line is written.
 const REFUSED_BASE: Row<'static> = Row {
     about: "a refused base",
     texts: &["*-*-* 12:30:00"],
@@ -258,7 +261,7 @@ const REFUSED_BASE: Row<'static> = Row {
     ..CALENDAR
 };
 
-/// Rows whose refusals come after all of their reports.
+/// Rows whose error lines are written after all of their reports.
 static CUT_REFUSALS: [Row<'static>; 3] = [ONE_REFUSED, SPAN_LIST, REFUSED_BASE];
 
 #[test]
@@ -271,14 +274,14 @@ fn refusals_that_are_cut(rt: HostRuntime) -> Result<(), Fail> {
     Ok(())
 }
 
-/// What is in a text before these words.
+/// Returns the beginning of `text`, up to the first `part`.
 fn before<'t>(text: &'t str, part: &str) -> Result<&'t str, Fail> {
     let end = text.find(part).ok_or("the part is missing")?;
     Ok(text.get(..end).unwrap_or(""))
 }
 
-/// The reports of the stamp list that are written before this byte of its refusals: one before the first of them, and
-/// another before the fourth. After the last byte all are written.
+/// Returns the reports of [`STAMP_LIST`] that are written if its error lines are cut off after `limit` bytes. The first
+/// report precedes all error lines, the second one comes after three error lines, and the third one after all of them.
 fn reports_until(stamps: Row<'static>, limit: usize) -> Result<&'static str, Fail> {
     if limit == stamps.err.len() {
         return Ok(stamps.out);
@@ -292,7 +295,7 @@ fn reports_until(stamps: Row<'static>, limit: usize) -> Result<&'static str, Fai
     before(stamps.out, next)
 }
 
-/// The refusals of the stamp list, cut after each of their bytes, and at last after none.
+/// Checks [`STAMP_LIST`] with its error lines cut off at every length, from no bytes to all of them.
 fn check_cuts_of_stamps(
     rt: &(impl Abort + AllocGlobal),
     stamps: Row<'static>,

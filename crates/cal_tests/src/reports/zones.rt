@@ -3,7 +3,7 @@
 use super::{CALENDAR, Local, Row, check};
 use std::test::Fail;
 
-/// On the day that skips the local time there is no elapse.
+/// There is no elapse on 2024-03-31, when the clock skips 02:30.
 const GAP: &str = "  Original form: 02:30
 Normalized form: *-*-* 02:30:00
     Next elapse: Sat 2024-03-30 02:30:00 +01:00
@@ -157,7 +157,7 @@ Normalized form: *-*-* 00:00:00 +02:00
        From now: 22h left
 ";
 
-/// The last local seconds far west of UTC are already in 2200 in UTC.
+/// In a zone far west of UTC, the last local seconds of 2199 are already in 2200 in UTC.
 const FAR_WEST: &str = "  Original form: *-*-* 23:59:59 -25:59
 Normalized form: *-*-* 23:59:59 -25:59
     Next elapse: Wed 2200-01-01 01:58:59 UTC
@@ -232,7 +232,7 @@ pub(super) const FROM_THE_FIRST: Row<'static> = Row {
     ..FROM_THE_SECOND
 };
 
-/// A base at an elapse lists the elapses after it. If the base is invalid, only its error is reported.
+/// If the base is an elapse, the elapses after it are listed. If the base is invalid, only its error is reported.
 static BASES: [Row<'static>; 4] = [
     FROM_THE_SECOND,
     FROM_THE_FIRST,

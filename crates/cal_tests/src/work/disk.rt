@@ -1,4 +1,5 @@
-//! Files that fail or never end, and outputs that fail. The system says nothing about its file in advance.
+//! Files that fail or never end, and outputs that fail. The contracts know nothing about the file and the clock of the
+//! system that is used here.
 
 use super::{check, perform};
 use cal_faulty::{Faulty, Then};
@@ -36,7 +37,7 @@ impl<'a> System for Disk<'a> {
     }
 }
 
-/// The number of bytes in a file, what the file does after them, and the end of its error line.
+/// The number of bytes that can be read from a file, what the file does after them, and the end of its error line.
 type Failing = (usize, Then, &'static str);
 
 static ZONE_FILES: [Failing; 3] = [
@@ -92,13 +93,13 @@ fn empty_disk(alloc: Global) -> Disk<'static> {
     }
 }
 
-/// Expects the result, and the bytes that the failing output got.
+/// Expects a run to have this result, and the failing output to have these bytes.
 fn expect_cut(rt: &impl Abort, args: &[&str], cut: (Ended, &[u8]), wanted: (Ended, &[u8])) {
     assert_eq!(rt; cut, wanted, "at {args:?}");
 }
 
-/// Runs the program with a standard output that fails after 3 bytes. Expects it to have the first 3 bytes of `whole`,
-/// and standard error to report the failure.
+/// Runs the program with a standard output that fails after 3 bytes. Expects standard output to have the first 3 bytes
+/// of `whole`, and standard error to report the failure.
 fn check_cut_out(rt: &(impl Abort + AllocGlobal), args: &[&str], whole: &[u8]) -> Result<(), Fail> {
     let disk = empty_disk(rt.alloc());
     let writer = Faulty::new(Vec::new(rt.alloc()), 7, 3, Then::Error);
@@ -133,8 +134,8 @@ fn outputs_that_fail(rt: HostRuntime) -> Result<(), Fail> {
     check_cut_out(&rt, &["--help"], help.out.as_slice())
 }
 
-/// Runs the program with a standard error that fails after 3 bytes. Expects it to have `front`, and the status to be
-/// the one that the run would have without the failure.
+/// Runs the program with a standard error that fails after 3 bytes. Expects standard error to have `front`, and the
+/// status to be the one that the run would have without the failure.
 fn check_cut_err(
     rt: &(impl Abort + AllocGlobal),
     args: &[&str],

@@ -1,4 +1,4 @@
-//! A system in memory, whose file and clock are known to the contracts.
+//! Reports and error lines with a system in memory, whose file and clock are known to the contracts.
 
 ghost use Rattle.std.specs.Prelude.{None, Some, true, if◌then◌else◌, bytes_eq};
 
@@ -74,8 +74,8 @@ fn reports(rt: HostRuntime) -> Result<(), Fail> {
     check(&rt, &timer, ("timer|f", HOURLY, "", 0))
 }
 
-/// Options that are rejected, each with its error line: two bad values at once, of which one is reported, and each of
-/// them alone; an empty rule and an unknown name for the local zone; zone names that are taken; and a zone file that
+/// Options that are rejected, each with its error line: bad values (on the first line two at once, of which one is
+/// reported); an empty rule and an unknown name for the local zone; zone names that are taken; and a zone file that
 /// can't be opened.
 const REFUSED_OPTIONS: &str = "\
 calendar|--iterations=0|--now=5|daily -> calendar-analyze: bad iterations
@@ -92,7 +92,7 @@ calendar|--zones=utc=f|daily -> calendar-analyze: --zones: utc: zone name taken
 calendar|--zones=A=g|daily -> calendar-analyze: --zones: A: cannot be read
 ";
 
-/// Texts and files that are rejected, each with the error line.
+/// Texts, base times and files that are rejected, each with its error line.
 const REFUSED_TEXTS: &str = "\
 timer|g -> g: cannot be read
 timer| -> : cannot be read
