@@ -6,8 +6,8 @@ pub use cal_bytes::{
     put_all, put_pieces,
 };
 pub use cal_civil::{
-    DAY, LOCAL_END, WEEK, begins_with_letter, begins_zone, date_of_day, day_of, is_zone_name,
-    push_offset, read_offset, second_of_day, short_weekday_name, weekday_name,
+    DAY, LOCAL_END, MAX_OFFSET, WEEK, begins_with_letter, begins_zone, date_of_day, day_of,
+    is_zone_name, push_offset, read_offset, second_of_day, short_weekday_name, weekday_name,
 };
 pub use cal_faulty::{Faulty, Then};
 pub use cal_span::{
@@ -17,6 +17,6 @@ pub use cal_span::{
 pub use cal_streams::{Output, Port, WholeFault, read_whole};
 pub use cal_text::{are_digits, decimal_value, first_word, last_word, trim_blanks};
 pub use cal_zone::{
-    Civil, Instant, InstantFormatter, Moment, PlaceCache, Rules, Zone, ZoneFault, ZoneTable, civil,
-    laws, place, push_instant, settle, write_instant,
+    Civil, Instant, InstantFormatter, MICROS_PER_SECOND, Moment, PlaceCache, Rules, Zone,
+    ZoneFault, ZoneTable, civil, laws, place, push_instant, settle, write_instant,
 };

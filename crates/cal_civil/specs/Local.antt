@@ -1,10 +1,11 @@
 -- The ranges of local seconds, and of the seconds of Unix time that they are converted to.
 use Rattle.std.specs.Prelude.{ℤ, pos, neg_ℤ}
 use Rattle.jiff_core.specs.Calendar.{IsBetween}
+use Rattle.cal_civil.specs.headline.Local.{last_local_second}
 
 -- a local second of the years 1970 to 2199
 abbrev pub IsLocalSecond : ℤ → Type 0
-IsLocalSecond local = IsBetween (pos 0) (pos 7_258_118_399) local
+IsLocalSecond local = IsBetween (pos 0) (pos last_local_second) local
 
 -- a local second that can be converted to Unix time: in the years 1970 to 2199, or a few days before or after them
 abbrev pub CanSettle : ℤ → Type 0

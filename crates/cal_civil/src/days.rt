@@ -5,7 +5,7 @@
 
 ghost use Rattle.std.specs.Prelude.{◌≡◌, ◌<◌, ◌/◌, ◌%◌, ◌≤ℤ◌, pos, unsigned_abs};
 ghost use Rattle.cal_civil.specs.Local.{IsLocalSecond};
-ghost use Rattle.cal_civil.specs.headline.Local.{civil_date};
+ghost use Rattle.cal_civil.specs.headline.Local.{civil_date, seconds_per_day, days_in_all};
 
 use jiff_core::civil::Date;
 
@@ -16,10 +16,14 @@ pub const DAY: i64 = 86_400;
 /// have 84,006 days.
 pub const LOCAL_END: i64 = 84_006 * DAY;
 
+/// The largest UTC offset that `jiff` accepts, in seconds (25:59:59): a local second and its instant are at most this far
+/// apart.
+pub const MAX_OFFSET: i64 = 93_599;
+
 /// Returns the day number of a local second of the years 1970 to 2199: 0 for 1970-01-01, up to 84,005.
 pub fn day_of(local: i64) -> u32
     requires { IsLocalSecond local }
-    ensures { result ≡ unsigned_abs local / 86_400 }
+    ensures { result ≡ unsigned_abs local / seconds_per_day }
 {
     (local / DAY) as u32
 }
@@ -27,14 +31,14 @@ pub fn day_of(local: i64) -> u32
 /// Returns the seconds since midnight, 0 to 86,399, of a local second in 1970 or later.
 pub fn second_of_day(local: i64) -> u32
     requires { pos 0 ≤ℤ local }
-    ensures { result ≡ unsigned_abs local % 86_400 }
+    ensures { result ≡ unsigned_abs local % seconds_per_day }
 {
     (local % DAY) as u32
 }
 
 /// Returns the date with the day number `day`, 0 (1970-01-01) to 84,005 (2199-12-31).
 pub fn date_of_day(day: u32) -> Date
-    requires { day < 84_006 }
+    requires { day < days_in_all }
     ensures { result ≡ civil_date day }
 {
     let Ok(date) = Date::from_unix_epoch_day(i64::from(day)) else {

@@ -3,26 +3,26 @@
 -- of 2199 if there is no result.
 use Rattle.std.specs.Prelude.{◌≡◌, ◌≤◌, ℕ, suc, ◌-◌, ◌/◌, Option, None, Some, pos, unsigned_abs}
 use Rattle.std.specs.Option.{option_map}
-use Rattle.cal_civil.specs.headline.Local.{civil_date}
+use Rattle.cal_civil.specs.headline.Local.{civil_date, seconds_per_day}
 use Rattle.cal_spec.specs.headline.Match.{Sets, matches}
 use Rattle.cal_elapse.specs.Count.{count_from}
-use Rattle.cal_elapse.specs.Months.{month_in, month_of}
+use Rattle.cal_elapse.specs.Months.{month_in, month_of, months_in_all}
 use Rattle.cal_elapse.specs.Search.{IsFirstLocal}
 use Rattle.cal_elapse.specs.declared.search.Found.{Found}
 
 -- the number of months that a search for a day examines if it starts in month `n`: those whose year and number match,
 -- up to the month of the day that it found, or up to the end of 2199 if it found none
 abbrev pub examined_from : Sets → ℕ → Option ℕ → ℕ
-examined_from sets n None = count_from (month_in sets) n (2_760 - n)
+examined_from sets n None = count_from (month_in sets) n (months_in_all - n)
 examined_from sets n (Some day) = count_from (month_in sets) n (suc (month_of (civil_date day)) - n)
 
 -- the number of months that a search for a local second examines if it starts at `from` and its result is `answer`
 abbrev pub examined_months : Sets → ℕ → Option ℕ → ℕ
-examined_months sets from answer = examined_from sets (month_of (civil_date (from / 86_400))) (option_map (λ t. t / 86_400) answer)
+examined_months sets from answer = examined_from sets (month_of (civil_date (from / seconds_per_day))) (option_map (λ t. t / seconds_per_day) answer)
 
 -- `found` is the result of one search: the first matching local second at or after `from`, and the number of months
 -- examined, at most 2,760
 pub record IsSearch (sets : Sets) (from : ℕ) (found : Found) : Type 0 where
   pub first : IsFirstLocal (matches sets) (pos from) found.local
   pub counted : found.months ≡ examined_months sets from (option_map unsigned_abs found.local)
-  pub few : found.months ≤ 2_760
+  pub few : found.months ≤ months_in_all

@@ -9,6 +9,7 @@ use Rattle.cal_spec.specs.declared.field.Field.{Field}
 use Rattle.cal_spec.specs.declared.field.Field.TheVariants as field
 use Rattle.cal_spec.specs.declared.slot.Slot.{Slot}
 use Rattle.cal_spec.specs.declared.slot.Slot.TheVariants.{Year, Month, Hour, Minute, Second}
+use Rattle.cal_civil.specs.headline.Local.{first_year}
 
 -- Which bit in the mask of days stands for `n`, a day, or a count from the end of the month if `from_end` is true. Days
 -- are stored in increasing order, and counts from the end in decreasing order, so that a later day of a month always
@@ -20,7 +21,7 @@ day_place from_end n = if from_end then 31 - n else n - 1
 unfoldable pub sets_in : Masks → Sets
 sets_in masks = record {
   weekday = λ v. nat_lt v 7 && is_bit masks.weekdays v;
-  year = λ v. nat_le 1_970 v && is_bit_in masks.years (v - 1_970);
+  year = λ v. nat_le first_year v && is_bit_in masks.years (v - first_year);
   month = λ v. nat_le 1 v && is_bit masks.months (v - 1);
   day = λ v. (nat_le 1 v && nat_le v 31) && is_bit masks.days (day_place masks.from_end v);
   hour = is_bit masks.hours;

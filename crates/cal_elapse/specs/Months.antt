@@ -2,12 +2,23 @@
 use Rattle.std.specs.Prelude.{◌≡◌, ℕ, zero, suc, ◌+◌, ◌-◌, ◌*◌, ◌/◌, ◌%◌, Bool, ◌&&◌, pos, unsigned_abs, refl}
 use Rattle.jiff.specs.Types.{Date}
 use Rattle.jiff_core.specs.Calendar.{days_in_month}
-use Rattle.cal_civil.specs.headline.Local.{civil_date}
+use Rattle.cal_civil.specs.headline.Local.{civil_date, first_year}
 use Rattle.cal_spec.specs.headline.Match.{Sets, date_in}
+
+-- the number of months in the years 1970 to 2199
+abbrev pub months_in_all : ℕ
+months_in_all = 2_760
+
+abbrev pub minutes_per_day : ℕ
+minutes_per_day = 1_440
+
+-- the number of minutes in the years 1970 to 2199
+abbrev pub minutes_in_all : ℕ
+minutes_in_all = 120_968_640
 
 -- the year and the month number, 1 to 12, of month `n`
 abbrev pub year_of : ℕ → ℕ
-year_of n = 1_970 + n / 12
+year_of n = first_year + n / 12
 
 abbrev pub number_of : ℕ → ℕ
 number_of n = n % 12 + 1
@@ -31,7 +42,7 @@ first_day-suc n = refl
 
 -- the index of the month that contains a date in 1970 or later
 unfoldable pub month_of : Date → ℕ
-month_of date = (unsigned_abs date.year - 1_970) * 12 + (date.month - 1)
+month_of date = (unsigned_abs date.year - first_year) * 12 + (date.month - 1)
 
 -- whether the expression matches the year and the number of month `n`
 unfoldable pub month_in : Sets → ℕ → Bool

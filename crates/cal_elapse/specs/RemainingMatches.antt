@@ -2,13 +2,13 @@
 use Rattle.std.specs.Prelude.{◌≡◌, ◌+◌, ◌-◌, ◌*◌, ◌/◌, ◌%◌, ◌<◌, ◌≤◌, ◌&&◌, nat_lt, ℕ, Bool, true, Option, None, Some}
 use Rattle.cal_civil.specs.headline.Local.{seconds_in_all}
 use Rattle.cal_elapse.specs.Bits.{is_bit}
-use Rattle.cal_elapse.specs.Months.{day_in, minute_in}
+use Rattle.cal_elapse.specs.Months.{day_in, minute_in, minutes_per_day, minutes_in_all}
 use Rattle.cal_elapse.specs.Search.{IsFirstPassing, NonePasses}
 use Rattle.cal_spec.specs.headline.Match.{Sets}
 
 -- whether a minute, counted from the start of 1970, contains matches: its date, its hour and its minute all match
 unfoldable pub minute_matches : Sets → ℕ → Bool
-minute_matches sets minute = nat_lt minute 120_968_640 && (day_in sets (minute / 1_440) && minute_in sets (minute % 1_440))
+minute_matches sets minute = nat_lt minute minutes_in_all && (day_in sets (minute / minutes_per_day) && minute_in sets (minute % minutes_per_day))
 
 -- Bit i of `left` stands for the number `from` + i. It is set exactly if this number passes the test, is greater than
 -- `found`, and is in the same unit of 60 as `found`: local seconds in one minute, or minutes in one hour.

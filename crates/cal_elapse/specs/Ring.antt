@@ -14,13 +14,21 @@ pub cells_in_all-is : cells_in_all ≡ 187_200
 unfolding cells_in_all
 cells_in_all-is = refl
 
+-- the same number, for statements without such a list
+abbrev pub cell_count : ℕ
+cell_count = 187_200
+
+-- the number of words of 64 bits that hold the cells
+abbrev pub cell_words : ℕ
+cell_words = 2_925
+
 -- whether the cell of a second is set
 unfoldable pub is_held : List ℕ → ℕ → Bool
-is_held cells second = is_bit_in cells (second % 187_200)
+is_held cells second = is_bit_in cells (second % cell_count)
 
 -- how many cells `i` is after `cell`, counting around the end of the ring
 abbrev pub cells_behind : ℕ → ℕ → ℕ
-cells_behind cell i = (i + 187_200 - cell) % 187_200
+cells_behind cell i = (i + cell_count - cell) % cell_count
 
 -- `i` is `start` plus the index of a set bit
 pub record IsOneOf (start : ℤ) (bits : ℕ) (i : ℤ) : Type 0 where
@@ -39,7 +47,7 @@ instants_in cells low = rising_from (is_held cells) low cells_in_all
 
 -- the ring has one bit for each cell, in 2,925 words of 64 bits, and none of its elements is after the last instant
 pub record IsRound (cells : List ℕ) (low : ℕ) : Type 0 where
-  pub whole : length cells ≡ 2_925
+  pub whole : length cells ≡ cell_words
   pub members : (i : ℤ) → Has (instants_in cells low) i → i ≤ℤ last_instant
 
 -- the value that is stored as the smallest second if the ring is empty; it is later than every instant
@@ -53,4 +61,4 @@ least_kept least = if least == no_second then None else Some least
 -- a ring whose smallest second is `least`, or which is empty if `least` is `no_second`
 pub record IsRoundFrom (cells : List ℕ) (least : ℕ) : Type 0 where
   pub round : IsRound cells least
-  pub first : IsFirstPassing (is_held cells) least (least + 187_200) (least_kept least)
+  pub first : IsFirstPassing (is_held cells) least (least + cell_count) (least_kept least)

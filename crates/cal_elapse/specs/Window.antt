@@ -5,7 +5,7 @@ use Rattle.std.specs.Ordering.{int_cmp}
 use Rattle.std.specs.List.Sorted.{IsStrictlySortedBy}
 use Rattle.std.specs.BTreeSet.{insert_key}
 use Rattle.cal_civil.specs.Local.{IsLocalSecond}
-use Rattle.cal_civil.specs.headline.Local.{seconds_in_all}
+use Rattle.cal_civil.specs.headline.Local.{seconds_in_all, max_offset}
 use Rattle.cal_zone.specs.headline.Place.{place_of}
 use Rattle.cal_zone.specs.headline.Zone.{zone_of}
 use Rattle.cal_zone.specs.declared.zone.Zone.{Zone}
@@ -31,11 +31,11 @@ pub record IsPlacedBelow (e : Timed) (bound : ℕ) (i : ℤ) : Type 0 where
 pub record Windowed (e : Timed) (from bound : ℕ) (last : ℤ) (xs : List ℤ) : Type 0 where
   pub rises : IsStrictlySortedBy int_cmp xs
   pub members : (i : ℤ) → Has xs i ↔ ((last <ℤ i) × IsPlacedBelow e bound i)
-  pub reach : (i : ℤ) → Has xs i → (t : ℕ) → from ≤ t → t < bound → e.matches t ≡ true → pos t ≤ℤ (i +ℤ pos 93_599)
+  pub reach : (i : ℤ) → Has xs i → (t : ℕ) → from ≤ t → t < bound → e.matches t ≡ true → pos t ≤ℤ (i +ℤ pos max_offset)
 
 -- the local second at which the first search starts: no earlier local second resolves to an instant after the base
 abbrev pub start_of : ℤ → ℕ
-start_of (pos base) = base - 93_599
+start_of (pos base) = base - max_offset
 start_of (negsuc n) = 0
 
 -- the first local second that was not converted yet: `ahead`, the match that was found last, or the end of all local
@@ -52,7 +52,7 @@ IsMatchAhead e ahead = IfSome ahead (λ local. IsLocalSecond local × (e.matches
 abbrev pub to_place : Option ℤ → Option ℤ → Option ℤ
 to_place None least = None
 to_place (Some local) None = Some local
-to_place (Some local) (Some least) = cond (int_lt least (local -ℤ pos 93_599)) None (Some local)
+to_place (Some local) (Some least) = cond (int_lt least (local -ℤ pos max_offset)) None (Some local)
 
 -- the pending instants with one more instant, which is added if there is one and it is after the instant returned last
 abbrev pub with_place : Option ℤ → ℤ → List ℤ → List ℤ

@@ -1,5 +1,7 @@
 //! The elapses of a calendar expression in a zone, in increasing order (systemd.time(7), Calendar Events).
 
+ghost use Rattle.cal_elapse.specs.Months.{months_in_all};
+
 use crate::NoMemory;
 use crate::window::Window;
 use cal_rising::Rising;
@@ -58,7 +60,7 @@ impl<'z> Elapses<'z> {
         ensures masks { IfOk result (λ elapses. sets_in elapses.searcher.masks ≡ sets_of expr.now) }
         ensures examined { IfOk result
             (λ elapses. IsExamined (sets_of expr.now) (start_of base.secs) elapses.searcher.most_months) }
-        ensures few { IfOk result (λ elapses. elapses.searcher.most_months ≤ 2_760) }
+        ensures few { IfOk result (λ elapses. elapses.searcher.most_months ≤ months_in_all) }
     {
         Ok(Elapses {
             window: Window::new(alloc, expr, zone, base)?,
@@ -77,7 +79,7 @@ impl<'z> Elapses<'z> {
     /// Returns the largest number of months that a single search examined so far.
     pub fn most_months(&self) -> u32
         ensures kept { result ≡ self.now.searcher.most_months }
-        ensures few { result ≤ 2_760 }
+        ensures few { result ≤ months_in_all }
     {
         self.window.searcher.most_months()
     }
@@ -109,7 +111,7 @@ impl Rising for Elapses<'_> {
         ensures base { self.new.base ≡ self.old.base }
         ensures searched { IsSearched (timed_of self.old) self.old.base result self.new.searcher.searches }
         ensures examined { IsMostSearched (sets_in self.old.searcher.masks) self.old.base result self.new.searcher.most_months }
-        ensures few { self.new.searcher.most_months ≤ 2_760 }
+        ensures few { self.new.searcher.most_months ≤ months_in_all }
     {
         self.window.fill();
         self.window.take()

@@ -5,6 +5,7 @@ ghost use Rattle.cal_civil.specs.Local.{IsLocalSecond};
 ghost use Rattle.cal_elapse.specs.Masks.{sets_in};
 ghost use Rattle.cal_elapse.specs.Months.{day_in};
 ghost use Rattle.cal_spec.specs.headline.Match.{matches, time_in};
+ghost use Rattle.cal_civil.specs.headline.Local.{seconds_per_day, days_in_all};
 
 use crate::Masks;
 use crate::bits::has_bit;
@@ -25,7 +26,7 @@ pub(crate) fn is_match(masks: &Masks, local: i64) -> bool
 
 /// Returns whether the expression matches this time of day, in seconds since midnight.
 fn has_time(masks: &Masks, second: u32) -> bool
-    requires { second < 86_400 }
+    requires { second < seconds_per_day }
     ensures { result ≡ time_in (sets_in masks.now) second }
 {
     has_minute(masks, second / 60) && has_bit(masks.seconds, second % 60)
@@ -34,7 +35,7 @@ fn has_time(masks: &Masks, second: u32) -> bool
 /// Returns whether the expression matches the date with this day number.
 #[tactic(auto, using(crate::proofs::MonthLemmas::month_bounds))]
 fn has_day(masks: &Masks, day: u32) -> bool
-    requires { day < 84_006 }
+    requires { day < days_in_all }
     ensures { result ≡ day_in (sets_in masks.now) day }
 {
     let month = month_of_day(day);

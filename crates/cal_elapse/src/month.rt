@@ -4,8 +4,8 @@ ghost use Rattle.std.specs.Prelude.{◌≡◌, ◌+◌, ◌-◌, ◌<◌, ◌≤
 ghost use Rattle.std.specs.Int.{IsInRange};
 ghost use Rattle.jiff_core.specs.Calendar.{days_from_civil, IsBetween};
 ghost use Rattle.jiff_core.specs.Date.{epoch_day};
-ghost use Rattle.cal_civil.specs.headline.Local.{civil_date};
-ghost use Rattle.cal_elapse.specs.Months.{first_day, length_of, month_of, year_of};
+ghost use Rattle.cal_civil.specs.headline.Local.{civil_date, days_in_all, first_year, last_year};
+ghost use Rattle.cal_elapse.specs.Months.{first_day, length_of, month_of, year_of, months_in_all};
 
 use jiff_core::civil::{Date, days_in_month};
 
@@ -25,7 +25,7 @@ pub(crate) struct Month {
 
 /// Returns the month with this index, 0 to 2,759.
 pub(crate) fn month_at(index: u32) -> Month
-    requires { index < 2_760 }
+    requires { index < months_in_all }
     ensures { result.index ≡ index }
 {
     let year = year_at(index);
@@ -39,7 +39,7 @@ pub(crate) fn month_at(index: u32) -> Month
 
 /// Returns the month that contains the day with this number, 0 (1970-01-01) to 84,005 (2199-12-31).
 pub(crate) fn month_of_day(day: u32) -> Month
-    requires { day < 84_006 }
+    requires { day < days_in_all }
     ensures index { result.index ≡ month_of (civil_date day) }
     ensures low { result.first ≤ day }
     ensures high { day < result.first + result.length }
@@ -54,22 +54,22 @@ pub(crate) fn month_of_day(day: u32) -> Month
 
 /// Returns the year of the month with this index.
 fn year_at(index: u32) -> i16
-    requires { index < 2_760 }
+    requires { index < months_in_all }
     ensures { result ≡ pos (year_of index) }
 {
     1_970 + (index / 12) as i16
 }
 
 fn years_since(year: i16) -> u32
-    requires { IsBetween (pos 1_970) (pos 2_199) year }
-    ensures { result ≡ unsigned_abs year - 1_970 }
+    requires { IsBetween (pos first_year) (pos last_year) year }
+    ensures { result ≡ unsigned_abs year - first_year }
 {
     u32::from(year.unsigned_abs()) - 1_970
 }
 
 /// Returns the day number of the first day of month `number`, 1 to 12, of a year.
 fn first_of(year: i16, number: u8) -> u32
-    requires year_in { IsBetween (pos 1_970) (pos 2_199) year }
+    requires year_in { IsBetween (pos first_year) (pos last_year) year }
     requires number_in { IsInRange 1 12 number }
     requires later { pos 0 ≤ℤ days_from_civil year number 1 }
     ensures { pos result ≡ days_from_civil year number 1 }
@@ -87,7 +87,7 @@ fn epoch_day(date: Date) -> u32
 
 /// Returns the date with this day number.
 fn date_of(day: u32) -> Date
-    requires { day < 84_006 }
+    requires { day < days_in_all }
     ensures { result ≡ civil_date day }
 {
     let Ok(date) = Date::from_unix_epoch_day(i64::from(day)) else {

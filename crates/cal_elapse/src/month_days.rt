@@ -4,7 +4,7 @@
 ghost use Rattle.std.specs.Prelude.{◌≡◌, ◌+◌, ◌-◌, ◌<◌, ◌≤◌, ℕ, true, nat_lt, if◌then◌else◌};
 ghost use Rattle.cal_elapse.specs.Bits.{is_bit};
 ghost use Rattle.cal_elapse.specs.Masks.{sets_in};
-ghost use Rattle.cal_elapse.specs.Months.{day_in, month_in};
+ghost use Rattle.cal_elapse.specs.Months.{day_in, month_in, months_in_all};
 ghost use Rattle.cal_elapse.specs.Search.{IsFirstPassing};
 
 use crate::Masks;
@@ -24,7 +24,7 @@ impl MonthDays {
     #[tactic(auto, using(crate::proofs::MonthLemmas::month_bounds))]
     pub(crate) fn of(masks: &Masks, month: Month, examined: &mut u32) -> MonthDays
         requires member { month_in (sets_in masks.now) month.index ≡ true }
-        requires few { examined.old < 2_760 }
+        requires few { examined.old < months_in_all }
         ensures counted { examined.new ≡ examined.old + 1 }
         ensures days { (k : ℕ) → k < month.length
             → is_bit result.bits k ≡ day_in (sets_in masks.now) (month.first + k) }

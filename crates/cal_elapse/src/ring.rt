@@ -4,7 +4,7 @@
 ghost use Rattle.std.specs.Prelude.{◌≡◌, ◌≢◌, ◌+◌, ◌*◌, ◌<◌, ◌≤ℤ◌, ℕ, pos, true, false, ◌||◌, length};
 ghost use Rattle.cal_zone.specs.Instant.{last_instant};
 ghost use Rattle.cal_elapse.specs.Bits.{is_bit, is_bit_in};
-ghost use Rattle.cal_elapse.specs.Ring.{cells_behind, is_held};
+ghost use Rattle.cal_elapse.specs.Ring.{cells_behind, is_held, cell_words, cell_count};
 ghost use Rattle.cal_elapse.specs.Search.{IsFirstPassing};
 
 use crate::bits::{lowest_bit, next_bit, with_bit, without_bit};
@@ -20,9 +20,9 @@ pub const CELLS: u64 = 187_200;
 /// Returns the first second at or after `low` whose cell is set, or `None` if no cell is set. Searches only the 187,200
 /// seconds from `low` on, so that each cell stands for one second.
 pub fn first_held(cells: &[u64], low: u64) -> Option<u64>
-    requires whole { length cells.now ≡ 2_925 }
+    requires whole { length cells.now ≡ cell_words }
     requires low { pos low ≤ℤ last_instant }
-    ensures { IsFirstPassing (is_held cells.now) low (low + 187_200) result }
+    ensures { IsFirstPassing (is_held cells.now) low (low + cell_count) result }
 {
     let cell = low % CELLS;
     let start = low - cell;
@@ -37,9 +37,9 @@ pub fn first_held(cells: &[u64], low: u64) -> Option<u64>
 
 /// Returns the first cell at or after `from` that is set. Does not wrap around at the end of the ring.
 fn next_cell(cells: &[u64], from: u64) -> Option<u64>
-    requires whole { length cells.now ≡ 2_925 }
-    requires inside { from < 187_200 }
-    ensures { IsFirstPassing (is_bit_in cells.now) from 187_200 result }
+    requires whole { length cells.now ≡ cell_words }
+    requires inside { from < cell_count }
+    ensures { IsFirstPassing (is_bit_in cells.now) from cell_count result }
 {
     let word = (from / 64) as usize;
     if let Some(bit) = next_bit(cells[word], (from % 64) as u32) {
@@ -53,7 +53,7 @@ fn next_cell(cells: &[u64], from: u64) -> Option<u64>
 }
 
 fn cell_at(word: usize, bit: u32) -> u64
-    requires word { word < 2_925 }
+    requires word { word < cell_words }
     requires bit { bit < 64 }
     ensures { result ≡ word * 64 + bit }
 {
@@ -62,9 +62,9 @@ fn cell_at(word: usize, bit: u32) -> u64
 
 /// Sets the cell with the index `cell`, which must be below 187,200.
 pub fn set_cell(cells: &mut [u64], cell: u64)
-    requires whole { length cells.old ≡ 2_925 }
-    requires inside { cell < 187_200 }
-    ensures whole { length cells.new ≡ 2_925 }
+    requires whole { length cells.old ≡ cell_words }
+    requires inside { cell < cell_count }
+    ensures whole { length cells.new ≡ cell_words }
     ensures set { is_bit_in cells.new cell ≡ true }
     ensures others { (i : ℕ) → i ≢ cell → is_bit_in cells.new i ≡ is_bit_in cells.old i }
 {
@@ -75,10 +75,10 @@ pub fn set_cell(cells: &mut [u64], cell: u64)
 /// Sets a cell for each set bit of `bits`: bit 0 stands for the cell with the index `cell`, and bit i for the i-th cell
 /// after it. Wraps around at the end of the ring.
 pub fn set_cells(cells: &mut [u64], cell: u64, bits: u64)
-    requires whole { length cells.old ≡ 2_925 }
-    requires inside { cell < 187_200 }
-    ensures whole { length cells.new ≡ 2_925 }
-    ensures set { (i : ℕ) → i < 187_200
+    requires whole { length cells.old ≡ cell_words }
+    requires inside { cell < cell_count }
+    ensures whole { length cells.new ≡ cell_words }
+    ensures set { (i : ℕ) → i < cell_count
         → is_bit_in cells.new i ≡ (is_bit_in cells.old i || is_bit bits (cells_behind cell i)) }
 {
     let word = (cell / 64) as usize;
@@ -90,9 +90,9 @@ pub fn set_cells(cells: &mut [u64], cell: u64, bits: u64)
 
 /// Clears the cell with the index `cell`, which must be below 187,200.
 pub fn clear_cell(cells: &mut [u64], cell: u64)
-    requires whole { length cells.old ≡ 2_925 }
-    requires inside { cell < 187_200 }
-    ensures whole { length cells.new ≡ 2_925 }
+    requires whole { length cells.old ≡ cell_words }
+    requires inside { cell < cell_count }
+    ensures whole { length cells.new ≡ cell_words }
     ensures cleared { is_bit_in cells.new cell ≡ false }
     ensures others { (i : ℕ) → i ≢ cell → is_bit_in cells.new i ≡ is_bit_in cells.old i }
 {

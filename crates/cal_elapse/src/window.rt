@@ -2,7 +2,7 @@
 
 ghost use Rattle.std.specs.Prelude.{◌≡◌, ◌+◌, ◌*◌, ◌/◌, ◌≤◌, ℤ, pos, ◌+ℤ◌, ◌≤ℤ◌, cond, unsigned_abs};
 ghost use Rattle.cal_civil.specs.Local.{IsLocalSecond};
-ghost use Rattle.cal_civil.specs.headline.Local.{seconds_in_all};
+ghost use Rattle.cal_civil.specs.headline.Local.{seconds_in_all, max_offset};
 ghost use Rattle.cal_zone.specs.headline.Place.{place_of};
 ghost use Rattle.cal_zone.specs.headline.Zone.{zone_of};
 ghost use Rattle.cal_rising.specs.headline.Elements.{Has};
@@ -10,12 +10,10 @@ ghost use Rattle.cal_elapse.specs.Window.{start_of, to_place, with_place};
 
 use crate::search::searcher::{SearchStart, Searcher};
 use crate::{NoMemory, Pending};
+use cal_civil::MAX_OFFSET;
 use cal_spec::Expr;
 use cal_zone::{Instant, PlaceCache, Zone};
 use std::alloc::Global;
-
-/// The largest distance in seconds between a local second and its instant: the largest UTC offset, 25:59:59.
-const MAX_OFFSET: i64 = 93_599;
 
 /// The state of a source of elapses: the search, the pending instants, and the instant returned last. It satisfies
 /// `IsReady` after every public call.
@@ -252,8 +250,8 @@ fn is_to_place(local: i64, least: Option<i64>) -> bool
 fn put_place(pending: &mut Pending, place_cache: &mut PlaceCache<'_>, local: i64, last: i64)
     requires local_in { IsLocalSecond local }
     requires last_in { pos 0 ≤ℤ last }
-    requires before { (i : ℤ) → Has pending.old i → i ≤ℤ (local +ℤ pos 93_599) }
-    requires near { (i : ℤ) → Has pending.old i → local ≤ℤ (i +ℤ pos 93_599) }
+    requires before { (i : ℤ) → Has pending.old i → i ≤ℤ (local +ℤ pos max_offset) }
+    requires near { (i : ℤ) → Has pending.old i → local ≤ℤ (i +ℤ pos max_offset) }
     ensures put { pending.new ≡ with_place (place_of (zone_of place_cache.old) local) last pending.old }
     ensures zone { place_cache.new ≡ place_cache.old }
 {

@@ -12,20 +12,20 @@ use Rattle.cal_read.specs.StampFault.{message_of}
 use Rattle.cal_read.specs.StampViews.{setting}
 use Rattle.cal_read.specs.declared.stamp.fault.StampFault.{StampFault}
 use Rattle.cal_report.specs.Answer.{Answer}
-use Rattle.cal_zone.specs.headline.Moment.{micros_of}
+use Rattle.cal_zone.specs.headline.Moment.{micros_of, micros_per_second}
 use Rattle.cal_report.specs.headline.ReportLines.{distance_text, original_label, text_line, utc_line}
 use Rattle.cal_request.specs.headline.Request.{Request}
 
 -- the second in which a moment lies; moments are never negative
 abbrev pub second_at : ℤ → ℤ
-second_at micros = pos (unsigned_abs micros / 1_000_000)
+second_at micros = pos (unsigned_abs micros / micros_per_second)
 
 -- `@` and the Unix time in seconds, followed by a point and six digits of microseconds unless these are 0
 unfoldable pub unix_text : ℕ → List ℕ
 unix_text micros =
-    let fraction = micros % 1_000_000 in
-    if fraction == 0 then joined (codes "@" ∷ decimal (micros / 1_000_000) ∷ [])
-    else joined (codes "@" ∷ decimal (micros / 1_000_000) ∷ codes "." ∷ zeros 6 fraction ∷ decimal fraction ∷ [])
+    let fraction = micros % micros_per_second in
+    if fraction == 0 then joined (codes "@" ∷ decimal (micros / micros_per_second) ∷ [])
+    else joined (codes "@" ∷ decimal (micros / micros_per_second) ∷ codes "." ∷ zeros 6 fraction ∷ decimal fraction ∷ [])
 
 -- the lines that describe a moment, without the label of the first line: its instant in the local zone and in UTC, its
 -- Unix time, and its distance from the present

@@ -9,7 +9,7 @@ ghost use Rattle.cal_report.specs.headline.ReportLines.{direction_text, distance
 
 use cal_bytes::{ShortText, Sink, WriteFault, push, put_pieces};
 use cal_span::{Span, push_span};
-use cal_zone::{Instant, Moment};
+use cal_zone::{Instant, MICROS_PER_SECOND, Moment};
 
 /// The label before an expression or a timestamp, which is shown as the user gave it.
 pub const ORIGINAL_LABEL: &[u8] = b"  Original form: ";
@@ -42,7 +42,7 @@ pub fn push_distance(text: &mut ShortText, now: Instant, moment: Moment)
 pub fn first_moment(instant: Instant) -> Moment
     ensures { result.micros ≡ micros_of instant.secs }
 {
-    let Some(moment) = Moment::new(instant.secs() * 1_000_000) else {
+    let Some(moment) = Moment::new(instant.secs() * MICROS_PER_SECOND as i64) else {
         unreachable!()
     };
     moment

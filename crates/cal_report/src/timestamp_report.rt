@@ -12,7 +12,7 @@ use crate::context::Context;
 use crate::local_and_utc::LocalAndUtc;
 use crate::report_lines::{ORIGINAL_LABEL, push_distance, put_text};
 use cal_bytes::{Fill, ShortText, Sink, WriteFault, padding, push, push_all, put_all};
-use cal_zone::{Instant, Moment, Zone};
+use cal_zone::{Instant, MICROS_PER_SECOND, Moment, Zone};
 use itoa::Buffer;
 
 /// Writes the report of a timestamp. `text` is the timestamp as the user gave it, and `moment` is what it resolves to.
@@ -73,10 +73,10 @@ fn push_unix(text: &mut ShortText, moment: Moment)
 {
     let micros = moment.micros().unsigned_abs();
     let (mut seconds, mut fractions) = (Buffer::new(), Buffer::new());
-    let second = seconds.format(micros / 1_000_000);
+    let second = seconds.format(micros / MICROS_PER_SECOND);
     push_all(text, &[b"@", second.as_bytes()]);
-    if micros % 1_000_000 != 0 {
-        let fraction = fractions.format(micros % 1_000_000);
+    if micros % MICROS_PER_SECOND != 0 {
+        let fraction = fractions.format(micros % MICROS_PER_SECOND);
         push_all(
             text,
             &[b".", padding(fraction, 6, Fill::Zero), fraction.as_bytes()],

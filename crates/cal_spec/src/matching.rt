@@ -6,6 +6,7 @@ ghost use Rattle.cal_civil.specs.Local.{IsLocalSecond};
 ghost use Rattle.cal_spec.specs.Fields.{fields_of};
 ghost use Rattle.cal_spec.specs.headline.Match.{date_in, day_value, matches, time_in};
 ghost use Rattle.cal_spec.specs.headline.Members.{sets_of};
+ghost use Rattle.cal_civil.specs.headline.Local.{seconds_per_day};
 
 use crate::fields::{Fields, TimeFields};
 use crate::members::component_has;
@@ -44,7 +45,7 @@ fn has_weekday(weekdays: &[bool; 7], weekday: Weekday) -> bool
 /// Returns whether the fields match the time of day that is `second` seconds after midnight.
 #[tactic(auto, unfolding(crate::specs::headline::Match::time_in, crate::specs::headline::Members::sets_of, crate::specs::Fields::fields_of))]
 fn has_time(fields: &Fields, second: u32) -> bool
-    requires { second < 86_400 }
+    requires { second < seconds_per_day }
     ensures { result ≡ time_in (sets_of (fields_of fields.now)) second }
 {
     let time: &TimeFields = &fields.time;

@@ -10,6 +10,7 @@ use Rattle.jiff_tz.specs.declared.tzif.Tzif.{Tzif as Table}
 use Rattle.cal_civil.specs.Local.{IsLocalSecond}
 use Rattle.cal_zone.specs.headline.Place.{datetime_of, place_of}
 use Rattle.cal_zone.specs.declared.local_offset_range.LocalOffsetRange.{LocalOffsetRange}
+use Rattle.cal_civil.specs.headline.Local.{seconds_per_day}
 
 -- in this range, the place of every local second is the local second minus the offset
 abbrev pub IsLocalOffsetRange : TimeZone → LocalOffsetRange → Type 0
@@ -45,22 +46,27 @@ HaveSameOffsetsUntil tz from to = (local : ℤ) → IsLocalSecond local → from
 
 -- the first second of the year after `year`, in UTC
 abbrev pub year_end : ℤ → ℤ
-year_end year = (first_day year +ℤ pos (days_in_year year)) *ℤ pos 86_400
+year_end year = (first_day year +ℤ pos (days_in_year year)) *ℤ pos seconds_per_day
 
 -- the zone has the same UTC offset at every second of Unix time in `from..to`
 abbrev pub HasConstantOffset : TimeZone → ℤ → ℤ → Type 0
 HasConstantOffset tz from to =
     (second : ℤ) → from ≤ℤ second → second <ℤ to → offset_at tz (nanos_of_seconds second) ≡ offset_at tz (nanos_of_seconds from)
 
--- `next`, the first transition after the instant `past`, is at least 374,397 seconds after `local`: four times the
--- largest UTC offset, and one second. In addition, `local` is before the end of the year of `past`, or this year ends
--- at most 374,397 seconds after `past`.
+-- how many seconds a range stays away from the transitions of a POSIX rule: four times the largest UTC offset, and one
+-- second
+abbrev pub transition_margin : ℕ
+transition_margin = 374_397
+
+-- `next`, the first transition after the instant `past`, is at least `transition_margin` seconds after `local`. In
+-- addition, `local` is before the end of the year of `past`, or this year ends at most `transition_margin` seconds after
+-- `past`.
 pub record IsClearOfTransition (next : Option (ℤ × OffsetInfo)) (past local : ℤ) : Type 0 where
   pub change : ℤ × OffsetInfo
   pub is : next ≡ Some change
   pub begun : pos 0 ≤ℤ past
-  pub before_change : nanos_of_seconds (local +ℤ pos 374_397) ≤ℤ change.0
-  pub one_year : (local <ℤ year_end (datetime_of past).date.year) ⊎ (year_end (datetime_of past).date.year ≤ℤ (past +ℤ pos 374_397))
+  pub before_change : nanos_of_seconds (local +ℤ pos transition_margin) ≤ℤ change.0
+  pub one_year : (local <ℤ year_end (datetime_of past).date.year) ⊎ (year_end (datetime_of past).date.year ≤ℤ (past +ℤ pos transition_margin))
 
 abbrev pub IsClearOfTransitionUntil : Option (ℤ × OffsetInfo) → ℤ → ℤ → Type 0
 IsClearOfTransitionUntil next past to = (local : ℤ) → past <ℤ local → local <ℤ to → IsClearOfTransition next past local

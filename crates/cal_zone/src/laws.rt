@@ -8,7 +8,7 @@ ghost use Rattle.jiff.specs.Types.{Date, Fold, Gap, Offset, TimeZone, UTC, Unamb
 ghost use Rattle.jiff.specs.Words.{ambiguous_at, civil_nanos, epoch_day, fixed_zone, nanos_of_seconds, offset_at, picked_instant, IsBetween, IsEpochDay, IsOffsetSeconds};
 ghost use Rattle.cal_civil.specs.headline.Days.{date_of};
 ghost use Rattle.cal_civil.specs.headline.OffsetText.{offset_text};
-ghost use Rattle.cal_civil.specs.headline.Local.{civil_date, day_of, seconds_in_all};
+ghost use Rattle.cal_civil.specs.headline.Local.{civil_date, day_of, seconds_in_all, seconds_per_day, first_year, last_year};
 ghost use Rattle.cal_civil.specs.OffsetWord.{AreWholeMinutes, offset_in};
 ghost use Rattle.cal_civil.specs.headline.OffsetWord.{IsOffsetWord};
 ghost use Rattle.cal_zone.specs.Place.{place_at};
@@ -29,10 +29,10 @@ pub fn days_have_one_date()
 pub fn local_seconds_are_counted()
     ensures count { seconds_in_all ≡ 7_258_118_400 }
     ensures years { (local : ℕ) → local < seconds_in_all
-        → IsBetween (pos 1970) (pos 2199) (civil_date (local / 86_400)).year }
-    ensures all { (date : Date) (second : ℕ) → IsBetween (pos 1970) (pos 2199) date.year → second < 86_400
-        → (pos 0 ≤ℤ (epoch_day date *ℤ pos 86_400 +ℤ pos second))
-        × ((epoch_day date *ℤ pos 86_400 +ℤ pos second) <ℤ pos seconds_in_all) }
+        → IsBetween (pos first_year) (pos last_year) (civil_date (local / seconds_per_day)).year }
+    ensures all { (date : Date) (second : ℕ) → IsBetween (pos first_year) (pos last_year) date.year → second < seconds_per_day
+        → (pos 0 ≤ℤ (epoch_day date *ℤ pos seconds_per_day +ℤ pos second))
+        × ((epoch_day date *ℤ pos seconds_per_day +ℤ pos second) <ℤ pos seconds_in_all) }
 {}
 
 /// The civil time of the local second `local` is `local` seconds after 1970-01-01 00:00:00, and `settle_of` returns the

@@ -27,7 +27,7 @@ pub use civil_time::civil;
 pub use instant::Instant;
 pub use instant_formatter::InstantFormatter;
 pub use instant_text::{push_instant, write_instant};
-pub use moment::Moment;
+pub use moment::{MICROS_PER_SECOND, Moment};
 pub use place_cache::PlaceCache;
 pub use places::{place, settle};
 pub use rules::Rules;

@@ -11,20 +11,16 @@ ghost use Rattle.jiff_tz.specs.PosixRule.{transition_view};
 ghost use Rattle.cal_civil.specs.Local.{CanSettle, IsLocalSecond, IsNearSettled};
 ghost use Rattle.cal_zone.specs.headline.Place.{datetime_of};
 ghost use Rattle.cal_zone.specs.Rules.{zone_of_table};
-ghost use Rattle.cal_zone.specs.LocalOffsetRange.{HaveSameOffsetsUntil, HasConstantOffset, IsClearOfTransitionUntil, IsTransitionSecond, IsLocalOffsetRangeAt, year_end};
+ghost use Rattle.cal_zone.specs.LocalOffsetRange.{HaveSameOffsetsUntil, HasConstantOffset, IsClearOfTransitionUntil, IsTransitionSecond, IsLocalOffsetRangeAt, year_end, transition_margin};
 ghost use Rattle.cal_zone.specs.headline.Zone.{zone_of};
 
 use crate::places::datetime;
 use crate::zone::ZoneKind;
 use crate::{Instant, Zone};
-use cal_civil::{DAY, LOCAL_END};
+use cal_civil::{DAY, LOCAL_END, MAX_OFFSET};
 use jiff::tz::Tzif;
 use jiff_core::Timestamp;
 use jiff_tz::{TimeZone, Transition, posix, tzif};
-
-/// The largest UTC offset that `jiff` accepts, in seconds (25:59:59): a place is at most this far from its local
-/// second.
-const MAX_OFFSET: i64 = 93_599;
 
 /// How many seconds a range stays away from the transitions of a POSIX rule. A rule fixes a transition in UTC, but the
 /// gap or the fold is in local time, and the two can be up to four offsets apart.
@@ -94,7 +90,7 @@ pub(crate) fn local_range_in_table(table: &Tzif, local: i64) -> Option<LocalOffs
 /// [`TRANSITION_MARGIN`] before `local` until `constant_until`.
 pub(crate) fn range_end_after_table(table: &Tzif, local: i64, constant_until: Instant) -> i64
     requires local_in { IsLocalSecond local }
-    requires constant { HasConstantOffset (zone_of_table table.now) (local -ℤ pos 374_397) constant_until.secs }
+    requires constant { HasConstantOffset (zone_of_table table.now) (local -ℤ pos transition_margin) constant_until.secs }
     ensures { HaveSameOffsetsUntil (zone_of_table table.now) local result }
 {
     let past = local - TRANSITION_MARGIN;
@@ -118,7 +114,7 @@ pub(crate) fn range_end_after_table(table: &Tzif, local: i64, constant_until: In
 /// `constant_until`.
 pub(crate) fn range_end_in_zone(zone: TimeZone<'_>, local: i64, constant_until: Instant) -> i64
     requires local_in { IsLocalSecond local }
-    requires constant { HasConstantOffset zone (local -ℤ pos 374_397) constant_until.secs }
+    requires constant { HasConstantOffset zone (local -ℤ pos transition_margin) constant_until.secs }
     ensures { HaveSameOffsetsUntil zone.entry local result }
 {
     match zone {
@@ -130,7 +126,7 @@ pub(crate) fn range_end_in_zone(zone: TimeZone<'_>, local: i64, constant_until: 
 /// Like [`range_end_in_zone`], for a POSIX rule.
 fn range_end_by_rule(rule: posix::TimeZone, local: i64, constant_until: Instant) -> i64
     requires local_in { IsLocalSecond local }
-    requires constant { HasConstantOffset (ByRule rule) (local -ℤ pos 374_397) constant_until.secs }
+    requires constant { HasConstantOffset (ByRule rule) (local -ℤ pos transition_margin) constant_until.secs }
     ensures { HaveSameOffsetsUntil (ByRule rule) local result }
 {
     if rule.dst.is_some() {

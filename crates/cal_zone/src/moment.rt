@@ -2,8 +2,11 @@
 
 ghost use Rattle.std.specs.Prelude.{◌≡◌, ◌↔◌, ◌/◌, pos, unsigned_abs, IsSome, IfSome};
 ghost use Rattle.cal_zone.specs.Instant.{IsMoment};
+ghost use Rattle.cal_zone.specs.headline.Moment.{micros_per_second};
 
 use crate::Instant;
+
+pub const MICROS_PER_SECOND: u64 = 1_000_000;
 
 /// A number of whole microseconds of Unix time, from 0 to 7,258,211,998,999,999: up to the last microsecond of the last
 /// [`Instant`].
@@ -39,9 +42,9 @@ impl Moment {
 
     /// Returns the moment rounded down to a whole second.
     pub fn instant(self) -> Instant
-        ensures { result.secs ≡ pos (unsigned_abs self.micros / 1_000_000) }
+        ensures { result.secs ≡ pos (unsigned_abs self.micros / micros_per_second) }
     {
-        match Instant::new((self.micros.unsigned_abs() / 1_000_000) as i64) {
+        match Instant::new((self.micros.unsigned_abs() / MICROS_PER_SECOND) as i64) {
             Some(instant) => instant,
             None => unreachable!(),
         }

@@ -13,13 +13,38 @@ pub seconds_in_all-is : seconds_in_all ≡ 7_258_118_400
 unfolding seconds_in_all
 seconds_in_all-is = refl
 
+-- the last local second of 2199
+abbrev pub last_local_second : ℕ
+last_local_second = 7_258_118_399
+
+abbrev pub seconds_per_day : ℕ
+seconds_per_day = 86_400
+
+-- the first and the last supported year
+abbrev pub first_year : ℕ
+first_year = 1_970
+
+abbrev pub last_year : ℕ
+last_year = 2_199
+
+-- the number of days in the years 1970 to 2199, and the day number of the last one
+abbrev pub days_in_all : ℕ
+days_in_all = 84_006
+
+abbrev pub last_day : ℕ
+last_day = 84_005
+
+-- the largest UTC offset that `jiff` accepts, in seconds: 25:59:59
+abbrev pub max_offset : ℕ
+max_offset = 93_599
+
 -- the day number of a local second: days since 1970-01-01, rounded down
 abbrev pub day_of : ℤ → ℤ
-day_of local = int_div_euclid local (pos 86_400)
+day_of local = int_div_euclid local (pos seconds_per_day)
 
 -- the time of day of a local second, in seconds since midnight
 abbrev pub second_of_day : ℤ → ℕ
-second_of_day local = unsigned_abs (int_rem_euclid local (pos 86_400))
+second_of_day local = unsigned_abs (int_rem_euclid local (pos seconds_per_day))
 
 -- the hour, the minute and the second of a time of day that is given in seconds since midnight
 abbrev pub hour_of : ℕ → ℕ

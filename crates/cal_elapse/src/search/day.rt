@@ -4,8 +4,9 @@
 ghost use Rattle.std.specs.Prelude.{◌≡◌, ◌+◌, ◌<◌, ◌≤◌, cond};
 ghost use Rattle.cal_elapse.specs.ExaminedMonths.{examined_from};
 ghost use Rattle.cal_elapse.specs.Masks.{sets_in};
-ghost use Rattle.cal_elapse.specs.Months.{day_in, first_day, month_in};
+ghost use Rattle.cal_elapse.specs.Months.{day_in, first_day, month_in, months_in_all};
 ghost use Rattle.cal_elapse.specs.Search.{IsFirstPassing};
+ghost use Rattle.cal_civil.specs.headline.Local.{days_in_all};
 
 use crate::Masks;
 use crate::month::{Month, month_at};
@@ -19,7 +20,7 @@ pub(crate) fn next_day(masks: &Masks, month: Month, from: u32, examined: &mut u3
     requires low { month.first ≤ from }
     requires high { from ≤ month.first + month.length }
     requires none { examined.old ≡ 0 }
-    ensures first { IsFirstPassing (day_in (sets_in masks.now)) from 84_006 result }
+    ensures first { IsFirstPassing (day_in (sets_in masks.now)) from days_in_all result }
     ensures counted { examined.new ≡ examined_from (sets_in masks.now) month.index result }
 {
     match next_in_month(masks, month, from, examined) {
@@ -51,9 +52,9 @@ fn next_in_month(masks: &Masks, month: Month, from: u32, examined: &mut u32) -> 
 /// examined to `examined`.
 #[tactic(auto, using(crate::proofs::MonthLemmas::month_bounds, crate::proofs::CountLemmas::count_bounds))]
 fn next_from_month(masks: &Masks, from: u32, examined: &mut u32) -> Option<u32>
-    requires from_in { from ≤ 2_760 }
+    requires from_in { from ≤ months_in_all }
     requires few { examined.old ≤ from }
-    ensures first { IsFirstPassing (day_in (sets_in masks.now)) (first_day from) 84_006 result }
+    ensures first { IsFirstPassing (day_in (sets_in masks.now)) (first_day from) days_in_all result }
     ensures counted { examined.new ≡ examined.old + examined_from (sets_in masks.now) from result }
 {
     let mut index = from;

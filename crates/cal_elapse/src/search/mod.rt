@@ -7,12 +7,13 @@
 ghost use Rattle.std.specs.Prelude.{◌≡◌, ◌+◌, ◌*◌, ◌≤◌, ◌<◌, true, pos, ◌≤ℤ◌, unsigned_abs};
 ghost use Rattle.std.specs.Option.{option_map};
 ghost use Rattle.cal_civil.specs.Local.{IsLocalSecond};
-ghost use Rattle.cal_civil.specs.headline.Local.{seconds_in_all};
+ghost use Rattle.cal_civil.specs.headline.Local.{seconds_in_all, days_in_all, seconds_per_day};
 ghost use Rattle.cal_elapse.specs.ExaminedMonths.{IsSearch, examined_months};
 ghost use Rattle.cal_elapse.specs.Masks.{sets_in};
 ghost use Rattle.cal_elapse.specs.Search.{IsFirstLocal, IsFirstPassing};
 ghost use Rattle.cal_elapse.specs.SearchSteps.{day_to_start, second_on};
 ghost use Rattle.cal_spec.specs.headline.Match.{matches, time_in};
+ghost use Rattle.cal_elapse.specs.Months.{months_in_all};
 
 pub(crate) mod day;
 pub(crate) mod month;
@@ -45,7 +46,7 @@ pub fn next_local(masks: &Masks, from: i64) -> Found
     ensures first { IsFirstLocal (matches (sets_in masks.now)) from result.local }
     ensures counted { result.months
         ≡ examined_months (sets_in masks.now) (unsigned_abs from) (option_map unsigned_abs result.local) }
-    ensures few { result.months ≤ 2_760 }
+    ensures few { result.months ≤ months_in_all }
 {
     let mut months = 0;
     if from == LOCAL_END {
@@ -95,17 +96,17 @@ pub(crate) fn next_after(masks: &Masks, local: i64) -> Found
 
 /// Returns the local second of a day number and a time of day.
 fn local_on(day: u32, second: u32) -> i64
-    requires day { day < 84_006 }
-    requires second { second < 86_400 }
-    ensures { result ≡ pos (day * 86_400 + second) }
+    requires day { day < days_in_all }
+    requires second { second < seconds_per_day }
+    ensures { result ≡ pos (day * seconds_per_day + second) }
 {
     i64::from(day) * DAY + i64::from(second)
 }
 
 /// Returns the first matching time of day after `second`, or `None` if no later time of day matches.
 fn second_after(masks: &Masks, second: u32) -> Option<u32>
-    requires { second < 86_400 }
-    ensures { IsFirstPassing (time_in (sets_in masks.now)) (second + 1) 86_400 result }
+    requires { second < seconds_per_day }
+    ensures { IsFirstPassing (time_in (sets_in masks.now)) (second + 1) seconds_per_day result }
 {
     if i64::from(second) + 1 < DAY {
         next_second(masks, second + 1)
@@ -117,7 +118,7 @@ fn second_after(masks: &Masks, second: u32) -> Option<u32>
 /// Returns the earliest day on which a search can find a match. The search starts on `day`, and `today` is the first
 /// matching time left on that day. If `today` is `None`, no match is left on `day`, so this is the day after it.
 fn day_to_start(day: u32, today: Option<u32>) -> u32
-    requires { day < 84_006 }
+    requires { day < days_in_all }
     ensures { result ≡ day_to_start day today }
 {
     match today {

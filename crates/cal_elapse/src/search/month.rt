@@ -4,7 +4,7 @@
 ghost use Rattle.std.specs.Prelude.{◌≡◌, ◌+◌, ◌*◌, ◌/◌, ◌<◌, ◌≤◌};
 ghost use Rattle.cal_elapse.specs.Bits.{is_bit_in};
 ghost use Rattle.cal_elapse.specs.Masks.{sets_in};
-ghost use Rattle.cal_elapse.specs.Months.{month_in};
+ghost use Rattle.cal_elapse.specs.Months.{month_in, months_in_all};
 ghost use Rattle.cal_elapse.specs.Search.{IsFirstPassing};
 
 use crate::Masks;
@@ -14,8 +14,8 @@ use crate::month::MONTHS;
 /// Returns the first matching month at or after `from`, an index of at most 2,760. Returns `None` if no such month is
 /// left.
 pub(crate) fn next_month(masks: &Masks, from: u32) -> Option<u32>
-    requires { from ≤ 2_760 }
-    ensures { IsFirstPassing (month_in (sets_in masks.now)) from 2_760 result }
+    requires { from ≤ months_in_all }
+    ensures { IsFirstPassing (month_in (sets_in masks.now)) from months_in_all result }
 {
     if from == MONTHS {
         return None;
@@ -28,7 +28,7 @@ pub(crate) fn next_month(masks: &Masks, from: u32) -> Option<u32>
 
 /// Returns whether the expression matches the year and the number of a month.
 pub(crate) fn has_month(masks: &Masks, index: u32) -> bool
-    requires { index < 2_760 }
+    requires { index < months_in_all }
     ensures { result ≡ month_in (sets_in masks.now) index }
 {
     has_year(&masks.years, index / 12) && has_bit(masks.months, index % 12)
@@ -36,7 +36,7 @@ pub(crate) fn has_month(masks: &Masks, index: u32) -> bool
 
 /// Returns the first matching month at or after `from` and in the same year.
 fn month_here(masks: &Masks, from: u32) -> Option<u32>
-    requires { from < 2_760 }
+    requires { from < months_in_all }
     ensures { IsFirstPassing (month_in (sets_in masks.now)) from ((from / 12 + 1) * 12) result }
 {
     if !has_year(&masks.years, from / 12) {
@@ -51,7 +51,7 @@ fn month_here(masks: &Masks, from: u32) -> Option<u32>
 /// Returns the first matching month in `year` or a later year. The year is counted from 1970.
 fn month_later(masks: &Masks, year: u32) -> Option<u32>
     requires { year ≤ 230 }
-    ensures { IsFirstPassing (month_in (sets_in masks.now)) (year * 12) 2_760 result }
+    ensures { IsFirstPassing (month_in (sets_in masks.now)) (year * 12) months_in_all result }
 {
     if masks.months == 0 {
         return None;

@@ -13,6 +13,7 @@ ghost use Rattle.cal_elapse.specs.MostMonths.{IsMostAfter};
 ghost use Rattle.cal_elapse.specs.SearchStart.{CanStart, begin_of};
 ghost use Rattle.cal_spec.specs.headline.Match.{matches};
 ghost use Rattle.cal_spec.specs.headline.Members.{sets_of};
+ghost use Rattle.cal_elapse.specs.Months.{months_in_all, minutes_in_all};
 
 use crate::bits::{lowest_bit, with_bit, without_lowest};
 use crate::search::{Found, next_after, next_local};
@@ -96,7 +97,7 @@ impl Searcher {
     /// Returns the largest number of months that a single search examined.
     pub fn most_months(&self) -> u32
         ensures kept { result ≡ self.now.most_months }
-        ensures few { result ≤ 2_760 }
+        ensures few { result ≤ months_in_all }
     {
         self.most_months
     }
@@ -359,7 +360,7 @@ fn minute_of(local: i64) -> u32
 /// Returns the local second that is `second` seconds after the start of `minute`, which is counted from the start of
 /// 1970.
 fn local_in(minute: u32, second: u32) -> i64
-    requires minute { minute < 120_968_640 }
+    requires minute { minute < minutes_in_all }
     requires second { second < 60 }
     ensures { result ≡ pos (minute * 60 + second) }
 {

@@ -3,9 +3,10 @@
 
 ghost use Rattle.std.specs.Prelude.{◌≡◌, ◌+◌, ◌*◌, ◌/◌, ◌<◌, ◌≤◌};
 ghost use Rattle.cal_elapse.specs.Masks.{sets_in};
-ghost use Rattle.cal_elapse.specs.Months.{minute_in};
+ghost use Rattle.cal_elapse.specs.Months.{minute_in, minutes_per_day};
 ghost use Rattle.cal_elapse.specs.Search.{IsFirstPassing};
 ghost use Rattle.cal_spec.specs.headline.Match.{time_in};
+ghost use Rattle.cal_civil.specs.headline.Local.{seconds_per_day};
 
 use crate::Masks;
 use crate::bits::{has_bit, lowest_bit, next_bit};
@@ -13,8 +14,8 @@ use crate::bits::{has_bit, lowest_bit, next_bit};
 /// Returns the first matching time of day at or after `from`, in seconds since midnight, below 86,400. Returns `None`
 /// if no such time is left.
 pub(crate) fn next_second(masks: &Masks, from: u32) -> Option<u32>
-    requires { from < 86_400 }
-    ensures { IsFirstPassing (time_in (sets_in masks.now)) from 86_400 result }
+    requires { from < seconds_per_day }
+    ensures { IsFirstPassing (time_in (sets_in masks.now)) from seconds_per_day result }
 {
     match second_here(masks, from) {
         Some(second) => Some(second),
@@ -24,7 +25,7 @@ pub(crate) fn next_second(masks: &Masks, from: u32) -> Option<u32>
 
 /// Returns the first matching time of day, in seconds since midnight.
 pub(crate) fn first_second(masks: &Masks) -> u32
-    ensures { IsFirstPassing (time_in (sets_in masks.now)) 0 86_400 (Some result) }
+    ensures { IsFirstPassing (time_in (sets_in masks.now)) 0 seconds_per_day (Some result) }
 {
     let minute = lowest_bit(masks.hours) * 60 + lowest_bit(masks.minutes);
     minute * 60 + lowest_bit(masks.seconds)
@@ -32,7 +33,7 @@ pub(crate) fn first_second(masks: &Masks) -> u32
 
 /// Returns the first matching time of day at or after `from` and in the same minute.
 fn second_here(masks: &Masks, from: u32) -> Option<u32>
-    requires { from < 86_400 }
+    requires { from < seconds_per_day }
     ensures { IsFirstPassing (time_in (sets_in masks.now)) from ((from / 60 + 1) * 60) result }
 {
     if !has_minute(masks, from / 60) {
@@ -46,8 +47,8 @@ fn second_here(masks: &Masks, from: u32) -> Option<u32>
 
 /// Returns the first matching time of day in `minute` or later. The minute is counted from midnight.
 fn second_later(masks: &Masks, minute: u32) -> Option<u32>
-    requires { minute ≤ 1_440 }
-    ensures { IsFirstPassing (time_in (sets_in masks.now)) (minute * 60) 86_400 result }
+    requires { minute ≤ minutes_per_day }
+    ensures { IsFirstPassing (time_in (sets_in masks.now)) (minute * 60) seconds_per_day result }
 {
     match next_minute(masks, minute) {
         Some(minute) => Some(minute * 60 + lowest_bit(masks.seconds)),
@@ -57,8 +58,8 @@ fn second_later(masks: &Masks, minute: u32) -> Option<u32>
 
 /// Returns the first minute of the day at or after `from` whose hour and minute the expression matches.
 fn next_minute(masks: &Masks, from: u32) -> Option<u32>
-    requires { from ≤ 1_440 }
-    ensures { IsFirstPassing (minute_in (sets_in masks.now)) from 1_440 result }
+    requires { from ≤ minutes_per_day }
+    ensures { IsFirstPassing (minute_in (sets_in masks.now)) from minutes_per_day result }
 {
     if from == 1_440 {
         return None;
@@ -72,7 +73,7 @@ fn next_minute(masks: &Masks, from: u32) -> Option<u32>
 /// Returns whether the expression matches the hour and the minute of the time `minute` minutes after midnight.
 #[tactic(auto, unfolding(crate::specs::Months::minute_in, crate::specs::Masks::sets_in))]
 pub(crate) fn has_minute(masks: &Masks, minute: u32) -> bool
-    requires { minute < 1_440 }
+    requires { minute < minutes_per_day }
     ensures { result ≡ minute_in (sets_in masks.now) minute }
 {
     has_bit(masks.hours, minute / 60) && has_bit(masks.minutes, minute % 60)
@@ -80,7 +81,7 @@ pub(crate) fn has_minute(masks: &Masks, minute: u32) -> bool
 
 /// Returns the first matching minute of the day at or after `from` and in the same hour.
 fn minute_here(masks: &Masks, from: u32) -> Option<u32>
-    requires { from < 1_440 }
+    requires { from < minutes_per_day }
     ensures { IsFirstPassing (minute_in (sets_in masks.now)) from ((from / 60 + 1) * 60) result }
 {
     if !has_bit(masks.hours, from / 60) {
@@ -95,7 +96,7 @@ fn minute_here(masks: &Masks, from: u32) -> Option<u32>
 /// Returns the first matching minute of the day at or after the start of an hour.
 fn minute_later(masks: &Masks, hour: u32) -> Option<u32>
     requires { hour ≤ 24 }
-    ensures { IsFirstPassing (minute_in (sets_in masks.now)) (hour * 60) 1_440 result }
+    ensures { IsFirstPassing (minute_in (sets_in masks.now)) (hour * 60) minutes_per_day result }
 {
     match next_bit(masks.hours, hour) {
         Some(hour) => Some(hour * 60 + lowest_bit(masks.minutes)),

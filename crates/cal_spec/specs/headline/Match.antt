@@ -2,7 +2,7 @@
 use Rattle.std.specs.Prelude.{ℕ, ◌+◌, ◌-◌, ◌/◌, ◌%◌, Bool, ◌&&◌, nat_lt, unsigned_abs, if◌then◌else◌}
 use Rattle.jiff_core.specs.declared.civil.date.Date.{Date}
 use Rattle.jiff_core.specs.Date.{month_length, weekday_of}
-use Rattle.cal_civil.specs.headline.Local.{civil_date, hour_of, minute_of, second_of, seconds_in_all}
+use Rattle.cal_civil.specs.headline.Local.{civil_date, hour_of, minute_of, second_of, seconds_in_all, seconds_per_day}
 
 -- the values that each field matches; weekdays are numbered from 0 for Monday, and days are counted from the month's
 -- end if `from_end` is set
@@ -36,4 +36,4 @@ time_in sets second =
 unfoldable pub matches : Sets → ℕ → Bool
 matches sets local =
     nat_lt local seconds_in_all
-    && (date_in sets (civil_date (local / 86_400)) && time_in sets (local % 86_400))
+    && (date_in sets (civil_date (local / seconds_per_day)) && time_in sets (local % seconds_per_day))

@@ -6,11 +6,11 @@ use Rattle.jiff.proofs.SpanFacts.{signed_arith}
 use Rattle.jiff.specs.Types.{DateTime, Time, TimeZone}
 use Rattle.jiff.specs.Words.{ambiguous_at, compatible_offset}
 use Rattle.cal_civil.specs.headline.Days.{date_of}
-use Rattle.cal_civil.specs.headline.Local.{day_of, second_of_day, hour_of, minute_of, second_of}
+use Rattle.cal_civil.specs.headline.Local.{day_of, second_of_day, hour_of, minute_of, second_of, seconds_per_day}
 use Rattle.cal_zone.specs.headline.Zone.{local_shown_at}
 
 -- the time of day `second` seconds after midnight
-unfoldable pub time_of : (second : ℕ) → second < 86_400 → Time
+unfoldable pub time_of : (second : ℕ) → second < seconds_per_day → Time
 time_of second h = record {
   hour = hour_of second;
   minute = minute_of second;
