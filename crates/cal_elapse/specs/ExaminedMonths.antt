@@ -21,7 +21,7 @@ abbrev pub examined_months : Sets → ℕ → Option ℕ → ℕ
 examined_months sets from answer = examined_from sets (month_of (civil_date (from / seconds_per_day))) (option_map (λ t. t / seconds_per_day) answer)
 
 -- `found` is the result of one search: the first matching local second at or after `from`, and the number of months
--- examined, at most 2,760
+-- examined, at most `months_in_all`
 pub record IsSearch (sets : Sets) (from : ℕ) (found : Found) : Type 0 where
   pub first : IsFirstLocal (matches sets) (pos from) found.local
   pub counted : found.months ≡ examined_months sets from (option_map unsigned_abs found.local)

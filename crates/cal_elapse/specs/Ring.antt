@@ -1,5 +1,5 @@
 -- A ring of cells, one bit each. The cell of an instant is its number of seconds modulo the number of cells. Among
--- 187,200 consecutive seconds, no two have the same cell.
+-- `cell_count` consecutive seconds, no two have the same cell.
 use Rattle.std.specs.Prelude.{◌≡◌, ◌+◌, ◌-◌, ◌%◌, ◌+ℤ◌, true, cond, if◌then◌else◌, ◌==◌, ℕ, zero, suc, Bool, List, [], ◌∷◌, length, Option, None, Some, ℤ, pos, ◌≤ℤ◌, refl}
 use Rattle.cal_zone.specs.Instant.{last_instant}
 use Rattle.cal_elapse.specs.Bits.{is_bit, is_bit_in}
@@ -41,11 +41,13 @@ abbrev pub rising_from : (ℕ → Bool) → ℕ → ℕ → List ℤ
 rising_from passes from zero = []
 rising_from passes from (suc n) = cond (passes from) (pos from ∷ rising_from passes (suc from) n) (rising_from passes (suc from) n)
 
--- the instants in a ring that starts at the second `low`: of the 187,200 seconds from `low` on, those whose cell is set
+-- the instants in a ring that starts at the second `low`: of the `cell_count` seconds from `low` on, those whose cell
+-- is set
 unfoldable pub instants_in : List ℕ → ℕ → List ℤ
 instants_in cells low = rising_from (is_held cells) low cells_in_all
 
--- the ring has one bit for each cell, in 2,925 words of 64 bits, and none of its elements is after the last instant
+-- the ring has one bit for each cell, in `cell_words` words of 64 bits, and none of its elements is after the last
+-- instant
 pub record IsRound (cells : List ℕ) (low : ℕ) : Type 0 where
   pub whole : length cells ≡ cell_words
   pub members : (i : ℤ) → Has (instants_in cells low) i → i ≤ℤ last_instant

@@ -11,14 +11,14 @@ abbrev pub matches_up_to : Timed → ℤ → ℕ → ℕ
 matches_up_to e base bound = count_from e.matches (start_of base) (bound - start_of base)
 
 -- How many searches were made. After `next` returned `Some elapse`, this is 1 more than the number of matching local
--- seconds from the start of the first search to 93,599 seconds after the elapse. After `next` returned `None`, it is 1
+-- seconds from the start of the first search to `max_offset` after the elapse. After `next` returned `None`, it is 1
 -- more than the number of all matching local seconds from that start on.
 abbrev pub IsSearched : Timed → ℤ → Option ℤ → ℕ → Type 0
 IsSearched e base (Some elapse) searches = searches ≡ matches_up_to e base (unsigned_abs elapse + 93_600) + 1
 IsSearched e base None searches = searches ≡ matches_up_to e base seconds_in_all + 1
 
 -- `most` is the largest number of months that one of these searches examined. After `next` returned `Some elapse`, they
--- are the first search and a search after each match from its start to 93,599 seconds after the elapse. After `next`
+-- are the first search and a search after each match from its start to `max_offset` after the elapse. After `next`
 -- returned `None`, they are the first search and a search after each match from its start on.
 abbrev pub IsMostSearched : Sets → ℤ → Option ℤ → ℕ → Type 0
 IsMostSearched sets base (Some elapse) most = IsMost sets (start_of base) (unsigned_abs elapse + 93_600) most

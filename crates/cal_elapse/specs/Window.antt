@@ -27,7 +27,7 @@ pub record IsPlacedBelow (e : Timed) (bound : ℕ) (i : ℤ) : Type 0 where
 
 -- `xs` is strictly increasing and contains exactly the instants after `last` of the matching local seconds below
 -- `bound`. No matching local second from `from` up to but not including `bound` is later than an instant in `xs` by
--- more than 93,599 seconds, the largest distance between a local second and its instant.
+-- more than `max_offset`, the largest distance between a local second and its instant.
 pub record Windowed (e : Timed) (from bound : ℕ) (last : ℤ) (xs : List ℤ) : Type 0 where
   pub rises : IsStrictlySortedBy int_cmp xs
   pub members : (i : ℤ) → Has xs i ↔ ((last <ℤ i) × IsPlacedBelow e bound i)

@@ -13,12 +13,12 @@ use crate::scan::first_set;
 /// The number of words of 64 bits that hold the cells.
 pub const CELL_WORDS: usize = 2_925;
 
-/// The number of cells. It is more than twice 93,599, the largest distance in seconds between a local second and its
-/// instant.
+/// The number of cells. It is more than twice `MAX_OFFSET`, the largest distance in seconds between a local second and
+/// its instant.
 pub const CELLS: u64 = 187_200;
 
-/// Returns the first second at or after `low` whose cell is set, or `None` if no cell is set. Searches only the 187,200
-/// seconds from `low` on, so that each cell stands for one second.
+/// Returns the first second at or after `low` whose cell is set, or `None` if no cell is set. Searches only the
+/// [`CELLS`] seconds from `low` on, so that each cell stands for one second.
 pub fn first_held(cells: &[u64], low: u64) -> Option<u64>
     requires whole { length cells.now ≡ cell_words }
     requires low { pos low ≤ℤ last_instant }
@@ -60,7 +60,7 @@ fn cell_at(word: usize, bit: u32) -> u64
     word as u64 * 64 + u64::from(bit)
 }
 
-/// Sets the cell with the index `cell`, which must be below 187,200.
+/// Sets the cell with the index `cell`, which must be below [`CELLS`].
 pub fn set_cell(cells: &mut [u64], cell: u64)
     requires whole { length cells.old ≡ cell_words }
     requires inside { cell < cell_count }
@@ -88,7 +88,7 @@ pub fn set_cells(cells: &mut [u64], cell: u64, bits: u64)
     cells[next] |= bits >> 1 >> (63 - shift);
 }
 
-/// Clears the cell with the index `cell`, which must be below 187,200.
+/// Clears the cell with the index `cell`, which must be below [`CELLS`].
 pub fn clear_cell(cells: &mut [u64], cell: u64)
     requires whole { length cells.old ≡ cell_words }
     requires inside { cell < cell_count }
