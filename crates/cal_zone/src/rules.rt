@@ -125,6 +125,7 @@ impl Rules {
         let time_zone = self.time_zone();
         time_zone.to_offset(timestamp)
     }
+
     /// Returns a range with a constant UTC offset that starts at `local`, if one is found: from the table of a zone
     /// file, and otherwise from the POSIX rule.
     pub(crate) fn local_range(&self, local: i64) -> Option<LocalOffsetRange>
