@@ -5,11 +5,11 @@ use Rattle.std.specs.List.{AllByRecursion, slice_split, join_with_byte}
 use Rattle.std.proofs.lemmas.Bool.{or_cases, eqb-true, false≢true}
 use Rattle.std.proofs.lemmas.Bool.Decides.{nat_tests}
 use Rattle.std.proofs.lemmas.List.Splits.{join_with_byte-slice_split}
-use Rattle.cal_spec.specs.Components.{most_counted, counted}
+use Rattle.cal_spec.specs.Components.{counted}
 use Rattle.cal_spec.specs.DateAndTime.{DateFields, TimeFields, is_tilde, is_date_sign, date_texts_by, time_texts_by, date_texts, time_texts, date_fields, time_fields, room_after, date_in_word, time_in_word}
 use Rattle.cal_text.specs.headline.Separators.{is_colon}
 use Rattle.cal_spec.specs.headline.DateAndTime.{DateTexts, TimeTexts}
-use Rattle.cal_spec.specs.headline.Fields.{Fields, counted_parts}
+use Rattle.cal_spec.specs.headline.Fields.{Fields, counted_parts, max_counted_parts}
 use Rattle.cal_spec.specs.headline.GrammarRule.{last_sign, IsDateShape, IsTimeShape, IsDate, IsTime, IsComponent}
 use Rattle.cal_spec.specs.headline.Slot.{day_slot}
 use Rattle.cal_spec.specs.declared.part.Part.{Part}
@@ -130,9 +130,9 @@ is_date word weekdays d h name at =
       texts = t;
       shape = date_shape_found word t found.shape;
       from_end = read.from_end;
-      year = component_found Year most_counted t.year d.year read.year;
-      month = component_found Month (most_counted - counted Year d.year) t.month d.month read.month;
-      day = component_found (day_slot d.from_end) (most_counted - counted Year d.year - counted Month d.month) t.day d.day (rw read.from_end at read.day);
+      year = component_found Year max_counted_parts t.year d.year read.year;
+      month = component_found Month (max_counted_parts - counted Year d.year) t.month d.month read.month;
+      day = component_found (day_slot d.from_end) (max_counted_parts - counted Year d.year - counted Month d.month) t.day d.day (rw read.from_end at read.day);
     }
 
 pub is_time : (room : ℕ) (word : List ℕ) (weekdays : List Bool) (d : DateFields) (h : TimeFields) (name : Option ZoneSuffix) → time_in_word room word ≡ Ok h → IsTime word (fields_with weekdays d h name)

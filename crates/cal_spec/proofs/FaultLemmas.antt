@@ -4,7 +4,7 @@ use Rattle.std.specs.Option.{option_or}
 use Rattle.std.specs.Result.{result_err}
 use Rattle.std.proofs.lemmas.Bool.{eqb-false}
 use Rattle.std.proofs.lemmas.Bool.Decides.{nat_tests}
-use Rattle.cal_spec.specs.Components.{most_counted, is_star, counted, room_in, part_due, parts_of, first_value_fault, parts_listed, component_of}
+use Rattle.cal_spec.specs.Components.{is_star, counted, room_in, part_due, parts_of, first_value_fault, parts_listed, component_of}
 use Rattle.cal_spec.specs.DateAndTime.{DateFields, date_texts, time_texts, date_fields, time_fields, date_due, time_due, room_after, date_in_word, time_in_word}
 use Rattle.cal_spec.specs.headline.DateAndTime.{DateTexts, TimeTexts}
 use Rattle.cal_spec.specs.Faults.{pieces_of, numbered, first_number, shape_fault, shape_faults, value_fault, component_faults, numbered_in, date_faults, time_faults, faults_at, judgements_of}
@@ -28,6 +28,7 @@ use Rattle.cal_spec.specs.declared.spec_fault.SpecFault.TheVariants.{TextTooLong
 use Rattle.cal_spec.proofs.ComponentLemmas.{component_is, component_read, parts_of-cons, parts_counted}
 use Rattle.cal_spec.proofs.FieldLemmas.{fields_with, DateRead, date_found}
 use Rattle.cal_spec.proofs.ReadLemmas.{Follows, bind_ok, cond_ok}
+use Rattle.cal_spec.specs.headline.Fields.{max_counted_parts}
 
 -- the error of two parsers, one after the other, is the error `u` of the first, or the error `v` of the second if `u`
 -- is None; `v` must be the same for every value that the first parser can return
@@ -51,7 +52,7 @@ due_fault : (slot : Slot) (text : List ℕ) (r : Result Part SpecFault) (full : 
 due_fault slot text r true = refl
 due_fault slot text r false = err_of_map r (with_values slot)
 
-full_is : (room number : ℕ) → number + room ≡ 241 → eqb room 0 ≡ ltb most_counted number
+full_is : (room number : ℕ) → number + room ≡ 241 → eqb room 0 ≡ ltb max_counted_parts number
 full_is room number sum = grind (arith, nat_tests)
 
 part_due_fault : (slot : Slot) (room number : ℕ) (text : List ℕ) → number + room ≡ 241 → result_err (part_due slot room text) ≡ shape_fault slot number text

@@ -11,11 +11,11 @@ use Rattle.jiff_core.specs.declared.civil.weekday.Weekday.TheVariants.{Monday, T
 use Rattle.jiff_core.specs.Weekday.{monday_zero}
 use Rattle.cal_civil.specs.headline.Weekday.{week}
 use Rattle.cal_text.specs.headline.Separators.{is_comma}
-use Rattle.cal_spec.specs.Components.{most_counted, counted, component_of}
+use Rattle.cal_spec.specs.Components.{counted, component_of}
 use Rattle.cal_spec.specs.DateAndTime.{DateFields, TimeFields, date_texts, time_texts, date_fields, time_fields, date_due, time_due, room_after, date_in_word, time_in_word}
 use Rattle.cal_spec.specs.headline.DateAndTime.{DateTexts, TimeTexts}
 use Rattle.cal_spec.specs.Fields.{fields_of}
-use Rattle.cal_spec.specs.headline.Fields.{Fields, parts_in, counted_parts}
+use Rattle.cal_spec.specs.headline.Fields.{Fields, parts_in, counted_parts, max_counted_parts}
 use Rattle.cal_spec.specs.Parts.{is_time}
 use Rattle.cal_spec.specs.Grammar.{max_text_bytes, fields_at, fields_due, fields_in}
 use Rattle.cal_text.specs.AndThen.{◌>>=◌}
@@ -46,19 +46,19 @@ use Rattle.cal_spec.proofs.ReadLemmas.{bind_ok, cond_ok, three_ok, four_ok}
 -- If a date or a time is parsed, so is each of its components
 
 pub record DateRead (t : DateTexts) (d : DateFields) : Type 0 where
-  pub year : component_of Year most_counted t.year ≡ Ok d.year
-  pub month : component_of Month (most_counted - counted Year d.year) t.month ≡ Ok d.month
-  pub day : component_of (day_slot t.from_end) (most_counted - counted Year d.year - counted Month d.month) t.day ≡ Ok d.day
+  pub year : component_of Year max_counted_parts t.year ≡ Ok d.year
+  pub month : component_of Month (max_counted_parts - counted Year d.year) t.month ≡ Ok d.month
+  pub day : component_of (day_slot t.from_end) (max_counted_parts - counted Year d.year - counted Month d.month) t.day ≡ Ok d.day
   pub from_end : t.from_end ≡ d.from_end
 
-date_made : (t : DateTexts) (year month day : Option (List Part)) (d : DateFields) → record { year = year; month = month; day = day; from_end = t.from_end } ≡ d → component_of Year most_counted t.year ≡ Ok year → component_of Month (most_counted - counted Year year) t.month ≡ Ok month → component_of (day_slot t.from_end) (most_counted - counted Year year - counted Month month) t.day ≡ Ok day → DateRead t d
+date_made : (t : DateTexts) (year month day : Option (List Part)) (d : DateFields) → record { year = year; month = month; day = day; from_end = t.from_end } ≡ d → component_of Year max_counted_parts t.year ≡ Ok year → component_of Month (max_counted_parts - counted Year year) t.month ≡ Ok month → component_of (day_slot t.from_end) (max_counted_parts - counted Year year - counted Month month) t.day ≡ Ok day → DateRead t d
 date_made t year month day d is one two three =
     rw (← is) (record { year = one; month = two; day = three; from_end = refl })
 
 pub date_fields_ok : (t : DateTexts) (d : DateFields) → date_fields t ≡ Ok d → DateRead t d
 unfolding date_fields
 date_fields_ok t d at =
-    let read = three_ok (component_of Year most_counted t.year) (λ year. component_of Month (most_counted - counted Year year) t.month) (λ year month. component_of (day_slot t.from_end) (most_counted - counted Year year - counted Month month) t.day) (λ year month day. record { year = year; month = month; day = day; from_end = t.from_end }) d at in
+    let read = three_ok (component_of Year max_counted_parts t.year) (λ year. component_of Month (max_counted_parts - counted Year year) t.month) (λ year month. component_of (day_slot t.from_end) (max_counted_parts - counted Year year - counted Month month) t.day) (λ year month day. record { year = year; month = month; day = day; from_end = t.from_end }) d at in
     date_made t read.a read.b read.c d read.is read.first read.second read.third
 
 pub record TimeRead (room : ℕ) (t : TimeTexts) (h : TimeFields) : Type 0 where
@@ -285,15 +285,15 @@ day_no_time false = refl
 -- A parsed date and a parsed time have valid values, and no more counted parts than are allowed
 
 pub record IsDateRead (d : DateFields) : Type 0 where
-  pub year : IsRead Year most_counted d.year
-  pub month : IsRead Month (most_counted - counted Year d.year) d.month
-  pub day : IsRead (day_slot d.from_end) (most_counted - counted Year d.year - counted Month d.month) d.day
+  pub year : IsRead Year max_counted_parts d.year
+  pub month : IsRead Month (max_counted_parts - counted Year d.year) d.month
+  pub day : IsRead (day_slot d.from_end) (max_counted_parts - counted Year d.year - counted Month d.month) d.day
 
 date_read : (t : DateTexts) (d : DateFields) → DateRead t d → IsDateRead d
 date_read t d read = record {
-  year = component_read Year most_counted t.year d.year read.year;
-  month = component_read Month (most_counted - counted Year d.year) t.month d.month read.month;
-  day = component_read (day_slot d.from_end) (most_counted - counted Year d.year - counted Month d.month) t.day d.day (rw read.from_end at read.day);
+  year = component_read Year max_counted_parts t.year d.year read.year;
+  month = component_read Month (max_counted_parts - counted Year d.year) t.month d.month read.month;
+  day = component_read (day_slot d.from_end) (max_counted_parts - counted Year d.year - counted Month d.month) t.day d.day (rw read.from_end at read.day);
 }
 
 pub is_date_read : (word : List ℕ) (d : DateFields) → date_in_word word ≡ Ok d → IsDateRead d

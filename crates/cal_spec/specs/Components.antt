@@ -18,10 +18,6 @@ use Rattle.cal_text.specs.headline.Separators.{is_comma}
 abbrev pub is_star : List ℕ → Bool
 is_star text = bytes_eq text (codes "*")
 
--- the maximum number of counted parts in an expression
-abbrev pub most_counted : ℕ
-most_counted = 240
-
 -- the number of counted parts of a component
 abbrev pub counted : Slot → Option (List Part) → ℕ
 counted slot None = 0

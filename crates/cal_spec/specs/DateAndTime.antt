@@ -1,7 +1,7 @@
 -- Parsing of the date and the time of a calendar expression: systemd.time(7), Calendar Events.
 use Rattle.std.specs.Prelude.{ℕ, ◌-◌, ◌==◌, Bool, ◌||◌, if◌then◌else◌, List, [], ◌∷◌, filter, codes, Option, None, Some, Result, Ok, Err}
 use Rattle.std.specs.List.{slice_split}
-use Rattle.cal_spec.specs.Components.{most_counted, counted, component_of}
+use Rattle.cal_spec.specs.Components.{counted, component_of}
 use Rattle.cal_text.specs.AndThen.{◌>>=◌}
 use Rattle.cal_spec.specs.headline.Slot.{day_slot}
 use Rattle.cal_spec.specs.declared.part.Part.{Part}
@@ -10,6 +10,7 @@ use Rattle.cal_spec.specs.declared.spec_fault.SpecFault.{SpecFault}
 use Rattle.cal_spec.specs.declared.spec_fault.SpecFault.TheVariants.{BadDate, BadTime}
 use Rattle.cal_text.specs.headline.Separators.{is_colon}
 use Rattle.cal_spec.specs.headline.DateAndTime.{DateTexts, TimeTexts}
+use Rattle.cal_spec.specs.headline.Fields.{max_counted_parts}
 
 -- the parsed components of a date
 pub record DateFields : Type 0 where
@@ -55,15 +56,15 @@ time_texts word = time_texts_by (slice_split is_colon word)
 -- parses the components of a date from left to right
 unfoldable pub date_fields : DateTexts → Result DateFields SpecFault
 date_fields t =
-    component_of Year most_counted t.year
-    >>= λ year. component_of Month (most_counted - counted Year year) t.month
-    >>= λ month. component_of (day_slot t.from_end) (most_counted - counted Year year - counted Month month) t.day
+    component_of Year max_counted_parts t.year
+    >>= λ year. component_of Month (max_counted_parts - counted Year year) t.month
+    >>= λ month. component_of (day_slot t.from_end) (max_counted_parts - counted Year year - counted Month month) t.day
     >>= λ day. Ok (record { year = year; month = month; day = day; from_end = t.from_end })
 
 -- the number of counted parts that are still allowed after the date
 abbrev pub room_after : DateFields → ℕ
 room_after d =
-    most_counted - counted Year d.year - counted Month d.month - counted (day_slot d.from_end) d.day
+    max_counted_parts - counted Year d.year - counted Month d.month - counted (day_slot d.from_end) d.day
 
 -- parses the components of a time from left to right, with at most `room` counted parts
 unfoldable pub time_fields : ℕ → TimeTexts → Result TimeFields SpecFault

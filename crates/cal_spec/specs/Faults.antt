@@ -4,7 +4,7 @@ use Rattle.std.specs.Prelude.{ℕ, ◌+◌, ◌-◌, nat_lt, if◌then◌else◌
 use Rattle.std.specs.List.{slice_split}
 use Rattle.std.specs.Result.{result_err}
 use Rattle.cal_text.specs.headline.Separators.{is_comma}
-use Rattle.cal_spec.specs.Components.{most_counted, is_star}
+use Rattle.cal_spec.specs.Components.{is_star}
 use Rattle.cal_spec.specs.DateAndTime.{date_texts, time_texts}
 use Rattle.cal_spec.specs.headline.DateAndTime.{DateTexts, TimeTexts}
 use Rattle.cal_spec.specs.Grammar.{max_text_bytes}
@@ -21,6 +21,7 @@ use Rattle.cal_spec.specs.declared.slot.Slot.{Slot}
 use Rattle.cal_spec.specs.declared.slot.Slot.TheVariants.{Year, Month, Hour, Minute, Second}
 use Rattle.cal_spec.specs.declared.spec_fault.SpecFault.{SpecFault}
 use Rattle.cal_spec.specs.declared.spec_fault.SpecFault.TheVariants.{Empty, TextTooLong, BadDate, BadTime, TooManyParts}
+use Rattle.cal_spec.specs.headline.Fields.{max_counted_parts}
 
 -- the texts of a component's parts
 abbrev pub pieces_of : List ℕ → List (List ℕ)
@@ -39,7 +40,7 @@ first_number slot before = if is_time slot then before else before + 1
 -- the check of the syntax of the part that has the number `number`; a part whose number is above 240 is one too many,
 -- and then its syntax isn't checked
 abbrev pub shape_fault : Slot → ℕ → List ℕ → Option SpecFault
-shape_fault slot number text = if nat_lt most_counted number then Some TooManyParts else result_err (part_of slot text)
+shape_fault slot number text = if nat_lt max_counted_parts number then Some TooManyParts else result_err (part_of slot text)
 
 abbrev pub shape_faults : Slot → ℕ → List (List ℕ) → List (Option SpecFault)
 shape_faults slot number [] = []

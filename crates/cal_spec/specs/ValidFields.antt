@@ -1,7 +1,7 @@
 -- Valid fields of an expression: systemd.time(7), Calendar Events.
 use Rattle.std.specs.Prelude.{◌≡◌, ◌≤◌, true, length}
 use Rattle.std.specs.List.{list_any}
-use Rattle.cal_spec.specs.headline.Fields.{Fields, counted_parts}
+use Rattle.cal_spec.specs.headline.Fields.{Fields, counted_parts, max_counted_parts}
 use Rattle.cal_spec.specs.headline.Slot.{day_slot}
 use Rattle.cal_spec.specs.ValidComponents.{IsValidComponent}
 use Rattle.cal_spec.specs.ZoneSuffix.{IsSuffixOption}
@@ -16,5 +16,5 @@ pub record IsValidFields (f : Fields) : Type 0 where
   pub hour : IsValidComponent Hour f.hour
   pub minute : IsValidComponent Minute f.minute
   pub second : IsValidComponent Second f.second
-  pub few : counted_parts f ≤ 240
+  pub few : counted_parts f ≤ max_counted_parts
   pub zone : IsSuffixOption f.zone

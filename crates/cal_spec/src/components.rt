@@ -7,8 +7,9 @@ ghost use Rattle.std.specs.Prelude.{◌≡◌, ◌≤◌};
 ghost use Rattle.std.specs.List.{slice_split};
 ghost use Rattle.std.specs.Option.{option_copied, option_map};
 ghost use Rattle.cal_text.specs.headline.Separators.{is_comma};
-ghost use Rattle.cal_spec.specs.Components.{most_counted, room_in, counted, part_due, parts_of, first_value_fault, parts_listed, component_of};
+ghost use Rattle.cal_spec.specs.Components.{room_in, counted, part_due, parts_of, first_value_fault, parts_listed, component_of};
 ghost use Rattle.cal_spec.specs.Reads.{Gives, GivesUnlessNoMemory};
+ghost use Rattle.cal_spec.specs.headline.Fields.{max_counted_parts};
 
 use crate::parts::{fault_of, is_time, read_part, with_values};
 use crate::pieces::first_piece;
@@ -26,7 +27,7 @@ pub(crate) fn read_component(
     room: usize,
     text: &[u8],
 ) -> Result<Option<Vec<Part>>, SpecFault>
-    requires { room ≤ most_counted }
+    requires { room ≤ max_counted_parts }
     ensures { GivesUnlessNoMemory (λ component. option_map (λ parts. parts.items) component) result
         (component_of slot room text.now) }
 {
@@ -52,7 +53,7 @@ pub(crate) fn count_parts(slot: Slot, component: &Option<Vec<Part>>) -> usize
 /// Parses parts separated by commas, and then checks their values.
 #[tactic(auto, unfolding(crate::specs::Components::parts_listed))]
 fn read_listed(alloc: Global, slot: Slot, room: usize, text: &[u8]) -> Result<Vec<Part>, SpecFault>
-    requires { room ≤ most_counted }
+    requires { room ≤ max_counted_parts }
     ensures { GivesUnlessNoMemory (λ parts. parts.items) result (parts_listed slot room text.now) }
 {
     // The first part of an hour, minute or second isn't counted, so one more part is allowed.

@@ -3,10 +3,10 @@
 ghost use Rattle.std.specs.Prelude.{◌≡◌, ◌≤◌, ◌∷◌, [], MatchOption, filter};
 ghost use Rattle.std.specs.List.{position, slice_split};
 ghost use Rattle.std.specs.Option.{option_map};
-ghost use Rattle.cal_spec.specs.Components.{most_counted};
 ghost use Rattle.cal_spec.specs.DateAndTime.{is_date_sign, date_texts, time_texts, date_in_word, time_in_word, date_fields, time_fields, room_after};
 ghost use Rattle.cal_spec.specs.DateAndTimeViews.{date_fields_in, time_fields_in, date_texts_in, time_texts_in};
 ghost use Rattle.cal_spec.specs.Reads.{GivesUnlessNoMemory};
+ghost use Rattle.cal_spec.specs.headline.Fields.{max_counted_parts};
 
 use crate::SpecFault;
 use crate::components::{count_parts, read_component};
@@ -40,7 +40,7 @@ pub(crate) fn read_date(alloc: Global, word: &[u8]) -> Result<DateFields, SpecFa
 /// The number of components is checked first. Then the components are parsed from left to right.
 #[tactic(auto, unfolding(crate::specs::DateAndTime::time_in_word))]
 pub(crate) fn read_time(alloc: Global, room: usize, word: &[u8]) -> Result<TimeFields, SpecFault>
-    requires { room ≤ most_counted }
+    requires { room ≤ max_counted_parts }
     ensures { GivesUnlessNoMemory time_fields_in result (time_in_word room word.now) }
 {
     match time_texts(word) {
@@ -52,7 +52,7 @@ pub(crate) fn read_time(alloc: Global, room: usize, word: &[u8]) -> Result<TimeF
 /// Returns how many of the `MAX_COUNTED_PARTS` parts are left for the time after this date.
 pub(crate) fn room_after(date: &DateFields) -> usize
     ensures value { result ≡ room_after (date_fields_in date.now) }
-    ensures bound { result ≤ most_counted }
+    ensures bound { result ≤ max_counted_parts }
 {
     MAX_COUNTED_PARTS
         .saturating_sub(count_parts(Slot::Year, &date.year))
@@ -170,7 +170,7 @@ fn date_fields(alloc: Global, texts: DateTexts<'_>) -> Result<DateFields, SpecFa
 /// of each component.
 #[tactic(auto, unfolding(crate::specs::DateAndTime::time_fields))]
 fn time_fields(alloc: Global, room: usize, texts: TimeTexts<'_>) -> Result<TimeFields, SpecFault>
-    requires { room ≤ most_counted }
+    requires { room ≤ max_counted_parts }
     ensures { GivesUnlessNoMemory time_fields_in result (time_fields room (time_texts_in texts.entry)) }
 {
     let hour = read_component(alloc, Slot::Hour, room, texts.hour)?;

@@ -26,3 +26,7 @@ unfoldable pub counted_parts : Fields → ℕ
 counted_parts f =
     parts_in f.year + parts_in f.month + parts_in f.day
     + (parts_in f.hour - 1) + (parts_in f.minute - 1) + (parts_in f.second - 1)
+
+-- the maximum number of parts that count towards the limit
+abbrev pub max_counted_parts : ℕ
+max_counted_parts = 240

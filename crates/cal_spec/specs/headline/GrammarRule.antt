@@ -9,7 +9,7 @@ use Rattle.jiff_core.specs.declared.civil.weekday.Weekday.{Weekday}
 use Rattle.cal_civil.specs.headline.Weekday.{week, name_of, short_name_of}
 use Rattle.cal_text.specs.headline.Separators.{is_colon}
 use Rattle.cal_spec.specs.headline.DateAndTime.{DateTexts, TimeTexts}
-use Rattle.cal_spec.specs.headline.Fields.{Fields, counted_parts}
+use Rattle.cal_spec.specs.headline.Fields.{Fields, counted_parts, max_counted_parts}
 use Rattle.cal_spec.specs.headline.Parts.{most, with_values}
 use Rattle.cal_spec.specs.headline.Shorthand.{any_date, midnight, shorthand_named, expansion_of}
 use Rattle.cal_spec.specs.headline.Slot.{day_slot}
@@ -182,4 +182,4 @@ pub record IsExpression (text : List ℕ) (f : Fields) : Type 0 where
 pub record IsValid (text : List ℕ) (f : Fields) : Type 0 where
   pub short : length text ≤ 4096
   pub expression : IsExpression text f
-  pub few : counted_parts f ≤ 240
+  pub few : counted_parts f ≤ max_counted_parts
