@@ -344,7 +344,7 @@ const LOCAL_HELP: &str =
     "Local zone: UTC, +hh:mm, -hh:mm, posix:RULE or a{n}name from --zones [default: UTC]";
 
 const STATUSES: &str =
-    "Exit status:{n}  0  success{n}  1  an expression, timestamp, time span, timer file or the output failed{n}  2  the command line, a zone or the clock is invalid{n}{n}See 'calendar-analyze VERB --help' for the options of a verb.";
+    "Exit status:{n}  0  success{n}  1  an input or the base time is invalid, or the output or memory failed{n}  2  the command line, a zone file, the local zone or the clock is invalid{n}{n}See 'calendar-analyze VERB --help' for the options of a verb.";
 
 const CALENDAR_EXAMPLE: &str =
     "A TEXT may end in its zone: UTC, +hh:mm, -hh:mm or a name from --zones.{n}TZ is ignored, and the machine's zone is used only if you name its file, as in{n}the last example.{n}Put '--' before a TEXT that begins with '-'. Join a value that begins with '-'{n}to its option with '=', as in --base-time=-1d.{n}{n}Examples:{n}  calendar-analyze calendar --iterations=3 'Mon..Fri 09:00'{n}  calendar-analyze calendar --zones=here=/etc/localtime --local=here daily";
