@@ -1,19 +1,17 @@
-pub mod ListedLemmas
-pub mod ResumedLemmas
 pub mod SettingsLemmas
-pub mod StampCivilRule
-pub mod StampCounted
-pub mod StampFaultRule
-pub mod StampFaults
-pub mod StampLemmas
-pub mod StampMomentRule
-pub mod StampPrinted
-pub mod StampPrintedTexts
-pub mod StampPrintedZones
-mod StampRows
-pub mod StampRule
 pub mod TimerFaultsLemmas
-pub mod TimerLemmas
-mod TimerRows
-pub mod TimerRuleLemmas
 pub mod TimerTextsLemmas
+pub use Rattle.cal_stamp.proofs.StampCivilRule
+pub use Rattle.cal_stamp.proofs.StampCounted
+pub use Rattle.cal_stamp.proofs.StampFaultRule
+pub use Rattle.cal_stamp.proofs.StampFaults
+pub use Rattle.cal_stamp.proofs.StampLemmas
+pub use Rattle.cal_stamp.proofs.StampMomentRule
+pub use Rattle.cal_stamp.proofs.StampPrinted
+pub use Rattle.cal_stamp.proofs.StampPrintedTexts
+pub use Rattle.cal_stamp.proofs.StampPrintedZones
+pub use Rattle.cal_stamp.proofs.StampRule
+pub use Rattle.cal_timer.proofs.ListedLemmas
+pub use Rattle.cal_timer.proofs.ResumedLemmas
+pub use Rattle.cal_timer.proofs.TimerLemmas
+pub use Rattle.cal_timer.proofs.TimerRuleLemmas

@@ -5,7 +5,7 @@ use Rattle.std.specs.Option.{option_to_list}
 use Rattle.std.specs.Str.{bytes_eq}
 use Rattle.cal_text.specs.headline.Trim.{trim_matches}
 use Rattle.cal_lines.specs.headline.Lines.{Line, is_blank_or_return}
-use Rattle.cal_read.specs.headline.Assignments.{Assignment, assignment_of, assignments_in, is_header, section_of, timer_lines, trimmed}
+use Rattle.cal_timer.specs.headline.Assignments.{Assignment, assignment_of, assignments_in, is_header, section_of, timer_lines, trimmed}
 use Rattle.cal_read.specs.Settings.{section_lines, settings_in}
 
 -- the settings of the section `Timer` are the assignments of a timer file (the induction step)

@@ -1,23 +1,38 @@
 -- Lemmas which say that counting the entries of the lists gives the same errors as keeping the lists.
-use Rattle.std.proofs.Common.{◌≡◌, ◌+◌, ◌<◌, ℕ, List, [], ◌∷◌, ◌++◌, refl, subst, sym, ap, ◌∙◌, arith, append_assoc, append-nil, length, length-append, map, take, Option, Some, None, Result, drop, get_or, drop-cons, add-one}
+use Rattle.std.proofs.Common.{◌≡◌, ◌+◌, ◌<◌, ℕ, Bool, true, false, List, [], ◌∷◌, ◌++◌, filter, refl, subst, sym, ap, ◌∙◌, arith, append_assoc, append-nil, length, length-append, map, take, Option, Some, None, Result, drop, get_or, drop-cons, add-one}
 use Rattle.std.specs.Prelude.{nat_le, min}
-use Rattle.std.specs.List.{slice_get}
+use Rattle.std.specs.List.{after_last, slice_get}
 use Rattle.std.proofs.lemmas.Bool.Decides.{nat_tests}
 use Rattle.std.specs.Option.{option_or, option_to_list}
 use Rattle.cal_spec.specs.declared.spec_fault.SpecFault.{SpecFault}
-use Rattle.cal_read.specs.headline.Assignments.{Assignment}
-use Rattle.cal_read.specs.headline.TimerText.{excepted, is_exception, is_exception_reset, is_expression, is_reset, listed, max_expressions}
-use Rattle.cal_read.specs.TimerText.{fault_following, fault_joining, first_fault}
+use Rattle.cal_timer.specs.headline.Assignments.{Assignment}
+use Rattle.cal_timer.specs.headline.TimerText.{excepted, is_exception, is_exception_reset, is_expression, is_reset, listed, max_expressions}
+use Rattle.cal_timer.specs.TimerText.{fault_following, fault_joining, first_fault}
 use Rattle.cal_read.specs.TimerTexts.{IsFirstOf, assignments_at, assignments_of}
-use Rattle.cal_read.specs.TimerFaults.{all_faults, counted_faults, counted_files, counts_over, counts_with, fault_at, faults_of, in_file}
-use Rattle.cal_read.specs.declared.timer.all.Counts.{Counts}
-use Rattle.cal_read.specs.declared.timer.fault.TimerFault.{TimerFault}
-use Rattle.cal_read.specs.declared.timer.texts.FileFault.{FileFault}
-use Rattle.cal_read.specs.declared.timer.texts.UnitText.{UnitText}
+use Rattle.cal_read.specs.TimerFaults.{all_faults, count_with, counted_faults, counted_files, counts_over, counts_with, fault_at, faults_of, in_file}
+use Rattle.cal_read.specs.declared.faults.Counts.{Counts}
+use Rattle.cal_timer.specs.declared.fault.TimerFault.{TimerFault}
+use Rattle.cal_read.specs.declared.texts.FileFault.{FileFault}
+use Rattle.cal_read.specs.declared.texts.UnitText.{UnitText}
 use Rattle.std.proofs.lemmas.List.{map-append}
 use Rattle.std.proofs.Math.Seq.{drop-length, take-append_seam}
 use Rattle.std.proofs.lemmas.List.Concat.{flat_map-append}
-use Rattle.cal_read.proofs.ListedLemmas.{counted_kept, exception_is_no_exception_reset, expression_is_no_reset}
+use Rattle.cal_timer.proofs.ListedLemmas.{Kept, exception_is_no_exception_reset, expression_is_no_reset, kept_more, kept_other, kept_reset}
+
+-- if `n` is the length of a list, capped at the limit, then `count_with` returns its capped length after one more
+-- assignment
+counted_kept : (adds resets : Assignment → Bool) (before : List Assignment) (a : Assignment) (joined empties : Bool) (n : ℕ)
+    → adds a ≡ joined → resets a ≡ empties → (adds a ≡ true → resets a ≡ false) → n ≡ min (length (filter adds (after_last resets before))) max_expressions
+    → count_with n joined empties ≡ min (length (filter adds (after_last resets (before ++ a ∷ [])))) max_expressions
+counted_kept adds resets before a true empties n e f apart h =
+    let more : length (Kept adds resets (before ++ a ∷ [])) ≡ length (Kept adds resets before) + 1 = ap length (kept_more adds resets before a (apart e) e) ∙ length-append (Kept adds resets before) (a ∷ []) in
+    omega arith
+counted_kept adds resets before a false true n e f apart h =
+    let none : length (Kept adds resets (before ++ a ∷ [])) ≡ 0 = ap length (kept_reset adds resets before a f) in
+    omega arith
+counted_kept adds resets before a false false n e f apart h =
+    let same : length (Kept adds resets (before ++ a ∷ [])) ≡ length (Kept adds resets before) = ap length (kept_other adds resets before a f e) in
+    omega arith
 
 -- the counts are the lengths of the two lists after these assignments, capped at the limit
 pub record AreCounts (counts : Counts) (before : List Assignment) : Type 0 where

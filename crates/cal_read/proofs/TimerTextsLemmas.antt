@@ -5,14 +5,14 @@ use Rattle.std.proofs.lemmas.List.{take_more, take-append-drop}
 use Rattle.std.proofs.lemmas.List.Concat.{flat_map-append}
 use Rattle.cal_spec.specs.declared.spec_fault.SpecFault.{SpecFault}
 use Rattle.cal_lines.specs.headline.Lines.{logical_lines}
-use Rattle.cal_read.specs.headline.Assignments.{assignments_in}
-use Rattle.cal_read.specs.headline.TimerText.{without_mark}
-use Rattle.cal_read.specs.TimerText.{Timer, lists_of, timer_of}
+use Rattle.cal_timer.specs.headline.Assignments.{assignments_in}
+use Rattle.cal_timer.specs.headline.TimerText.{without_mark}
+use Rattle.cal_timer.specs.TimerText.{Timer, lists_of, timer_of}
 use Rattle.cal_read.specs.TimerTexts.{assignments_at, assignments_of}
-use Rattle.cal_read.specs.TimerView.{empty_lists, resumed}
-use Rattle.cal_read.specs.declared.timer.fault.TimerFault.{TimerFault}
-use Rattle.cal_read.specs.declared.timer.texts.UnitText.{UnitText}
-use Rattle.cal_read.proofs.ListedLemmas.{resumed_append, with_lists}
+use Rattle.cal_timer.specs.TimerView.{empty_lists, resumed}
+use Rattle.cal_timer.specs.declared.fault.TimerFault.{TimerFault}
+use Rattle.cal_read.specs.declared.texts.UnitText.{UnitText}
+use Rattle.cal_timer.proofs.ListedLemmas.{resumed_append, with_lists}
 
 -- the assignments of one more text follow those of the texts before it
 assignments_more : (files : List UnitText) (i : ℕ) (d : UnitText) → i < length files → assignments_of (take (i + 1) files) ≡ assignments_of (take i files) ++ assignments_at (get_or files i d)

@@ -4,7 +4,7 @@ use Rattle.std.specs.Prelude.{ℕ, Bool, if◌then◌else◌, List, [], ◌∷�
 use Rattle.std.specs.List.{filter_map}
 use Rattle.std.specs.Str.{bytes_eq}
 use Rattle.cal_lines.specs.headline.Lines.{Line}
-use Rattle.cal_read.specs.headline.Assignments.{Assignment, assignment_of, is_header, section_of, trimmed}
+use Rattle.cal_timer.specs.headline.Assignments.{Assignment, assignment_of, is_header, section_of, trimmed}
 use Rattle.cal_read.specs.declared.settings.Setting.{Setting}
 
 -- the lines in the sections with this name, without their headers; `inside` says whether the lines before the first

@@ -3,15 +3,15 @@
 use Rattle.std.specs.Prelude.{ℕ, ◌+◌, nat_le, Bool, true, false, if◌then◌else◌, List, [], ◌∷◌, ◌++◌, map, min, Option, None, Some, Result}
 use Rattle.std.specs.Option.{option_to_list}
 use Rattle.cal_spec.specs.declared.spec_fault.SpecFault.{SpecFault}
-use Rattle.cal_read.specs.headline.Assignments.{Assignment}
-use Rattle.cal_read.specs.headline.TimerText.{is_exception, is_exception_reset, is_expression, is_reset, max_expressions}
-use Rattle.cal_read.specs.TimerText.{bad_line, fault_following}
+use Rattle.cal_timer.specs.headline.Assignments.{Assignment}
+use Rattle.cal_timer.specs.headline.TimerText.{is_exception, is_exception_reset, is_expression, is_reset, max_expressions}
+use Rattle.cal_timer.specs.TimerText.{bad_line, fault_following}
 use Rattle.cal_read.specs.TimerTexts.{assignments_at}
-use Rattle.cal_read.specs.declared.timer.all.Counts.{Counts}
-use Rattle.cal_read.specs.declared.timer.fault.TimerFault.{TimerFault}
-use Rattle.cal_read.specs.declared.timer.fault.TimerFault.TheVariants.{TooMany}
-use Rattle.cal_read.specs.declared.timer.texts.FileFault.{FileFault}
-use Rattle.cal_read.specs.declared.timer.texts.UnitText.{UnitText}
+use Rattle.cal_read.specs.declared.faults.Counts.{Counts}
+use Rattle.cal_timer.specs.declared.fault.TimerFault.{TimerFault}
+use Rattle.cal_timer.specs.declared.fault.TimerFault.TheVariants.{TooMany}
+use Rattle.cal_read.specs.declared.texts.FileFault.{FileFault}
+use Rattle.cal_read.specs.declared.texts.UnitText.{UnitText}
 
 -- all errors of the assignments in the second list, which come after those in `before`
 unfoldable pub all_faults : {E : Type 0} → (List ℕ → Result E SpecFault) → List Assignment → List Assignment → List TimerFault

@@ -4,12 +4,12 @@ use Rattle.std.specs.Prelude.{◌≡◌, ◌<◌, ◌+◌, ℕ, false, List, [],
 use Rattle.std.specs.List.{flat_map}
 use Rattle.cal_spec.specs.declared.spec_fault.SpecFault.{SpecFault}
 use Rattle.cal_lines.specs.headline.Lines.{logical_lines}
-use Rattle.cal_read.specs.headline.Assignments.{Assignment, assignments_in}
-use Rattle.cal_read.specs.headline.TimerText.{without_mark}
-use Rattle.cal_read.specs.TimerText.{first_fault}
-use Rattle.cal_read.specs.declared.timer.texts.UnitText.{UnitText}
-use Rattle.cal_read.specs.declared.timer.fault.TimerFault.{TimerFault}
-use Rattle.cal_read.specs.declared.timer.fault.TimerFault.TheVariants.{NothingToDo}
+use Rattle.cal_timer.specs.headline.Assignments.{Assignment, assignments_in}
+use Rattle.cal_timer.specs.headline.TimerText.{without_mark}
+use Rattle.cal_timer.specs.TimerText.{first_fault}
+use Rattle.cal_read.specs.declared.texts.UnitText.{UnitText}
+use Rattle.cal_timer.specs.declared.fault.TimerFault.{TimerFault}
+use Rattle.cal_timer.specs.declared.fault.TimerFault.TheVariants.{NothingToDo}
 
 -- the assignments of one text
 abbrev pub assignments_at : UnitText → List Assignment

@@ -1,16 +1,17 @@
-//! Parsing timestamps and timer files (systemd.time(7), Parsing Timestamps; systemd.timer(5)).
+//! Timestamps and timer files, for users of the library: the names of `cal_stamp` and `cal_timer`, and what reads several
+//! texts of a timer (systemd.time(7), Parsing Timestamps; systemd.timer(5)).
 #![tactic(auto)]
 
-mod assignments;
-pub mod settings;
-pub mod stamp;
-pub mod timer;
+mod faults;
+pub mod laws;
+mod settings;
+mod texts;
 
+pub use cal_stamp::{StampFault, laws as stamp_laws, read_stamp};
+pub use cal_timer::{
+    Assignment, MAX_EXPRESSIONS, Timer, TimerFault, TimerLine, TimerLists, laws as timer_laws,
+    read_assignment, read_timer, section, without_mark,
+};
+pub use faults::find_faults;
 pub use settings::{Setting, Settings, read_settings};
-pub use stamp::fault::StampFault;
-pub use stamp::read_stamp;
-pub use timer::all::find_faults;
-pub use timer::fault::TimerFault;
-pub use timer::file::read_timer;
-pub use timer::texts::{FileFault, UnitText, read_texts};
-pub use timer::{Timer, TimerLine};
+pub use texts::{FileFault, UnitText, read_texts};

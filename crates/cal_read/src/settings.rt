@@ -4,11 +4,11 @@ ghost use Rattle.std.specs.Prelude.{◌≡◌, ◌+◌, ◌<◌, ◌^◌, ◌∷
 ghost use Rattle.std.specs.Option.{option_map, option_to_list};
 ghost use Rattle.cal_lines.specs.LineView.{line_at};
 ghost use Rattle.cal_lines.specs.headline.Lines.{Line, logical_lines};
-ghost use Rattle.cal_read.specs.AssignmentView.{shown_assignment};
+ghost use Rattle.cal_timer.specs.AssignmentView.{shown_assignment};
 ghost use Rattle.cal_read.specs.Settings.{settings_in, shown_setting};
 
-use crate::assignments::{Assignment, read_assignment, section};
 use cal_lines::{first_logical, trim};
+use cal_timer::{Assignment, read_assignment, section};
 use std::alloc::{AllocError, Global};
 use std::marker::Model;
 
@@ -48,7 +48,7 @@ pub struct Settings<'t> {
 impl<'t> Model for Settings<'t> {
     ghost use Rattle.std.specs.Prelude.{◌+◌, ◌<◌, ◌^◌, List, length};
     ghost use Rattle.cal_lines.specs.headline.Lines.{logical_lines};
-    ghost use Rattle.cal_read.specs.headline.Assignments.{Assignment};
+    ghost use Rattle.cal_timer.specs.headline.Assignments.{Assignment};
     ghost use Rattle.cal_read.specs.Settings.{settings_in};
 
     ghost Value = { List Assignment };

@@ -11,9 +11,9 @@ use Rattle.cal_elapse.specs.Masks.{sets_in}
 use Rattle.cal_elapse.specs.Merged.{each_after}
 use Rattle.cal_elapse.specs.headline.Timed.{timed}
 use Rattle.cal_elapse.specs.declared.masks.Masks.{Masks}
-use Rattle.cal_read.specs.TimerText.{TimerLine, Timer}
-use Rattle.cal_read.specs.TimerView.{shown}
-use Rattle.cal_read.specs.declared.timer.TimerLine as declared_line
+use Rattle.cal_timer.specs.TimerText.{TimerLine, Timer}
+use Rattle.cal_timer.specs.TimerView.{shown}
+use Rattle.cal_timer.specs.declared.timer.TimerLine as declared_line
 use Rattle.cal_rising.specs.Merge.{Merge, merged}
 use Rattle.cal_spec.specs.headline.Fields.{Fields}
 use Rattle.cal_spec.specs.headline.Match.{Sets}

@@ -9,8 +9,8 @@ use Rattle.cal_rising.specs.headline.Elements.{Has}
 use Rattle.cal_zone.specs.Instant.{IsInstant}
 use Rattle.cal_zone.specs.headline.Zone.{zone_of}
 use Rattle.cal_zone.specs.headline.ZoneTable.{zone_named}
-use Rattle.cal_read.proofs.StampCounted.{counted_back}
-use Rattle.cal_read.specs.StampViews.{setting}
+use Rattle.cal_stamp.proofs.StampCounted.{counted_back}
+use Rattle.cal_stamp.specs.StampViews.{setting}
 use Rattle.cal_report.specs.ElapseLines.{AreInstants}
 use Rattle.cal_report.specs.Report.{base_from, base_in, report, second_or_fault}
 use Rattle.cal_report.specs.Resume.{AreShown, IsBaseAfter, IsBegunAgain, Resumes, base_after, begun_again, showing}

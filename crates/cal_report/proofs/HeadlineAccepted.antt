@@ -20,13 +20,13 @@ use Rattle.cal_zone.specs.headline.FixedOffsetZone.{fixed_offset_zone}
 use Rattle.cal_spec.specs.declared.spec_fault.SpecFault.{SpecFault}
 use Rattle.cal_spec.proofs.FieldLemmas.{valid_fields}
 use Rattle.cal_spec.proofs.WholeRule.{valid_found}
-use Rattle.cal_read.specs.headline.Assignments.{Assignment}
-use Rattle.cal_read.specs.TimerRule.{AreFine, JudgesTimer}
-use Rattle.cal_read.specs.TimerText.{TimerLine, Timer, bad_line, entries, entry_of, fault_joining, timer_in, timer_of}
-use Rattle.cal_read.specs.headline.TimerText.{excepted, is_exception, is_exception_reset, is_expression, is_reset, listed, max_expressions}
-use Rattle.cal_read.specs.declared.timer.fault.TimerFault.{TimerFault}
-use Rattle.cal_read.proofs.ListedLemmas.{fault_of_exception, fault_of_expression}
-use Rattle.cal_read.proofs.TimerRuleLemmas.{judged}
+use Rattle.cal_timer.specs.headline.Assignments.{Assignment}
+use Rattle.cal_timer.specs.TimerRule.{AreFine, JudgesTimer}
+use Rattle.cal_timer.specs.TimerText.{TimerLine, Timer, bad_line, entries, entry_of, fault_joining, timer_in, timer_of}
+use Rattle.cal_timer.specs.headline.TimerText.{excepted, is_exception, is_exception_reset, is_expression, is_reset, listed, max_expressions}
+use Rattle.cal_timer.specs.declared.fault.TimerFault.{TimerFault}
+use Rattle.cal_timer.proofs.ListedLemmas.{fault_of_exception, fault_of_expression}
+use Rattle.cal_timer.proofs.TimerRuleLemmas.{judged}
 use Rattle.cal_report.specs.Answer.{texts_status}
 use Rattle.cal_report.specs.CalendarReport.{answer_in, answer_with, calendar_answer, zone_for}
 use Rattle.cal_report.specs.headline.Headline.{AreAccepted, AreSpelled, Expression, IsAccepted, IsAcceptedFile, IsZoneFor, Spells, assigned_in}

@@ -18,11 +18,11 @@ use Rattle.cal_bytes.specs.headline.Bytes.{joined}
 use Rattle.cal_elapse.specs.Elapses.{elapses_after, elapses_except}
 use Rattle.cal_elapse.specs.headline.Elapses.{AreElapses, Timed}
 use Rattle.cal_elapse.proofs.ElapsesLemmas.{AreElapses-elapses_except, AreElapses-only, elapses_except-none}
-use Rattle.cal_read.specs.headline.Assignments.{Assignment}
-use Rattle.cal_read.specs.TimerRule.{AreFine}
-use Rattle.cal_read.specs.TimerText.{TimerLine, Timer, entries, entry_of, fault_following, fault_joining, timer_in, timer_of}
-use Rattle.cal_read.specs.headline.TimerText.{excepted, is_exception, is_expression, listed, max_expressions}
-use Rattle.cal_read.proofs.TimerRuleLemmas.{only_judged}
+use Rattle.cal_timer.specs.headline.Assignments.{Assignment}
+use Rattle.cal_timer.specs.TimerRule.{AreFine}
+use Rattle.cal_timer.specs.TimerText.{TimerLine, Timer, entries, entry_of, fault_following, fault_joining, timer_in, timer_of}
+use Rattle.cal_timer.specs.headline.TimerText.{excepted, is_exception, is_expression, listed, max_expressions}
+use Rattle.cal_timer.proofs.TimerRuleLemmas.{only_judged}
 use Rattle.cal_report.specs.Answer.{error_lines, report_in, reports_text, texts_status}
 use Rattle.cal_spec.specs.headline.ZoneSuffix.{ZoneSuffix, of_name, ahead}
 use Rattle.cal_report.specs.CalendarReport.{answer_in, answer_with, calendar_answer, calendar_report, zone_for}

@@ -3,8 +3,8 @@ use Rattle.std.proofs.Common.{◌≡◌, ℕ, ℤ, Bool, true, false, ◌&&◌, 
 use Rattle.std.proofs.lemmas.List.{append-nil}
 use Rattle.std.proofs.KnownBytes.{Appends-nil}
 use Rattle.std.specs.Io.KnownBytes.{Appends}
-use Rattle.cal_read.specs.StampFault.{message_of}
-use Rattle.cal_read.specs.declared.stamp.fault.StampFault.{StampFault}
+use Rattle.cal_stamp.specs.StampFault.{message_of}
+use Rattle.cal_stamp.specs.declared.fault.StampFault.{StampFault}
 use Rattle.cal_report.specs.Answer.{error_line}
 use Rattle.cal_streams.specs.declared.whole.WholeFault.{WholeFault}
 use Rattle.cal_report.specs.TimerReport.{HadMemory}

@@ -9,9 +9,9 @@ use Rattle.std.proofs.lemmas.List.Folds.{flat_map-map}
 use Rattle.jiff.specs.Types.{UTC}
 use Rattle.cal_rising.specs.Merge.{Merge, merged}
 use Rattle.cal_elapse.proofs.InstantLemmas.{IsInstant-elapse}
-use Rattle.cal_read.specs.TimerText.{TimerLine, Timer, timer_text}
-use Rattle.cal_read.specs.TimerView.{shown}
-use Rattle.cal_read.specs.declared.timer.TimerLine as declared_line
+use Rattle.cal_timer.specs.TimerText.{TimerLine, Timer, timer_text}
+use Rattle.cal_timer.specs.TimerView.{shown}
+use Rattle.cal_timer.specs.declared.timer.TimerLine as declared_line
 use Rattle.cal_streams.specs.declared.whole.WholeFault.{WholeFault}
 use Rattle.cal_spec.specs.Expr.{expr_in}
 use Rattle.cal_spec.specs.headline.Fields.{Fields}

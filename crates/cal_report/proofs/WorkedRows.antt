@@ -12,8 +12,8 @@ use Rattle.jiff_core.specs.Calendar.{weekday_number}
 use Rattle.cal_civil.specs.headline.Days.{date_of}
 use Rattle.cal_civil.proofs.DayLemmas.{date_of-epoch_day}
 use Rattle.cal_civil.specs.headline.Local.{civil_date, seconds_in_all-is}
-use Rattle.cal_read.specs.Stamp.{in_moments, moment_in}
-use Rattle.cal_read.specs.StampForm.{day_shift, form_by_end, form_of}
+use Rattle.cal_stamp.specs.Stamp.{in_moments, moment_in}
+use Rattle.cal_stamp.specs.StampForm.{day_shift, form_by_end, form_of}
 use Rattle.cal_report.specs.Resume.{AreShown, IsBegunAgain}
 use Rattle.cal_report.specs.TimestampReport.{stamp_in}
 use Rattle.cal_span.specs.UnitSpellings.{spellings_of}
@@ -36,8 +36,8 @@ use Rattle.std.proofs.lemmas.Int.{ints}
 use lib.Utf8.{encode}
 use Rattle.std.specs.Str.{chars, is_utf8}
 use Rattle.cal_lines.specs.headline.Lines.{groups, is_continued, logical_lines, part_of_line, physical_lines, plain_lines}
-use Rattle.cal_read.specs.headline.Assignments.{Assignment, assignment_of, assignments_in, timer_lines}
-use Rattle.cal_read.specs.headline.TimerText.{excepted, is_exception, is_exception_reset, is_expression, is_reset, listed as listed_in, max_expressions, without_mark}
+use Rattle.cal_timer.specs.headline.Assignments.{Assignment, assignment_of, assignments_in, timer_lines}
+use Rattle.cal_timer.specs.headline.TimerText.{excepted, is_exception, is_exception_reset, is_expression, is_reset, listed as listed_in, max_expressions, without_mark}
 use Rattle.std.specs.Prelude.{ℤ, ◌<ℤ◌, ◌≤ℤ◌, List, length, map, slice_get, take}
 use Rattle.cal_civil.specs.headline.Weekday as weekday
 use Rattle.cal_civil.specs.headline.ZoneName.{is_zone_name}
@@ -54,7 +54,7 @@ use Rattle.cal_spec.proofs.WholeRule.{valid_found}
 use Rattle.cal_elapse.proofs.ElapsesLemmas.{AreElapses-only, elapses_except-none, first_elapse-least}
 use Rattle.cal_report.specs.headline.Headline.{AreElapsesOf, AreSpelled, Expression, IsAccepted, IsFileOf, Spells, alone, assigned_in, meaning}
 use Rattle.cal_elapse.proofs.SearchLemmas.{inside}
-use Rattle.cal_read.proofs.TimerRuleLemmas.{no_split}
+use Rattle.cal_timer.proofs.TimerRuleLemmas.{no_split}
 
 -- `*-*-* 12:30:00`
 noon_thirty : Fields

@@ -2,7 +2,7 @@
 use Rattle.std.specs.Prelude.{ℕ, List, [], codes}
 use Rattle.cal_span.specs.SpanFault.{message_of as span_message}
 use Rattle.cal_elapse.specs.RemainingElapses.{remaining_elapses}
-use Rattle.cal_read.specs.StampFault.{message_of as stamp_message}
+use Rattle.cal_stamp.specs.StampFault.{message_of as stamp_message}
 use Rattle.cal_spec.specs.SpecFault.{message_of as spec_message}
 use Rattle.cal_report.specs.CalendarReport.{report_of_elapses}
 use Rattle.cal_report.specs.ElapseLines.{AreInstants}

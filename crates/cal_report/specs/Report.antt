@@ -6,9 +6,9 @@ use Rattle.cal_streams.specs.Whole.{is_read_failed}
 use Rattle.cal_streams.specs.declared.whole.WholeFault.{WholeFault}
 use Rattle.cal_streams.specs.declared.whole.WholeFault.TheVariants.{NoMemory}
 use Rattle.cal_zone.specs.declared.instant.Instant.{Instant}
-use Rattle.cal_read.specs.TimerText.{ReadsWhole, timer_file_limit}
-use Rattle.cal_read.specs.StampFault.{message_of}
-use Rattle.cal_read.specs.declared.stamp.fault.StampFault.{StampFault}
+use Rattle.cal_timer.specs.TimerText.{ReadsWhole, timer_file_limit}
+use Rattle.cal_stamp.specs.StampFault.{message_of}
+use Rattle.cal_stamp.specs.declared.fault.StampFault.{StampFault}
 use Rattle.cal_report.specs.Answer.{Answer, IsAnsweredBefore, error_line, reports_text, error_lines, texts_status}
 use Rattle.cal_report.specs.CalendarReport.{calendar_answer}
 use Rattle.cal_request.specs.Request.{is_timer}

@@ -5,8 +5,8 @@ use Rattle.cal_rising.specs.Merge.{Merge, merged}
 use Rattle.cal_elapse.specs.Covered.{AreKept, IsCovered}
 use Rattle.cal_elapse.specs.headline.Elapses.{Timed}
 use Rattle.cal_elapse.specs.Merged.{each_after}
-use Rattle.cal_read.specs.TimerFault.{line_of, message_of}
-use Rattle.cal_read.specs.TimerText.{TimerLine, Timer}
+use Rattle.cal_timer.specs.TimerFault.{line_of, message_of}
+use Rattle.cal_timer.specs.TimerText.{TimerLine, Timer}
 use Rattle.cal_spec.specs.headline.Fields.{Fields}
 use Rattle.cal_spec.specs.headline.Match.{Sets}
 use Rattle.cal_spec.specs.headline.Members.{sets_of}

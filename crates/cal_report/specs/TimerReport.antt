@@ -9,9 +9,9 @@ use Rattle.cal_streams.specs.declared.whole.WholeFault.TheVariants.{NoMemory}
 use Rattle.cal_elapse.specs.Elapses.{elapses_except}
 use Rattle.cal_elapse.specs.headline.Elapses.{Timed}
 use Rattle.cal_elapse.specs.headline.Timed.{timed}
-use Rattle.cal_read.specs.TimerFault.{line_of, message_of}
-use Rattle.cal_read.specs.TimerText.{TimerLine, Timer, timer_text}
-use Rattle.cal_read.specs.declared.timer.fault.TimerFault.{TimerFault}
+use Rattle.cal_timer.specs.TimerFault.{line_of, message_of}
+use Rattle.cal_timer.specs.TimerText.{TimerLine, Timer, timer_text}
+use Rattle.cal_timer.specs.declared.fault.TimerFault.{TimerFault}
 use Rattle.cal_spec.specs.Expr.{expr_in}
 use Rattle.cal_spec.specs.headline.Fields.{Fields}
 use Rattle.cal_report.specs.Answer.{error_line}

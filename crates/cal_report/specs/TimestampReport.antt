@@ -7,10 +7,10 @@ use Rattle.cal_zone.specs.headline.InstantText.{instant_text}
 use Rattle.cal_zone.specs.headline.Zone.{zone_of}
 use Rattle.cal_zone.specs.headline.ZoneTable.{zone_named}
 use Rattle.cal_zone.specs.declared.zone.Zone.{Zone}
-use Rattle.cal_read.specs.Stamp.{moment_in}
-use Rattle.cal_read.specs.StampFault.{message_of}
-use Rattle.cal_read.specs.StampViews.{setting}
-use Rattle.cal_read.specs.declared.stamp.fault.StampFault.{StampFault}
+use Rattle.cal_stamp.specs.Stamp.{moment_in}
+use Rattle.cal_stamp.specs.StampFault.{message_of}
+use Rattle.cal_stamp.specs.StampViews.{setting}
+use Rattle.cal_stamp.specs.declared.fault.StampFault.{StampFault}
 use Rattle.cal_report.specs.Answer.{Answer}
 use Rattle.cal_zone.specs.headline.Moment.{micros_of, micros_per_second}
 use Rattle.cal_report.specs.headline.ReportLines.{distance_text, original_label, text_line, utc_line}

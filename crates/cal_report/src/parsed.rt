@@ -4,7 +4,7 @@ ghost use Rattle.std.specs.Prelude.{◌≡◌, [], ◌∷◌, ℤ, Ok, Err, IfOk
 ghost use Rattle.cal_bytes.specs.Puts.{Puts};
 ghost use Rattle.cal_bytes.specs.headline.Bytes.{joined};
 ghost use Rattle.cal_zone.specs.headline.Zone.{zone_of};
-ghost use Rattle.cal_read.specs.StampViews.{micros_or_fault};
+ghost use Rattle.cal_stamp.specs.StampViews.{micros_or_fault};
 ghost use Rattle.cal_report.specs.Parsed.{HasInstants, report_text, text_error_message, verb_of};
 ghost use Rattle.cal_report.specs.Answer.{lead_text};
 ghost use Rattle.cal_report.specs.CalendarReport.{calendar_answer, zone_for};
@@ -20,10 +20,10 @@ use crate::timespan_report::write_timespan;
 use crate::timestamp_report::write_timestamp;
 use cal_bytes::{Sink, WriteFault, put_all};
 use cal_elapse::Elapses;
-use cal_read::{StampFault, read_stamp};
 use cal_request::Verb;
 use cal_span::{Span, SpanFault, read_span};
 use cal_spec::{Expr, SpecFault, read_expr};
+use cal_stamp::{StampFault, read_stamp};
 use cal_zone::{Moment, Zone};
 use std::alloc::{AllocError, Global};
 

@@ -5,7 +5,7 @@ ghost use Rattle.std.specs.Prelude.{ℕ, List, Result, slice_index_or, map, ◌�
 ghost use Rattle.std.specs.String.{string_bytes};
 ghost use Rattle.cal_streams.specs.Whole.{is_read_failed};
 ghost use Rattle.cal_streams.specs.declared.whole.WholeFault.{WholeFault};
-ghost use Rattle.cal_read.specs.TimerText.{ReadsWhole, timer_file_limit};
+ghost use Rattle.cal_timer.specs.TimerText.{ReadsWhole, timer_file_limit};
 ghost use Rattle.cal_bytes.specs.Bytes.{Writes};
 ghost use Rattle.cal_bytes.specs.Puts.{Puts};
 ghost use Rattle.cal_bytes.specs.headline.Bytes.{joined};
@@ -23,8 +23,8 @@ use crate::context::Context;
 use crate::parsed::{TextError, put_report, read_text};
 use crate::timer_report::{TimerError, read_plan, write_timer};
 use cal_bytes::{Sink, Source, WriteFault, put_pieces};
-use cal_read::{StampFault, read_stamp};
 use cal_request::{Request, RunFault, Status, Verb};
+use cal_stamp::{StampFault, read_stamp};
 use cal_zone::{Instant, Zone, ZoneTable};
 use itoa::Buffer;
 use std::alloc::Global;

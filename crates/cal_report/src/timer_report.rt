@@ -12,8 +12,8 @@ ghost use Rattle.cal_elapse.specs.Elapses.{elapses_after};
 ghost use Rattle.cal_elapse.specs.Masks.{sets_in};
 ghost use Rattle.cal_rising.specs.Merge.{merged};
 ghost use Rattle.cal_elapse.specs.RemainingElapses.{remaining_elapses};
-ghost use Rattle.cal_read.specs.TimerText.{ReadsWhole, timer_file_limit};
-ghost use Rattle.cal_read.specs.TimerView.{shown};
+ghost use Rattle.cal_timer.specs.TimerText.{ReadsWhole, timer_file_limit};
+ghost use Rattle.cal_timer.specs.TimerView.{shown};
 ghost use Rattle.cal_report.specs.Context.{asked_by};
 ghost use Rattle.cal_report.specs.ElapseLines.{AreInstants};
 ghost use Rattle.cal_report.specs.headline.ElapseLines.{elapses_text};
@@ -28,8 +28,8 @@ use crate::parsed::zone_for;
 use crate::report_lines::{EXCEPT_LABEL, ORIGINAL_LABEL};
 use cal_bytes::{Sink, Source, WriteFault, put_pieces};
 use cal_elapse::{Elapses, Masks, Merge};
-use cal_read::{Timer, TimerFault, TimerLine, read_timer};
 use cal_spec::Expr;
+use cal_timer::{Timer, TimerFault, TimerLine, read_timer};
 use std::alloc::{AllocError, Global};
 
 /// A parsed timer file, together with the iterator over the elapse times of its expressions, without the elapse times

@@ -20,8 +20,8 @@ use Rattle.cal_streams.specs.declared.whole.WholeFault.{WholeFault}
 use Rattle.cal_streams.specs.declared.whole.WholeFault.TheVariants as whole
 use Rattle.cal_zone.specs.declared.zone.Zone.{Zone as ClockZone}
 use Rattle.cal_zone.specs.declared.zone_fault.ZoneFault.TheVariants as zone
-use Rattle.cal_read.specs.TimerText.{timer_file_limit}
-use Rattle.cal_read.specs.declared.stamp.fault.StampFault.{StampFault}
+use Rattle.cal_timer.specs.TimerText.{timer_file_limit}
+use Rattle.cal_stamp.specs.declared.fault.StampFault.{StampFault}
 use Rattle.cal_command.specs.Ask.{Ask, LocalZone, in_utc, ahead, by_rule, of_name, ZoneItem, shown_fault, bad_iterations, bad_now, bad_zones, bad_local, no_memory}
 use Rattle.cal_command.specs.CommandLine.{IsAskOf}
 use Rattle.cal_work.specs.LoadZone.{IsLoaded, IsLoadFault, is_load_read_failed}

@@ -4,7 +4,7 @@ use Rattle.std.specs.Prelude.{◌≡◌, ◌⊎◌, ℕ, ℤ, Bool, true, false,
 use Rattle.cal_zone.specs.ZoneFile.{file_limit}
 use Rattle.cal_streams.specs.declared.whole.WholeFault.{WholeFault}
 use Rattle.cal_streams.specs.declared.whole.WholeFault.TheVariants.{TooLarge}
-use Rattle.cal_read.specs.TimerText.{timer_file_limit}
+use Rattle.cal_timer.specs.TimerText.{timer_file_limit}
 use Rattle.cal_command.specs.Ask.{Ask, CommandFault, ZoneItem}
 use Rattle.cal_work.specs.Outcome.{World, ZoneFound, outcome}
 use Rattle.cal_report.specs.headline.Report.{Report}

@@ -15,8 +15,8 @@ use Rattle.cal_spec.specs.headline.GrammarRule.{IsValid}
 use Rattle.cal_spec.specs.headline.NormalForm.{IsNormalFieldsOf}
 use Rattle.cal_elapse.specs.headline.Elapses.{AreElapses, Timed}
 use Rattle.cal_elapse.specs.headline.Timed.{timed}
-use Rattle.cal_read.specs.headline.Assignments.{Assignment, assignments_in}
-use Rattle.cal_read.specs.headline.TimerText.{excepted, is_exception, is_expression, listed, max_expressions, without_mark}
+use Rattle.cal_timer.specs.headline.Assignments.{Assignment, assignments_in}
+use Rattle.cal_timer.specs.headline.TimerText.{excepted, is_exception, is_expression, listed, max_expressions, without_mark}
 use Rattle.cal_report.specs.headline.CalendarReport.{heading_text}
 use Rattle.cal_report.specs.headline.ElapseLines.{elapses_text}
 use Rattle.cal_report.specs.headline.Report.{Report}

@@ -1,7 +1,7 @@
 -- The merge has the elapse times of the exceptions before the loop's index.
 use Rattle.std.proofs.Common.{◌≡◌, ◌++◌, false, map, take}
 use Rattle.cal_rising.specs.Merge.{Merge}
-use Rattle.cal_read.specs.TimerView.{shown}
+use Rattle.cal_timer.specs.TimerView.{shown}
 use Rattle.cal_report.specs.Context.{asked_by}
 use Rattle.cal_report.specs.TimerPlan.{each_of}
 use Rattle.cal_report.proofs.timer_report.add_exceptions.Given as goal

@@ -1,6 +1,6 @@
 -- The merge has the elapse times of the lines before the loop's index, except for lines that an exception covers.
 use Rattle.std.proofs.Common.{map, take}
-use Rattle.cal_read.specs.TimerView.{shown}
+use Rattle.cal_timer.specs.TimerView.{shown}
 use Rattle.cal_report.specs.Context.{asked_by}
 use Rattle.cal_report.specs.TimerPlan.{IsAdded}
 use Rattle.cal_report.proofs.timer_report.add_expressions.Given as goal

@@ -1,6 +1,6 @@
 -- The first line with a missing zone, if there is one, is at the loop's index or after it.
 use Rattle.std.proofs.Common.{◌≡◌, drop, map}
-use Rattle.cal_read.specs.TimerView.{shown}
+use Rattle.cal_timer.specs.TimerView.{shown}
 use Rattle.cal_report.specs.Context.{asked_by}
 use Rattle.cal_report.specs.TimerReport.{first_unzoned}
 use Rattle.cal_report.proofs.timer_report.first_unzoned.Given as goal

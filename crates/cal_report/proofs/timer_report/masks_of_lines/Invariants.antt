@@ -1,7 +1,7 @@
 -- `masks` holds the masks of the lines before the loop's index.
 use Rattle.std.proofs.Common.{◌≡◌, map, take}
 use Rattle.cal_elapse.specs.Masks.{sets_in}
-use Rattle.cal_read.specs.TimerView.{shown}
+use Rattle.cal_timer.specs.TimerView.{shown}
 use Rattle.cal_report.specs.TimerPlan.{entry_sets}
 use Rattle.cal_report.proofs.timer_report.masks_of_lines.Given as goal
 

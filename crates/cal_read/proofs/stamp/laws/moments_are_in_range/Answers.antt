@@ -1,8 +1,0 @@
-use Rattle.cal_read.proofs.StampMomentRule.{beyond, in_range}
-use Rattle.cal_read.proofs.stamp.laws.moments_are_in_range.Goals as goal
-
-pub returns-clause-inside : goal.returns-clause-inside
-returns-clause-inside c = in_range
-
-pub returns-clause-beyond : goal.returns-clause-beyond
-returns-clause-beyond c = beyond

@@ -1,8 +1,0 @@
-use Rattle.cal_read.proofs.StampRule as rule
-use Rattle.cal_read.proofs.stamp.laws.one_form.Goals as goal
-
-pub returns-clause-found : goal.returns-clause-found
-returns-clause-found c = rule.found
-
-pub returns-clause-only : goal.returns-clause-only
-returns-clause-only c = rule.only

@@ -1,6 +1,0 @@
-use Rattle.cal_read.specs.StampForm.{from_today}
-use Rattle.cal_read.proofs.StampMomentRule.{exactly}
-use Rattle.cal_read.proofs.stamp.laws.relative_days_begin_at_midnight.Goals as goal
-
-pub returns : goal.returns
-returns c now at text shift words time has = exactly now at text (from_today shift words) time has

@@ -1,0 +1,9 @@
+-- The lists so far are the lists of the texts before the loop's index.
+use Rattle.std.proofs.Common.{◌≡◌, take, Ok}
+use Rattle.cal_spec.specs.Expr.{expr_in}
+use Rattle.cal_read.specs.TimerTexts.{assignments_of}
+use Rattle.cal_timer.specs.TimerView.{empty_lists, resumed}
+use Rattle.cal_read.proofs.texts.read_texts.Given as goal
+
+abbrev pub invariant-loop-index : goal.invariant-loop-index
+invariant-loop-index l = resumed expr_in empty_lists (assignments_of (take l.index l.files)) ≡ Ok l.lists

@@ -1,6 +1,0 @@
-use Rattle.cal_read.proofs.ListedLemmas.{excepted_kept, listed_kept}
-use Rattle.cal_read.proofs.TimerRuleLemmas.{excepted_after_reset, excepted_without_reset}
-use Rattle.cal_read.proofs.timer.laws.one_list_of_exceptions.Goals as goal
-
-pub returns : goal.returns
-returns c = record { after_reset = excepted_after_reset; no_reset = excepted_without_reset; kept = excepted_kept; keeps = listed_kept }

@@ -1,5 +1,0 @@
-use Rattle.cal_read.proofs.TimerRuleLemmas.{last_header, no_header}
-use Rattle.cal_read.proofs.timer.laws.one_section.Goals as goal
-
-pub returns : goal.returns
-returns c = record { header = last_header; no_header = no_header }

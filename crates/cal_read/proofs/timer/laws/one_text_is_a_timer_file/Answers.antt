@@ -1,5 +1,0 @@
-use Rattle.cal_read.proofs.TimerTextsLemmas.{one_text}
-use Rattle.cal_read.proofs.timer.laws.one_text_is_a_timer_file.Goals as goal
-
-pub returns : goal.returns
-returns c = one_text

@@ -1,0 +1,157 @@
+//! All errors in the texts of a timer, not only the first (systemd.timer(5), OnCalendar=).
+
+ghost use Rattle.std.specs.Prelude.{◌≡◌, ◌+◌, ◌<◌, ◌≤◌, ◌^◌, ◌++◌, [], IfOk, OnOk, All, length, map};
+ghost use Rattle.std.specs.Option.{option_to_list};
+ghost use Rattle.cal_spec.specs.Expr.{expr_in};
+ghost use Rattle.cal_timer.specs.AssignmentView.{shown_assignment};
+ghost use Rattle.cal_read.specs.TimerFaults.{count_with, counted_faults, counts_over, counts_with, fault_at, fault_beside, faults_of, in_file};
+ghost use Rattle.cal_timer.specs.headline.TimerText.{max_expressions};
+ghost use Rattle.cal_read.specs.TimerTexts.{assignments_at};
+
+use crate::{FileFault, Settings, UnitText};
+use cal_spec::{SpecFault, read_expr};
+use cal_timer::{Assignment, MAX_EXPRESSIONS, TimerFault, without_mark};
+use std::alloc::{AllocError, Global};
+
+/// The lengths of the lists of expressions and exceptions, each capped at the limit. Invalid expressions and exceptions
+/// count as well.
+#[derive(Clone, Copy)]
+struct Counts {
+    expressions: usize,
+    exceptions: usize,
+}
+
+impl Counts {
+    /// Returns the lengths after an assignment.
+    fn with(self, assignment: Assignment<'_>) -> Counts
+        ensures { result ≡ counts_with self (shown_assignment assignment.entry) }
+    {
+        Counts {
+            expressions: count_with(
+                self.expressions,
+                assignment.is_expression(),
+                assignment.is_reset(),
+            ),
+            exceptions: count_with(
+                self.exceptions,
+                assignment.is_exception(),
+                assignment.is_exception_reset(),
+            ),
+        }
+    }
+}
+
+/// Returns the length of a list after an assignment: one more if it `adds`, or else 0 if it `empties`.
+fn count_with(count: usize, adds: bool, empties: bool) -> usize
+    ensures { result ≡ count_with count adds empties }
+{
+    if adds {
+        if count < MAX_EXPRESSIONS {
+            count + 1
+        } else {
+            MAX_EXPRESSIONS
+        }
+    } else if empties {
+        0
+    } else {
+        count
+    }
+}
+
+/// Returns the error of an assignment, or `None` if it has no error. `counts` are the lengths of the lists before the
+/// assignment.
+fn fault_at(
+    alloc: Global,
+    counts: Counts,
+    assignment: Assignment<'_>,
+) -> Result<Option<TimerFault>, AllocError>
+    ensures { IfOk result (λ found. found ≡ fault_at expr_in counts (shown_assignment assignment.entry)) }
+{
+    if assignment.is_expression() {
+        return fault_beside(alloc, counts.expressions, assignment);
+    }
+    if assignment.is_exception() {
+        return fault_beside(alloc, counts.exceptions, assignment);
+    }
+    Ok(None)
+}
+
+/// Returns the error of an assignment that adds to a list of length `count`, or `None` if the assignment has no error.
+fn fault_beside(
+    alloc: Global,
+    count: usize,
+    assignment: Assignment<'_>,
+) -> Result<Option<TimerFault>, AllocError>
+    ensures { IfOk result (λ found. found ≡ fault_beside expr_in count (shown_assignment assignment.entry)) }
+{
+    if count >= MAX_EXPRESSIONS {
+        return Ok(Some(TimerFault::TooMany(assignment.number)));
+    }
+    match read_expr(alloc, assignment.value) {
+        Ok(_) => Ok(None),
+        Err(SpecFault::NoMemory) => Err(AllocError),
+        Err(fault) => Ok(Some(TimerFault::BadLine(assignment.number, fault))),
+    }
+}
+
+/// Appends an error, if there is one, with the index of its text.
+fn push_fault(
+    found: &mut Vec<FileFault>,
+    place: usize,
+    fault: Option<TimerFault>,
+) -> Result<(), AllocError>
+    ensures { OnOk result (found.new.items ≡ found.old.items ++ map (in_file place) (option_to_list fault)) }
+{
+    if let Some(fault) = fault {
+        found.push(FileFault {
+            file: Some(place),
+            fault,
+        })?;
+    }
+    Ok(())
+}
+
+/// Appends the errors of the text with the index `place`, and returns the lengths of the lists after this text.
+/// `counts` are the lengths before it.
+fn take_faults(
+    alloc: Global,
+    found: &mut Vec<FileFault>,
+    counts: Counts,
+    place: usize,
+    file: &UnitText<'_>,
+) -> Result<Counts, AllocError>
+    requires { file.now.first + length file.now.text.now < 2 ^ 32 }
+    ensures faults { OnOk result (found.new.items
+        ≡ found.old.items ++ map (in_file place) (counted_faults expr_in counts (assignments_at file.now))) }
+    ensures counts { IfOk result (λ after. after ≡ counts_over counts (assignments_at file.now)) }
+{
+    let mut counts = counts;
+    let mut settings = Settings::new("Timer", file.first, without_mark(file.text));
+    while let Some(setting) = settings.next(alloc)? {
+        let assignment = setting.assignment();
+        let fault = fault_at(alloc, counts, assignment)?;
+        push_fault(found, place, fault)?;
+        counts = counts.with(assignment);
+    }
+    Ok(counts)
+}
+
+/// Returns all errors in the texts of a unit file and of its drop-ins, in the order of their lines.
+///
+/// An expression or an exception is an error if it is invalid, or if its list already has 256 elements. Invalid
+/// expressions and exceptions, too, count as elements until the list is cleared. [`TimerFault::NothingToDo`] is not
+/// among these errors. If this function returns any errors, [`crate::read_texts`] fails with the first one.
+pub fn find_faults(alloc: Global, files: &[UnitText<'_>]) -> Result<Vec<FileFault>, AllocError>
+    requires { All (λ file. file.first + length file.text.now < 2 ^ 32) files.now }
+    ensures { IfOk result (λ found. found.items ≡ faults_of expr_in [] 0 files.now) }
+{
+    let mut found = Vec::new(alloc);
+    let mut counts = Counts {
+        expressions: 0,
+        exceptions: 0,
+    };
+    for (index, file) in files.iter().enumerate() {
+        counts = take_faults(alloc, &mut found, counts, index, file)?;
+    }
+    Ok(found)
+}

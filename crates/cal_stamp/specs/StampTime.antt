@@ -1,0 +1,63 @@
+-- The time of day of a timestamp: systemd.time(7), Parsing Timestamps.
+use Rattle.std.specs.Prelude.{ℕ, ◌+◌, ◌*◌, nat_le, ◌&&◌, if◌then◌else◌, List, [], ◌∷◌, length, take, Option, None, Some, Result, Ok, Err}
+use Rattle.std.specs.Char.{is_ascii_digit}
+use Rattle.std.specs.List.{list_all, slice_split}
+use Rattle.cal_text.specs.headline.Separators.{is_point, is_colon}
+use Rattle.cal_span.specs.SpanValue.{fraction_worth}
+use Rattle.cal_stamp.specs.StampDate.{digits_number}
+use Rattle.cal_stamp.specs.declared.fault.StampFault.{StampFault}
+use Rattle.cal_stamp.specs.declared.fault.StampFault.TheVariants.{BadTime}
+
+-- the number if it is at most `greatest`, and `None` if it is greater
+abbrev pub up_to : ℕ → Option ℕ → Option ℕ
+up_to greatest None = None
+up_to greatest (Some n) = if nat_le n greatest then Some n else None
+
+-- the number in a word of one or two digits, if it is at most `greatest`
+unfoldable pub clock_number : ℕ → List ℕ → Option ℕ
+clock_number greatest word = up_to greatest (digits_number 2 word)
+
+-- how many digits of a fraction of a second are used
+abbrev pub kept_digits : ℕ
+kept_digits = 6
+
+-- the microseconds of a fraction of a second that has one or more digits; the digits after the sixth are dropped
+unfoldable pub fraction_in : List ℕ → Option ℕ
+fraction_in digits =
+    if nat_le 1 (length digits) && list_all is_ascii_digit digits then Some (fraction_worth 1_000_000 1 (take kept_digits digits))
+    else None
+
+-- seconds and microseconds together, in microseconds
+abbrev pub both : Option ℕ → Option ℕ → Option ℕ
+both (Some seconds) (Some micros) = Some (seconds * 1_000_000 + micros)
+both seconds micros = None
+
+abbrev pub second_of_pieces : List (List ℕ) → Option ℕ
+second_of_pieces (whole ∷ []) = both (clock_number 59 whole) (Some 0)
+second_of_pieces (whole ∷ digits ∷ []) = both (clock_number 59 whole) (fraction_in digits)
+second_of_pieces pieces = None
+
+-- the seconds of a time, `S` or `S.` followed by digits, in microseconds
+unfoldable pub second_written : List ℕ → Option ℕ
+second_written word = second_of_pieces (slice_split is_point word)
+
+-- the microseconds after midnight, given the hour, the minute, and the microseconds since the full minute
+abbrev pub time_by : Option ℕ → Option ℕ → Option ℕ → Option ℕ
+time_by (Some hour) (Some minute) (Some micros) = Some ((hour * 3_600 + minute * 60) * 1_000_000 + micros)
+time_by hour minute micros = None
+
+abbrev pub time_of_pieces : List (List ℕ) → Option ℕ
+time_of_pieces (hour ∷ minute ∷ []) = time_by (clock_number 23 hour) (clock_number 59 minute) (Some 0)
+time_of_pieces (hour ∷ minute ∷ second ∷ []) = time_by (clock_number 23 hour) (clock_number 59 minute) (second_written second)
+time_of_pieces pieces = None
+
+unfoldable pub time_numbers : List ℕ → Option ℕ
+time_numbers word = time_of_pieces (slice_split is_colon word)
+
+-- the microseconds after midnight, or `BadTime` if there is no valid time
+abbrev pub micros_due : Option ℕ → Result ℕ StampFault
+micros_due None = Err BadTime
+micros_due (Some micros) = Ok micros
+
+unfoldable pub time_written : List ℕ → Result ℕ StampFault
+time_written word = micros_due (time_numbers word)

@@ -1,0 +1,45 @@
+//! Parsing the zone of a timestamp.
+
+ghost use Rattle.std.specs.Prelude.{◌≡◌};
+ghost use Rattle.cal_zone.specs.headline.Zone.{zone_of};
+ghost use Rattle.cal_zone.specs.headline.ZoneTable.{zone_named};
+ghost use Rattle.cal_text.specs.headline.Words.{words};
+ghost use Rattle.cal_stamp.specs.Stamp.{zone_by_words, zone_of_word};
+ghost use Rattle.cal_stamp.specs.StampViews.{setting_seen, zone_or_fault};
+
+use crate::StampFault;
+use crate::setting::Setting;
+use cal_civil::{begins_with_letter, read_offset};
+use cal_text::first_word;
+use cal_zone::{Zone, ZoneTable};
+
+/// Parses `text` as one zone: a name in the table, or an offset. A word that doesn't begin with a letter is never
+/// looked up in the table. Returns the local zone if `text` has no words (systemd.time(7), Parsing Timestamps).
+///
+/// Fails with `NoSuchZone` if the first word begins with a letter and is not a name in the table, and with `StrayWord`
+/// if the first word begins with anything else and is not an offset, or if another word follows a valid zone.
+pub(crate) fn read_zone<'t>(text: &str, at: &Setting<'t>) -> Result<Zone<'t>, StampFault>
+    ensures { zone_or_fault result ≡ zone_by_words (setting_seen at.now) (words text.now) }
+{
+    let Some((word, after)) = first_word(text) else {
+        return Ok(at.local);
+    };
+    let zone = zone_of_word(word, at.table)?;
+    match first_word(after) {
+        None => Ok(zone),
+        Some(_) => Err(StampFault::StrayWord),
+    }
+}
+
+/// Parses one word as a zone. If it begins with a letter, it must be a name in the table; otherwise it must be an
+/// offset, `+hh:mm` or `-hh:mm`, with hh from 00 to 25 and mm from 00 to 59 (systemd.time(7), Parsing Timestamps).
+/// Fails with `NoSuchZone` if the table doesn't have the name, and with `StrayWord` if the word is not an offset.
+fn zone_of_word<'t>(word: &str, table: &'t ZoneTable) -> Result<Zone<'t>, StampFault>
+    ensures { zone_or_fault result ≡ zone_of_word (zone_named table.now) word.now }
+{
+    if begins_with_letter(word.as_bytes()) {
+        return table.find(word).ok_or(StampFault::NoSuchZone);
+    }
+    let seconds = read_offset(word.as_bytes()).ok_or(StampFault::StrayWord)?;
+    Ok(Zone::offset(seconds))
+}

@@ -1,0 +1,54 @@
+-- How contracts see a timer: by the contents of its lists, not by where they are in memory. The file also defines what
+-- one assignment does to the lists while a timer is read.
+use Rattle.std.specs.Prelude.{ℕ, nat_le, Bool, true, false, if◌then◌else◌, List, [], ◌∷◌, ◌++◌, length, Result, Ok, Err, string_bytes}
+use Rattle.cal_spec.specs.headline.Fields.{Fields}
+use Rattle.cal_spec.specs.declared.spec_fault.SpecFault.{SpecFault}
+use Rattle.cal_timer.specs.headline.Assignments.{Assignment}
+use Rattle.cal_timer.specs.TimerText.{TimerLine, Timer, entries, first_fault, unless_fault}
+use Rattle.cal_timer.specs.headline.TimerText.{is_exception, is_exception_reset, is_expression, is_reset, max_expressions}
+use Rattle.cal_timer.specs.declared.timer.TimerLine as declared_line
+use Rattle.cal_timer.specs.declared.fault.TimerFault.{TimerFault}
+use Rattle.cal_timer.specs.declared.fault.TimerFault.TheVariants.{BadLine, TooMany}
+
+-- an entry of the list of expressions or of exceptions, converted from the type in the code to the type in `TimerText`
+abbrev pub shown : declared_line.TimerLine → TimerLine Fields
+shown line = record { number = line.number; text = string_bytes line.text; expr = line.expr }
+
+-- two empty lists
+abbrev pub empty_lists : {E : Type 0} → Timer E
+empty_lists = record { expressions = []; exceptions = [] }
+
+-- a list with one more entry, given the result of parsing its expression, or the error
+abbrev pub with_read : {E : Type 0} → List (TimerLine E) → Assignment → Result E SpecFault → Result (List (TimerLine E)) TimerFault
+with_read es a (Ok expr) = Ok (es ++ record { number = a.number; text = a.value; expr = expr } ∷ [])
+with_read es a (Err fault) = Err (BadLine a.number fault)
+
+-- the list `es` with an entry for the assignment `a` added, or the error of `a`
+unfoldable pub with_assignment : {E : Type 0} → (List ℕ → Result E SpecFault) → List (TimerLine E) → Assignment → Result (List (TimerLine E)) TimerFault
+with_assignment read es a = if nat_le max_expressions (length es) then Err (TooMany a.number) else with_read es a (read a.value)
+
+-- the list `es` after the assignment `a`: if `adds`, an entry for `a` is added, or `a` has an error; otherwise the list
+-- is empty if `empties`, and unchanged if not
+abbrev pub changed : {E : Type 0} → (List ℕ → Result E SpecFault) → (adds empties : Bool) → List (TimerLine E) → Assignment → Result (List (TimerLine E)) TimerFault
+changed read true empties es a = with_assignment read es a
+changed read false true es a = Ok []
+changed read false false es a = Ok es
+
+-- the result of `next` for the list, or the error if there is one instead of a list
+abbrev pub with_list : {E A : Type 0} → Result (List (TimerLine E)) TimerFault → (List (TimerLine E) → Result A TimerFault) → Result A TimerFault
+with_list (Ok es) next = next es
+with_list (Err fault) next = Err fault
+
+-- The lists after the remaining assignments, given the lists so far, or the first error. This follows the loop of the
+-- code and only private contracts use it; by the lemma `resumed_is_entries`, the result is `entries_or_fault` if the
+-- lists so far are empty.
+unfoldable pub resumed : {E : Type 0} → (List ℕ → Result E SpecFault) → Timer E → List Assignment → Result (Timer E) TimerFault
+resumed read lists [] = Ok lists
+resumed read lists (a ∷ after) =
+    with_list (changed read (is_expression a) (is_reset a) lists.expressions a)
+    (λ es. with_list (changed read (is_exception a) (is_exception_reset a) lists.exceptions a)
+    (λ xs. resumed read (record { expressions = es; exceptions = xs }) after))
+
+-- the entries of both lists, or the first error; unlike in `lists_of`, it is not an error if there is no expression
+unfoldable pub entries_or_fault : {E : Type 0} → (List ℕ → Result E SpecFault) → List Assignment → Result (Timer E) TimerFault
+entries_or_fault read assignments = unless_fault (first_fault read [] assignments) (Ok (entries read assignments))

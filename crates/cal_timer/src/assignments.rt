@@ -1,0 +1,102 @@
+//! The assignments of a timer file, and what each of them does (systemd.syntax(7); systemd.timer(5), OnCalendar=).
+
+ghost use Rattle.std.specs.Prelude.{◌≡◌, MatchOption, map, true, false};
+ghost use Rattle.std.specs.List.{list_any};
+ghost use Rattle.std.specs.Option.{option_map};
+ghost use Rattle.std.specs.Str.{bytes_eq};
+ghost use Rattle.cal_timer.specs.headline.Assignments.{assignment_of, is_header, section_of};
+ghost use Rattle.cal_lines.specs.LineView.{line_at};
+ghost use Rattle.cal_timer.specs.AssignmentView.{shown_assignment};
+ghost use Rattle.cal_timer.specs.headline.TimerText.{is_exception, is_exception_reset, is_expression, is_reset};
+
+use cal_bytes::is_among;
+use cal_lines::trim;
+
+/// The keys whose assignments clear the list of expressions if their value is empty.
+const TIMER_KEYS: [&[u8]; 6] = [
+    b"OnActiveSec",
+    b"OnBootSec",
+    b"OnStartupSec",
+    b"OnUnitActiveSec",
+    b"OnUnitInactiveSec",
+    b"OnCalendar",
+];
+
+/// The key of exceptions, which systemd itself ignores. An assignment with an empty value clears the list of
+/// exceptions.
+const EXCEPTION_KEY: &str = "X-ExceptOnCalendar";
+
+/// An assignment of a unit file: a key and its value, both without leading and trailing blanks and carriage returns.
+#[derive(Clone, Copy)]
+pub struct Assignment<'t> {
+    /// The number of the assignment's line, from 1. If the line is continued, this is the number of its first physical
+    /// line.
+    pub number: u32,
+    /// The key, before the first `=`.
+    pub key: &'t str,
+    /// The value, which may be empty.
+    pub value: &'t str,
+}
+
+impl Assignment<'_> {
+    /// Returns whether the assignment clears the list of expressions: its value is empty, and its key is `OnCalendar`,
+    /// `OnActiveSec`, `OnBootSec`, `OnStartupSec`, `OnUnitActiveSec` or `OnUnitInactiveSec`.
+    #[tactic(auto, unfolding(crate::specs::headline::TimerText::is_reset))]
+    pub fn is_reset(self) -> bool
+        ensures { result ≡ is_reset (shown_assignment self.entry) }
+    {
+        self.value.is_empty() && is_among(&TIMER_KEYS, self.key.as_bytes())
+    }
+
+    /// Returns whether the assignment is an expression: `OnCalendar` with a value.
+    #[tactic(auto, unfolding(crate::specs::headline::TimerText::is_expression))]
+    pub fn is_expression(self) -> bool
+        ensures { result ≡ is_expression (shown_assignment self.entry) }
+    {
+        !self.value.is_empty() && self.key == "OnCalendar"
+    }
+
+    /// Returns whether the assignment clears the list of exceptions: `X-ExceptOnCalendar` with an empty value.
+    #[tactic(auto, unfolding(crate::specs::headline::TimerText::is_exception_reset))]
+    pub fn is_exception_reset(self) -> bool
+        ensures { result ≡ is_exception_reset (shown_assignment self.entry) }
+    {
+        self.value.is_empty() && self.key == EXCEPTION_KEY
+    }
+
+    /// Returns whether the assignment is an exception: `X-ExceptOnCalendar` with a value.
+    #[tactic(auto, unfolding(crate::specs::headline::TimerText::is_exception))]
+    pub fn is_exception(self) -> bool
+        ensures { result ≡ is_exception (shown_assignment self.entry) }
+    {
+        !self.value.is_empty() && self.key == EXCEPTION_KEY
+    }
+}
+
+/// Returns the name of the section that a line opens, without the brackets. Returns `None` if the line doesn't begin
+/// with `[` and end with `]`, so blanks around the brackets must be trimmed first.
+pub fn section(line: &str) -> Option<&[u8]>
+    ensures { MatchOption result (is_header line.now ≡ false)
+        (λ name. (is_header line.now ≡ true) × (name.now ≡ section_of line.now)) }
+{
+    match line.as_bytes() {
+        [b'[', name @ .., b']'] => Some(name),
+        _ => None,
+    }
+}
+
+/// Parses the line with this number as an assignment: the key is before the first `=`, and the value is after it.
+/// Returns `None` if the line has no `=`.
+#[tactic(auto, unfolding(crate::specs::headline::Assignments::assignment_of))]
+pub fn read_assignment(number: u32, line: &str) -> Option<Assignment<'_>>
+    ensures { option_map shown_assignment result ≡ assignment_of (line_at number line.now) }
+{
+    let Some((key, value)) = line.split_once('=') else {
+        return None;
+    };
+    Some(Assignment {
+        number,
+        key: trim(key),
+        value: trim(value),
+    })
+}
