@@ -9,7 +9,7 @@ use Rattle.jiff_core.specs.Calendar.{weekday_number}
 use Rattle.jiff_core.specs.Weekday.{monday_zero}
 use Rattle.cal_span.specs.declared.span.fault.SpanFault.{SpanFault}
 use Rattle.cal_zone.specs.Instant.{last_moment}
-use Rattle.cal_civil.specs.headline.Local.{day_of}
+use Rattle.cal_civil.specs.headline.Local.{day_of, seconds_per_day}
 use Rattle.cal_civil.specs.OffsetWord.{offset_in}
 use Rattle.cal_zone.specs.headline.Place.{settle_of}
 use Rattle.cal_span.specs.SpanValue.{span_of}
@@ -24,7 +24,7 @@ use Rattle.cal_stamp.specs.StampTime.{time_written}
 use Rattle.cal_stamp.specs.declared.fault.StampFault.{StampFault}
 use Rattle.cal_stamp.specs.declared.fault.StampFault.TheVariants.{Empty, BadWeekday, BadDate, WrongWeekday, BadSpan, NoSuchZone, StrayWord, OutOfRange}
 use Rattle.cal_text.specs.AndThen.{◌>>=◌}
-use Rattle.cal_zone.specs.headline.Moment.{micros_of}
+use Rattle.cal_zone.specs.headline.Moment.{micros_of, micros_per_second}
 
 -- the zones that a timestamp can refer to: the local zone, and the zones that have a name
 pub record Setting : Type 0 where
@@ -59,7 +59,7 @@ today now zone = day_of (local_shown_at zone now)
 -- moved forward by the length of the gap, and for a local time in a fold the first occurrence is used
 unfoldable pub settle_on : TimeZone → ℤ → ℕ → Result ℤ StampFault
 settle_on zone day micros =
-    in_moments (micros_of (settle_of zone (day *ℤ pos 86_400 +ℤ pos (micros / 1_000_000))) +ℤ pos (micros % 1_000_000))
+    in_moments (micros_of (settle_of zone (day *ℤ pos seconds_per_day +ℤ pos (micros / micros_per_second))) +ℤ pos (micros % micros_per_second))
 
 -- Civil times, word by word
 

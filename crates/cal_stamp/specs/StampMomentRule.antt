@@ -5,12 +5,13 @@ use Rattle.std.specs.Option.{option_to_list}
 use Rattle.jiff.specs.Types.{TimeZone, Weekday}
 use Rattle.jiff_core.specs.Weekday.{monday_zero}
 use Rattle.cal_span.specs.SpanValue.{span_of}
-use Rattle.cal_zone.specs.headline.Moment.{micros_of}
+use Rattle.cal_zone.specs.headline.Moment.{micros_of, micros_per_second}
 use Rattle.cal_zone.specs.headline.Place.{settle_of}
 use Rattle.cal_zone.specs.headline.Zone.{local_shown_at}
 use Rattle.cal_stamp.specs.Stamp.{Setting, CivilStamp}
 use Rattle.cal_stamp.specs.StampCivilRule.{IsCivilTime, NamesZone}
 use Rattle.cal_stamp.specs.StampForm.{Form, nothing, present, later, earlier, counted, from_today, civil}
+use Rattle.cal_civil.specs.headline.Local.{seconds_per_day}
 
 -- Time spans
 
@@ -26,8 +27,8 @@ LiesBefore second span time = (micros : ℕ) × (span_of span ≡ Ok micros) × 
 
 -- the zone's clock at present shows a time on this day: midnight, or less than 86,400 seconds after midnight
 pub record IsPresentDay (now : ℤ) (zone : TimeZone) (day : ℤ) : Type 0 where
-  pub begun : (day *ℤ pos 86_400) ≤ℤ local_shown_at zone now
-  pub lasts : local_shown_at zone now <ℤ (day *ℤ pos 86_400 +ℤ pos 86_400)
+  pub begun : (day *ℤ pos seconds_per_day) ≤ℤ local_shown_at zone now
+  pub lasts : local_shown_at zone now <ℤ (day *ℤ pos seconds_per_day +ℤ pos seconds_per_day)
 
 -- the day of the date, or the present day in the zone if there is no date
 abbrev pub IsDay : ℤ → TimeZone → Option ℤ → ℤ → Type 0
@@ -45,9 +46,9 @@ FallsOn (Some weekday) day = (week : ℤ) × (day +ℤ pos 3 ≡ week *ℤ pos 7
 pub record IsTimeOfDay (zone : TimeZone) (day : ℤ) (micros : ℕ) (time : ℤ) : Type 0 where
   pub second : ℕ
   pub rest : ℕ
-  pub whole : micros ≡ second * 1_000_000 + rest
-  pub below : rest < 1_000_000
-  pub settled : time ≡ micros_of (settle_of zone (day *ℤ pos 86_400 +ℤ pos second)) +ℤ pos rest
+  pub whole : micros ≡ second * micros_per_second + rest
+  pub below : rest < micros_per_second
+  pub settled : time ≡ micros_of (settle_of zone (day *ℤ pos seconds_per_day +ℤ pos second)) +ℤ pos rest
 
 -- the time is the midnight at which a day begins, in the zone that the words stand for; this day is `shift` days after
 -- the present day

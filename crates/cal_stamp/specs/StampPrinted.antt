@@ -2,10 +2,11 @@
 use Rattle.std.specs.Prelude.{◌≡◌, ◌%◌, pos, unsigned_abs}
 use Rattle.jiff.specs.Words.{IsBetween}
 use Rattle.cal_zone.specs.declared.civil_fields.Civil.{Civil}
+use Rattle.cal_civil.specs.headline.Local.{first_year, last_year}
 
 -- the year is from 1970 to 2199, as the year of a date in a timestamp must be
 abbrev pub ShowsYear : Civil → Type 0
-ShowsYear shown = IsBetween (pos 1_970) (pos 2_199) shown.year
+ShowsYear shown = IsBetween (pos first_year) (pos last_year) shown.year
 
 -- the UTC offset is a whole number of minutes
 abbrev pub ShowsMinutes : Civil → Type 0

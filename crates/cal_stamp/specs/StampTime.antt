@@ -7,6 +7,7 @@ use Rattle.cal_span.specs.SpanValue.{fraction_worth}
 use Rattle.cal_stamp.specs.StampDate.{digits_number}
 use Rattle.cal_stamp.specs.declared.fault.StampFault.{StampFault}
 use Rattle.cal_stamp.specs.declared.fault.StampFault.TheVariants.{BadTime}
+use Rattle.cal_zone.specs.headline.Moment.{micros_per_second}
 
 -- the number if it is at most `greatest`, and `None` if it is greater
 abbrev pub up_to : ℕ → Option ℕ → Option ℕ
@@ -24,12 +25,12 @@ kept_digits = 6
 -- the microseconds of a fraction of a second that has one or more digits; the digits after the sixth are dropped
 unfoldable pub fraction_in : List ℕ → Option ℕ
 fraction_in digits =
-    if nat_le 1 (length digits) && list_all is_ascii_digit digits then Some (fraction_worth 1_000_000 1 (take kept_digits digits))
+    if nat_le 1 (length digits) && list_all is_ascii_digit digits then Some (fraction_worth micros_per_second 1 (take kept_digits digits))
     else None
 
 -- seconds and microseconds together, in microseconds
 abbrev pub both : Option ℕ → Option ℕ → Option ℕ
-both (Some seconds) (Some micros) = Some (seconds * 1_000_000 + micros)
+both (Some seconds) (Some micros) = Some (seconds * micros_per_second + micros)
 both seconds micros = None
 
 abbrev pub second_of_pieces : List (List ℕ) → Option ℕ
@@ -43,7 +44,7 @@ second_written word = second_of_pieces (slice_split is_point word)
 
 -- the microseconds after midnight, given the hour, the minute, and the microseconds since the full minute
 abbrev pub time_by : Option ℕ → Option ℕ → Option ℕ → Option ℕ
-time_by (Some hour) (Some minute) (Some micros) = Some ((hour * 3_600 + minute * 60) * 1_000_000 + micros)
+time_by (Some hour) (Some minute) (Some micros) = Some ((hour * 3_600 + minute * 60) * micros_per_second + micros)
 time_by hour minute micros = None
 
 abbrev pub time_of_pieces : List (List ℕ) → Option ℕ

@@ -7,6 +7,7 @@ ghost use Rattle.cal_text.specs.headline.Separators.{is_colon};
 ghost use Rattle.cal_text.specs.headline.Words.{words};
 ghost use Rattle.cal_stamp.specs.Stamp.{begins_with_digit, after_date, after_weekday, civil_time, fits_weekday, moment_of_civil_stamp, civil_stamp_in};
 ghost use Rattle.cal_stamp.specs.StampViews.{micros_or_fault, setting_seen, civil_stamp_seen, civil_stamp_or_fault};
+ghost use Rattle.cal_civil.specs.headline.Local.{last_day};
 
 use crate::StampFault;
 use crate::civil_stamp::CivilStamp;
@@ -68,7 +69,7 @@ fn after_date<'t>(
     text: &str,
     at: &Setting<'t>,
 ) -> Result<CivilStamp<'t>, StampFault>
-    requires { IsBetween (pos 0) (pos 84_005) day }
+    requires { IsBetween (pos 0) (pos last_day) day }
     ensures { civil_stamp_or_fault result ≡ after_date (setting_seen at.now) weekday day (words text.now) }
 {
     match first_word(text) {

@@ -3,6 +3,7 @@
 ghost use Rattle.std.specs.Prelude.{◌≡◌, ◌≤◌, pos, IfOk};
 ghost use Rattle.jiff.specs.Words.{IsBetween};
 ghost use Rattle.cal_stamp.specs.StampDate.{date_numbers, day_of_date, day_written, digits_number};
+ghost use Rattle.cal_civil.specs.headline.Local.{last_day};
 
 use crate::StampFault;
 use cal_spec::{first_piece, with_century};
@@ -24,7 +25,7 @@ struct DateNumbers {
 #[tactic(auto, unfolding(crate::specs::StampDate::day_written))]
 pub(crate) fn read_date(word: &[u8]) -> Result<i64, StampFault>
     ensures value { result ≡ day_written word.now }
-    ensures range { IfOk result (IsBetween (pos 0) (pos 84_005)) }
+    ensures range { IfOk result (IsBetween (pos 0) (pos last_day)) }
 {
     match date_numbers(word) {
         Some(date) => day_of_date(with_century(date.year), date.month, date.day),
@@ -67,7 +68,7 @@ pub(crate) fn read_number(word: &[u8], most: usize) -> Option<u16>
 #[tactic(auto, unfolding(crate::specs::StampDate::day_of_date))]
 fn day_of_date(year: u16, month: u16, day: u16) -> Result<i64, StampFault>
     ensures value { result ≡ day_of_date year month day }
-    ensures range { IfOk result (IsBetween (pos 0) (pos 84_005)) }
+    ensures range { IfOk result (IsBetween (pos 0) (pos last_day)) }
 {
     if year < 1970 || year > 2199 || month > 12 || day > 31 {
         return Err(StampFault::NoSuchDate);

@@ -4,16 +4,16 @@ ghost use Rattle.std.specs.Prelude.{◌≡◌, ◌≤◌, ◌<◌, ◌+ℤ◌, �
 ghost use Rattle.jiff.specs.Words.{IsBetween};
 ghost use Rattle.cal_zone.specs.Instant.{IsInstant};
 ghost use Rattle.cal_zone.specs.headline.Zone.{local_shown_at, zone_of};
-ghost use Rattle.cal_zone.specs.headline.Moment.{micros_of};
+ghost use Rattle.cal_zone.specs.headline.Moment.{micros_of, micros_per_second};
 ghost use Rattle.cal_stamp.specs.Stamp.{before_second, after_second, in_moments, settle_on, today};
 ghost use Rattle.cal_stamp.specs.StampViews.{shift_of, micros_or_fault};
+ghost use Rattle.cal_civil.specs.headline.Local.{max_offset, seconds_per_day};
 
 use crate::StampFault;
 use crate::form::RelativeDay;
-use crate::time::MICROS_PER_SECOND;
 use cal_civil::DAY;
 use cal_span::Span;
-use cal_zone::{Instant, Moment, Zone, civil, settle};
+use cal_zone::{Instant, MICROS_PER_SECOND, Moment, Zone, civil, settle};
 
 /// Returns the moment at `micros` microseconds of Unix time. Fails with `OutOfRange` if `micros` is before the first
 /// moment or after the last.
@@ -63,7 +63,7 @@ pub(crate) fn today(now: Instant, zone: Zone) -> i64
 /// Returns the local second that the zone's clock shows at `now`.
 fn local_second(now: Instant, zone: Zone) -> i64
     ensures value { result ≡ local_shown_at (zone_of zone.entry) now.secs }
-    ensures range { IsBetween (neg_ℤ (pos 93_599)) (pos 7_258_305_597) result }
+    ensures range { IsBetween (neg_ℤ (pos max_offset)) (pos 7_258_305_597) result }
 {
     now.secs() + i64::from(civil(zone, now).offset)
 }
@@ -86,7 +86,7 @@ pub(crate) fn settle_on(zone: Zone, day: i64, micros: u64) -> Result<Moment, Sta
 fn local_time(day: i64, seconds: u64) -> i64
     requires day { IsBetween (neg_ℤ (pos 3)) (pos 84_009) day }
     requires seconds { seconds ≤ 90_000 }
-    ensures { result ≡ day *ℤ pos 86_400 +ℤ pos seconds }
+    ensures { result ≡ day *ℤ pos seconds_per_day +ℤ pos seconds }
 {
     day * DAY + seconds as i64
 }
@@ -95,7 +95,7 @@ fn local_time(day: i64, seconds: u64) -> i64
 /// range.
 fn with_micros(second: i64, micros: u64) -> i64
     requires second { IsBetween (neg_ℤ (pos 400_000)) (pos 7_259_000_000) second }
-    requires micros { micros < 1_000_000 }
+    requires micros { micros < micros_per_second }
     ensures { result ≡ micros_of second +ℤ pos micros }
 {
     micros_of(second) + micros as i64

@@ -8,9 +8,7 @@ use crate::date::read_number;
 use cal_span::fraction_of;
 use cal_spec::first_piece;
 use cal_text::are_digits;
-
-/// The number of microseconds in a second.
-pub(crate) const MICROS_PER_SECOND: u64 = 1_000_000;
+use cal_zone::MICROS_PER_SECOND;
 
 /// How many digits of a fraction of a second are used. Further digits are ignored.
 const KEPT_DIGITS: usize = 6;
