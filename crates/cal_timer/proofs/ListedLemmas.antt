@@ -301,3 +301,10 @@ resumed_append read lists (a ∷ before) after =
     list_then (changed read (is_expression a) (is_reset a) lists.expressions a) _ _ (λ now. resumed read now after)
     (λ es. list_then (changed read (is_exception a) (is_exception_reset a) lists.exceptions a) _ _ (λ now. resumed read now after)
     (λ xs. resumed_append read (record { expressions = es; exceptions = xs }) before after))
+
+-- so the lists after more assignments have the entries of all assignments, or the error is their first error
+pub entries_add_up : {E : Type 0} (read : List ℕ → Result E SpecFault) (before after : List Assignment) (lists : Timer E) → entries_or_fault read before ≡ Ok lists → resumed read lists after ≡ entries_or_fault read (before ++ after)
+entries_add_up read before after lists h =
+    sym (ap (λ now. with_lists now (λ lists. resumed read lists after)) (resumed_is_entries read before ∙ h))
+    ∙ sym (resumed_append read empty_lists before after)
+    ∙ resumed_is_entries read (before ++ after)

@@ -40,8 +40,7 @@ with_list (Ok es) next = next es
 with_list (Err fault) next = Err fault
 
 -- The lists after the remaining assignments, given the lists so far, or the first error. This follows the loop of the
--- code and only private contracts use it; by the lemma `resumed_is_entries`, the result is `entries_or_fault` if the
--- lists so far are empty.
+-- code; the law `assignments_add_up` says the same by `entries_or_fault`.
 unfoldable pub resumed : {E : Type 0} → (List ℕ → Result E SpecFault) → Timer E → List Assignment → Result (Timer E) TimerFault
 resumed read lists [] = Ok lists
 resumed read lists (a ∷ after) =

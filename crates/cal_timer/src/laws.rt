@@ -1,7 +1,7 @@
-//! Laws of the definitions that the contract of [`crate::read_timer`] uses. Each law is a function that does nothing and
-//! whose contract is the law.
+//! Laws of the definitions that the contracts of [`crate::read_timer`] and [`crate::TimerLists`] use. Each law is a
+//! function that does nothing and whose contract is the law.
 
-ghost use Rattle.std.specs.Prelude.{◌≡◌, ◌∷◌, ◌++◌, [], ℕ, Bool, List, Result, codes, false, filter, true, if◌then◌else◌};
+ghost use Rattle.std.specs.Prelude.{◌≡◌, ◌∷◌, ◌++◌, [], ℕ, Bool, List, Ok, Result, codes, false, filter, true, if◌then◌else◌};
 ghost use Rattle.std.specs.List.{list_any};
 ghost use Rattle.std.specs.Str.{bytes_eq};
 ghost use Rattle.cal_spec.specs.headline.Fields.{Fields};
@@ -11,6 +11,7 @@ ghost use Rattle.cal_lines.specs.headline.Lines.{Line};
 ghost use Rattle.cal_timer.specs.TimerRule.{JudgesTimer};
 ghost use Rattle.cal_timer.specs.declared.fault.TimerFault.{TimerFault};
 ghost use Rattle.cal_timer.specs.TimerText.{Timer, lists_of};
+ghost use Rattle.cal_timer.specs.TimerView.{entries_or_fault, resumed};
 ghost use Rattle.cal_timer.specs.headline.TimerText.{excepted, is_exception, is_exception_reset, is_expression, is_reset, listed};
 
 /// A line belongs to the section `Timer` if the last header before the line opens this section. If there is no header
@@ -55,4 +56,12 @@ pub fn one_judgement()
         → JudgesTimer read all (lists_of read all) }
     ensures only { (read : List ℕ → Result Fields SpecFault) (all : List Assignment)
         (result : Result (Timer Fields) TimerFault) → JudgesTimer read all result → result ≡ lists_of read all }
+{}
+
+/// If the lists have the entries of some assignments, and more assignments are applied to them, as
+/// [`crate::TimerLists::take_text`] does, then the lists have the entries of all these assignments, or the error is the
+/// first error among them.
+pub fn assignments_add_up()
+    ensures { (read : List ℕ → Result Fields SpecFault) (before after : List Assignment) (lists : Timer Fields)
+        → entries_or_fault read before ≡ Ok lists → resumed read lists after ≡ entries_or_fault read (before ++ after) }
 {}

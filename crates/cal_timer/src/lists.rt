@@ -23,8 +23,8 @@ pub const MAX_EXPRESSIONS: usize = 256;
 /// The name of the section whose assignments are read.
 const TIMER_SECTION: &[u8] = b"Timer";
 
-/// The two lists of a timer while its texts are being read: the expressions and the exceptions so far. Contracts see the
-/// contents of both lists.
+/// The two lists of a timer while its texts are being read: the expressions and the exceptions so far. Contracts see
+/// the contents of both lists.
 #[derive(Drop)]
 pub struct TimerLists {
     expressions: Vec<TimerLine>,
