@@ -150,8 +150,7 @@ is_time room word weekdays d h name at =
 
 -- If the grammar allows a date or a time, it is parsed
 
--- an expression may have 240 counted parts, and no component has more of them than are left after the components before
--- it
+-- no component has more counted parts than are left of the 240 after the components before it
 pub record AreFew (f : Fields) : Type 0 where
   pub year : counted Year f.year ≤ 240
   pub month : counted Month f.month ≤ 240 - counted Year f.year

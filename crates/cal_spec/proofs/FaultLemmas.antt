@@ -107,7 +107,7 @@ component_fault : (slot : Slot) (before room : ℕ) (text : List ℕ) → before
 unfolding component_of component_faults
 component_fault slot before room text sum = star_fault slot before room text (is_star text) sum
 
--- a parsed component has as many counted parts as are counted in its text
+-- a parsed component has as many counted parts as `numbered` counts in its text
 pub component_counted : (slot : Slot) (room : ℕ) (text : List ℕ) (c : Option (List Part)) → component_of slot room text ≡ Ok c → counted slot c ≡ numbered slot text
 component_counted slot room text c at =
     elim (component_is slot room text c at) [

@@ -10,7 +10,7 @@ use Rattle.cal_text.specs.headline.Words.{is_blank}
 use Rattle.cal_text.proofs.General.{in_suffix}
 use Rattle.cal_spec.specs.FaultSpan.{IsWordAt}
 
--- if a text has trailing blanks, the byte at which they begin is a blank
+-- if a text has trailing blanks, the byte at which they begin is a blank, as `text_until` requires
 pub trailing_blank : (text : List ℕ) (end : ℕ) → end ≡ length text - suffix_len is_blank text → end < length text → is_blank (get_or text end 0) ≡ true
 trailing_blank text end e within = in_suffix is_blank text end 0 (omega arith) within
 
@@ -18,7 +18,7 @@ trailing_blank text end e within = in_suffix is_blank text end 0 (omega arith) w
 pub rest_from : (text : List ℕ) (from : ℕ) → take (length text - from) (drop from text) ≡ drop from text
 rest_from text from = take_all (length text - from) (drop from text) (omega (arith, length-drop from text))
 
--- the bytes before the next word are blanks
+-- the bytes from `from` up to the next word are blanks
 pub gap_is_blank : (text : List ℕ) (from start : ℕ) → start ≡ from + prefix_len is_blank (drop from text)
     → (i : ℕ) → from ≤ i → i < start → is_blank (get_or text i 0) ≡ true
 gap_is_blank text from start e i after before =
@@ -59,7 +59,7 @@ only_blanks text from start e none inside i after within =
           absurd (cc)
     ]
 
--- a word that doesn't end after the next word ends at or before `from`, or where the next word ends
+-- if a word ends at or before `end`, the end of the next word, then it ends either at `end` or no later than `from`
 pub earlier_word : (text : List ℕ) (from start end s e : ℕ) → end ≤ length text
     → ((i : ℕ) → from ≤ i → i < start → is_blank (get_or text i 0) ≡ true)
     → ((i : ℕ) → start ≤ i → i < end → is_blank (get_or text i 0) ≡ false)
@@ -86,8 +86,8 @@ earlier_word text from start end s e inside gap solid w before =
           ]
     ]
 
--- if only blanks follow `from`, and the byte before `from`, if there is one, isn't a blank, then the text up to `from`
--- is the text without its trailing blanks
+-- if only blanks follow `from`, and no blank stands directly before `from`, the text up to `from` is the text without
+-- its trailing blanks
 pub trimmed_at : (text : List ℕ) (from : ℕ) → from ≤ length text → ((i : ℕ) → from ≤ i → i < length text → is_blank (get_or text i 0) ≡ true)
     → (0 < from → is_blank (get_or text (from - 1) 0) ≡ false) → trim_end_matches is_blank text ≡ take from text
 unfolding trim_end_matches
@@ -95,8 +95,8 @@ trimmed_at text from inside blanks solid =
     let size = suffix_len_is is_blank text from 0 inside blanks solid in
     ap (λ n. take n text) (omega (arith, size))
 
--- if `P` is true of the end of each word that ends at or before `from`, it is true of the end of each word that ends
--- before the next word does
+-- if `P` is true of all ends of words up to `from`, it is true of all ends of words before `end`, the end of the next
+-- word
 pub accepted_before : (P : ℕ → Type 0) (text : List ℕ) (from start end : ℕ) → end ≤ length text
     → ((i : ℕ) → from ≤ i → i < start → is_blank (get_or text i 0) ≡ true)
     → ((i : ℕ) → start ≤ i → i < end → is_blank (get_or text i 0) ≡ false)
@@ -107,8 +107,7 @@ accepted_before P text from start end inside gap solid so_far s e w before =
       | inr same ↦ absurd (omega arith)
     ]
 
--- like `accepted_before`, but for each word that ends at or before the end of the next word, of whose end `P` must be
--- true as well
+-- like `accepted_before`, but `P` is also true of `end`, and so it is true of all ends of words up to `end`
 pub accepted_up_to : (P : ℕ → Type 0) (text : List ℕ) (from start end : ℕ) → end ≤ length text
     → ((i : ℕ) → from ≤ i → i < start → is_blank (get_or text i 0) ≡ true)
     → ((i : ℕ) → start ≤ i → i < end → is_blank (get_or text i 0) ≡ false)

@@ -35,7 +35,7 @@ map_has g (y ∷ ys) z h = elim h [
   | inr k ↦ (let found = map_has g ys z k in (found.0, inr found.1, found.2))
 ]
 
--- a part is in the normal form of a list exactly if it is the normal form of a part of the list
+-- a part is in the normal form of a list if and only if it is the normal form of a part of the list
 pub has_normal : (ps : List Part) (z : Part) → Has (normal_parts ps) z ↔ Has (map reduced ps) z
 unfolding normal_parts
 has_normal ps z = has_in_order part_cmp part_exact z (map reduced ps)
@@ -91,8 +91,8 @@ normal_fixed ps h =
 pub normal_twice : (raw : List Part) → AllByRecursion IsPart raw → normal_parts (normal_parts raw) ≡ normal_parts raw
 normal_twice raw all = normal_fixed (normal_parts raw) (are_normal raw all)
 
--- the induction step of `length-insert_key`: inserting a part returns a list that isn't empty and has at most one part
--- more
+-- the induction step of `length-insert_key`: inserting a part returns a list that isn't empty and has at most one more
+-- part than before
 length_inserted : (o : Ordering) (x y : Part) (ys more : List Part) → 0 < length more → length more ≤ length ys + 1
     → (0 < length (match_ordering o (x ∷ y ∷ ys) (y ∷ ys) (y ∷ more))) × (length (match_ordering o (x ∷ y ∷ ys) (y ∷ ys) (y ∷ more)) ≤ length (y ∷ ys) + 1)
 length_inserted Less x y ys more some few = (omega arith, omega arith)
@@ -117,7 +117,7 @@ unfolding normal_parts
 some_normal [] h = absurd (omega arith)
 some_normal (p ∷ ps) h = (length-insert_key (reduced p) (in_order part_cmp (map reduced ps))).0
 
--- if the values of all parts are valid, so are those of the parts in the normal form
+-- if the values of all parts are valid, the values of the parts in the normal form are valid too
 sound_parts : (slot : Slot) (ps : List Part) → AllByRecursion (IsValidPart slot) ps → AllByRecursion (IsValidPart slot) (normal_parts ps)
 sound_parts slot ps all = all_from (IsValidPart slot) (normal_parts ps) (λ z h.
     let found = map_has reduced ps z ((has_normal ps z).0 h) in

@@ -1,5 +1,5 @@
--- The order of parts is total, and sorting parts and removing duplicates, as the code does it, returns the same list as
--- `normal_parts`.
+-- The order of parts is total. Sorting the normal forms of parts and removing duplicates, as the code does, returns the
+-- same list as `normal_parts`.
 use Rattle.std.proofs.Common.{◌≡◌, ◌↔◌, ℕ, true, nat_eq, List, [], ◌∷◌, map, Option, None, Some, refl, sym, ap, ◌∙◌, subst, arith}
 use Rattle.std.specs.Cmp.{IsEquivalence, IsTotalOrder, nat_cmp_total, on_total, then_total, both_tied}
 use Rattle.std.specs.Cmp.Lexicographic.{options_total}

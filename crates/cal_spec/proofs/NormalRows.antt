@@ -16,11 +16,12 @@ range a b step = record { start = a; end = Some b; step = step }
 repeated : ℕ → ℕ → Part
 repeated a r = record { start = a; end = None; step = Some r }
 
--- `20..39/5` becomes `20..35/5`, and `5..10/6,5..5` becomes `5`
+-- `20..39/5` becomes `20..35/5`
 range_ends : normal_parts (range 20 39 (Some 5) ∷ []) ≡ range 20 35 (Some 5) ∷ []
 unfolding normal_parts reduced part_cmp range
 range_ends = refl
 
+-- `5..10/6,5..5` becomes `5`
 points : normal_parts (range 5 10 (Some 6) ∷ range 5 5 None ∷ []) ≡ point 5 ∷ []
 unfolding normal_parts reduced part_cmp range
 points = refl

@@ -1,4 +1,4 @@
--- Sorting a list and removing duplicates keeps its elements, each of them once.
+-- Sorting a list and removing duplicates returns the same elements in strictly increasing order.
 use Rattle.std.proofs.Common.{◌↔◌, List, [], ◌∷◌, inl, inr}
 use Rattle.std.specs.Cmp.{IsTotalOrder}
 use Rattle.std.specs.FinMap.{IsAntisymmetric}

@@ -71,7 +71,7 @@ values_stay : (slot : Slot) (p : Part) → IsValidPart slot p → with_values sl
 values_stay Year p h = same_part _ p (century_stays p.start (omega (arith, h.start_in.0))) (centuries_stay p.end h.end_in) refl
 values_stay slot p h = refl
 
--- if parts are valid and small, the printed text of each spells this part by the grammar
+-- if all parts are valid and small, the printed text of each part spells this part by the grammar
 parts_printed : (slot : Slot) (width : ℕ) (ps : List Part) → AllByRecursion (IsValidPart slot) ps → AllByRecursion IsSmall ps → AllZip (IsPartOf slot) (map (part_text [] width) ps) ps
 parts_printed slot width [] sound small = tt
 parts_printed slot width (p ∷ ps) sound small = ((p, part_printed width p small.0, sym (values_stay slot p sound.0)), parts_printed slot width ps sound.1 small.1)

@@ -1,4 +1,4 @@
--- Examples of texts and of what parsing them returns, checked by computation.
+-- Examples of invalid texts and of the errors that parsing them returns, checked by computation.
 use Rattle.std.proofs.Common.{◌≡◌, codes, refl, Err, List, [], ◌∷◌, ℕ, map}
 use Rattle.cal_spec.specs.Grammar.{fields_in, fields_at}
 use Rattle.cal_spec.specs.Words.{roles_of}

@@ -14,7 +14,7 @@ use Rattle.cal_spec.specs.ZoneSuffix.{IsSuffix, suffix_of}
 use Rattle.cal_spec.specs.headline.ZoneSuffix.{ZoneSuffix, ahead, of_name, suffix_text}
 use Rattle.cal_text.proofs.General.{clear_of}
 
--- `+` and `-` are not letters, so a word that begins with one of them is not the name of a zone
+-- `+` and `-` are not letters
 sign_letter : (b : ℕ) → is_sign b ≡ true → is_ascii_alphabetic b ≡ false
 sign_letter b h = grind (arith, nat_tests)
 
@@ -22,6 +22,7 @@ pub no_letter : (word : List ℕ) → begins_with_sign word ≡ true → begins_
 no_letter [] h = absurd (cc)
 no_letter (b ∷ bs) h = sign_letter b h
 
+-- a word that begins with `+` or `-` is not the name of a zone
 pub no_name : (word : List ℕ) → begins_with_sign word ≡ true → is_zone_name word ≡ false
 unfolding is_zone_name
 no_name word h = rw (no_letter word h) refl

@@ -1,4 +1,5 @@
--- Trailing blanks change neither the words of a text nor, unless they make it too long, how it is parsed.
+-- Trailing blanks don't change the words of a text. They don't change how the text is parsed either, unless they make
+-- it too long.
 use Rattle.std.proofs.Common.{◌≡◌, ◌≤◌, ◌+◌, ◌-◌, ◌∙◌, ℕ, false, true, List, [], ◌∷◌, ◌++◌, length, drop, take, refl, sym, subst, ap, arith, append_assoc, length-drop}
 use Rattle.std.specs.Prelude.{nat_lt}
 use Rattle.std.specs.List.{list_all, suffix_len}

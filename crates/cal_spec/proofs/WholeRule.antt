@@ -56,6 +56,6 @@ valid_only text f valid =
     let roles_are = roles_only (words text) e.roles e.last (zone_begins e.last f.zone e.zone) e.roles_are in
     rw (le-ltb max_text_bytes (length text) valid.short, roles_are) (fields_only text f e (are_few f valid.few))
 
--- the grammar is unambiguous: it gives no text two different lists of fields
+-- the grammar is unambiguous: it never gives the same text two different values of `Fields`
 pub one_expression : (text : List ℕ) (f g : Fields) → IsValid text f → IsValid text g → f ≡ g
 one_expression text f g first second = let same = sym (valid_only text f first) ∙ valid_only text g second in cc

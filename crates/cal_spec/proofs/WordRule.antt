@@ -26,7 +26,7 @@ use Rattle.cal_spec.specs.declared.shorthand.Shorthand.{Shorthand}
 use Rattle.cal_spec.proofs.FieldLemmas.{time_found}
 use Rattle.cal_text.proofs.General.{split_alone}
 
--- A word is parsed as a zone exactly if the grammar allows it as one, and then it begins with a letter, `+` or `-`
+-- A word is parsed as a zone if and only if the grammar allows it as a zone; it then begins with a letter, `+` or `-`
 
 pub record ZoneRead (rest : List (List ℕ)) (suffix : Option ZoneSuffix) : Type 0 where
   pub last : Option (List ℕ)
@@ -99,8 +99,8 @@ signless_more : (weekdays : Option (List ℕ)) (w time : List ℕ) → AllByRecu
 signless_more None w time first next = (next, tt)
 signless_more (Some v) w time first next = (first.0, (next, tt))
 
--- the grammar gives the words after the weekday list, or all words if there is no such list, the roles that the parser
--- finds
+-- the words after the weekday list, or all words if there is no weekday list: the grammar gives them the roles that the
+-- parser finds
 module _ (weekdays last : Option (List ℕ)) (kind : IfSome weekdays IsWeekdaysWord) where
   plain_with : (date time : Option (List ℕ)) (rest : List (List ℕ)) → 0 < length (given weekdays ++ (given date ++ given time)) → IfSome date IsDateWord → IfSome time IsTimeWord → AllByRecursion IsSignless (drop 1 (given weekdays ++ (given date ++ given time))) → rest ≡ given last
       → ArePlain (given weekdays ++ (given date ++ (given time ++ rest))) (record { weekdays = weekdays; date = unwrap_or date any_date; time = unwrap_or time midnight; rest = rest }) last

@@ -17,8 +17,8 @@ blank_before c text [] blank are = and_from (is_blank c) (list_all is_blank text
 blank_before c text (w ∷ ws) blank are =
     (c ∷ are.0, are.1, ap (λ more. c ∷ more) are.2, and_from (is_blank c) (list_all is_blank are.0) blank are.3, are.4, are.5, are.6)
 
--- the text is `part`, which contains no blank, and then a text that is empty or begins with a blank; the words of this
--- second text are the nonempty texts among `parts`
+-- the text is `part`, which contains no blank, followed by `rest`, which is empty or begins with a blank; the words of
+-- `rest` are the nonempty texts among `parts`
 record Spread (text part : List ℕ) (parts : List (List ℕ)) : Type 0 where
   rest : List ℕ
   whole : text ≡ part ++ rest

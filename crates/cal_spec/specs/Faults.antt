@@ -1,5 +1,6 @@
--- The list of all checks of an expression, in their documented order: systemd.time(7), Calendar Events. A check that
--- passes is `None`, and a check that fails is its error. The error of an invalid text is the first error in the list.
+-- The list of all checks of an expression, in their documented order: systemd.time(7), Calendar Events. In this list,
+-- `None` stands for a check that passes, and a check that fails is represented by its error. The error of an invalid
+-- text is the first error in the list.
 use Rattle.std.specs.Prelude.{ℕ, ◌+◌, ◌-◌, nat_lt, if◌then◌else◌, List, [], ◌∷◌, ◌++◌, length, map, Option, None, Some, Result, Ok, Err}
 use Rattle.std.specs.List.{slice_split}
 use Rattle.std.specs.Result.{result_err}
@@ -32,13 +33,14 @@ abbrev pub numbered : Slot → List ℕ → ℕ
 numbered slot text =
     if is_star text then 0 else (if is_time slot then length (pieces_of text) - 1 else length (pieces_of text))
 
--- the number of a component's first part, if the components before it have `before` counted parts; counted parts are
--- numbered from 1; the first part of an hour, minute or second isn't counted and gets the number `before`
+-- The counted parts of an expression are numbered from 1. This is the number of a component's first part if the
+-- components before it have `before` counted parts. The first part of an hour, minute or second isn't counted; it gets
+-- the number `before`.
 abbrev pub first_number : Slot → ℕ → ℕ
 first_number slot before = if is_time slot then before else before + 1
 
--- the check of the syntax of the part that has the number `number`; a part whose number is above 240 is one too many,
--- and then its syntax isn't checked
+-- the check of the syntax of the part with the number `number`; if this number is above 240, the error is
+-- `TooManyParts`, and the syntax isn't checked
 abbrev pub shape_fault : Slot → ℕ → List ℕ → Option SpecFault
 shape_fault slot number text = if nat_lt max_counted_parts number then Some TooManyParts else result_err (part_of slot text)
 

@@ -1,4 +1,4 @@
--- How contracts see the weekdays, date and time of an expression that are not yet parsed.
+-- How contracts see the weekdays, date and time of an expression before they are parsed.
 use Rattle.std.specs.Option.{option_copied}
 use Rattle.cal_text.specs.headline.Words.{words}
 use Rattle.cal_spec.specs.headline.Words.{WordRoles}

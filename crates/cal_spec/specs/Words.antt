@@ -23,15 +23,16 @@ date_or_time weekdays w ws =
     if list_any is_colon w then record { weekdays = weekdays; date = any_date; time = w; rest = ws }
     else roles_after_date weekdays w ws
 
--- the roles of the words after the weekdays: if the first of them begins with a letter, `+` or `-`, it is a zone
+-- the roles of the words after the weekdays: if the first of them begins with a letter, `+` or `-`, it is a zone,
+-- otherwise the date or the time
 abbrev pub after_weekdays : Option (List ℕ) → List (List ℕ) → WordRoles
 after_weekdays weekdays [] = record { weekdays = weekdays; date = any_date; time = midnight; rest = [] }
 after_weekdays weekdays (w ∷ ws) =
     if begins_zone w then record { weekdays = weekdays; date = any_date; time = midnight; rest = w ∷ ws }
     else date_or_time weekdays w ws
 
--- the roles of all words if the first word `w` is not a shorthand: if `w` begins with a letter, it is the weekday list;
--- it is never a zone, even if it begins with `+` or `-`
+-- the roles of all words if the first word `w` is not a shorthand: if `w` begins with a letter, it is the weekday list,
+-- otherwise the date or the time, even if it begins with `+` or `-`
 abbrev pub roles_in : List ℕ → List (List ℕ) → WordRoles
 roles_in w ws = if begins_with_letter w then after_weekdays (Some w) ws else date_or_time None w ws
 

@@ -16,7 +16,7 @@ use cal_bytes::{Fill, ShortText, Sink, WriteFault, padding, put_all, put_pieces}
 use cal_civil::push_offset;
 use itoa::Buffer;
 
-/// A component to print: the text before it, the least number of digits of its numbers, and its parts (`None` for `*`).
+/// A component to print: the text before it, the minimum number of digits of a number, and its parts (`None` for `*`).
 /// Shorter numbers are padded with zeros, except steps, which are never padded.
 #[derive(Clone, Copy)]
 struct Row<'a> {
@@ -29,8 +29,7 @@ struct Row<'a> {
 /// Writes an expression in its normal form (systemd.time(7), Calendar Events): weekdays, date, time and zone, as in
 /// `Mon,Fri 2012-01/2-01,03 *:30:45`. Doesn't allocate.
 ///
-/// Fails with [`WriteFault::Failed`] exactly if the writer fails. In that case, what was written is a prefix of the
-/// text.
+/// Fails with [`WriteFault::Failed`] if and only if the writer fails; then only a prefix of the text was written.
 #[tactic(auto, using(cal_bytes::proofs::PutLemmas::puts), unfolding(crate::specs::headline::ExprText::expr_text))]
 pub fn write_expr<W: Sink>(out: &mut W, expr: &Expr) -> Result<(), WriteFault>
     requires { W.is_failed out.old ≡ false }

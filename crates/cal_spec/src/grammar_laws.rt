@@ -11,9 +11,10 @@ ghost use Rattle.cal_spec.specs.headline.GrammarRule.{IsValid};
 ghost use Rattle.cal_spec.specs.Reads.{first_of};
 ghost use Rattle.cal_text.specs.headline.Words.{words};
 
-/// Parsing a text succeeds exactly if the grammar of systemd.time(7), Calendar Events, allows the text (`IsValid`), and
-/// then it returns the fields that the grammar gives. The grammar is unambiguous: it gives no text two different lists
-/// of fields. If parsing fails, the error is that of the first check that fails, in the documented order of all checks.
+/// Parsing a text succeeds if and only if the grammar of systemd.time(7), Calendar Events, allows the text (`IsValid`).
+/// Parsing then returns the fields that the grammar gives to the text. The grammar is unambiguous: it never gives the
+/// same text two different values of `Fields`. If parsing fails, the error is that of the first check that fails, in
+/// the documented order of all checks (`judgements_of`).
 pub fn expressions_are_those_of_the_rule()
     ensures found { (text : List ℕ) (f : Fields) → fields_in text ≡ Ok f → IsValid text f }
     ensures only { (text : List ℕ) (f : Fields) → IsValid text f → fields_in text ≡ Ok f }

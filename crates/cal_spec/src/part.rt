@@ -9,7 +9,7 @@ pub struct Part {
     /// The first number. In an open-ended repetition (`a/r`) of days counted from the month's end, it is the greatest
     /// number, since the repetition counts downwards.
     pub start: u16,
-    /// The last number of a range.
+    /// The upper bound of a range.
     pub end: Option<u16>,
     /// The distance between consecutive numbers of a repetition.
     pub step: Option<u16>,

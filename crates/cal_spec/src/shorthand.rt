@@ -47,7 +47,7 @@ impl Shorthand {
         Shorthand::Yearly,
     ];
 
-    /// Returns the names of the shorthand in lower case. In an expression they may be written in any case.
+    /// Returns the names of the shorthand in lower case. Case is ignored when they are looked up.
     fn names(self) -> &'static [&'static [u8]]
         ensures { map (λ name. name.now) result.now ≡ names_of self }
     {

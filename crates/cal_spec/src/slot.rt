@@ -1,4 +1,4 @@
-//! Slots, which say which component a number belongs to, and the least and the greatest number that each slot allows.
+//! Slots: which component a number belongs to, and the least and the greatest number that each slot allows.
 
 ghost use Rattle.std.specs.Prelude.{◌≡◌, ◌≤◌};
 ghost use Rattle.cal_spec.specs.headline.Slot.{day_slot, least, greatest};

@@ -17,7 +17,8 @@ pub enum SpecFault {
     /// The weekday list is malformed or contains an unknown weekday.
     #[error("bad weekday")]
     BadWeekday = 3,
-    /// The date doesn't have two or three components, or one of them is malformed.
+    /// The date doesn't have two or three components, `~` stands anywhere but before the day, or a component is
+    /// malformed.
     #[error("bad date")]
     BadDate = 4,
     /// The time doesn't have two or three components, or one of them is malformed.

@@ -27,8 +27,8 @@ pub(crate) struct WeekdayRange {
 /// Parses a weekday list and returns which weekdays match, from Monday to Sunday (systemd.time(7), Calendar Events).
 /// Its items are weekdays and ranges of weekdays. They are separated by commas, and one trailing comma is allowed.
 ///
-/// Fails with `UnknownShorthand` if the word doesn't begin with the name of a weekday and consists of letters and `-`
-/// only, and with `BadWeekday` if it is invalid in any other way.
+/// Fails with `UnknownShorthand` if the word consists only of letters and `-`, and its leading letters don't name a
+/// weekday. Fails with `BadWeekday` if the word is invalid in any other way.
 #[tactic(auto, unfolding(crate::specs::Weekdays::weekdays_of, crate::specs::Weekdays::listed_days))]
 pub(crate) fn read_weekdays(alloc: Global, word: &[u8]) -> Result<[bool; 7], SpecFault>
     ensures { GivesUnlessNoMemory (λ days. days) result (weekdays_of word.now) }

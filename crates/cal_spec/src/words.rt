@@ -49,7 +49,7 @@ pub(crate) fn find_word_roles(text: &str) -> Option<WordRoles<'_>>
 }
 
 /// Determines what the words after the weekdays are. If the first of them begins with a letter, `+` or `-`, it is a
-/// zone.
+/// zone. Otherwise it is the date or the time.
 fn after_weekdays<'a>(weekdays: Option<&'a [u8]>, text: &'a str) -> WordRoles<'a>
     ensures { shown_word_roles result ≡ after_weekdays (option_copied weekdays.entry) (words text.now) }
 {

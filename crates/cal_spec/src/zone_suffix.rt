@@ -45,7 +45,7 @@ pub(crate) fn read_suffix(alloc: Global, text: &str) -> Result<Option<ZoneSuffix
     }
 }
 
-/// Returns the name to store. `UTC` in any case is stored as `UTC`, and other names are unchanged.
+/// Returns the name to store: `UTC` if the word equals `UTC` ignoring case, and otherwise the word itself.
 fn name_of(word: &str) -> &str
     ensures { result.now ≡ kept_name word.now }
 {

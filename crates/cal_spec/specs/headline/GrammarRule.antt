@@ -162,7 +162,7 @@ pub record AreShort (ws : List (List ℕ)) (p : WordRoles) (last : Option (List 
   pub time_is : p.time ≡ (expansion_of shorthand).time
   pub rest_is : p.rest ≡ given last
 
--- the zone that is written as this word, a name or a UTC offset, or no zone if there is no word
+-- the word is the name of the zone or its UTC offset; if there is no word, there is no zone
 abbrev pub IsZoneWord : Option (List ℕ) → Option ZoneSuffix → Type 0
 IsZoneWord None suffix = suffix ≡ None
 IsZoneWord (Some word) suffix =

@@ -1,5 +1,5 @@
--- Slots, which say which component a number belongs to, and the least and the greatest number that each slot allows:
--- systemd.time(7), Calendar Events.
+-- Slots: which component a number belongs to, and the least and the greatest number that each slot allows
+-- (systemd.time(7), Calendar Events).
 use Rattle.std.specs.Prelude.{ℕ, Bool, true, false}
 use Rattle.cal_spec.specs.declared.slot.Slot.{Slot}
 use Rattle.cal_spec.specs.declared.slot.Slot.TheVariants.{Year, Month, Day, DayFromEnd, Hour, Minute, Second}

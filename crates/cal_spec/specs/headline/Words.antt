@@ -1,4 +1,5 @@
--- The words of a calendar expression that are its weekdays, date, time and zone: systemd.time(7), Calendar Events.
+-- Which words of a calendar expression are its weekdays, its date, its time and its zone: systemd.time(7), Calendar
+-- Events.
 use Rattle.std.specs.Prelude.{ℕ, List, Option}
 
 -- the weekdays, date and time, not yet parsed, and the words after them; a missing date is `*-*-*`, and a missing time

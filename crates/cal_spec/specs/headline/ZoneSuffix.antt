@@ -8,7 +8,7 @@ pub data ZoneSuffix : Type 0 where
   of_name : List ℕ → ZoneSuffix
   ahead : ℤ → ZoneSuffix
 
--- the name that is stored: `UTC` in any case is stored as `UTC`
+-- the name that is stored: `UTC` if the word equals `UTC` ignoring case, and otherwise the word itself
 abbrev pub kept_name : List ℕ → List ℕ
 kept_name word = if str_eq_ignore_ascii_case word (codes "UTC") then codes "UTC" else word
 
