@@ -37,8 +37,8 @@ weight-counts_of-remainder [] n = omega arith
 weight-counts_of-remainder (unit ∷ units) n =
     omega (arith, weight-counts_of-remainder units (n % size_of unit), div-add-mod' n (size_of unit))
 
--- the counts that division finds satisfy `AreReduced`: the counts after a unit come from the remainder, so together
--- they are less than one of the unit
+-- the counts that division finds satisfy `AreReduced`: the counts after a unit come from the remainder, so they add up
+-- to less than one of this unit
 reduced-counts_of : (units : List TimeUnit) (n : ℕ) → AreReduced units (counts_of units n)
 reduced-counts_of [] n = tt
 reduced-counts_of (unit ∷ units) n =
@@ -69,11 +69,11 @@ unfolding units_text
 span_text_only n text h =
     h.2 ∙ ap (λ (cs : List Count). counts_text (positive cs)) (counts_of-weight all_units h.0 h.1.reduced ∙ ap (counts_of all_units) h.1.sum)
 
--- if a unit fits into `n`, the counts that aren't zero begin with its count; if it doesn't, they are the counts of the
--- units after it
+-- if a unit fits into `n`, the counts that aren't zero begin with the count of this unit
 positive_taken : (unit : TimeUnit) (units : List TimeUnit) (n : ℕ) → size_of unit ≤ n → positive (counts_of (unit ∷ units) n) ≡ record { number = n / size_of unit; unit = unit } ∷ positive (counts_of units (n % size_of unit))
 positive_taken unit units n fits = grind (arith, nat_tests, lt-ltb, le-div, size_of_positive)
 
+-- if a unit doesn't fit into `n`, the counts that aren't zero are those of the units after it
 positive_skipped : (unit : TimeUnit) (units : List TimeUnit) (n : ℕ) → n < size_of unit → positive (counts_of (unit ∷ units) n) ≡ positive (counts_of units (n % size_of unit))
 positive_skipped unit units n below = grind (arith, nat_tests, le-ltb, div-eq_of_lt)
 

@@ -42,7 +42,7 @@ are_digits_by_value (c ∷ cs) h = (is_digit_by_value c h.0, are_digits_by_value
 pub are_digits-decimal : (n : ℕ) → n < 2 ^ 64 → AreDigits (decimal n)
 are_digits-decimal n small = are_digits_by_value (decimal n) (decimal_is_IsNumeral n small).0.1
 
--- digits contain no decimal point
+-- A word of digits is a number, and contains no decimal point
 
 position_or_len-digits : (ds : List ℕ) → AreDigits ds → position_or_len is_point ds ≡ length ds
 position_or_len-digits [] h = refl

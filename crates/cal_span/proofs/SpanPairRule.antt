@@ -14,7 +14,8 @@ IsFirst ws p rest = IsWithUnit ws p rest ⊎ (IsWithoutUnit ws p rest ⊎ IsNoNu
 another : (j k : CharKind) → is_kind j k ≡ false → k ≡ j → ⊥
 another j k test same = false≢true (sym test ∙ ap (is_kind j) same ∙ is_kind-same j)
 
--- if no unit follows the word `w`, it forms a pair by itself, with an empty number if it is not a number
+-- if no unit follows the word `w`, this word forms a pair by itself; the number of the pair is empty unless `w` is a
+-- number
 first_alone : (w : Piece) (ws : List Piece) (numeric : Bool) → is_kind Numeric w.kind ≡ numeric → BeginsWithNoUnit ws → IsFirst (w ∷ ws) (record { number = cond numeric w.text []; unit = None }) ws
 first_alone w ws true test no_unit =
     inr (inl (record { number = w; words = refl; is_number = sym (same_from_is_kind Numeric w.kind test); no_unit = no_unit; pair = refl }))

@@ -42,7 +42,7 @@ with_front-apart kind text (p ∷ ps) apart = rw apart refl
 with_front-same : (kind : CharKind) (b : ℕ) (text : List ℕ) (ps : List Piece) → with_front (record { kind = kind; text = b ∷ [] }) (record { kind = kind; text = text } ∷ ps) ≡ record { kind = kind; text = b ∷ text } ∷ ps
 with_front-same kind b text ps = rw (is_kind-same kind) refl
 
--- bytes of one kind are one run if nothing follows them, or a run of another kind
+-- bytes of one kind are one run if either nothing or a run of another kind follows them
 pub runs-of_kind : (kind : CharKind) (b : ℕ) (front rest : List ℕ) → AllOfKind kind (b ∷ front) → BeginsApart kind (runs (characters rest)) → runs (characters ((b ∷ front) ++ rest)) ≡ record { kind = kind; text = b ∷ front } ∷ runs (characters rest)
 runs-of_kind kind b [] rest same apart = grind (arith, nat_tests, characters-ascii, with_front-apart)
 runs-of_kind kind b (c ∷ front) rest same apart =

@@ -1,4 +1,4 @@
--- Examples that check the definitions of time spans.
+-- Examples of parsed and printed time spans, checked by computation.
 use Rattle.std.proofs.Common.{◌≡◌, [], Ok, Err, codes, refl}
 use Rattle.std.specs.Fmt.{digits}
 use Rattle.cal_span.specs.UnitSpellings.{spellings_of}

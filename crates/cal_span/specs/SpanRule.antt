@@ -72,13 +72,13 @@ abbrev pub AreWorth : List Pair → ℕ → Type 0
 AreWorth [] n = n ≡ 0
 AreWorth (p ∷ ps) n = (m : ℕ) × (k : ℕ) × (worth_of p ≡ Ok m) × AreWorth ps k × (n ≡ m + k)
 
--- the pair `p` after pairs with this sum is invalid with this error: either `p` has no value, or the sum plus its value
--- is more than the limit (`TooLarge`)
+-- after pairs with this sum, the pair `p` fails with this error: either it is the error of `p` itself, or the sum plus
+-- the value of `p` is more than the limit (`TooLarge`)
 abbrev pub IsFaultAfter : ℕ → Pair → SpanFault → Type 0
 IsFaultAfter sum p TooLarge = (m : ℕ) × (worth_of p ≡ Ok m) × (limit < sum + m)
 IsFaultAfter sum p fault = worth_of p ≡ Err fault
 
--- one of the pairs is invalid with this error, and none of the pairs before it is
+-- one of the pairs fails with this error, and all pairs before it are valid
 abbrev pub IsFirstFault : List Pair → SpanFault → Type 0
 IsFirstFault ps fault =
     (before : List Pair) × (p : Pair) × (after : List Pair) × (sum : ℕ) × (ps ≡ before ++ (p ∷ after)) × AreWorth before sum × (sum ≤ limit) × IsFaultAfter sum p fault

@@ -9,8 +9,8 @@ abbrev pub weight : List Count → ℕ
 weight [] = 0
 weight (c ∷ cs) = c.number * size_of c.unit + weight cs
 
--- There is one count for each unit, in the order of the units, and after each count, the remaining counts add up to
--- less than one of its unit.
+-- There is one count for each unit, in the order of the units. The counts after the count of a unit add up to less than
+-- one of this unit.
 abbrev pub AreReduced : List TimeUnit → List Count → Type 0
 AreReduced [] [] = Unit {0}
 AreReduced [] (c ∷ cs) = ⊥
@@ -22,6 +22,6 @@ pub record AreCounts (n : ℕ) (cs : List Count) : Type 0 where
   pub sum : weight cs ≡ n
   pub reduced : AreReduced all_units cs
 
--- A text is the printed span of n microseconds if it is the text of its counts that aren't zero.
+-- the text is the printed span of n microseconds: the text of the counts of n that aren't zero
 abbrev pub IsSpanText : ℕ → List ℕ → Type 0
 IsSpanText n text = (cs : List Count) × AreCounts n cs × (text ≡ counts_text (positive cs))

@@ -54,8 +54,8 @@ characters (b ∷ c ∷ bytes) =
 
 -- Words (systemd.time(7), Parsing Time Spans: blanks may come before, between and after them)
 
--- a character put in front of runs: it extends the first run if it is of the same kind, and is a run of its own
--- otherwise
+-- puts a character in front of runs: if the first run is of the same kind, it is extended by the character, otherwise
+-- the character is a run of its own
 abbrev pub with_front : Piece → List Piece → List Piece
 with_front s [] = s ∷ []
 with_front s (w ∷ ws) =
@@ -116,8 +116,9 @@ abbrev pub unit_in : Option (List ℕ) → Option TimeUnit
 unit_in None = Some Second
 unit_in (Some word) = unit_named word
 
--- what the digits after a decimal point add, if the first of them is at this decimal place: each digit times the size
--- of the unit, divided by 10 to the power of the digit's place and rounded down separately
+-- What the digits after a decimal point add to a number, given the size of its unit and the decimal place of the first
+-- of these digits. Each digit is multiplied by the size and divided by 10 to the power of its place, and the quotient
+-- is rounded down.
 abbrev pub fraction_worth : ℕ → ℕ → List ℕ → ℕ
 fraction_worth size place [] = 0
 fraction_worth size place (digit ∷ digits) =

@@ -52,7 +52,8 @@ impl<'a> Number<'a> {
     }
 }
 
-/// Returns the bytes before the first decimal point and those after it. Without a decimal point, all are before it.
+/// Returns the bytes before the first decimal point and the bytes after it. Without a decimal point, returns the whole
+/// word and no bytes after it.
 fn split_at_point(word: &[u8]) -> (&[u8], &[u8])
     ensures before { result.0.now ≡ before_first is_point word.now }
     ensures after { result.1.now ≡ after_first is_point word.now }

@@ -22,8 +22,8 @@ use itoa::Buffer;
 pub const SPAN_ROOM: usize = 234;
 
 /// Appends a time span as it is printed: its units from the largest to the smallest, without those whose count is zero,
-/// as in `1h 30min`. The empty span is printed as `0` (systemd.time(7), Parsing Time Spans). The text has at most
-/// [`SPAN_ROOM`] bytes, and the caller guarantees that `text` has room for that many.
+/// as in `1h 30min`. The empty span is printed as `0` (systemd.time(7), Parsing Time Spans). At most [`SPAN_ROOM`]
+/// bytes are appended, and the caller guarantees that `text` has room for them.
 pub fn push_span(text: &mut ShortText, span: Span)
     requires room { length text.old.items + SPAN_ROOM ≤ SHORT_TEXT_ROOM }
     ensures text { text.new.items ≡ text.old.items ++ span_text span.micros }

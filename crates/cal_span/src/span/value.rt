@@ -15,8 +15,8 @@ use cal_bytes::is_among;
 /// Parses a time span: one or more pairs, each a number with an optional unit. Blanks may come before, between and
 /// after the numbers and units (systemd.time(7), Parsing Time Spans).
 ///
-/// A number without a unit counts seconds. The values are added up. Each digit after a decimal point is rounded down to
-/// microseconds separately.
+/// A number without a unit counts seconds. The values of the pairs are added up. The value of each digit after a
+/// decimal point is rounded down to microseconds separately.
 ///
 /// If several pairs are invalid, the leftmost error is reported. Of the errors of one pair, `BadNumber` is reported
 /// before `UnknownUnit`, and `UnknownUnit` before `TooLarge`. If `text` is empty or blank, the error is `Empty`.

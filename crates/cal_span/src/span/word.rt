@@ -54,8 +54,8 @@ fn front_len(bytes: &[u8], kind: CharKind) -> usize
     len
 }
 
-/// Returns the kind of the first character and its length in bytes, which is two for the micro sign and the letter mu,
-/// or `None` if there are no bytes. Any other character outside ASCII is read byte by byte.
+/// Returns the kind of the first character and its length in bytes, or `None` if there are no bytes. The micro sign and
+/// the letter mu have two bytes. Any other character outside ASCII is read byte by byte.
 fn first(bytes: &[u8]) -> Option<(CharKind, usize)>
     ensures { MatchOption result (bytes.now ≡ []) (λ found.
         (characters bytes.now

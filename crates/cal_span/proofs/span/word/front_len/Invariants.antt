@@ -3,7 +3,7 @@ use Rattle.cal_span.specs.SpanValue.{characters}
 use Rattle.cal_span.specs.SpanWord.{front_of, after_front}
 use Rattle.cal_span.proofs.span.word.front_len.Given as goal
 
--- all bytes so far belong to the prefix, and the remaining bytes continue it
+-- the longest prefix of this kind is the bytes so far, followed by the longest prefix of the remaining bytes
 abbrev pub invariant-loop-found : goal.invariant-loop-found
 invariant-loop-found l = record {
   in_range : l.len ≤ length l.bytes;
