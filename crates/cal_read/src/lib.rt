@@ -1,5 +1,5 @@
-//! Timestamps and timer files, for users of the library: the names of `cal_stamp` and `cal_timer`, and what reads several
-//! texts of a timer (systemd.time(7), Parsing Timestamps; systemd.timer(5)).
+//! Timestamps and timer files, for users of the library: the names of `cal_stamp` and `cal_timer`, and what reads
+//! several texts of a timer (systemd.time(7), Parsing Timestamps; systemd.timer(5)).
 #![tactic(auto)]
 
 mod faults;

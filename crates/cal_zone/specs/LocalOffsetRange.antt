@@ -59,8 +59,8 @@ abbrev pub transition_margin : ℕ
 transition_margin = 374_397
 
 -- `next`, the first transition after the instant `past`, is at least `transition_margin` seconds after `local`. In
--- addition, `local` is before the end of the year of `past`, or this year ends at most `transition_margin` seconds after
--- `past`.
+-- addition, `local` is before the end of the year of `past`, or this year ends at most `transition_margin` seconds
+-- after `past`.
 pub record IsClearOfTransition (next : Option (ℤ × OffsetInfo)) (past local : ℤ) : Type 0 where
   pub change : ℤ × OffsetInfo
   pub is : next ≡ Some change
