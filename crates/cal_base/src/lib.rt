@@ -15,7 +15,10 @@ pub use cal_span::{
     read_span, text_reads_back, write_span,
 };
 pub use cal_streams::{Output, Port, WholeFault, read_whole};
-pub use cal_text::{are_digits, decimal_value, first_word, last_word, trim_blanks};
+pub use cal_text::{
+    are_digits, blanks_in_front, decimal_value, first_word, last_word, trim_blanks,
+    trim_blanks_end, word_len,
+};
 pub use cal_zone::{
     Civil, Instant, InstantFormatter, MICROS_PER_SECOND, Moment, PlaceCache, Rules, Zone,
     ZoneFault, ZoneTable, civil, laws, place, push_instant, settle, write_instant,

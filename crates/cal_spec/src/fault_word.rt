@@ -1,7 +1,6 @@
 //! Finding the word at fault in an invalid expression.
 
 ghost use Rattle.std.specs.Prelude.{◌≡◌, ◌+◌, ◌<◌, ◌≤◌, ◌||◌, ◌==◌, ℕ, IfOk, false, is_ok, length, not, slice_index, take, true};
-ghost use Rattle.std.specs.List.{prefix_len, suffix_len};
 ghost use Rattle.std.specs.Option.{IfSome, is_some};
 ghost use Rattle.cal_text.specs.headline.Trim.{trim_end_matches};
 ghost use Rattle.cal_text.specs.headline.Words.{is_blank};
@@ -9,6 +8,7 @@ ghost use Rattle.cal_spec.specs.Expr.{expr_in};
 ghost use Rattle.cal_spec.specs.FaultSpan.{IsWordAt};
 
 use crate::{SpecFault, read_expr};
+use cal_text::{blanks_in_front, trim_blanks_end, word_len};
 use std::alloc::{AllocError, Global};
 use std::ops::Range;
 
@@ -30,7 +30,7 @@ pub fn fault_span(alloc: Global, text: &str) -> Result<Option<Range<usize>>, All
         ≡ ((length (trim_end_matches is_blank text.now) == 0)
         || is_ok (expr_in (trim_end_matches is_blank text.now)))) }
 {
-    let trimmed = trim_end(text);
+    let trimmed = trim_blanks_end(text);
     if trimmed.is_empty() || is_valid(alloc, trimmed)? {
         return Ok(None);
     }
@@ -53,14 +53,6 @@ fn is_valid(alloc: Global, text: &str) -> Result<bool, AllocError>
         Err(SpecFault::NoMemory) => Err(AllocError),
         Err(_) => Ok(false),
     }
-}
-
-/// Returns `text` without trailing blanks.
-#[tactic(auto, unfolding(cal_text::specs::headline::Trim::trim_end_matches))]
-fn trim_end(text: &str) -> &str
-    ensures { result.now ≡ trim_end_matches is_blank text.now }
-{
-    text_until(text, text.len() - blanks_at_end(text.as_bytes()))
 }
 
 /// Returns the first `end` bytes of `text`, which must be followed by a blank or by nothing.
@@ -88,35 +80,4 @@ fn next_word(text: &[u8], from: usize) -> Option<Range<usize>>
         return None;
     }
     Some(start..end)
-}
-
-fn is_blank(byte: u8) -> bool
-    ensures { result ≡ is_blank byte }
-{
-    byte == b' ' || byte == b'\t'
-}
-
-fn blanks_in_front(text: &[u8]) -> usize
-    ensures value { result ≡ prefix_len is_blank text.now }
-    ensures within { result ≤ length text.now }
-{
-    text.iter().take_while(|byte| is_blank(**byte)).count()
-}
-
-fn blanks_at_end(text: &[u8]) -> usize
-    ensures value { result ≡ suffix_len is_blank text.now }
-    ensures within { result ≤ length text.now }
-{
-    text.iter()
-        .rev()
-        .take_while(|byte| is_blank(**byte))
-        .count()
-}
-
-/// Returns the number of bytes before the first blank.
-fn word_len(text: &[u8]) -> usize
-    ensures value { result ≡ prefix_len (λ byte. not (is_blank byte)) text.now }
-    ensures within { result ≤ length text.now }
-{
-    text.iter().take_while(|byte| !is_blank(**byte)).count()
 }

@@ -5,4 +5,4 @@ mod digits;
 mod words;
 
 pub use digits::{are_digits, decimal_value};
-pub use words::{first_word, last_word, trim_blanks};
+pub use words::{blanks_in_front, first_word, last_word, trim_blanks, trim_blanks_end, word_len};

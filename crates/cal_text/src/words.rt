@@ -32,8 +32,9 @@ fn trim_blanks_start(text: &str) -> &str
     &text[blanks_in_front(text.as_bytes())..]
 }
 
+/// Returns `text` without trailing blanks.
 #[tactic(auto, unfolding(crate::specs::headline::Trim::trim_end_matches))]
-fn trim_blanks_end(text: &str) -> &str
+pub fn trim_blanks_end(text: &str) -> &str
     ensures { result.now ≡ trim_end_matches is_blank text.now }
 {
     &text[..text.len() - blanks_at_end(text.as_bytes())]
@@ -60,7 +61,8 @@ fn is_blank(byte: u8) -> bool
     byte == b' ' || byte == b'\t'
 }
 
-fn blanks_in_front(text: &[u8]) -> usize
+/// Returns the number of leading blanks.
+pub fn blanks_in_front(text: &[u8]) -> usize
     ensures value { result ≡ prefix_len is_blank text.now }
     ensures within { result ≤ length text.now }
 {
@@ -78,8 +80,9 @@ fn blanks_at_end(text: &[u8]) -> usize
 }
 
 /// Returns the number of bytes before the first blank, or the length of `text` if there is no blank.
-fn word_len(text: &[u8]) -> usize
+pub fn word_len(text: &[u8]) -> usize
     ensures value { result ≡ position_or_len is_blank text.now }
+    ensures solid { result ≡ prefix_len (λ byte. not (is_blank byte)) text.now }
     ensures within { result ≤ length text.now }
 {
     text.iter().take_while(|byte| !is_blank(**byte)).count()

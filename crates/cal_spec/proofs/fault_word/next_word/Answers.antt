@@ -9,7 +9,7 @@ returns-then-start-end-clause-none c = λ _.
     let text = c.args.text.now in
     let start = c.args.from + c.blanks_in_front.result in
     let blanks = c.blanks_in_front.ensures.value ∙ ap (prefix_len is_blank) (rest_from text c.args.from) in
-    let bytes = c.word_len.ensures.value ∙ ap (prefix_len (λ byte. not (is_blank byte))) (rest_from text start) in
+    let bytes = c.word_len.ensures.solid ∙ ap (prefix_len (λ byte. not (is_blank byte))) (rest_from text start) in
     only_blanks text c.args.from start (ap (λ n. c.args.from + n) blanks) (sym bytes ∙ omega (arith, c.if-start-end.true)) c.requires
 
 pub returns-clause-word : goal.returns-clause-word
@@ -18,7 +18,7 @@ returns-clause-word c =
     let start = c.args.from + c.blanks_in_front.result in
     let end = start + c.word_len.result in
     let blanks = c.blanks_in_front.ensures.value ∙ ap (prefix_len is_blank) (rest_from text c.args.from) in
-    let bytes = c.word_len.ensures.value ∙ ap (prefix_len (λ byte. not (is_blank byte))) (rest_from text start) in (
+    let bytes = c.word_len.ensures.solid ∙ ap (prefix_len (λ byte. not (is_blank byte))) (rest_from text start) in (
       omega (arith, c.if-start-end.false),
       omega arith,
       omega (arith, c.blanks_in_front.ensures.within, c.word_len.ensures.within),
