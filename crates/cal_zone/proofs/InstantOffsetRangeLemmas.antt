@@ -67,11 +67,12 @@ pub ordered_in : (low high : ℤ) (w : ℤ × ℤ) (b : Bool) → IsIn low high 
 ordered_in low high w true p q = (p, q)
 ordered_in low high w false p q = (q, p)
 
--- `transition_of` returns a transition for every `moment` in a year that is within `jiff`'s range of timestamps
 no_none : (b : Bool) (moment : ℤ × OffsetInfo) → b ≡ true → (if b then Some moment else None) ≡ None → ⊥
 no_none true moment e f = cc
 no_none false moment e f = cc
 
+-- `transition_of` returns a transition for every `moment` from `low` to `high` if both are in `jiff`'s range of
+-- timestamps
 transition_some : (rule : Posix) (d : Dst) (w : ℤ × ℤ) (low high moment : ℤ) → neg_ℤ (pos 377_705_023_201_000_000_000) ≤ℤ low → high ≤ℤ pos 253_402_207_200_999_999_999
     → IsIn low high moment → transition_of rule d w moment ≡ None → ⊥
 transition_some rule d w low high moment from to p e = grind (arith, signed_arith, no_none, int_le, and_from, le_yes)
@@ -175,11 +176,11 @@ constant_after_table : (z : Table) (from second : ℤ) → vec_len z.transitions
 constant_after_table z from second all begun bound later same =
     grind (arith, signed_arith, vec_len, rule_after_table, next_after_table, offset_after_table, constant_by)
 
--- before the last transition of a table, the UTC offset is constant until the next transition of the table
 next_in_table : (z : Table) (from : ℤ) → count_at z from < vec_len z.transitions
     → OfTable.next_at z (nanos_of_seconds from) ≡ Some (OfTable.transition_view (transition_at z (count_at z from)))
 next_in_table z from some = grind (arith, signed_arith, vec_len, floor_second-whole)
 
+-- before the last transition of a table, the UTC offset is constant until the next transition of the table
 constant_between : (z : Table) (from second : ℤ) → count_at z from < vec_len z.transitions → from ≤ℤ second → IsBeforeTransition (OfTable.next_at z (nanos_of_seconds from)) from second
     → OfTable.offset_at z (nanos_of_seconds second) ≡ OfTable.offset_at z (nanos_of_seconds from)
 constant_between z from second some later same =
@@ -189,7 +190,8 @@ constant_between z from second some later same =
     offset_between z from second some later (omega (arith, signed_arith))
     ∙ sym (offset_between z from from some (omega (arith, signed_arith)) (omega (arith, signed_arith)))
 
--- in a zone of any kind, the UTC offset is constant until the next transition or the end of the year
+-- in a zone of any kind, the UTC offset is constant until the next transition or the end of the year, whichever is
+-- earlier
 pub constant_until_transition : (tz : TimeZone) (from second : ℤ) → pos 0 ≤ℤ from → from ≤ℤ pos 7_258_500_000 → from ≤ℤ second
     → IsBeforeTransition (next_at tz (nanos_of_seconds from)) from second → offset_at tz (nanos_of_seconds second) ≡ offset_at tz (nanos_of_seconds from)
 unfolding offset_at next_at

@@ -55,8 +55,8 @@ pub count_stays : (z : Table) (from second : ℤ) → count_at z from < vec_len 
 count_stays z from second some begun within = grind (arith, signed_arith, prefix_len_is, int_le, le_yes, transition_passed, le_no)
 
 -- `local` is at least 93,599 seconds (the largest UTC offset) after `from`, and more than 93,599 seconds before the
--- next transition after `from`. Then the transitions whose gap or fold has begun by `local` are as many as the
--- count at `from`.
+-- next transition after `from`. Then the number of transitions whose gap or fold has begun by `local` is the count at
+-- `from`.
 civil_count_stays : (z : Table) (from local : ℤ) → count_at z from < vec_len z.transitions → (from +ℤ pos 93_599) ≤ℤ local
     → (local +ℤ pos 93_599) <ℤ (transition_at z (count_at z from)).second → civil_count_at z local ≡ count_at z from
 civil_count_stays z from local some begun within =
@@ -66,12 +66,12 @@ civil_count_stays z from local some begun within =
     (λ l. le_no (civil_start (transition_at z (count_at z from))) local
     (let near = start_near (transition_at z (count_at z from)) in omega (arith, signed_arith)))
 
--- if `local` is at least 93,599 seconds after `from`, it isn't in the gap or fold of the last transition before or at
--- `from`
 outside_after : (z : Table) (rows : ℕ) (local : ℤ) → (0 < rows → civil_end (transition_at z (rows - 1)) ≤ℤ local) → is_inside z rows local ≡ false
 outside_after z zero local ended = refl
 outside_after z (suc rows) local ended = grind (arith, nat_tests)
 
+-- if `local` is at least 93,599 seconds after `from`, it isn't in the gap or fold of the last transition before or at
+-- `from`
 outside : (z : Table) (from local : ℤ) → (from +ℤ pos 93_599) ≤ℤ local → is_inside z (count_at z from) local ≡ false
 outside z from local begun = outside_after z (count_at z from) local
     (λ some.
@@ -152,8 +152,8 @@ count_of_copy z rows copy second count d bound point =
 pub type_after-last : (z : Table) (rows : ℕ) → 0 < rows → type_after z rows ≡ (transition_at z (rows - 1)).after
 type_after-last z rows some = grind (arith, signed_arith)
 
--- if the clock behaves the same around two local seconds, and `other` has a place, then `local` has a place at the same
--- distance
+-- if the clock behaves the same around two local seconds, and `other` has a place, then `local` has a place too, and
+-- the difference between local second and place is the same for both
 pub place_of-same_offsets : (tz : TimeZone) (local other place : ℤ) → HaveSameOffsets tz local other → place_of tz other ≡ Some place → place_of tz local ≡ Some (local -ℤ (other -ℤ place))
 unfolding settle_of
 place_of-same_offsets tz local other place same_offsets placed =
@@ -166,7 +166,6 @@ place_of-same_offsets tz local other place same_offsets placed =
     ∙ place_at-there tz local offset (same_offsets.instants offset ∙ there)
     ∙ ap Some (omega (arith, signed_arith))
 
--- under a rule without daylight saving time, the clock behaves the same around all local seconds
 ambiguous_standard : (std : Offset) (dst : Option Dst) (shown : DateTime) → dst ≡ None → ambiguous_at_by std dst shown ≡ Unambiguous std
 ambiguous_standard std dst shown none = rw none refl
 
@@ -176,6 +175,7 @@ dst_never std dst n none = rw none refl
 pub offset_standard : (rule : Posix) (n : ℤ) → rule.dst ≡ None → ByPosix.offset_at rule n ≡ rule.std_offset
 offset_standard rule n none = rw (dst_never rule.std_offset rule.dst n none) refl
 
+-- under a rule without daylight saving time, the clock behaves the same around all local seconds
 pub same_offsets_standard : (rule : Posix) (local other : ℤ) → rule.dst ≡ None → HaveSameOffsets (ByRule rule) local other
 unfolding offset_at ambiguous_at
 same_offsets_standard rule local other none = grind (arith, signed_arith, ambiguous_standard, offset_standard)

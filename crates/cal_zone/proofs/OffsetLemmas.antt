@@ -14,7 +14,7 @@ same_offset a b e =
       in_range = is_prop→PathP (λ j. IsOffsetSeconds (e j)) (λ j. hlevel props) a.in_range b.in_range i;
     }
 
--- `offset_of_seconds` keeps every number of seconds in `jiff`'s range of UTC offsets
+-- `offset_of_seconds` doesn't change a number of seconds that is in `jiff`'s range of UTC offsets
 pub nearest : (seconds : ℤ) → IsOffsetSeconds seconds → (offset_of_seconds seconds).seconds ≡ seconds
 unfolding offset_of_seconds
 nearest (pos n) h = let least : min n 93_599 ≡ n = omega (arith, signed_arith, h.1) in ap pos least

@@ -43,8 +43,8 @@ pub record IsBeside (moment at other : ℤ) : Type 0 where
 abbrev pub IsApart : ℤ → ℤ → ℤ → ℤ → Type 0
 IsApart low high by moment = (moment ≤ℤ (low +ℤ by)) ⊎ (high ≤ℤ (moment +ℤ by))
 
--- if `moment` is at most `by` inside the range from `low` to `high`, then two times that are at least `far`, which is
--- more than `by`, inside this range are on the same side of `moment`
+-- `moment` is at most `by` inside the range from `low` to `high`, while `at` and `other` are at least `far` inside it.
+-- If `by` is less than `far`, then `at` and `other` are on the same side of `moment`.
 beside : (low high by far moment at other : ℤ) → IsApart low high by moment → by <ℤ far → (low +ℤ far) ≤ℤ at → (at +ℤ far) ≤ℤ high → (low +ℤ far) ≤ℤ other → (other +ℤ far) ≤ℤ high
     → IsBeside moment at other
 beside low high by far moment at other (inl h) more a b c d = record {
@@ -56,8 +56,8 @@ beside low high by far moment at other (inr h) more a b c d = record {
   lt = lt_test at moment (omega (arith, signed_arith)) ∙ sym (lt_test other moment (omega (arith, signed_arith)));
 }
 
--- if `moment` is at most `by` inside the range from `low` to `high`, then a time that differs from `moment` by at most
--- `more` is at most `by` plus `more` inside this range
+-- if `moment` is at most `by` inside the range from `low` to `high`, and `near` differs from `moment` by at most
+-- `more`, then `near` is at most `by` plus `more` inside this range
 apart_near : (low high by more moment near : ℤ) → IsApart low high by moment → near ≤ℤ (moment +ℤ more) → moment ≤ℤ (near +ℤ more) → IsApart low high (by +ℤ more) near
 apart_near low high by more moment near (inl h) a b = inl (omega (arith, signed_arith))
 apart_near low high by more moment near (inr h) a b = inr (omega (arith, signed_arith))
@@ -94,8 +94,9 @@ near_by low high a b kept other more p q some h (inr x) y = omega (arith, signed
 clamped_near : (low high a b more : ℤ) → low ≤ℤ high → pos 0 ≤ℤ more → a ≤ℤ (b +ℤ more) → clamp_to low high a ≤ℤ (clamp_to low high b +ℤ more)
 clamped_near low high a b more order some h = grind (arith, signed_arith, clamped, near_by)
 
--- if `moment` is at most `by` inside the range from `low` to `high`, and `moved` differs from `moment` by at most
--- `more`, then `moved`, clamped to the civil times of `jiff`, is at most `by` plus `more` inside this range
+-- The lemmas `kept_low` and `kept_high` are the two cases of `apart_kept`: if `moment` is at most `by` inside the range
+-- from `low` to `high`, and `moved` differs from `moment` by at most `more`, then `moved`, clamped to the civil times
+-- of `jiff`, is at most `by` plus `more` inside this range.
 kept_low : (low high by more moment moved kept : ℤ) → moment ≤ℤ (low +ℤ by) → civil_min ≤ℤ low → pos 0 ≤ℤ by → pos 0 ≤ℤ more → moved ≤ℤ (moment +ℤ more)
     → (kept ≤ℤ moved) ⊎ (kept ≤ℤ civil_min) → IsApart low high (by +ℤ more) kept
 kept_low low high by more moment moved kept h from some also a (inl k) = inl (omega (arith, signed_arith))
@@ -114,9 +115,9 @@ apart_kept : (low high by more moment moved : ℤ) → civil_min ≤ℤ low → 
 apart_kept low high by more moment moved from to some also a b (inl h) = grind (arith, signed_arith, kept_low, clamped, civil_order)
 apart_kept low high by more moment moved from to some also a b (inr h) = grind (arith, signed_arith, kept_high, clamped, civil_order)
 
--- The nanosecond at which daylight saving time starts or ends in the year from `low` to `high`: in UTC, if `seconds` is
--- the UTC offset of the clock until then, or in local time, if `seconds` is 0. By the lemma below, the two differ by at
--- most one UTC offset.
+-- The nanosecond at which daylight saving time starts or ends in the year from `low` to `high`, or `high` if there is
+-- no `day`. It is in UTC if `seconds` is the UTC offset until then, and in local time if `seconds` is 0. By the lemma
+-- below, the two differ by at most 93,599 seconds, the largest UTC offset.
 abbrev pub moment_on : Option ℤ → ℤ → ℤ → ℤ → ℤ → ℤ
 moment_on day low high time seconds = match_some day high (λ d. clamp_to low high (d *ℤ nanos_per_day +ℤ nanos_of_seconds (time -ℤ seconds)))
 
@@ -138,9 +139,9 @@ apart_wall low high by y d seconds order offset apart =
     let near = moment_near (rule_day y d.date) (first_nanosecond y) (last_nanosecond y) d.time seconds order offset in
     apart_near low high by (pos 93_599_000_000_000) _ _ apart near.0 near.1
 
--- Here `w` is in local time. `at` and `other` are on the same side of all ends of the gap and the fold around the start
--- and the end of daylight saving time. By the lemma below, `jiff` then reports the same for both: unambiguous, in the
--- gap or in the fold, with the same offsets.
+-- Here `w` is in local time. At the start and at the end of daylight saving time there are a gap and a fold, which have
+-- four ends in all. `at` and `other` are on the same side of each of these ends. By the lemma below, `jiff` then
+-- reports the same for both: unambiguous, in the gap or in the fold, with the same offsets.
 pub record AreBeside (std dst : Offset) (w : ℤ × ℤ) (at other : ℤ) : Type 0 where
   pub start : IsBeside w.0 at other
   pub end : IsBeside w.1 at other
@@ -160,11 +161,11 @@ ordered_rises w = grind (arith, signed_arith, int_le)
 pub ordered_apart : (low high : ℤ) (w : ℤ × ℤ) → IsApart low high (pos 0) (ordered w).0 → IsApart low high (pos 0) (ordered w).1 → IsApart low high (pos 0) w.0 × IsApart low high (pos 0) w.1
 ordered_apart low high w = grind (arith, signed_arith, int_le)
 
--- if `transition_of` returns a transition for `moment`, this transition is at `moment`
 by_range : (b : Bool) (moment : ℤ) (info : OffsetInfo) (next : ℤ × OffsetInfo) → (if b then Some (moment, info) else None) ≡ Some next → next.0 ≡ moment
 by_range true moment info next e = cc
 by_range false moment info next e = absurd (cc)
 
+-- if `transition_of` returns a transition for `moment`, this transition is at `moment`
 pub transition_at_moment : (rule : Posix) (d : Dst) (w : ℤ × ℤ) (moment : ℤ) (next : ℤ × OffsetInfo) → transition_of rule d w moment ≡ Some next → next.0 ≡ moment
 transition_at_moment rule d w moment next e = grind (arith, signed_arith, by_range, int_le)
 
@@ -188,9 +189,9 @@ window_apart rule d y low high next e h =
     let ends = window_by rule d y low high next e h in
     ordered_apart low high (utc_window d y rule.std_offset) ends.0 ends.1
 
--- If daylight saving time starts with the year, and its end, read at standard time, is outside the year, then
--- `utc_window` has the last nanosecond of the year instead of the end. The two lemmas below show that the end is then
--- at most one UTC offset inside the range from `low` to `high`.
+-- If daylight saving time starts with the year, and its end, in standard time, is outside the year, then `utc_window`
+-- has the last nanosecond of the year instead of the end. The two lemmas below show that the end is then at most 93,599
+-- seconds (the largest UTC offset) inside the range from `low` to `high`.
 end_passed : (low high first last end std : ℤ) → first ≤ℤ low → low ≤ℤ civil_max → IsOffsetSeconds std → clamp_to civil_min civil_max (end +ℤ nanos_of_seconds std) <ℤ first
     → ((end +ℤ nanos_of_seconds std) ≤ℤ clamp_to civil_min civil_max (end +ℤ nanos_of_seconds std)) ⊎ (civil_max ≤ℤ clamp_to civil_min civil_max (end +ℤ nanos_of_seconds std))
     → IsApart low high (pos 93_599_000_000_000) end
@@ -295,7 +296,7 @@ pub offset_in : (rule : Posix) (d : Dst) (y n : ℤ) → rule.dst ≡ Some d →
 offset_in rule d y n e f = rw (e, f) refl
 
 -- how many nanoseconds a range stays away from the start and the end of daylight saving time: four times the largest
--- UTC offset, and one second
+-- UTC offset, plus one second
 abbrev pub far : ℤ
 far = pos 374_397_000_000_000
 
@@ -333,10 +334,10 @@ next_found rule (Some d) n change e = (d, refl, e)
 pub next_after_table : (z : Table) (past : ℤ) → vec_len z.transitions ≤ count_at z past → OfTable.next_at z (nanos_of_seconds past) ≡ match_some z.posix_tz None (λ rule. ByPosix.next_at rule (nanos_of_seconds past))
 next_after_table z past all = grind (arith, signed_arith, vec_len, floor_second-whole, count_after_table)
 
--- if a date is 31 December of the year `y`, the year ends with this date
 december : (d : Date) (y : ℤ) → d.year ≡ y → pos d.month ≡ pos 12 → pos d.day ≡ pos 31 → epoch_day d ≡ days_from_civil y 12 31
 december d y year month day = cc
 
+-- the end of 31 December of the year `y`, in seconds of Unix time, is `year_end y`
 pub year_end-december : (d : Date) (y : ℤ) → d.year ≡ y → pos d.month ≡ pos 12 → pos d.day ≡ pos 31 → (epoch_day d +ℤ pos 1) *ℤ pos 86_400 ≡ year_end y
 year_end-december d y year month day =
     let last = december d y year month day in

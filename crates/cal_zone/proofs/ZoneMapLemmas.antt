@@ -1,4 +1,5 @@
--- Looking up and inserting a zone in the `BTreeMap` of a zone table does the same in the finite map that contracts see.
+-- The `BTreeMap` of a zone table and the finite map that contracts see hold the same zones: looking up a name has the
+-- same result in both, and inserting a zone into the `BTreeMap` also inserts it into the finite map.
 use Rattle.std.proofs.Common.{◌≡◌, ℕ, List, [], ◌∷◌, map, refl, ap, sym, ◌∙◌, cond, true, false}
 use Rattle.std.specs.BTreeMap.{BTreeMap, get_by_text, is_at, UpdatesBy}
 use Rattle.std.specs.Cmp.{eq_by_cmp_equiv}

@@ -53,14 +53,14 @@ abbrev pub HasConstantOffset : TimeZone → ℤ → ℤ → Type 0
 HasConstantOffset tz from to =
     (second : ℤ) → from ≤ℤ second → second <ℤ to → offset_at tz (nanos_of_seconds second) ≡ offset_at tz (nanos_of_seconds from)
 
--- how many seconds a range stays away from the transitions of a POSIX rule: four times the largest UTC offset, and one
+-- how many seconds a range stays away from the transitions of a POSIX rule: four times the largest UTC offset, plus one
 -- second
 abbrev pub transition_margin : ℕ
 transition_margin = 374_397
 
--- `next`, the first transition after the instant `past`, is at least `transition_margin` seconds after `local`. In
--- addition, `local` is before the end of the year of `past`, or this year ends at most `transition_margin` seconds
--- after `past`.
+-- `past` isn't before 1970. The first transition after it, `next`, exists and is at least `transition_margin` seconds
+-- after `local`. In addition, `local` is before the end of the year of `past`, or this year ends at most
+-- `transition_margin` seconds after `past`.
 pub record IsClearOfTransition (next : Option (ℤ × OffsetInfo)) (past local : ℤ) : Type 0 where
   pub change : ℤ × OffsetInfo
   pub is : next ≡ Some change

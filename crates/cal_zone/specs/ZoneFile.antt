@@ -29,7 +29,8 @@ abbrev pub IsFileZone : List ℕ → List ℕ → TimeZone → Type 0
 IsFileZone name bytes zone = IsReadable name bytes × IsReadFrom bytes zone
 
 -- Whether a zone file can be rejected with this error. The name is checked first, then the size, then the bytes: they
--- are invalid if they are not a zone file, or if the POSIX rule in them contradicts their table.
+-- are invalid if they are not a zone file, or if the POSIX rule in them contradicts their table. Memory can run out
+-- only if the bytes are a zone file.
 abbrev pub IsFileFault : List ℕ → List ℕ → ZoneFault → Type 0
 IsFileFault name bytes BadName = is_zone_name name ≡ false
 IsFileFault name bytes BadRule = ⊥

@@ -16,8 +16,8 @@ use cal_civil::DAY;
 
 /// The instants `from..to`, all on one day of a zone's clock and at one UTC offset.
 ///
-/// The text of each of these instants is `day` (weekday and date), the time of day (the seconds since `midnight`) and
-/// `word` (the zone).
+/// The text of each of these instants consists of `day` (weekday and date), the time of day (computed from the seconds
+/// since `midnight`) and `word` (the zone).
 #[derive(Drop)]
 pub(crate) struct FormattedDay {
     pub(crate) from: i64,
@@ -43,8 +43,8 @@ impl FormattedDay {
         }
     }
 
-    /// Returns the day of the zone's clock that contains `instant`, limited to `range`: a range with a constant UTC
-    /// offset that contains `instant`.
+    /// Returns the day of the zone's clock that contains `instant`, limited to `range`. The caller guarantees that
+    /// `range` contains `instant` and has a constant UTC offset.
     pub(crate) fn of(zone: Zone, range: InstantOffsetRange, instant: Instant) -> FormattedDay
         requires { IsInstantOffsetRangeAt (zone_of zone) instant.secs range }
         ensures day { IsFormattedDay zone.entry result }

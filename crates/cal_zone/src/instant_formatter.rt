@@ -1,5 +1,5 @@
-//! Conversion of many instants of one zone to civil time and text, with caches that make it fast for instants
-//! close together.
+//! Conversion of many instants to civil time and text in one zone, with caches that make it fast for instants close
+//! together.
 
 ghost use Rattle.std.specs.Prelude.{◌≡◌, ◌+◌, ◌≤◌, ◌++◌, length};
 ghost use Rattle.cal_bytes.specs.declared.short_text.TheConstants.{SHORT_TEXT_ROOM};
@@ -19,8 +19,8 @@ use std::marker::Model;
 
 /// A converter from instants to civil time and text in one zone, fast for instants close together.
 ///
-/// It caches a range with a constant UTC offset, and the text of the day that it printed last. The cached values never
-/// change a result, so contracts see only the zone.
+/// It caches a range with a constant UTC offset, and the day of the instant that was formatted last. The cached values
+/// never change a result, so contracts see only the zone.
 #[derive(Drop)]
 pub struct InstantFormatter<'z> {
     zone: Zone<'z>,

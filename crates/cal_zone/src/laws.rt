@@ -68,9 +68,10 @@ pub fn places_are_of_one_local_second()
 /// How the place of a local second follows from what `jiff` reports for its civil time: that it occurs once, is in a
 /// gap, or is in a fold.
 ///
-/// Only one UTC offset is tried: the only offset that `jiff` reports, or for a gap or a fold the offset before the
-/// transition. So in a fold, the place is the first occurrence, or there is no place. In a gap there is no place,
-/// unless the zone really has the offset before the transition at the instant that this offset yields.
+/// Only one UTC offset is tried. For a civil time that occurs once, it is the offset that `jiff` reports; for a gap or
+/// a fold, it is the offset before the transition. Subtracting this offset from the local second yields an instant. If
+/// the zone has this offset at that instant, the instant is the place, and otherwise there is no place. So in a fold,
+/// only the first occurrence can be the place.
 pub fn places_by_the_offset_tried()
     ensures once { (tz : TimeZone) (local : ℤ) (offset : Offset)
         → ambiguous_at tz (datetime_of local) ≡ Unambiguous offset → place_of tz local ≡ place_at tz local offset }
@@ -104,8 +105,9 @@ pub fn tables_change_at_one_name()
 {}
 
 /// A word is an offset if and only if it is a sign, two digits for hours from 00 to 25, a colon, and two digits for
-/// minutes from 00 to 59 (systemd.time(7), Calendar Events and Parsing Timestamps). No word stands for two offsets. An
-/// offset of whole minutes, up to 25:59, is printed as a word that is parsed as the same offset.
+/// minutes from 00 to 59 (systemd.time(7), Calendar Events and Parsing Timestamps). No word stands for two offsets.
+/// Every such offset is a whole number of minutes, at most 25:59 east or west of UTC. It is printed as a word that is
+/// parsed as the same offset.
 pub fn one_offset_word()
     ensures found { (word : List ℕ) (seconds : ℤ) → offset_in word ≡ Some seconds → IsOffsetWord word seconds }
     ensures only { (word : List ℕ) (seconds : ℤ) → IsOffsetWord word seconds → offset_in word ≡ Some seconds }

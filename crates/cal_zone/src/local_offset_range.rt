@@ -22,8 +22,9 @@ use jiff::tz::Tzif;
 use jiff_core::Timestamp;
 use jiff_tz::{TimeZone, Transition, posix, tzif};
 
-/// How many seconds a range stays away from the transitions of a POSIX rule. A rule fixes a transition in UTC, but the
-/// gap or the fold is in local time, and the two can be up to four offsets apart.
+/// How many seconds a range stays away from the transitions of a POSIX rule. A transition is an instant, but its gap or
+/// fold consists of local seconds. As numbers, these local seconds differ from the instant by at most four times
+/// [`MAX_OFFSET`].
 pub(crate) const TRANSITION_MARGIN: i64 = 4 * MAX_OFFSET + 1;
 
 /// The local seconds `from..to`, all at the same UTC offset in seconds.
@@ -62,9 +63,10 @@ fn all_local_seconds(offset: i64) -> LocalOffsetRange
 /// Returns the range with a constant UTC offset that starts at `local`, according to the transitions of a
 /// zone file's table.
 ///
-/// It ends [`MAX_OFFSET`] before the next transition, since that transition can affect local seconds up to one offset
-/// earlier. Returns `None` if `local` is already that close to the transition, or if no transition follows: from there
-/// on the file's POSIX rule decides, if it has one.
+/// It ends [`MAX_OFFSET`] seconds before the next transition, since the gap or fold of that transition can begin that
+/// much earlier. Returns `None` if a transition is less than [`MAX_OFFSET`] seconds before `local` or at most
+/// [`MAX_OFFSET`] seconds after it, or if no transition follows. After the last transition, the file's POSIX rule
+/// decides, if it has one.
 pub(crate) fn local_range_in_table(table: &Tzif, local: i64) -> Option<LocalOffsetRange>
     requires { IsLocalSecond local }
     ensures { IfSome result (IsLocalOffsetRangeAt (zone_of_table table.now) local) }
@@ -82,12 +84,12 @@ pub(crate) fn local_range_in_table(table: &Tzif, local: i64) -> Option<LocalOffs
 }
 
 /// Returns the end of a range of local seconds that starts at `local` and has a constant UTC offset, if the last
-/// transition of the table is at least [`TRANSITION_MARGIN`] before `local`. Otherwise returns `local`, which makes
-/// the range empty.
+/// transition of the table is at least [`TRANSITION_MARGIN`] seconds before `local`. Otherwise returns `local`, which
+/// makes the range empty.
 ///
 /// After the last transition, the table's POSIX rule decides. If there is no such rule, or if it has no daylight saving
 /// time, the range extends to [`LOCAL_END`]. The caller guarantees that the UTC offset is constant from
-/// [`TRANSITION_MARGIN`] before `local` until `constant_until`.
+/// [`TRANSITION_MARGIN`] seconds before `local` until `constant_until`.
 pub(crate) fn range_end_after_table(table: &Tzif, local: i64, constant_until: Instant) -> i64
     requires local_in { IsLocalSecond local }
     requires constant { HasConstantOffset (zone_of_table table.now) (local -ℤ pos transition_margin) constant_until.secs }
@@ -110,7 +112,7 @@ pub(crate) fn range_end_after_table(table: &Tzif, local: i64, constant_until: In
 /// Returns the end of a range of local seconds that starts at `local` and has a constant UTC offset, if the zone is a
 /// POSIX rule. For every other zone, returns `local`, which makes the range empty.
 ///
-/// The caller guarantees that the UTC offset is constant from [`TRANSITION_MARGIN`] before `local` until
+/// The caller guarantees that the UTC offset is constant from [`TRANSITION_MARGIN`] seconds before `local` until
 /// `constant_until`.
 pub(crate) fn range_end_in_zone(zone: TimeZone<'_>, local: i64, constant_until: Instant) -> i64
     requires local_in { IsLocalSecond local }
@@ -141,9 +143,10 @@ fn range_end_by_rule(rule: posix::TimeZone, local: i64, constant_until: Instant)
 /// Returns the end of a range of local seconds without a gap or a fold. `next` is the first transition of a POSIX
 /// rule after `past`.
 ///
-/// The range starts [`TRANSITION_MARGIN`] after `past` and ends [`TRANSITION_MARGIN`] before the transition. Since a
-/// POSIX rule is evaluated year by year, the range also ends with the year of `past`, unless it starts after that year.
-/// Returns `past`, which makes the range empty, if there is no transition or if `past` is before 1970.
+/// The range starts [`TRANSITION_MARGIN`] seconds after `past`, and ends [`TRANSITION_MARGIN`] seconds before the
+/// transition or earlier. Since a POSIX rule is evaluated year by year, a range that starts in the year of `past` also
+/// ends in that year. Returns `past`, which makes the range empty, if there is no transition or if `past` is before
+/// 1970.
 fn range_end_before_transition(next: Option<Transition>, past: i64) -> i64
     requires { past ≤ℤ pos 7_258_500_000 }
     ensures { IsClearOfTransitionUntil (option_map transition_view next) past result }

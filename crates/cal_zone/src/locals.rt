@@ -12,8 +12,9 @@ use jiff::Timestamp;
 /// Returns the local second of the years 1970 to 2199 whose place is `instant`, or `None` if there is no such local
 /// second.
 ///
-/// The result is what the zone's clock shows at `instant`, unless the clock showed the same time before: after clocks
-/// are turned back, the second occurrence of a local time is not a place. (systemd.time(7), Calendar Events.)
+/// The result, if there is one, is the local second that the zone's clock shows at `instant`. After clocks are turned
+/// back, they show some local times a second time. Such a second occurrence is not a place, so the result is then
+/// `None`. (systemd.time(7), Calendar Events.)
 pub(crate) fn local_at(zone: Zone, instant: Instant) -> Option<i64>
     ensures { IsLocalAt (zone_of zone.entry) instant.secs result }
 {

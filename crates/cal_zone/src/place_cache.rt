@@ -145,8 +145,8 @@ impl<'z> PlaceCache<'z> {
         place(self.zone, local)
     }
 
-    /// Caches a range that contains `local` and has a constant offset. If none is found, the next search starts at
-    /// least [`SEEK_RETRY_DISTANCE`] later.
+    /// Caches a range that contains `local` and has a constant offset. If none is found, local seconds before `local`
+    /// plus [`SEEK_RETRY_DISTANCE`] don't start another search.
     fn seek(&mut self, local: i64)
         requires { IsLocalSecond local }
         ensures { self.new ≡ self.old }

@@ -69,7 +69,7 @@ impl Rules {
 
     /// Parses a zone file (RFC 8536) for a zone that is to be named `name`.
     ///
-    /// The errors are, in the order in which they are checked:
+    /// The errors, in the order of the checks:
     ///
     /// - [`ZoneFault::BadName`] if `name` doesn't have the form of a zone's name;
     /// - [`ZoneFault::TooLarge`] if the file has more than 1,048,576 bytes;
@@ -126,8 +126,8 @@ impl Rules {
         time_zone.to_offset(timestamp)
     }
 
-    /// Returns a range with a constant UTC offset that starts at `local`, if one is found: from the table of a zone
-    /// file, and otherwise from the POSIX rule.
+    /// Returns a range with a constant UTC offset that starts at `local`, if one is found. For a zone file, its table
+    /// is tried first, and then its POSIX rule.
     pub(crate) fn local_range(&self, local: i64) -> Option<LocalOffsetRange>
         requires { IsLocalSecond local }
         ensures { IfSome result (IsLocalOffsetRangeAt self.now local) }
