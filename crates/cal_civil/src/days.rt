@@ -16,8 +16,8 @@ pub const DAY: i64 = 86_400;
 /// have 84,006 days.
 pub const LOCAL_END: i64 = 84_006 * DAY;
 
-/// The largest UTC offset that `jiff` accepts, in seconds (25:59:59): a local second and its instant are at most this
-/// far apart.
+/// The largest UTC offset that `jiff` accepts, in seconds (25:59:59). A local second and the second of Unix time to
+/// which it is converted are at most this far apart.
 pub const MAX_OFFSET: i64 = 93_599;
 
 /// Returns the day number of a local second of the years 1970 to 2199: 0 for 1970-01-01, up to 84,005.

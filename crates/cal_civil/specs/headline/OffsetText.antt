@@ -10,7 +10,7 @@ zeros width n = replicate (width - length (decimal n)) 48
 abbrev pub sign_text : ℤ → List ℕ
 sign_text offset = if int_lt offset (pos 0) then codes "-" else codes "+"
 
--- the pieces that are joined to a text such as `+02:00`: sign, hours, colon and minutes
+-- the pieces that are joined into a text such as `+02:00`: sign, hours, colon and minutes
 abbrev pub minutes_pieces : ℤ → List (List ℕ)
 minutes_pieces offset =
     let ahead = unsigned_abs offset in

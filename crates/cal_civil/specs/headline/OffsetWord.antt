@@ -19,7 +19,7 @@ pub record AreTwoDigits (text : List ℕ) (n : ℕ) : Type 0 where
   pub digits : list_all is_ascii_digit text ≡ true
   pub value : digits_value 10 text ≡ n
 
--- `text` is `hh:mm`, with hours from 00 to 25 and minutes from 00 to 59, which are `seconds` seconds
+-- `text` is `hh:mm`, with hours from 00 to 25 and minutes from 00 to 59, and stands for `seconds` seconds
 pub record IsHourMinute (text : List ℕ) (seconds : ℕ) : Type 0 where
   pub hour : List ℕ
   pub minute : List ℕ
