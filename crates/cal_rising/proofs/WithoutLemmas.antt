@@ -22,7 +22,7 @@ use Rattle.std.specs.Cmp.{int_eq_equiv}
 use Rattle.std.proofs.lemmas.Map.Made.{is_member-filter}
 use Rattle.cal_text.proofs.General.{lt_from_less}
 
--- if `is_member` returns `true`, the number is in the list
+-- `is_member` returns `true` only for numbers in the list; by `is_member-Has`, it returns `true` for all of them
 pub Has-is_member : (xs : List ℤ) (i : ℤ) → is_member int_eq xs i ≡ true → Has xs i
 Has-is_member [] i h = absurd (cc)
 Has-is_member (x ∷ xs) i h = grind (arith, ints, Has-is_member xs i)
@@ -81,8 +81,8 @@ pub is_member-reached : (s was : Peeked) (n : ℤ) → HasHead s → IfSome s.he
     → option_eq int_eq s.head (Some n) ≡ is_member int_eq (numbers was) n
 is_member-reached s was n h at same = member_reached s.head s.after n h.0 h.1 at ∙ same n (grind (arith, ints))
 
--- two lists of exceptions with the same numbers from `n` upwards leave the same numbers of a list whose numbers are all
--- above `n`
+-- If `ys` and `zs` have the same numbers from `n` upwards, and all numbers of `xs` are above `n`, then `xs` without the
+-- numbers of `zs` is `xs` without those of `ys`.
 without-same : (n : ℤ) (xs ys zs : List ℤ) → AllByRecursion (λ y. int_cmp n y ≡ Less) xs → IsSameFrom n zs ys → without xs zs ≡ without xs ys
 unfolding without
 without-same n [] ys zs h same = refl
@@ -134,7 +134,7 @@ behind_more n at given now s t h lt lacks = record {
       get_or-set_other now at k t d other ∙ h.untouched k d (omega arith);
 }
 
--- if `AreBehind` holds for an index after the last source, no source has the number
+-- if `AreBehind` holds for an index after the last source, no source had the number
 pub behind_all : (n number : ℤ) (at : ℕ) (given now ss : List Peeked) → AreBehind n at given now → n ≡ number → given ≡ ss → length given ≤ at
     → false ≡ list_any (λ xs. is_member int_eq xs number) (map numbers ss)
 behind_all n number at given now ss h same whole all = grind (arith, ints, any-none)
@@ -144,7 +144,8 @@ pub behind_here : (n number : ℤ) (at : ℕ) (given now ss : List Peeked) (s : 
     → is_member int_eq (numbers (get_or now at s)) n ≡ true → true ≡ list_any (λ xs. is_member int_eq xs number) (map numbers ss)
 behind_here n number at given now ss s h same whole lt has = grind (arith, ints, any-here)
 
--- if a source is replaced by one that has `n` exactly when the old one does, whether any source has `n` doesn't change
+-- if a source is replaced, and the old and the new one both have `n` or both lack it, then whether any source has `n`
+-- stays the same
 pub any_replaced : (n : ℤ) (ss : List Peeked) (i : ℕ) (s d : Peeked) → i < length ss → is_member int_eq (numbers s) n ≡ is_member int_eq (numbers (get_or ss i d)) n
     → list_any (λ xs. is_member int_eq xs n) (map numbers (set ss i s)) ≡ list_any (λ xs. is_member int_eq xs n) (map numbers ss)
 any_replaced n [] i s d lt h = absurd (omega arith)

@@ -6,7 +6,7 @@ use Rattle.std.specs.Ordering.{int_cmp}
 use Rattle.std.specs.List.Sorted.{IsStrictlySortedBy}
 use Rattle.cal_rising.specs.RisingList.{union, without}
 
--- the state of a merge: whether `next` was called, and the remaining numbers of each source and of each exception
+-- the state of a merge: whether `next` has been called, and the remaining numbers of each source and of each exception
 pub record Merge : Type 0 where
   pub started : Bool
   pub lists : List (List ℤ)
@@ -29,7 +29,7 @@ numbers_by (Some x) xs = x ∷ xs
 abbrev pub numbers : Peeked → List ℤ
 numbers s = numbers_by s.head s.after
 
--- the first remaining number was read ahead, unless none is left
+-- the remaining numbers are strictly increasing, and the first of them, if any, has been read ahead
 abbrev pub HasHead : Peeked → Type 0
 HasHead s = (s.head ≡ slice_get (numbers s) 0) × IsStrictlySortedBy int_cmp (numbers s)
 

@@ -7,7 +7,7 @@ ghost use Rattle.std.specs.Set.{is_member};
 
 use crate::Rising;
 
-/// A list of strictly increasing numbers, and how many of them were returned already.
+/// A list of strictly increasing numbers, and how many of them have been returned.
 #[derive(Drop)]
 pub struct Listed {
     numbers: Vec<i64>,
@@ -37,7 +37,7 @@ impl Rising for Listed {
         number
     }
 
-    /// Returns whether `number` is in the list and was not returned yet. This is never `None`.
+    /// Returns whether `number` is in the list and has not been returned yet. This is never `None`.
     fn has(&mut self, number: i64) -> Option<bool>
         ensures has { IfSome result (λ has. has ≡ is_member int_eq (drop self.old.given self.old.numbers.items) number) }
         ensures says { IsSome result }

@@ -11,7 +11,7 @@ use std::marker::Model;
 /// A merge of sources and exceptions: a source that returns each number of the sources once, in increasing order,
 /// unless an exception has it.
 ///
-/// A contract sees the remaining numbers of each source and of each exception, and whether `next` was called.
+/// A contract sees the remaining numbers of each source and of each exception, and whether `next` has been called.
 #[derive(Drop)]
 pub struct Merge<S: Rising> {
     sources: Sources<S>,
@@ -70,8 +70,8 @@ impl<S: Rising> Merge<S> {
 impl<S: Rising> Rising for Merge<S> {
     ghost rest = { merged };
 
-    /// Removes and returns the smallest remaining number of the sources that no exception has. Smaller numbers, which
-    /// exceptions have, are dropped. Returns `None` if no number is left.
+    /// Removes and returns the smallest remaining number of the sources that no exception has. The sources' smaller
+    /// numbers are dropped, since exceptions have them. Returns `None` if no number is left.
     fn next(&mut self) -> Option<i64>
         ensures given { result ≡ slice_get (merged self.old) 0 }
         ensures left { merged self.new ≡ drop 1 (merged self.old) }

@@ -1,4 +1,4 @@
-//! One source of a merge, from which at most one number was read ahead: read but not returned yet.
+//! One source of a merge. At most one number has been read ahead from it: read but not returned yet.
 
 ghost use Rattle.std.specs.Prelude.{◌≡◌, ◌≤ℤ◌, None, IfSome};
 ghost use Rattle.std.specs.Set.{is_member};
@@ -9,8 +9,8 @@ ghost use Rattle.cal_rising.specs.RisingList.{IsSameFrom};
 use crate::Rising;
 use std::marker::Model;
 
-/// How many times a source has to say that it lacks a number before the next number is read from it. Reading the next
-/// number of a source that has few costs far more than asking the source whether it has a certain number.
+/// How many times a source has to say that it lacks a number before the next number is read from it. If the source has
+/// few numbers, reading the next one costs far more than asking whether it has a certain number.
 const MISSES_BEFORE_STEP: u8 = 128;
 
 /// A source whose next number may have been read ahead ("peeked"). A contract sees the number read ahead, if any, and
@@ -19,7 +19,7 @@ const MISSES_BEFORE_STEP: u8 = 128;
 pub struct Peeked<S: Rising> {
     head: Option<i64>,
     source: S,
-    /// How many calls of `step_toward` were counted since the last one that read from the source.
+    /// How many times the source has said that it lacks a number since `step_toward` last read from it.
     misses: u8,
 }
 
@@ -75,7 +75,8 @@ impl<S: Rising> Peeked<S> {
     }
 
     /// Returns whether `number` is still to be returned. The caller promises not to ask for a smaller number again, so
-    /// numbers below `number` may be dropped: a source that cannot tell is read up to `number`.
+    /// numbers below `number` may be dropped. If the source cannot tell whether it has `number`, it is read up to
+    /// `number`.
     pub fn has_onward(&mut self, number: i64) -> bool
         ensures has { result ≡ is_member int_eq (numbers self.old) number }
         ensures left { IsSameFrom number (numbers self.new) (numbers self.old) }

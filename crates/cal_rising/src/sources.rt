@@ -82,7 +82,7 @@ impl<S: Rising> Rising for Sources<S> {
     ghost rises = { rises-union };
 }
 
-/// Reads one number ahead from each source that has no number read ahead.
+/// Reads one number ahead from each source from which none has been read ahead.
 fn peek_all<S: Rising>(sources: &mut Vec<Peeked<S>>)
     ensures same { map numbers sources.new.items ≡ map numbers sources.old.items }
     ensures taken { All HasHead sources.new.items }
