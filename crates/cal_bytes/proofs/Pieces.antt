@@ -1,5 +1,5 @@
--- Lemmas on writing a text in pieces: if every piece is written, all of the text is written, and if a piece fails, a
--- prefix of the text is written.
+-- Lemmas on writing a text in pieces: if every piece is written, all of the text is written, and if writing a piece
+-- fails, a prefix of the text is written.
 use Rattle.std.proofs.Common.{◌≡◌, ℕ, List, [], ◌++◌, take, drop, Option, Result, Ok, Err, refl, sym, ap, ◌∙◌, append_assoc, subst}
 use Rattle.std.proofs.KnownBytes.{Appends-nil, Appends-trans}
 use Rattle.std.proofs.lemmas.List.{append-nil, take-append-drop}
@@ -43,8 +43,8 @@ respell a b x y text l e = subst (λ (z : List ℕ). Leaves a b z text) e l
 pub step_taken : (a b c : Option (List ℕ)) (n : ℕ) (rest text : List ℕ) → Leaves a b rest text → Appends b c (take n rest) → Leaves a c (drop n rest) text
 step_taken a b c n rest text l h = step a b c (take n rest) (drop n rest) text (respell a b rest (take n rest ++ drop n rest) text l (sym (take-append-drop n rest))) h
 
--- if `piece` is all that is left to be written, and `Writes` holds for `piece` and the last call, then it holds for the
--- whole text with the result of that call
+-- if `piece` is all that is left to be written, and `Writes` holds for `piece` and the result of a call, then `Writes`
+-- holds for the whole text and this result
 pub finish : {T E : Type 0} (a b c : Option (List ℕ)) (piece text : List ℕ) (r : Result T E) → Leaves a b piece text → Writes b c r piece → Writes a c r text
 finish a b c piece text (Ok x) l h = done a c text (step a b c piece [] text (respell a b piece (piece ++ []) text l (sym (append-nil piece))) h)
 finish a b c piece text (Err e) l h = stop a b c piece [] text (respell a b piece (piece ++ []) text l (sym (append-nil piece))) h
