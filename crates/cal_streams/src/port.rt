@@ -17,7 +17,7 @@ pub struct Port<T> {
 }
 
 impl<T> Port<T> {
-    /// Creates a port over `inner` that hasn't failed yet.
+    /// Creates a port over `inner`, with no failed call so far.
     pub fn new(inner: T) -> Port<T>
         ensures { result ≡ record { inner = inner; has_failed = false } }
     {
