@@ -1,4 +1,5 @@
--- Far enough from the transitions of a zone file's table, local seconds are converted with a constant UTC offset.
+-- Local seconds between two consecutive transitions of a zone file's table, and far enough from both, have the same UTC
+-- offset. After the last transition, this depends on the table's POSIX rule.
 --
 -- The "count" at a second is the number of the table's transitions at or before it.
 use Rattle.std.proofs.Common.{◌≡◌, ◌∙◌, ◌-◌, ◌<◌, ◌≤◌, ℕ, zero, suc, ℤ, pos, ◌+ℤ◌, ◌-ℤ◌, ◌≤ℤ◌, ◌<ℤ◌, Option, Some, None, true, false, cond, int_le, int_lt, get_or, length, map, List, refl, sym, ap, arith, vec_len}

@@ -1,8 +1,8 @@
--- Far enough from the transitions of a POSIX rule, and within a year, local times are converted with the same UTC
--- offset.
+-- Two local times of one year have the same UTC offset under a POSIX rule if no transition is between them or too near
+-- to either of them.
 --
 -- In these lemmas, `moment` is a nanosecond at which a POSIX rule starts or ends daylight saving time, and `w` is the
--- pair of the start and the end in one year, in UTC.
+-- pair of such a start and such an end in one year, in UTC.
 use Rattle.std.proofs.Common.{◌≡◌, ◌∙◌, ◌⊎◌, inl, inr, ℤ, pos, ◌+ℤ◌, ◌-ℤ◌, ◌*ℤ◌, ◌≤ℤ◌, ◌<ℤ◌, Bool, true, false, ◌&&◌, ◌||◌, ◌≤◌, vec_len, if◌then◌else◌, int_le, int_lt, Option, None, Some, refl, sym, arith}
 use Rattle.std.proofs.lemmas.Bool.{and_parts}
 use borrow.Author.Differences.{lt-true, lt-false}
@@ -204,7 +204,7 @@ end_to_come : (low high first last end std : ℤ) → high ≤ℤ (last +ℤ pos
 end_to_come low high first last end std to from offset h (inl k) = inr (omega (arith, signed_arith))
 end_to_come low high first last end std to from offset h (inr k) = absurd (omega (arith, signed_arith))
 
--- `low..high` is not empty, it begins in the year from `first` to `last`, and both `low` and `high` are in the range of
+-- `low..high` is not empty and begins in the year from `first` to `last`; both `low` and `high` are in the range of
 -- `jiff`'s civil times
 pub record IsPart (first last low high : ℤ) : Type 0 where
   pub from : first ≤ℤ low

@@ -1,8 +1,8 @@
--- From one transition of a POSIX rule to the next, local times are converted with the same UTC offset, even
--- across a new year.
+-- Between two consecutive transitions of a POSIX rule, and far enough from both, all local times have the same UTC
+-- offset, even across a new year.
 --
 -- In these lemmas, `moment` is a nanosecond at which a POSIX rule starts or ends daylight saving time, and `w` is the
--- pair of the start and the end in one year, in UTC.
+-- pair of such a start and such an end in one year, in UTC.
 use Rattle.std.proofs.Common.{◌≡◌, ◌∙◌, inl, inr, ◌≤◌, ℤ, pos, ◌+ℤ◌, ◌-ℤ◌, ◌≤ℤ◌, ◌<ℤ◌, Bool, true, false, ◌&&◌, if◌then◌else◌, int_le, int_lt, Option, None, Some, refl, sym, ap, subst, arith, vec_len}
 use Rattle.std.proofs.lemmas.Bool.{and_parts}
 use borrow.Author.Differences.{le-false}
@@ -31,8 +31,8 @@ use Rattle.cal_zone.proofs.PlaceLemmas.{civil_nanos-datetime_of}
 use Rattle.cal_zone.proofs.LocalOffsetRangeLemmas.{HaveSameOffsetsBy, same_offsets_after_table, count_after_table, offset_after_table, rule_after_table}
 use Rattle.cal_zone.proofs.RuleLemmas.{IsApart, IsPart, ambiguous_beside, ambiguous_in, far, in_its_year, moments_apart, next_after_table, next_found, of_the_year, transition_at_moment, utc_year, walls_beside, window_apart, window_of, year_begun, year_goes_on}
 
--- if two local seconds are in the same year, and daylight saving time starts and ends far enough from both in this
--- year, then `jiff` reports the same for their civil times: unambiguous, in a gap or in a fold, with the same offsets
+-- if two local seconds are in the same year, and daylight saving time neither starts nor ends between them or near
+-- them, then `jiff` reports the same for their civil times: unambiguous, in a gap or in a fold, with the same offsets
 civil_apart : (rule : Posix) (d : Dst) (y low high local other : ℤ) → rule.dst ≡ Some d → IsLocalSecond local → IsEpochDay (day_of other)
     → (datetime_of local).date.year ≡ y → (datetime_of other).date.year ≡ y → civil_min ≤ℤ low → high ≤ℤ civil_max
     → IsApart low high (pos 0) (rule_nanos y d.rule.start rule.std_offset.seconds) → IsApart low high (pos 93_599_000_000_000) (rule_nanos y d.rule.end d.offset.seconds)
@@ -76,7 +76,8 @@ civil_in_year rule d past other local next has e from begun later years before_n
     part.civil_from part.civil_to moments.0 moments.1 (omega (arith, signed_arith)) later (omega (arith, signed_arith))
 
 -- `o` is the start and the end of daylight saving time in the year `y`, in ascending order. If the first transition
--- after `low`, an instant of this year, is later than both, then it is the first transition of the next year.
+-- after `low`, which is in this year, is later than both the start and the end, then it is the first transition of the
+-- next year.
 next_in_next_year : (rule : Posix) (d : Dst) (y low : ℤ) (next : ℤ × OffsetInfo) (o : ℤ × ℤ) (a b : Bool) → o.0 <ℤ next.0 → o.1 <ℤ next.0 → int_lt low o.0 ≡ a → int_lt low o.1 ≡ b
     → (if a then transition_of rule d (utc_window d y rule.std_offset) o.0 else (if b then transition_of rule d (utc_window d y rule.std_offset) o.1 else next_year rule d y)) ≡ Some next
     → next_year rule d y ≡ Some next

@@ -1,4 +1,4 @@
--- The time zone of `jiff` for each kind of zone.
+-- The `TimeZone` of `jiff` that each kind of zone stands for, and the range of its UTC offsets.
 use Rattle.std.proofs.Common.{◌≡◌, ℤ, ap}
 use Rattle.std.specs.Borrow.{Bor}
 use Rattle.jiff.specs.Types.{Fixed, Offset, Posix, TimeZone, Tzif, UTC, Unknown}

@@ -1,4 +1,5 @@
--- Which zone files (RFC 8536) are accepted, as which zone, and with which errors the others are rejected.
+-- Which zone files (RFC 8536) are accepted, which zone each of them stands for, and with which errors the others are
+-- rejected.
 use Rattle.std.specs.Prelude.{◌≡◌, ◌⊎◌, ◌<◌, ◌≤◌, ℕ, true, false, List, length, Ok, IsOk, IsErr}
 use Rattle.jiff.specs.Types.{TimeZone, UTC, Unknown, Fixed, Posix, Tzif}
 use Rattle.jiff_tz.specs.Tzif.{tzif_view, HasBadRule, RuleAgrees}

@@ -55,7 +55,7 @@ fn push_civil(text: &mut ShortText, shown: &Civil)
     push(text, b" ");
 }
 
-/// Appends the weekday and the date, followed by a space, such as `Sat 2020-02-29 `.
+/// Appends the weekday and the date, each followed by a space: `Sat 2020-02-29 `.
 #[tactic(auto, unfolding(crate::specs::InstantText::day_text, crate::specs::headline::InstantText::date_text))]
 pub(crate) fn push_day(text: &mut ShortText, shown: &Civil)
     requires ranges { IsCivil shown.now }

@@ -27,7 +27,7 @@ use jiff_tz::{TimeZone, Transition, posix, tzif};
 /// [`MAX_OFFSET`].
 pub(crate) const TRANSITION_MARGIN: i64 = 4 * MAX_OFFSET + 1;
 
-/// The local seconds `from..to`, all at the same UTC offset in seconds.
+/// The local seconds `from..to`, all at the same UTC offset of `offset` seconds.
 #[derive(Clone, Copy)]
 pub(crate) struct LocalOffsetRange {
     pub(crate) from: i64,

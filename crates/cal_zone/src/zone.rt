@@ -30,7 +30,7 @@ impl<'t> Zone<'t> {
     ghost use Rattle.cal_zone.specs.headline.Zone.{is_utc, utc, zone_of};
     ghost use Rattle.cal_zone.specs.headline.FixedOffsetZone.{fixed_offset_zone};
 
-    /// Returns UTC, in which a local second and its second of Unix time are the same number.
+    /// Returns UTC. In UTC, a local second and its place are the same number.
     pub fn utc() -> Zone<'static>
         ensures { result ≡ utc }
     {
@@ -39,8 +39,8 @@ impl<'t> Zone<'t> {
         }
     }
 
-    /// Returns the zone with a fixed UTC offset in seconds, from -93,599 to 93,599. Even with the offset 0, it is not
-    /// the same as [`Zone::utc`], and is printed differently.
+    /// Returns the zone with a fixed UTC offset of `seconds` seconds, from -93,599 to 93,599. Even with the offset 0,
+    /// it is not the same as [`Zone::utc`], and is printed differently.
     pub fn offset(seconds: i32) -> Zone<'static>
         requires { IsOffsetSeconds seconds }
         ensures zone { (offset : Offset) → offset.seconds ≡ seconds → zone_of result ≡ fixed_zone offset }

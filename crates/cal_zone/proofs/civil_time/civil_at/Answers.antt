@@ -13,7 +13,7 @@ shown : (c : goal.After-fields) (tz : TimeZone) → offset_at tz (nanos_of_secon
 unfolding local_shown_at
 shown c tz here = omega (arith, signed_arith, c.to_datetime.ensures, ap (λ t. t.nanosecond) c.to_plain.ensures, c.in-Ok.ensures.value)
 
--- a zone to which `shown` can be applied: the one with the given UTC offset as its fixed offset
+-- there is a zone to which the lemma `shown` can be applied: the zone with the given UTC offset as its fixed offset
 fixed : (c : goal.After-fields) → offset_at (Fixed c.args.offset) (nanos_of_seconds c.args.instant.secs) ≡ c.args.offset.seconds
 unfolding offset_at
 fixed c = refl
