@@ -5,7 +5,7 @@ use Rattle.jiff_core.specs.declared.civil.date.Date.{Date}
 use Rattle.cal_civil.specs.headline.Days.{date_of}
 
 -- The number of local seconds in the years 1970 to 2199. Other proofs use the lemma below, which states the value, and
--- don't unfold the definition, so that no proof builds a list of this length.
+-- don't unfold the definition, so that no proof builds the list of all local seconds.
 pub seconds_in_all : ℕ
 seconds_in_all = 7_258_118_400
 
