@@ -29,8 +29,8 @@ has_at (y ∷ ys) x (suc k) h e = inr (has_at ys x k (omega arith) e)
 pub has_from_contains : {A : Type 0} (xs : List A) (x : A) → Contains xs x → Has xs x
 has_from_contains xs x h = has_at xs x h.0 h.1 h.2
 
--- `AllByRecursion` states by recursion over a list that all its elements have a property; then each element has it, and
--- `all_from` is the converse
+-- if `AllByRecursion` says that all elements of a list have a property, then each element has it; `all_from` is the
+-- converse
 pub all_at : {A : Type 0} (P : A → Type 0) (xs : List A) (x : A) → AllByRecursion P xs → Has xs x → P x
 all_at P [] x all h = absurd h
 all_at P (y ∷ ys) x all h = elim h [ inl e ↦ subst P e all.0 | inr k ↦ all_at P ys x all.1 k ]

@@ -81,8 +81,8 @@ pub is_member-reached : (s was : Peeked) (n : ℤ) → HasHead s → IfSome s.he
     → option_eq int_eq s.head (Some n) ≡ is_member int_eq (numbers was) n
 is_member-reached s was n h at same = member_reached s.head s.after n h.0 h.1 at ∙ same n (grind (arith, ints))
 
--- If `ys` and `zs` have the same numbers from `n` upwards, and all numbers of `xs` are above `n`, then `xs` without the
--- numbers of `zs` is `xs` without those of `ys`.
+-- If `ys` and `zs` have the same numbers from `n` upwards, and all numbers of `xs` are above `n`, then leaving the
+-- numbers of `ys` out of `xs` has the same result as leaving out the numbers of `zs`.
 without-same : (n : ℤ) (xs ys zs : List ℤ) → AllByRecursion (λ y. int_cmp n y ≡ Less) xs → IsSameFrom n zs ys → without xs zs ≡ without xs ys
 unfolding without
 without-same n [] ys zs h same = refl

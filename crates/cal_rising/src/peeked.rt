@@ -47,7 +47,8 @@ impl<S: Rising> Peeked<S> {
         }
     }
 
-    /// Reads a number from the source unless one was read ahead already. The numbers yet to be returned stay the same.
+    /// Reads a number from the source unless one has already been read ahead. The numbers yet to be returned stay the
+    /// same.
     pub fn peek(&mut self)
         ensures same { numbers self.new ≡ numbers self.old }
         ensures taken { HasHead self.new }
@@ -94,7 +95,7 @@ impl<S: Rising> Peeked<S> {
         }
     }
 
-    /// Returns whether `number` is still to be returned, or `None` if the source cannot tell. If a number was read
+    /// Returns whether `number` is still to be returned, or `None` if the source cannot tell. If a number has been read
     /// ahead and is at least `number`, the source is not asked.
     fn has(&mut self, number: i64) -> Option<bool>
         ensures has { IfSome result (λ has. has ≡ is_member int_eq (numbers self.old) number) }
