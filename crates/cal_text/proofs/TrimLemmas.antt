@@ -1,4 +1,4 @@
--- The trimming functions return what the relations of `TrimRule` describe.
+-- The result of each trimming function satisfies a relation of `TrimRule`, which says which blanks are removed.
 use Rattle.std.proofs.Common.{◌≡◌, ℕ, Bool, true, false, List, [], ◌∷◌, ◌++◌, reverse, refl, sym, subst, ap, ◌∙◌, append-nil}
 use Rattle.std.specs.List.{AllByRecursion, suffix_len}
 use Rattle.std.proofs.Math.Numerals.{one-add}
