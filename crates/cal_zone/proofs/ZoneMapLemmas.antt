@@ -36,7 +36,7 @@ unfolding zone_named
 zone_named-zone_map_in zones table name view other =
     ap (λ b. cond b (Some UTC) (get table name)) other ∙ ap (λ t. get t name) (sym view) ∙ get-zone_map_in zones name
 
--- two names have the same bytes if and only if neither comes before the other
+-- two names have the same bytes if and only if neither comes before the other in the order of the map
 same_test : (name q : List ℕ) → bytes_eq name q ≡ eq_by_cmp (slice_cmp nat_cmp) q name
 same_test name q = sym (is_eq-slice_cmp name q) ∙ (eq_by_cmp_equiv nat_list_cmp_total).symm name q
 

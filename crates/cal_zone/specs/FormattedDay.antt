@@ -15,8 +15,8 @@ text_after day second =
 abbrev pub text_on : FormattedDay → ℤ → List ℕ
 text_on day second = text_after day (unsigned_abs (second -ℤ day.midnight))
 
--- the cached texts of a day are short: with the time between them, they have at most 84 bytes, like every
--- printed instant
+-- the cached texts of a day are short: with the time between them, they fit into the 84 bytes that a printed instant
+-- has at most
 pub record HasShortTexts (day : FormattedDay) : Type 0 where
   pub date : length day.day.items ≤ 26
   pub word : length day.word.items ≤ 41

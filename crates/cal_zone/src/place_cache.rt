@@ -116,7 +116,7 @@ impl<'z> PlaceCache<'z> {
     }
 
     /// Computes [`PlaceCache::local_at`] by the zone's rules, for an instant outside the cached range. Then caches a
-    /// range that contains the result, if one is found, for the calls that follow.
+    /// range that contains the result, if such a range is found, for the calls that follow.
     #[cold]
     #[inline(never)]
     fn local_outside(&mut self, instant: Instant) -> Option<i64>
@@ -131,7 +131,7 @@ impl<'z> PlaceCache<'z> {
     }
 
     /// Computes [`PlaceCache::place`] by the zone's rules, for a local second outside the cached range. Also caches a
-    /// range that contains `local`, if one is found, for the calls that follow.
+    /// range that contains `local`, if such a range is found, for the calls that follow.
     #[cold]
     #[inline(never)]
     fn place_outside(&mut self, local: i64) -> Option<i64>

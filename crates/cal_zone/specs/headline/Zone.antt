@@ -1,4 +1,4 @@
--- What contracts use of a zone: the `TimeZone` of `jiff` that it stands for, and whether it is UTC itself.
+-- What contracts see of a zone: the `TimeZone` of `jiff` that it stands for, and whether it is UTC itself.
 use Rattle.std.specs.Prelude.{Bool, true, false, ℤ, ◌+ℤ◌}
 use Rattle.jiff.specs.Types.{Offset, TimeZone, UTC}
 use Rattle.jiff.specs.Words.{fixed_zone, nanos_of_seconds, offset_at}
