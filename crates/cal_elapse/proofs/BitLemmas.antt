@@ -79,8 +79,9 @@ is_bit-up_none m k i low high =
     let whole : m * 2 ^ k + 0 ≡ m * 2 ^ k = omega arith in
     is_bit-zero (m * 2 ^ k % 2 ^ 64) i (bit_at-mod (m * 2 ^ k) i low ∙ (ap (λ (x : ℕ). bit_at x i) (sym whole) ∙ (bit_at_cat_low m k 0 i high ∙ bit_at-zero i)))
 
--- The word of 64 ones, shifted right, has exactly the bits below `high` set. Shifted left, it has exactly the bits from
--- `low` on set (`ones_from`). The bitwise and of both has exactly the bits in between set (`is_bit-run`).
+-- The word of 64 ones, shifted right by 64 - `high` bits, has exactly the bits below `high` set. Shifted left by `low`
+-- bits, it has exactly the bits from `low` on set (`ones_from`). The bitwise and of both has exactly the bits in
+-- between set (`is_bit-run`).
 ones_below : (high i : ℕ) → high ≤ 64 → is_bit ((2 ^ 64 - 1) / 2 ^ (64 - high)) i ≡ nat_lt i high
 ones_below high i within =
     let width : 64 - (64 - high) ≡ high = omega arith in

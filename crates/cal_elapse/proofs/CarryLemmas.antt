@@ -1,6 +1,6 @@
--- Searching for the first number that passes, if every number has a high part and a low part and passes if each part
--- passes a test of its own. The search tries the remaining low parts first, and then the next high part with the first
--- low part.
+-- Searching for the first number that passes a test. Every number has a high part and a low part, and passes if and
+-- only if each part passes a test of its own. The search tries the remaining low parts first, and then the next high
+-- part with the first low part.
 use Rattle.std.proofs.Common.{◌≡◌, ℕ, ◌+◌, ◌*◌, ◌/◌, ◌%◌, ◌<◌, ◌≤◌, Bool, true, false, ◌&&◌, Option, Some, ap, subst, inl, inr, ◌∙◌, refl, arith, add-mul, one-mul, mul-le-mul_right}
 use Rattle.std.proofs.lemmas.Bool.{cases_lt, and_from, and_left, and_right}
 use Rattle.std.proofs.lemmas.Nat.{div-add-mod', div_below, le-div, mod_below}

@@ -44,8 +44,8 @@ not_left e exceptions i false lacks none p =
     let excepted = λ (x : IsElapse exceptions i). let has = is_member-Has (elapses_after exceptions base) i (((AreAbove-elapses_after exceptions base).members i).1 (below i, x)) in false≢true (sym lacks ∙ has) in
     absurd (subst (λ (xs : List ℤ). Has xs i) none (((AreElapses-elapses_except (e ∷ []) exceptions base).members i).1 (below i, (inl p, excepted))))
 
--- an expression is covered by exceptions exactly if, after any base, none of its elapses is left once the elapses of
--- the exceptions are removed
+-- an expression is covered by exceptions if and only if, after any base, none of its elapses is left once the elapses
+-- of the exceptions are removed
 pub elapses_of_covered : (e : Timed) (exceptions : List Timed) → IsCovered e exceptions ↔ ((base : ℤ) → elapses_except (e ∷ []) exceptions base ≡ [])
 elapses_of_covered e exceptions = (
   λ covered base.
@@ -56,8 +56,8 @@ elapses_of_covered e exceptions = (
   λ none i p. not_left e exceptions i (is_member int_eq (elapses_after exceptions (i -ℤ pos 1)) i) refl (none (i -ℤ pos 1)) p,
 )
 
--- an instant is an elapse of `es` ++ `fs` exactly if it is an elapse of `es` or of `fs` (this lemma and the two after
--- it)
+-- an instant is an elapse of `es` ++ `fs` if it is an elapse of `es`, or if it is an elapse of `fs` (`IsElapse-right`),
+-- and in no other case (`IsElapse-either`)
 pub IsElapse-left : (es fs : List Timed) (i : ℤ) → IsElapse es i → IsElapse (es ++ fs) i
 IsElapse-left [] fs i h = absurd h
 IsElapse-left (e ∷ es) fs i (inl here) = inl here
@@ -98,7 +98,7 @@ kept_without all exceptions kept e covered h = record {
       ];
 }
 
--- if `AreKept` is true, `kept` and `all` have the same elapses after `b` that aren't elapses of exceptions
+-- if `AreKept` is true, `kept` and `all` have the same elapses after `b` once the elapses of the exceptions are removed
 pub elapses_except-kept : (all exceptions kept : List Timed) (b : ℤ) → AreKept all exceptions kept → elapses_except kept exceptions b ≡ elapses_except all exceptions b
 elapses_except-kept all exceptions kept b h =
     let these = AreElapses-elapses_except kept exceptions b in

@@ -24,7 +24,7 @@ use Rattle.cal_elapse.specs.declared.window.Window.{Window}
 use Rattle.cal_elapse.proofs.ElapsesLemmas.{AreAbove-elapses_after}
 use Rattle.cal_civil.proofs.LocalLemmas.{local_inside}
 
--- an instant is an elapse exactly if the only local second that can resolve to it matches
+-- an instant is an elapse if and only if the only local second that can resolve to it matches
 pub has-local : (masks : Masks) (zone : Zone) (instant local : ℤ) (b : Bool) → IsLocalSecond local → place_of (zone_of zone) local ≡ Some instant
     → b ≡ matches (sets_in masks) (unsigned_abs local) → (b ≡ true) ↔ IsPlace (timed_by masks zone) instant
 unfolding timed_by
@@ -38,7 +38,7 @@ has-none masks zone instant none = (
   λ p. absurd (let count = seconds_in_all-is in let inside = p.within in none (pos p.local) (omega (arith, signed_arith), omega (arith, signed_arith)) p.placed),
 )
 
--- if `i` is after the instant returned last, the remaining elapses contain `i` exactly if it is an elapse of the
+-- if `i` is after the instant returned last, the remaining elapses contain `i` if and only if it is an elapse of the
 -- expression
 pub in_rest : (w : Window) (i : ℤ) (b : Bool) → w.last <ℤ i → (b ≡ true) ↔ IsPlace (timed_of w) i → b ≡ is_member int_eq (remaining_elapses w) i
 unfolding remaining_elapses

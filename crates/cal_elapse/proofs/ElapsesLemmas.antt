@@ -83,8 +83,8 @@ Has-above b (x ∷ xs) i =
       λ p. elim p.1 [ inl e ↦ one.1 (inl (p.0, e)) | inr n ↦ one.1 (inr (rest.1 (p.0, n))) ],
     )
 
--- one of the elapse sets, each without the instants up to `b`, contains `i` exactly if `i` is after `b` and an elapse
--- of one of the expressions
+-- one of the elapse sets, each without the instants up to `b`, contains `i` if and only if `i` is after `b` and an
+-- elapse of one of the expressions
 HasAny-elapses : (es : List Timed) (b i : ℤ) → HasAny (map (λ e. filter (int_lt b) (places e)) es) i ↔ ((b <ℤ i) × IsElapse es i)
 HasAny-elapses [] b i = (λ m. absurd m, λ p. p.1)
 HasAny-elapses (e ∷ es) b i =
@@ -146,7 +146,7 @@ has_at [] k e h = absurd (cc)
 has_at (x ∷ xs) zero e h = inl (cc)
 has_at (x ∷ xs) (suc k) e h = inr (has_at xs k e h)
 
--- the elements after the k-th of a strictly increasing list are those greater than the k-th
+-- the elements after the one with index `k` in a strictly increasing list are those greater than it
 Has-drop : (xs : List ℤ) (k : ℕ) (e : ℤ) → IsStrictlySortedBy int_cmp xs → slice_get xs k ≡ Some e → (i : ℤ) → Has (drop (suc k) xs) i ↔ ((e <ℤ i) × Has xs i)
 Has-drop [] k e h at i = absurd (cc)
 Has-drop (x ∷ xs) zero e h at i =
@@ -159,8 +159,8 @@ Has-drop (x ∷ xs) (suc k) e h at i =
       λ p. elim p.1 [ inl f ↦ absurd (not_both x e i up p.0 f) | inr n ↦ rest.1 (p.0, n) ],
     )
 
--- if `e` is the element with index `k` in the list of numbers after `b`, the list of numbers after `e` consists of the
--- elements after that one
+-- if `e` has index `k` in `xs`, the list of the numbers after `b`, then `ys`, the list of the numbers after `e`,
+-- consists of the elements of `xs` after `e`
 later_above : {Holds : ℤ → Type 0} (b e : ℤ) (xs ys : List ℤ) (k : ℕ) → AreAbove Holds b xs → AreAbove Holds e ys → slice_get xs k ≡ Some e → ys ≡ drop (suc k) xs
 later_above b e xs ys k all again at =
     let up = ((all.members e).0 (has_at xs k e at)).0 in
@@ -205,21 +205,21 @@ first-least [] i h m least = absurd m
 first-least (x ∷ xs) i h (inl e) least = ap Some e
 first-least (x ∷ xs) i h (inr n) least = absurd (below_and_above x i (above_first x i xs h n) (least x (inl refl)))
 
--- There is no first elapse after `b` if no elapse is after `b`. `i` is the first elapse after `b` if it is an elapse
--- after `b` and none of the elapses after `b` is earlier.
+-- if no elapse is after `b`, there is no first elapse after `b`
 pub first_elapse-none : (es : List Timed) (b : ℤ) → ((i : ℤ) → b <ℤ i → IsElapse es i → ⊥) → slice_get (elapses_after es b) 0 ≡ None
 first_elapse-none es b h =
     let all = AreAbove-elapses_after es b in
     first-none (elapses_after es b) (λ i m. h i ((all.members i).0 m).0 ((all.members i).0 m).1)
 
+-- if `i` is an elapse after `b`, and no elapse after `b` is earlier, then `i` is the first elapse after `b`
 pub first_elapse-least : (es : List Timed) (b i : ℤ) → b <ℤ i → IsElapse es i → ((j : ℤ) → b <ℤ j → IsElapse es j → i ≤ℤ j) → slice_get (elapses_after es b) 0 ≡ Some i
 first_elapse-least es b i above m least =
     let all = AreAbove-elapses_after es b in
     first-least (elapses_after es b) i all.rises ((all.members i).1 (above, m))
     (λ j n. least j ((all.members j).0 n).0 ((all.members j).0 n).1)
 
--- one of the lists of elapses after `b`, one list for each expression, contains `i` exactly if `i` is after `b` and an
--- elapse of one of the expressions
+-- one of the lists of elapses after `b`, one list for each expression, contains `i` if and only if `i` is after `b` and
+-- an elapse of one of the expressions
 HasAny-each : (es : List Timed) (b i : ℤ) → HasAny (map (λ e. elapses_after (e ∷ []) b) es) i ↔ ((b <ℤ i) × IsElapse es i)
 HasAny-each [] b i = (λ m. absurd m, λ p. p.1)
 HasAny-each (e ∷ es) b i =

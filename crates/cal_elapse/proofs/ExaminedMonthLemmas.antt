@@ -1,4 +1,4 @@
--- The matching days of a month, and the number of months examined.
+-- The matching days of a month as bits, and the number of months that a search examines.
 use Rattle.std.proofs.Common.{◌≡◌, ℕ, zero, suc, ◌+◌, ◌-◌, ◌*◌, ◌/◌, ◌%◌, ◌<◌, ◌≤◌, cond, Bool, true, false, Option, None, Some, ap, subst, sym, ◌∙◌, arith}
 use Rattle.std.proofs.lemmas.Bool.{true_from_ne_false}
 use Rattle.cal_civil.specs.headline.Local.{civil_date}
@@ -18,8 +18,8 @@ none_of_month sets n first length from within begins long low fails = λ t above
     let next = first_day-suc n in
     months_none sets n (suc n) (omega arith) (λ k a b. let same : k ≡ n = omega arith in rw same fails) t (omega arith) (omega arith)
 
--- bit k of `bits` is set exactly if the day `first` + k matches and is in the month that has `length` days and begins
--- on the day `first`
+-- bit k of `bits` is set if and only if the day `first` + k matches and is in the month that has `length` days and
+-- begins on the day `first`
 pub record HasDays (sets : Sets) (first length bits : ℕ) : Type 0 where
   pub days : (k : ℕ) → k < length → is_bit bits k ≡ day_in sets (first + k)
   pub within : (k : ℕ) → is_bit bits k ≡ true → k < length
@@ -71,8 +71,8 @@ examined_on sets n (Some day) within found =
     let next : n + 1 ≡ suc n = omega arith in
     rw (ends, next) (sym (rw next at (count_front (month_in sets) n (suc m - (n + 1)))))
 
--- a search that starts and ends in month `n` examines one month, or none if the expression doesn't match its year and
--- number
+-- a search that starts and ends in month `n` examines one month, or none if the expression doesn't match the year or
+-- the number of month `n`
 pub examined_here : (sets : Sets) (n first length day : ℕ) → n < 2_760 → first ≡ first_day n → length ≡ length_of n → first ≤ day → day < first + length
     → cond (month_in sets n) 1 0 ≡ examined_from sets n (Some day)
 unfolding count_from
@@ -122,7 +122,7 @@ pub examined_today : (sets : Sets) (t second : ℕ) → t / 86_400 < 84_006 → 
     → examined_months sets (t + 1) (Some (t / 86_400 * 86_400 + second)) ≡ 1
 examined_today sets t second within holds later small = grind (arith, one_examined)
 
--- a search for a local second examines as many months as the search for the day of that local second
+-- if a search for a local second finds one on the day `found`, it examines as many months as the search for that day
 pub examined_of_days : (sets : Sets) (n from found second : ℕ) → n ≡ month_of (civil_date (from / 86_400)) → second < 86_400
     → examined_from sets n (Some found) ≡ examined_months sets from (Some (found * 86_400 + second))
 examined_of_days sets n from found second start small = grind arith

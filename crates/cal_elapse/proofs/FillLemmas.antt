@@ -16,7 +16,7 @@ use Rattle.cal_text.proofs.General.{below_end, lt_from_pos, or_false}
 
 -- The cells
 
--- after the bits of `more` are set in a word, a cell of that word is set exactly if it was set before or its bit in
+-- after the bits of `more` are set in a word, a cell of that word is set if and only if it was set before or its bit in
 -- `more` is set
 filled_here : (cells : List ℕ) (word more i : ℕ) → word < length cells → i / 64 ≡ word
     → is_bit_in (set cells word (bit_or (get_or cells word 0) more)) i ≡ (is_bit_in cells i || is_bit more (i % 64))
@@ -31,7 +31,7 @@ filled_else cells word value i other =
     ∙ (ap (λ (w : ℕ). is_bit w (i % 64)) (get_or-set_other cells word (i / 64) value 0 other) ∙ sym (in_word cells i (i / 64) refl))
 
 -- `set_cells` shifts `bits` to the left for the word of the first cell, and to the right for the next word (`down_is`).
--- A bit of the shifted word is set exactly if the bit of `bits` that stands for the same cell is set.
+-- A bit of the shifted word is set if and only if the bit of `bits` that stands for the same cell is set.
 up_is : (bits cell i : ℕ) → bits < 2 ^ 64 → cell < 187_200 → i < 187_200 → i / 64 ≡ cell / 64
     → is_bit (bits * 2 ^ (cell % 64) % 2 ^ 64) (i % 64) ≡ is_bit bits (cells_behind cell i)
 up_is bits cell i fits inside there same =
@@ -51,8 +51,8 @@ far_behind : (cell i next : ℕ) → cell < 187_200 → i < 187_200 → (next �
     → i / 64 ≢ cell / 64 → i / 64 ≢ next → 64 ≤ cells_behind cell i
 far_behind cell i next inside there turn next_in other apart = elim turn [ inl on ↦ omega arith | inr round ↦ omega (arith, round.0, round.1) ]
 
--- after both words are changed, a cell is set exactly if it was set before or the bit of `bits` that stands for it is
--- set
+-- after both words are changed, a cell is set if and only if it was set before or the bit of `bits` that stands for it
+-- is set
 pub filled : (cells : List ℕ) (cell bits next i : ℕ) → length cells ≡ 2_925 → cell < 187_200 → bits < 2 ^ 64 → (next ≡ cell / 64 + 1) ⊎ ((next ≡ 0) × (cell / 64 ≡ 2_924))
     → next < 2_925 → i < 187_200
     → let one = set cells (cell / 64) (bit_or (get_or cells (cell / 64) 0) (bits * 2 ^ (cell % 64) % 2 ^ 64)) in
@@ -81,7 +81,7 @@ filled cells cell bits next i long inside fits turn next_in there =
 
 -- The instants
 
--- a cell is set exactly if it was set before or is the cell of one of the new instants
+-- a cell is set if and only if it was set before or is the cell of one of the new instants
 pub record AreFilled (old new : List ℕ) (start bits : ℕ) : Type 0 where
   pub held : (i : ℕ) → i < 187_200 → is_bit_in new i ≡ (is_bit_in old i || is_bit bits (cells_behind (start % 187_200) i))
 
@@ -97,7 +97,8 @@ new_held old new start bits bit all set small =
     let behind : cells_behind (start % 187_200) ((start + bit) % 187_200) ≡ bit = omega arith in
     held_all old new start bits (start + bit) all ∙ or_right _ _ (ap (is_bit bits) behind ∙ set)
 
--- all new instants are after `least`, are among the 187,200 seconds from `least` on, and aren't after the last instant
+-- all new instants are after `least`, are among the 187,200 seconds from `least` on, and aren't after 7,258,211,998,
+-- the last of all instants
 pub record IsRoundOfAll (least start bits : ℕ) : Type 0 where
   pub behind : least < start
   pub inside : (bit : ℕ) → is_bit bits bit ≡ true → start + bit < least + 187_200

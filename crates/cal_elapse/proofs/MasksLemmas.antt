@@ -68,7 +68,7 @@ filled_some mask v holds =
     ]
 
 -- if `mask` was filled with the numbers below `n` that satisfy the test `holds`, and no other numbers satisfy it, then
--- bit `v` is set exactly if `v` satisfies the test
+-- bit `v` is set if and only if `v` satisfies the test
 pub members_are : (mask n : ℕ) (holds : ℕ → Bool) → ((i : ℕ) → is_bit mask i ≡ (nat_lt i n && holds (0 + i)))
     → ((v : ℕ) → holds v ≡ true → (0 ≤ v) × (v < n)) → (v : ℕ) → is_bit mask v ≡ holds v
 members_are mask n holds filled within v = grind (arith, false_from_ne_true)
@@ -94,8 +94,9 @@ pub weeks_repeat : (mask : ℕ) (days : List Bool) → ((i : ℕ) → is_bit mas
     → (i : ℕ) → i < 42 → is_bit mask i ≡ is_bit mask (i % 7)
 weeks_repeat mask days filled i low = grind (arith, lt-ltb)
 
--- Each of the four words of years was filled with those of its years that satisfy the test `holds`. Together they then
--- contain exactly the years from 1970 to 2199 that satisfy it (`years_filled`). This lemma is for a single word.
+-- If a word of years, which begins with the year `first`, was filled with those of its years that satisfy the test
+-- `holds`, then its bit for the year 1970 + `i` is set if and only if that year satisfies the test. `years_filled` says
+-- the same of the four words together.
 year_word : (word first n i j : ℕ) (holds : ℕ → Bool) → ((p : ℕ) → is_bit word p ≡ (nat_lt p n && holds (first + p)))
     → first + j ≡ 1_970 + i → j < n → i < 230 → is_bit word j ≡ (nat_lt i 230 && holds (1_970 + i))
 year_word word first n i j holds filled same low inside = grind (arith, lt-ltb)

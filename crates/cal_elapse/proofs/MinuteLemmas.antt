@@ -37,11 +37,11 @@ day_of_match sets t holds =
 
 -- Lemmas for any unit of 60: local seconds in their minute, or minutes in their hour.
 
--- An hour, counted from the start of 1970, has matches if its date and its hour of the day match. A minute has matches
--- if its hour has matches and its number within the hour matches.
+-- whether an hour, counted from the start of 1970, is before 2200, and its date and its hour of the day match
 hour_matches : Masks → ℕ → Bool
 hour_matches m hour = nat_lt hour 2_016_144 && (day_in (sets_in m) (hour / 24) && is_bit m.hours (hour % 24))
 
+-- a minute passes `minute_matches` if and only if its hour passes `hour_matches` and its number within the hour matches
 hours_split : (m : Masks) → Splits (minute_matches (sets_in m)) (hour_matches m) (is_bit m.minutes) 60 2_016_144
 unfolding minute_matches hour_matches
 hours_split m = record {
@@ -53,7 +53,7 @@ hours_split m = record {
       rw (lt-ltb (a * 60 + b) 120_968_640 (omega arith), lt-ltb a 2_016_144 low, day, minute, here) (sym (and_regrouped (day_in (sets_in m) (a / 24)) (is_bit m.hours (a % 24)) (is_bit m.minutes b)));
 }
 
--- A local second matches if its minute has matches and its second matches.
+-- a local second matches if and only if its minute passes `minute_matches` and its second matches
 minutes_of_all : (m : Masks) → Splits (matches (sets_in m)) (minute_matches (sets_in m)) (is_bit m.seconds) 60 120_968_640
 unfolding minute_matches
 minutes_of_all m = record {
@@ -65,7 +65,7 @@ minutes_of_all m = record {
       split_at (locals_split (sets_in m)) (a / 1_440) (a * 60 + b) (omega arith) day ∙ rw (lt-ltb a 120_968_640 low, time, here) (sym (and_regrouped (day_in (sets_in m) (a / 1_440)) (minute_in (sets_in m) (a % 1_440)) (is_bit m.seconds b)));
 }
 
--- if `found` passes, a number in the same unit of 60 passes exactly if its low part passes
+-- if `found` passes, a number in the same unit of 60 passes if and only if its low part passes
 by_low : (passes high low : ℕ → Bool) (limit found t : ℕ) → Splits passes high low 60 limit → found / 60 < limit → passes found ≡ true → t / 60 ≡ found / 60 → passes t ≡ low (t % 60)
 by_low passes high low limit found t s within holds same =
     let both = and_parts _ _ (sym (split_at s (found / 60) found within refl) ∙ holds) in
@@ -196,8 +196,9 @@ search_later m found from start minutes bit first h later lowest second =
     let same = later.unit bit lowest.2 in
     search_on m found ((start + bit) * 60 + first) (omega arith) (next_in_hour m found from start minutes bit first h later lowest second)
 
--- After the first match of a later minute in the hour is found, the bits of `m.seconds` above the second of that match
--- remain in its minute. In the hour, all bits remain except the bit of its minute (`minutes_later`).
+-- When the first match of a later minute is found, the remaining bits of that minute are the bits of `m.seconds` above
+-- the second of the match. The remaining bits of the hour are the old ones without the bit of that minute
+-- (`minutes_later`).
 pub seconds_later : (m : Masks) (found from start minutes bit first : ℕ) → AreRemaining (matches (sets_in m)) found from 0
     → AreRemaining (minute_matches (sets_in m)) (found / 60) start minutes → IsFirstPassing (is_bit minutes) 0 64 (Some bit) → IsFirstPassing (is_bit m.seconds) 0 64 (Some first)
     → AreRemaining (matches (sets_in m)) ((start + bit) * 60 + first) ((start + bit) * 60 + first + 1) (m.seconds / 2 ^ (first + 1))

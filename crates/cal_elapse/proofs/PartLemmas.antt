@@ -1,5 +1,5 @@
--- Which of the `count` values from `first` on a part of a component matches. Each value has an index: how far it is
--- from `first`.
+-- Which of `count` consecutive values, the first of which is `first`, a part of a component matches. Each value has an
+-- index: how far it is from `first`.
 use Rattle.std.proofs.Common.{◌≡◌, ◌==◌, ◌&&◌, ◌||◌, ◌+◌, ◌-◌, ◌%◌, ◌<◌, ◌≤◌, min, ℕ, Bool, true, false, nat_le, nat_lt, List, length, take, get_or, Option, None, Some, refl, ap, sym, ◌∙◌, inl, inr, arith}
 use Rattle.std.specs.List.{list_any}
 use Rattle.std.proofs.lemmas.List.Folds.{list_any_more}
@@ -22,7 +22,7 @@ pub members_by : (f : Field) (e : Fields) (v : ℕ) → members_of f (sets_of e)
 unfolding sets_of
 members_by f e v = grind arith
 
--- an index `i` is from `a` - `first` to `b` - `first` and below `count` exactly if it is below `count` and the value
+-- an index `i` below `count` is from `a` - `first` up to but not including `b` + 1 - `first` if and only if the value
 -- `first` + `i` is from `a` to `b`
 pub between_in_window : (a b first count i : ℕ) → (nat_le (a - first) i && nat_lt i (min (b + 1 - first) count)) ≡ (nat_lt i count && is_between a b (first + i))
 between_in_window a b first count i = grind (arith, nat_tests)

@@ -51,8 +51,8 @@ pub is_next : (masks : Masks) (zone : Zone) (from : ℕ) (found : Option ℤ) �
 unfolding timed_by
 is_next masks zone from found h first = next_by (timed_by masks zone) from found h first
 
--- if `searcher` has the masks of the window, and its counts, `ahead` and `pending` are as `IsReady` requires, then the
--- window is ready once they are stored in it
+-- Suppose that `searcher` has the masks of the window, and that the counts of `searcher`, `ahead` and `pending` are as
+-- `IsReady` requires. Then the window is ready once `searcher`, `ahead` and `pending` are stored in it.
 pub ready_after : (v : Window) (searcher : Searcher) (ahead : Option ℤ) (pending : List ℤ) → searcher.masks ≡ v.searcher.masks → pos 0 ≤ℤ v.base → v.base ≤ℤ v.last
     → Windowed (timed_of v) (start_of v.base) (bound_of ahead) v.last pending → IsMatchAhead (timed_of v) ahead → start_of v.base ≤ bound_of ahead
     → searcher.searches ≡ count_from (timed_of v).matches (start_of v.base) (bound_of ahead - start_of v.base) + 1
@@ -118,7 +118,7 @@ next_ready v (pos local) searcher found h masks more most search =
     ready_after v searcher ahead v.pending masks h.low h.above on next.found (omega arith) (omega arith)
     (subst (IsMost (sets_in v.searcher.masks) start (bound_of ahead)) (sym most) examined)
 
--- at most `local` + 1 searches were made so far, so the counter can't overflow
+-- at most `local` + 1 searches have been made so far, so the counter can't overflow
 pub few_searches : (v : Window) (local : ℤ) → IsPlacedTo v local → v.searcher.searches ≤ unsigned_abs local + 1
 few_searches v local h = grind (arith, count_from-most)
 

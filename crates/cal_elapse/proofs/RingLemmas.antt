@@ -233,7 +233,7 @@ put_back old new low at from i more round near (inr m) =
     let kept = kept_in old low at from a.at round near a.above a.below a.holds in
     subst (Has (instants_in new from)) a.is (member new from a.at kept.0 kept.1 (still_held old new at a.at more a.holds))
 
--- after the cell of `at` is set, the list of elements is the old list with `at` inserted
+-- once the cell of `at` is set, the list of elements is the old list with `at` inserted
 put_seen : (old new : List ℕ) (low at from : ℕ) → HasMore old new at → IsRoundWith low at from → ((i : ℤ) → Has (instants_in old low) i → IsNear i (pos at))
     → instants_in new from ≡ insert_key int_cmp (instants_in old low) (pos at)
 put_seen old new low at from more round near =
@@ -255,7 +255,7 @@ put_round old new low at from more round near high whole was =
     }
 
 -- if `at` is before `least`, or less than 187,200 seconds after it, then a ring that started at `least` can start at
--- the smaller of the two seconds after `at` is added
+-- the smaller of `least` and `at` once `at` is added
 with_least : (least at : ℕ) → (least ≤ at → at ≤ least + 187_199) → IsRoundWith least at (min least at)
 with_least least at near = grind (arith, min)
 
@@ -293,8 +293,8 @@ others_held : (old new : List ℕ) (at t : ℕ) → HasLess old new at → t % 1
 unfolding is_held
 others_held old new at t less other = less.others (t % 187_200) other
 
--- let `t` be one of the 187,200 seconds from `at` on: if its cell is still set after `at`, the smallest element, was
--- removed, then `t` was an element before and is greater than `at`
+-- Let `t` be one of the 187,200 seconds from the smallest element `at` on. If the cell of `t` is still set once `at`
+-- has been removed, then `t` was an element before and is greater than `at`.
 left_second : (old new : List ℕ) (low at t : ℕ) → IsFirstPassing (is_held old) low (low + 187_200) (Some at) → HasLess old new at
     → at ≤ t → t < at + 187_200 → is_held new t ≡ true → (at < t) × Has (instants_in old low) (pos t)
 left_second old new low at t found less above below holds =
@@ -322,7 +322,7 @@ still_in : (old new : List ℕ) (low at : ℕ) (i : ℤ) → IsFirstPassing (is_
     → pos at <ℤ i → IsIn old low i → Has (instants_in new at) i
 still_in old new low at i found less above a = grind (arith, lt_from_pos, same_second, member, others_held)
 
--- after `at`, the smallest element, was removed, the list of elements is the old list without its first element
+-- once the smallest element, `at`, has been removed, the list of elements is the old list without its first element
 taken_seen : (old new : List ℕ) (low at : ℕ) → IsFirstPassing (is_held old) low (low + 187_200) (Some at) → HasLess old new at
     → instants_in new at ≡ drop 1 (instants_in old low)
 taken_seen old new low at found less =
@@ -386,7 +386,7 @@ first_on cells low (Some at) round found =
     let inside = found_inside cells low at round found in
     subst (IsFirstPassing (is_held cells) at (at + 187_200)) (sym (kept_some at (omega arith))) (omega arith, omega arith, found.2, λ t above below. absurd (omega arith))
 
--- after the smallest second was removed, the ring starts at the next one, or is empty if there is none
+-- once the smallest second has been removed, the ring starts at the next one, or is empty if there is none
 pub taken_from : (old new : List ℕ) (least : ℕ) (next : Option ℕ) → IsFirstPassing (is_held old) least (least + 187_200) (Some least) → HasLess old new least → length new ≡ 2_925
     → IsRound old least → IsFirstPassing (is_held new) least (least + 187_200) next → IsRoundFrom new (unwrap_or next no_second)
 taken_from old new least next found less whole was first =

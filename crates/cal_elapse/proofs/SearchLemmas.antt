@@ -18,13 +18,13 @@ inside t h =
     let count = seconds_in_all-is in
     grind arith
 
--- a local second matches if its date and its time do
+-- a local second matches if and only if both its date and its time of day match
 matches_on : (sets : Sets) (day t : ℕ) → day < 84_006 → day * 86_400 ≤ t → t < day * 86_400 + 86_400
     → matches sets t ≡ (date_in sets (civil_date day) && time_in sets (t % 86_400))
 unfolding matches
 matches_on sets day t h low high = grind (arith, nat_lt, inside)
 
--- a local second, split into a day and a time of day, matches if both do
+-- the local second day * 86,400 + time of day matches if and only if both the day and the time of day match
 pub locals_split : (sets : Sets) → Splits (matches sets) (day_in sets) (time_in sets) 86_400 84_006
 unfolding day_in
 locals_split sets = record {
@@ -76,13 +76,14 @@ first_of_all sets day r from f first (Some s) parts inside small today found beg
           (first_here (locals_split sets) day r from 86_400 s parts inside holds today.1 today)))
     ]
 
--- `none_of_all`, and then `first_of_all`, for local seconds as integers instead of natural numbers
+-- `none_of_all` for local seconds as integers instead of natural numbers
 pub none_found : (sets : Sets) (day r : ℕ) (from : ℤ) (today : Option ℕ) → pos (day * 86_400 + r) ≡ from → day < 84_006 → r < 86_400 → IsFirstPassing (time_in sets) r 86_400 today
     → NonePasses (day_in sets) (day_to_start day today) 84_006 → IsFirstLocal (matches sets) from None
 none_found sets day r from today parts inside small none later = λ t above below.
     let count = seconds_in_all-is in
     none_of_all sets day r (day * 86_400 + r) today refl inside small none later t (omega (arith, ints)) (omega arith)
 
+-- `first_of_all` for local seconds as integers instead of natural numbers
 pub first_found : (sets : Sets) (day r f first : ℕ) (from found : ℤ) (today : Option ℕ) → pos (day * 86_400 + r) ≡ from → day < 84_006 → r < 86_400
     → IsFirstPassing (time_in sets) r 86_400 today → IsFirstPassing (day_in sets) (day_to_start day today) 84_006 (Some f) → IsFirstPassing (time_in sets) 0 86_400 (Some first)
     → found ≡ pos (f * 86_400 + second_on f day today first) → IsFirstLocal (matches sets) from (Some found)

@@ -1,4 +1,4 @@
--- How many searches were made when an elapse was returned, or when none was left.
+-- How many searches have been made when an elapse is returned, or when none is left.
 use Rattle.std.proofs.Common.{◌≡◌, ℕ, ◌+◌, ◌-◌, ◌<◌, ◌≤◌, nat_lt, true, false, Option, None, Some, ℤ, negsuc, pos, ◌<ℤ◌, ◌≤ℤ◌, ◌+ℤ◌, int_lt, unsigned_abs, sym, subst, arith, inl, inr, slice_get}
 use Rattle.std.proofs.lemmas.Bool.{and_left, cases_lt, false_from_ne_true}
 use Rattle.std.proofs.lemmas.Int.{ints}
@@ -63,7 +63,7 @@ searched_some v i h full at =
 
 -- The largest number of months that a single search examined
 
--- if `i` is pending and can be returned, exactly the matches before `top`, which is 93,600 seconds after `i`, were
+-- if `i` is pending and can be returned, exactly the matches before `top`, which is 93,600 seconds after `i`, have been
 -- converted
 same_below : (v : Window) (i : ℤ) (top : ℕ) → IsReady v → Has v.pending i → to_place v.ahead (Some i) ≡ None → (pos top) ≡ (i +ℤ pos 93_600) → start_of v.base ≤ top
     → (t : ℕ) → start_of v.base ≤ t → matches (sets_in v.searcher.masks) t ≡ true → (t < bound_of v.ahead → t < top) × (t < top → t < bound_of v.ahead)

@@ -8,12 +8,12 @@ use Rattle.cal_elapse.proofs.CarryLemmas.{Splits}
 use Rattle.cal_spec.specs.headline.Match.{time_in}
 use Rattle.cal_text.proofs.General.{and_regrouped}
 
--- a minute of the day matches if its hour and its minute do
+-- a minute of the day matches if and only if both its hour and its minute of the hour match
 pub minutes_split : (m : Masks) → Splits (minute_in (sets_in m)) (is_bit m.hours) (is_bit m.minutes) 60 24
 unfolding sets_in minute_in
 minutes_split m = grind arith
 
--- a time of day matches if its minute of the day and its second do
+-- a time of day matches if and only if both its minute of the day and its second match
 pub seconds_split : (m : Masks) → Splits (time_in (sets_in m)) (minute_in (sets_in m)) (is_bit m.seconds) 60 1_440
 unfolding sets_in minute_in time_in
 seconds_split m = grind (arith, and_regrouped)

@@ -118,10 +118,10 @@ pub record IsPlacedFrom (e : Timed) (a b : ℕ) (i : ℤ) : Type 0 where
   pub is_match : e.matches local ≡ true
   pub placed : e.place local ≡ Some i
 
--- Suppose that all matches below `a` were converted, with the pending instants `xs`, and that no local second below `b`
--- is more than 93,599 seconds after an instant in `ys`. If `ys` consists of `xs` and of the instants after `last` of
--- the matches from `a` up to but not including `b`, then all matches below `b` were converted, with the pending
--- instants `ys`.
+-- Suppose that all matches below `a` have been converted, with the pending instants `xs`, and that no local second
+-- below `b` is more than 93,599 seconds after an instant in `ys`. If `ys` consists of `xs` and of the instants after
+-- `last` to which matches from `a` up to but not including `b` resolve, then all matches below `b` have been converted,
+-- with the pending instants `ys`.
 pub windowed_more : (e : Timed) (from a b : ℕ) (last : ℤ) (xs ys : List ℤ) → a ≤ b → Windowed e from a last xs → IsStrictlySortedBy int_cmp ys
     → ((i : ℤ) → Has ys i ↔ (Has xs i ⊎ ((last <ℤ i) × IsPlacedFrom e a b i))) → ((i : ℤ) → Has ys i → (t : ℕ) → t < b → pos t ≤ℤ (i +ℤ pos 93_599)) → Windowed e from b last ys
 windowed_more e from a b last xs ys h w rises more near = record {
@@ -139,8 +139,8 @@ windowed_more e from a b last xs ys h w rises more near = record {
   reach = λ i m t low high k. near i m t high;
 }
 
--- after `x`, the smallest pending instant, was returned, the other pending instants are the instants after `x` of the
--- matches below `bound`
+-- once `x`, the smallest pending instant, has been returned, the other pending instants are exactly the instants after
+-- `x` to which matches below `bound` resolve
 pub windowed_later : (e : Timed) (from bound : ℕ) (last x : ℤ) (xs : List ℤ) → Windowed e from bound last (x ∷ xs) → Windowed e from bound x xs
 windowed_later e from bound last x xs w =
     let above = ((w.members x).0 (inl refl)).0 in
@@ -183,7 +183,7 @@ bound_in : (e : Timed) (ahead : Option ℤ) → IsMatchAhead e ahead → bound_o
 bound_in e ahead h = grind (arith, local_inside)
 
 -- if the pending instant `x` can be returned before `ahead` is converted, and `j` is the instant of a local second that
--- was not converted yet, then `j` isn't before `x`
+-- has not been converted yet, then `j` isn't before `x`
 later_place : (ahead : Option ℤ) (x j : ℤ) (t : ℕ) → to_place ahead (Some x) ≡ None → bound_of ahead ≤ t → t < seconds_in_all → pos t ≤ℤ (j +ℤ pos 93_599) → x ≤ℤ j
 later_place None x j t full late inside near = grind arith
 later_place (Some (pos n)) x j t full late inside near = grind (arith, none_chosen, int_lt, ints)
@@ -215,7 +215,7 @@ full_first e from ahead last (x ∷ xs) near w found full =
     (inl (elapse_of e (bound_of ahead) x (bound_in e ahead found) here.1))
     (λ j above m. elim m [ inl p ↦ least_place e from ahead last x j xs near w full above p | inr n ↦ absurd n ])
 
--- a window that is ready is still ready after its smallest pending instant was returned
+-- a window that is ready is still ready after its smallest pending instant has been returned
 pub taken_ready : (v : Window) (i last : ℤ) (xs : List ℤ) → IsReady v → slice_get v.pending 0 ≡ Some i → last ≡ i → xs ≡ drop 1 v.pending
     → IsReady (record v { last = last; pending = xs })
 taken_ready v i last xs h at same rest =

@@ -33,7 +33,7 @@ first_in_word masks a l from b parts found =
       λ t above below. in_word_at masks a t (omega arith) (omega arith) ∙ found.3 (t - a * 64) (omega arith) (omega arith),
     )
 
--- a month matches if its year and its month number do
+-- a month matches if and only if both its year and its month number match
 pub months_split : (m : Masks) → Splits (month_in (sets_in m)) (is_bit_in m.years) (is_bit m.months) 12 230
 unfolding sets_in month_in
 months_split m = grind (arith, nat_le, nat_tests)

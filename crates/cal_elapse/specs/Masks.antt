@@ -11,9 +11,9 @@ use Rattle.cal_spec.specs.declared.slot.Slot.{Slot}
 use Rattle.cal_spec.specs.declared.slot.Slot.TheVariants.{Year, Month, Hour, Minute, Second}
 use Rattle.cal_civil.specs.headline.Local.{first_year}
 
--- Which bit in the mask of days stands for `n`, a day, or a count from the end of the month if `from_end` is true. Days
--- are stored in increasing order, and counts from the end in decreasing order, so that a later day of a month always
--- has a higher bit.
+-- The index of the bit that stands for `n` in the mask of days. `n` is a day of the month or, if `from_end` is true, a
+-- count from the end of the month. Days are stored in increasing order, and counts from the end in decreasing order, so
+-- that a later day of a month always has a higher bit.
 abbrev pub day_place : Bool → ℕ → ℕ
 day_place from_end n = if from_end then 31 - n else n - 1
 
@@ -30,8 +30,8 @@ sets_in masks = record {
   from_end = masks.from_end;
 }
 
--- the slot of a field, which says what values it allows; days that are counted from the end of the month have a slot of
--- their own
+-- the slot of a field, which says what values the field allows; days that are counted from the end of the month have a
+-- slot of their own
 abbrev pub slot_of : Field → Bool → Slot
 slot_of field.Year from_end = Year
 slot_of field.Month from_end = Month
@@ -46,8 +46,8 @@ pub record AreSlotValues (slot : Slot) (first count : ℕ) : Type 0 where
   pub from : least slot ≤ first
   pub upto : first + count ≤ greatest slot + 1
 
--- the largest value that a part can match; an open-ended repetition is limited only by its field, so this is 65,535
--- for it, the greatest 16-bit number
+-- the largest value that a part can match; for an open-ended repetition, which has no limit of its own, it is 65,535,
+-- the greatest 16-bit number
 abbrev pub last_number : ℕ → Option ℕ → Option ℕ → ℕ
 last_number a (Some b) step = b
 last_number a None None = a

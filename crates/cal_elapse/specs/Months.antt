@@ -16,10 +16,11 @@ minutes_per_day = 1_440
 abbrev pub minutes_in_all : ℕ
 minutes_in_all = 120_968_640
 
--- the year and the month number, 1 to 12, of month `n`
+-- the year of month `n`
 abbrev pub year_of : ℕ → ℕ
 year_of n = first_year + n / 12
 
+-- the number of month `n` in its year, 1 to 12
 abbrev pub number_of : ℕ → ℕ
 number_of n = n % 12 + 1
 

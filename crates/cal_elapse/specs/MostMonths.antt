@@ -11,7 +11,8 @@ pub record IsExamined (sets : Sets) (from months : ℕ) : Type 0 where
   pub first : IsFirstPassing (matches sets) from seconds_in_all answer
   pub examined : months ≡ examined_months sets from answer
 
--- a search that starts just after some match from `from` up to but not including `to` examines `months` months
+-- there is a match from `from` up to but not including `to`, and a search that starts just after this match examines
+-- `months` months
 pub record IsExaminedAfter (sets : Sets) (from to months : ℕ) : Type 0 where
   pub local : ℕ
   pub low : from ≤ local

@@ -6,7 +6,7 @@ use Rattle.cal_elapse.specs.Bits.{is_bit, is_bit_in}
 use Rattle.cal_rising.specs.headline.Elements.{Has}
 use Rattle.cal_elapse.specs.Search.{IsFirstPassing}
 
--- the number of cells; its value is a lemma below, so that no proof unfolds a list of this length
+-- the number of cells; proofs take its value from the lemma below, so that none of them unfolds a list of this length
 pub cells_in_all : ℕ
 cells_in_all = 187_200
 
@@ -14,7 +14,7 @@ pub cells_in_all-is : cells_in_all ≡ 187_200
 unfolding cells_in_all
 cells_in_all-is = refl
 
--- the same number, for statements without such a list
+-- the number of cells once more, for statements in which no list has this length
 abbrev pub cell_count : ℕ
 cell_count = 187_200
 
@@ -26,17 +26,17 @@ cell_words = 2_925
 unfoldable pub is_held : List ℕ → ℕ → Bool
 is_held cells second = is_bit_in cells (second % cell_count)
 
--- how many cells `i` is after `cell`, counting around the end of the ring
+-- how many cells `i` is after `cell`, if the cells are counted past the end of the ring to its start
 abbrev pub cells_behind : ℕ → ℕ → ℕ
 cells_behind cell i = (i + cell_count - cell) % cell_count
 
--- `i` is `start` plus the index of a set bit
+-- `i` is `start` plus the index of a set bit of `bits`
 pub record IsOneOf (start : ℤ) (bits : ℕ) (i : ℤ) : Type 0 where
   pub bit : ℕ
   pub set : is_bit bits bit ≡ true
   pub is : (start +ℤ pos bit) ≡ i
 
--- the numbers that pass, of the `n` numbers from `from` on
+-- those of the `n` numbers from `from` on that pass, in increasing order
 abbrev pub rising_from : (ℕ → Bool) → ℕ → ℕ → List ℤ
 rising_from passes from zero = []
 rising_from passes from (suc n) = cond (passes from) (pos from ∷ rising_from passes (suc from) n) (rising_from passes (suc from) n)
@@ -46,8 +46,8 @@ rising_from passes from (suc n) = cond (passes from) (pos from ∷ rising_from p
 unfoldable pub instants_in : List ℕ → ℕ → List ℤ
 instants_in cells low = rising_from (is_held cells) low cells_in_all
 
--- the ring has one bit for each cell, in `cell_words` words of 64 bits, and none of its elements is after the last
--- instant
+-- the ring has one bit for each cell, in `cell_words` words of 64 bits, and none of its elements is after
+-- `last_instant`
 pub record IsRound (cells : List ℕ) (low : ℕ) : Type 0 where
   pub whole : length cells ≡ cell_words
   pub members : (i : ℤ) → Has (instants_in cells low) i → i ≤ℤ last_instant

@@ -1,4 +1,4 @@
--- The test for a word that isn't 0, which the scan of a ring looks for.
+-- The test by which the scan of a ring finds a word that isn't 0.
 use Rattle.std.specs.Prelude.{ℕ, Bool, not, ◌==◌}
 
 -- whether a word isn't 0

@@ -1,15 +1,16 @@
--- The two steps of a search for a local second: from which day on it searches for a matching day, and which time of
--- that day it returns.
+-- The two steps of a search for a local second: the day from which on it searches for a matching day, and the time that
+-- it returns on the day found.
 use Rattle.std.specs.Prelude.{ℕ, ◌+◌, ◌==◌, cond, Option, None, Some}
 
 -- The earliest day on which a search can find a match. The search starts on `day`, and the second argument is the first
--- matching time left on that day. If it is `None`, no match is left on `day`, so this is the day after it.
+-- matching time left on `day`. If there is none, the result is the next day.
 abbrev pub day_to_start : ℕ → Option ℕ → ℕ
 day_to_start day None = day + 1
 day_to_start day (Some second) = day
 
--- The time of day of a search's result, which is on the day `found`. If the search started on that day, this is the
--- third argument, the first matching time left on it. Otherwise it is `first`, the first matching time of any day.
+-- The time of day of a search's result, which is on the day `found`. If the search started on that day, the time is the
+-- third argument, the first matching time left on it. Otherwise the time is `first`, the first matching time of a whole
+-- day.
 abbrev pub second_on : ℕ → ℕ → Option ℕ → ℕ → ℕ
 second_on found day None first = first
 second_on found day (Some second) first = cond (found == day) second first

@@ -1,4 +1,4 @@
--- How many searches were made for an expression, and the largest number of months that one of them examined.
+-- How many searches have been made for an expression, and the largest number of months that one of them examined.
 use Rattle.std.specs.Prelude.{◌≡◌, ◌+◌, ◌-◌, ℕ, Option, None, Some, ℤ, unsigned_abs}
 use Rattle.cal_civil.specs.headline.Local.{seconds_in_all}
 use Rattle.cal_elapse.specs.headline.Elapses.{Timed}
@@ -10,16 +10,17 @@ use Rattle.cal_spec.specs.headline.Match.{Sets}
 abbrev pub matches_up_to : Timed → ℤ → ℕ → ℕ
 matches_up_to e base bound = count_from e.matches (start_of base) (bound - start_of base)
 
--- How many searches were made. After `next` returned `Some elapse`, this is 1 more than the number of matching local
--- seconds from the start of the first search to `max_offset` after the elapse. After `next` returned `None`, it is 1
--- more than the number of all matching local seconds from that start on.
+-- How many searches have been made when `next` returns. If it returns `Some elapse`, this is 1 more than the number of
+-- matching local seconds from the start of the first search up to and including the local second `elapse` +
+-- `max_offset`. If it returns `None`, this is 1 more than the number of all matching local seconds from the start of
+-- the first search on.
 abbrev pub IsSearched : Timed → ℤ → Option ℤ → ℕ → Type 0
 IsSearched e base (Some elapse) searches = searches ≡ matches_up_to e base (unsigned_abs elapse + 93_600) + 1
 IsSearched e base None searches = searches ≡ matches_up_to e base seconds_in_all + 1
 
--- `most` is the largest number of months that one of these searches examined. After `next` returned `Some elapse`, they
--- are the first search and a search after each match from its start to `max_offset` after the elapse. After `next`
--- returned `None`, they are the first search and a search after each match from its start on.
+-- When `next` returns, `most` is the largest number of months that a single search has examined. The searches are the
+-- first one, and one after each match from the start of the first one on. If `next` returns `Some elapse`, only matches
+-- up to and including the local second `elapse` + `max_offset` have had a search after them.
 abbrev pub IsMostSearched : Sets → ℤ → Option ℤ → ℕ → Type 0
 IsMostSearched sets base (Some elapse) most = IsMost sets (start_of base) (unsigned_abs elapse + 93_600) most
 IsMostSearched sets base None most = IsMost sets (start_of base) seconds_in_all most

@@ -1,4 +1,4 @@
--- The state of the source of elapses: pending instants, and the matches that were already converted to instants.
+-- The state of the source of elapses: pending instants, and the matches that have already been converted to instants.
 use Rattle.std.specs.Prelude.{◌≡◌, ◌↔◌, ◌+◌, ◌-◌, ◌<◌, ◌≤◌, cond, ℕ, true, List, Option, None, Some, ℤ, pos, negsuc, ◌+ℤ◌, ◌-ℤ◌, ◌<ℤ◌, ◌≤ℤ◌, int_lt, unsigned_abs, IfSome, unwrap_or}
 use Rattle.std.specs.Option.{option_map}
 use Rattle.std.specs.Ordering.{int_cmp}
@@ -25,9 +25,9 @@ pub record IsPlacedBelow (e : Timed) (bound : ℕ) (i : ℤ) : Type 0 where
   pub is_match : e.matches local ≡ true
   pub placed : e.place local ≡ Some i
 
--- `xs` is strictly increasing and contains exactly the instants after `last` of the matching local seconds below
--- `bound`. No matching local second from `from` up to but not including `bound` is later than an instant in `xs` by
--- more than `max_offset`, the largest distance between a local second and its instant.
+-- `xs` is strictly increasing and contains exactly the instants after `last` to which matching local seconds below
+-- `bound` resolve. No matching local second from `from` up to but not including `bound` is later than an instant in
+-- `xs` by more than `max_offset`, the largest distance between a local second and its instant.
 pub record Windowed (e : Timed) (from bound : ℕ) (last : ℤ) (xs : List ℤ) : Type 0 where
   pub rises : IsStrictlySortedBy int_cmp xs
   pub members : (i : ℤ) → Has xs i ↔ ((last <ℤ i) × IsPlacedBelow e bound i)
@@ -38,8 +38,8 @@ abbrev pub start_of : ℤ → ℕ
 start_of (pos base) = base - max_offset
 start_of (negsuc n) = 0
 
--- the first local second that was not converted yet: `ahead`, the match that was found last, or the end of all local
--- seconds if `ahead` is `None`
+-- the bound below which all matches have been converted: `ahead`, the match that was found last, or the end of all
+-- local seconds if `ahead` is `None`
 abbrev pub bound_of : Option ℤ → ℕ
 bound_of ahead = unwrap_or (option_map unsigned_abs ahead) seconds_in_all
 
@@ -47,14 +47,14 @@ bound_of ahead = unwrap_or (option_map unsigned_abs ahead) seconds_in_all
 abbrev pub IsMatchAhead : Timed → Option ℤ → Type 0
 IsMatchAhead e ahead = IfSome ahead (λ local. IsLocalSecond local × (e.matches (unsigned_abs local) ≡ true))
 
--- Returns `ahead` if this match has to be converted before `least`, the smallest pending instant, can be returned.
--- Returns `None` if not. If nothing is pending, a match always has to be converted.
+-- `ahead` if this match has to be converted before `least`, the smallest pending instant, can be returned, and `None`
+-- otherwise. If nothing is pending, a match always has to be converted.
 abbrev pub to_place : Option ℤ → Option ℤ → Option ℤ
 to_place None least = None
 to_place (Some local) None = Some local
 to_place (Some local) (Some least) = cond (int_lt least (local -ℤ pos max_offset)) None (Some local)
 
--- the pending instants with one more instant, which is added if there is one and it is after the instant returned last
+-- the pending instants `xs`, with the first argument added if it is an instant after `last`, the instant returned last
 abbrev pub with_place : Option ℤ → ℤ → List ℤ → List ℤ
 with_place None last xs = xs
 with_place (Some i) last xs = cond (int_lt last i) (insert_key int_cmp xs i) xs
@@ -66,8 +66,8 @@ timed_by masks zone = record { matches = matches (sets_in masks); place = λ loc
 abbrev pub timed_of : Window → Timed
 timed_of w = timed_by w.searcher.masks w.zone
 
--- All matching local seconds before `w.ahead` were converted, or all that exist if it is `None`. One search was made at
--- the start, and one after each of these matches.
+-- All matches before `w.ahead` have been converted, or all matches if `w.ahead` is `None`. The searches that have been
+-- made are the first one, and one after each converted match from the start of the first one on.
 pub record IsReady (w : Window) : Type 0 where
   pub windowed : Windowed (timed_of w) (start_of w.base) (bound_of w.ahead) w.last w.pending
   pub found : IsMatchAhead (timed_of w) w.ahead
@@ -77,8 +77,8 @@ pub record IsReady (w : Window) : Type 0 where
   pub counted : w.searcher.searches ≡ count_from (timed_of w).matches (start_of w.base) (bound_of w.ahead - start_of w.base) + 1
   pub examined : IsMost (sets_in w.searcher.masks) (start_of w.base) (bound_of w.ahead) w.searcher.most_months
 
--- `local` matches, all matching local seconds up to and including `local` were converted, and the search after `local`
--- was not made yet
+-- `local` is a match, all matches up to and including `local` have been converted, and the search after `local` hasn't
+-- been made yet
 pub record IsPlacedTo (w : Window) (local : ℤ) : Type 0 where
   pub windowed : Windowed (timed_of w) (start_of w.base) (unsigned_abs local + 1) w.last w.pending
   pub found : IsMatchAhead (timed_of w) (Some local)

@@ -67,16 +67,16 @@ impl<'z> Elapses<'z> {
         })
     }
 
-    /// Returns how many searches were made: one by `new`, and one for each match that `next` has resolved to an instant
-    /// or skipped in a gap. One search is the work of one call of [`next_local`](crate::next_local): finding the first
-    /// match at or after a local second.
+    /// Returns how many searches have been made: one by `new`, and one after each match that `next` has resolved to an
+    /// instant or passed over. One search is the work of one call of [`next_local`](crate::next_local): finding the
+    /// first match at or after a local second.
     pub fn searches(&self) -> u64
         ensures { result ≡ self.now.searcher.searches }
     {
         self.window.searcher.searches()
     }
 
-    /// Returns the largest number of months that a single search examined so far.
+    /// Returns the largest number of months that a single search has examined so far.
     pub fn most_months(&self) -> u32
         ensures kept { result ≡ self.now.searcher.most_months }
         ensures few { result ≤ months_in_all }
@@ -96,12 +96,12 @@ impl Rising for Elapses<'_> {
 
     ghost rest = { remaining_elapses };
 
-    /// Removes and returns the next elapse, or `None` if there are no more.
+    /// Removes and returns the next elapse. Returns `None` if there are no more.
     ///
-    /// The first search starts at the local second base - 93,599, or at 0 if that is negative. After `next` returned an
-    /// elapse e, `searches` counts the first search and one search after each match from its start to the local second
-    /// e + 93,599. After `next` returned `None`, `searches` counts the first search and one search after each match
-    /// from its start on. `most_months` is the largest number of months that one of these searches examined, at most
+    /// The first search starts at s, the local second base - 93,599, or 0 if that is negative. After `next` has
+    /// returned an elapse e, `searches` counts the first search and one search after each match from s to the local
+    /// second e + 93,599. After `next` has returned `None`, `searches` counts the first search and one search after
+    /// each match from s on. `most_months` is the largest number of months that one of these searches examined, at most
     /// 2,760.
     fn next(&mut self) -> Option<i64>
         ensures given { result ≡ slice_get (remaining_elapses self.old) 0 }

@@ -15,9 +15,9 @@ ghost use Rattle.cal_rising.specs.headline.Elements.{Has};
 ghost use Rattle.cal_elapse.specs.headline.Timed.{timed};
 
 /// The elapses of expressions after a base, without those of exceptions, form exactly one list. The list is strictly
-/// increasing. It contains an instant exactly if the instant is after the base, a matching local second of an
+/// increasing. It contains an instant if and only if the instant is after the base, a matching local second of an
 /// expression resolves to it, and it is not an elapse of an exception. No other list has both properties. Without
-/// exceptions it is the list of elapses after the base.
+/// exceptions, it is the list of all elapses after the base.
 pub fn elapses_are_one_list()
     ensures these { (es exceptions : List Timed) (base : ℤ) → AreElapses es exceptions base (elapses_except es exceptions base) }
     ensures only { (es exceptions : List Timed) (base : ℤ) (xs : List ℤ) → AreElapses es exceptions base xs
@@ -25,16 +25,18 @@ pub fn elapses_are_one_list()
     ensures none { (es : List Timed) (base : ℤ) → elapses_except es [] base ≡ elapses_after es base }
 {}
 
-/// The elapses of several expressions are the union of the elapses of each. This holds for the exceptions too.
+/// The elapses of several expressions are the union of the elapses of each, and likewise for the exceptions: removing
+/// the second union from the first yields the elapses without those of the exceptions.
 pub fn elapses_of_each()
     ensures { (es exceptions : List Timed) (base : ℤ) → without (union (each_after es base)) (union (each_after exceptions base))
         ≡ elapses_except es exceptions base }
 {}
 
-/// An expression is covered by exceptions exactly if, after any base, none of its elapses is left once the elapses of
-/// the exceptions are removed. An expression is covered by another one in the same zone that matches all its values,
-/// field by field, and counts days from the same end of the month. Covered expressions may be left out: if every elapse
-/// of the expressions left out is an elapse of an expression that is kept or of an exception, the result is unchanged.
+/// An expression is covered by exceptions if and only if, after any base, none of its elapses is left once the elapses
+/// of the exceptions are removed. In the same zone, an expression is covered by another one that matches all its
+/// values, field by field, and counts days from the same end of the month. Covered expressions may be left out: if
+/// every elapse of the expressions left out is an elapse of an expression that is kept or of an exception, the result
+/// is unchanged.
 pub fn covered_are_left_out()
     ensures covered { (e : Timed) (exceptions : List Timed) → IsCovered e exceptions
         ↔ ((base : ℤ) → elapses_except (e ∷ []) exceptions base ≡ []) }

@@ -92,8 +92,8 @@ fn in_part(part: Part, first: u16, count: u32) -> u64
     }
 }
 
-/// Returns the largest value that the part can match. An open-ended repetition has no limit of its own, so this is
-/// 65,535 for it.
+/// Returns the largest value that the part can match, or 65,535 for an open-ended repetition, which has no limit of its
+/// own.
 fn last_of(part: Part) -> u16
     ensures { result ≡ last_number part.start part.end part.step }
 {
@@ -116,8 +116,8 @@ fn bits_between(low: u32, high: u32) -> u64
     }
 }
 
-/// Returns a word in which bit i stands for the value `first` + i. From bit `low` up to but not including bit `high`,
-/// the bits are set whose value exceeds `start` by a multiple of `step`. No other bits are set.
+/// Returns a word in which bit i stands for the value `first` + i. A bit with an index from `low` up to but not
+/// including `high` is set if its value exceeds `start` by a multiple of `step`. No other bits are set.
 fn steps(low: u32, high: u32, first: u16, start: u16, step: u16) -> u64
     requires few { high ≤ 64 }
     requires within { first ≤ 2_200 }

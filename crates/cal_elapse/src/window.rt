@@ -23,9 +23,9 @@ pub struct Window<'z> {
     zone: PlaceCache<'z>,
     /// The base: all elapses are later than this instant.
     base: i64,
-    /// The match that was found last, which was not converted to an instant yet. `None` if no match is left.
+    /// The match that was found last, which has not been converted to an instant yet. `None` if no match is left.
     ahead: Option<i64>,
-    /// The instant that was returned last, or the base if none was.
+    /// The instant that was returned last, or the base if none has been returned.
     pub last: i64,
     /// The instants after `last` to which the matches before `ahead` resolve, or all matches if `ahead` is `None`.
     pending: Pending,
@@ -100,8 +100,8 @@ impl<'z> Window<'z> {
         self.ahead = ahead;
     }
 
-    /// Searches for all remaining matches in the minute of `local`, a match that was already converted, and converts
-    /// them at once. Returns the last match that was converted, which can be `local`.
+    /// Searches for all remaining matches in the minute of `local`, a match that has already been converted, and
+    /// converts them at once. Returns the last match that was converted, which can be `local`.
     ///
     /// If no later match in the minute is known, calls `skip_hour` instead. Otherwise, nothing changes unless three
     /// conditions are met:
@@ -147,10 +147,10 @@ impl<'z> Window<'z> {
         }
     }
 
-    /// Searches for the remaining matches in the hour of `local`, a match that was already converted, if none of them
-    /// can become pending. That is known if nothing is pending, the UTC offset is constant to the end of the hour, and
-    /// the end of the hour doesn't resolve to an instant after the one returned last. The matches then need no
-    /// conversion. Returns the last match found, or `local` if there was no search.
+    /// Searches for later matches in the hour of `local`, a match that has already been converted, if none of them can
+    /// become pending. They can't if nothing is pending, the UTC offset is constant to the end of the hour, and the end
+    /// of the hour doesn't resolve to an instant after the one returned last. The matches then need no conversion.
+    /// Returns the last match found, or `local` if there was no search.
     #[tactic(auto, using(cal_civil::proofs::LocalLemmas::local_arith, crate::proofs::ReadyLemmas::few_searches, crate::proofs::ReadyLemmas::placed_is_match))]
     fn skip_hour(&mut self, local: i64) -> i64
         requires { IsPlacedTo self.old local }
@@ -193,8 +193,8 @@ impl<'z> Window<'z> {
         instant
     }
 
-    /// Returns whether `instant` is an elapse of the expression, even if it was already returned or is not after the
-    /// base. It is an elapse if the local second that the zone's clock shows at `instant` matches and resolves to
+    /// Returns whether `instant` is an elapse of the expression, even if it has already been returned or is not after
+    /// the base. It is an elapse if the local second that the zone's clock shows at `instant` matches and resolves to
     /// `instant`. This makes no search.
     pub fn has_elapse(&mut self, instant: Instant) -> bool
         ensures has { (result ≡ true) ↔ IsPlace (timed_of self.old) instant.secs }

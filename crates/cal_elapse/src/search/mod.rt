@@ -2,7 +2,7 @@
 //!
 //! [`Window`](crate::window::Window) asks [`searcher`] for one match after another. If the searcher doesn't have the
 //! next match stored, it calls [`next_local`] or [`next_after`] in this file. They call [`time`] for the time of day,
-//! and [`day`] for the day, which calls [`month`] for the months that are worth examining.
+//! and [`day`] for the day. [`day`] calls [`month`] for the next month whose year and month number match.
 
 ghost use Rattle.std.specs.Prelude.{◌≡◌, ◌+◌, ◌*◌, ◌≤◌, ◌<◌, true, pos, ◌≤ℤ◌, unsigned_abs};
 ghost use Rattle.std.specs.Option.{option_map};
@@ -116,7 +116,7 @@ fn second_after(masks: &Masks, second: u32) -> Option<u32>
 }
 
 /// Returns the earliest day on which a search can find a match. The search starts on `day`, and `today` is the first
-/// matching time left on that day. If `today` is `None`, no match is left on `day`, so this is the day after it.
+/// matching time left on `day`. If there is none, the result is the next day.
 fn day_to_start(day: u32, today: Option<u32>) -> u32
     requires { day < days_in_all }
     ensures { result ≡ day_to_start day today }
@@ -128,7 +128,7 @@ fn day_to_start(day: u32, today: Option<u32>) -> u32
 }
 
 /// Returns the time of day of a search's result, which is on the day `found`. If the search started on that day, this
-/// is `today`, the first matching time left on it. Otherwise it is `first`, the first matching time of any day.
+/// is `today`, the first matching time left on it. Otherwise it is `first`, the first matching time of a whole day.
 fn second_on(found: u32, day: u32, today: Option<u32>, first: u32) -> u32
     ensures { result ≡ second_on found day today first }
 {

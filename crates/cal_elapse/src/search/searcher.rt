@@ -51,7 +51,7 @@ pub struct Searcher {
     masks: Masks,
     searches: u64,
     most_months: u32,
-    /// The match that was found last, or the end of the local seconds if none was found yet.
+    /// The match that was found last, or the end of the local seconds if none has been found yet.
     found: i64,
     /// The local second that bit 0 of `left` stands for.
     from: i64,
@@ -59,7 +59,7 @@ pub struct Searcher {
     left: u64,
     /// The minute that bit 0 of `minutes` stands for, counted from the start of 1970.
     minute: u32,
-    /// One bit for each minute with matches after the minute of `found` in the same hour.
+    /// One bit for each later minute with matches in the hour of `found`.
     minutes: u64,
     ghost few_months: { most_months ≤ 2_760 },
     ghost found_low: { pos 0 ≤ℤ found },
@@ -94,7 +94,7 @@ impl Searcher {
         self.searches
     }
 
-    /// Returns the largest number of months that a single search examined.
+    /// Returns the largest number of months that a single search has examined so far.
     pub fn most_months(&self) -> u32
         ensures kept { result ≡ self.now.most_months }
         ensures few { result ≤ months_in_all }
@@ -163,8 +163,8 @@ impl Searcher {
         RestOfMinute { bits, last }
     }
 
-    /// If a later match in the minute of `local`, which must itself match, is known, searches for the next match and
-    /// returns it. Otherwise returns `None` without a search.
+    /// Searches for the next match after `local` and returns it, if a later match in the minute of `local` is known.
+    /// Otherwise returns `None` without a search. `local` must itself match.
     #[inline(always)]
     fn next_in_minute(&mut self, local: i64) -> Option<i64>
         requires start { CanStart (matches (sets_in self.old.masks)) (SearchStart.After local) }
@@ -187,8 +187,8 @@ impl Searcher {
         self.search(SearchStart::After(local)).local
     }
 
-    /// Returns whether a later minute with matches in the hour of `local` is known. Such minutes are known only if
-    /// `local` is the match that was found last.
+    /// Returns whether the hour of `local` is known to have a later minute with matches. That is known only if `local`
+    /// is the match that was found last.
     pub fn has_more_in_hour(&self, local: i64) -> bool
         ensures { result ≡ true → matches (sets_in self.now.masks) (unsigned_abs local) ≡ true
             → HasMoreInHour (matches (sets_in self.now.masks)) (unsigned_abs local) }
@@ -196,8 +196,8 @@ impl Searcher {
         self.minutes != 0 && self.found == local
     }
 
-    /// Searches for the matches after `local`, which must itself match, as long as the next match is known to be in the
-    /// same hour. Returns the last match found, or `local` if none was found.
+    /// Searches for the matches after `local`, which must itself match, as long as a later minute with matches in the
+    /// same hour is known. Returns the last match found, or `local` if none was found.
     pub fn search_hour(&mut self, local: i64) -> i64
         requires start { CanStart (matches (sets_in self.old.masks)) (SearchStart.After local) }
         requires few { self.old.searches ≤ unsigned_abs local + 1 }
@@ -217,8 +217,8 @@ impl Searcher {
         last
     }
 
-    /// If the next match after `local`, which must itself match, is known to be in the same hour, searches for it and
-    /// returns it. Otherwise returns `None` without a search.
+    /// Searches for the next match after `local` and returns it, if a later minute with matches in the hour of `local`
+    /// is known. Otherwise returns `None` without a search. `local` must itself match.
     #[inline(always)]
     fn next_in_hour(&mut self, local: i64) -> Option<i64>
         requires start { CanStart (matches (sets_in self.old.masks)) (SearchStart.After local) }

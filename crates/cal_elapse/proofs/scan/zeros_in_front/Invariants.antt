@@ -2,6 +2,6 @@ use Rattle.std.proofs.Common.{◌≡◌, ◌*◌, ◌<◌, ℕ, false, get_or}
 use Rattle.cal_elapse.specs.Scan.{is_set}
 use Rattle.cal_elapse.proofs.scan.zeros_in_front.Given as goal
 
--- all words in the groups of 32 that were tested so far are 0
+-- all words in the groups of 32 that have been tested so far are 0
 abbrev pub invariant-loop-block : goal.invariant-loop-block
 invariant-loop-block l = (k : ℕ) → k < l.block * 32 → is_set (get_or l.cells k 0) ≡ false
