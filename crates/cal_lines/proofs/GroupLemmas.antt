@@ -29,8 +29,8 @@ abbrev pub after : ℕ → List ℕ → List Group → List Line
 after n front [] = record { number = n; text = front } ∷ []
 after n front (group ∷ rest) = record { number = n; text = front ++ parts_of (group.first ∷ group.more) } ∷ map joined_line rest
 
--- the logical lines of a text of which the first is partly joined: it has the number `n` and the text `front` so far;
--- if the Boolean is `true`, it continues in the physical lines `ls`, otherwise it is complete
+-- the logical lines of a text whose first logical line is partly joined: it has the number `n` and the text `front` so
+-- far; if the Boolean is `true`, it continues in the physical lines `ls`, otherwise it is complete
 abbrev pub goes_on_in : ℕ → List ℕ → Bool → List Line → List Line
 goes_on_in n front true ls = after n front (groups ls)
 goes_on_in n front false ls = record { number = n; text = front } ∷ map joined_line (groups ls)

@@ -3,7 +3,7 @@ use Rattle.std.proofs.Common.{arith, ◌≡◌, true, false, List, [], ◌∷◌
 use Rattle.cal_lines.specs.LineRule.{AreGroups, IsClosed, IsOpen, lines_of}
 use Rattle.cal_lines.specs.headline.Lines.{Group, Line, continued_by, groups, is_continued}
 
--- All lines are in the groups, in order
+-- `continued_by` keeps the lines and their order, and so does `groups` (`lines_of_groups`)
 lines_of_continued : (line : Line) (all : List Group) → lines_of (continued_by line all) ≡ line ∷ lines_of all
 lines_of_continued line [] = refl
 lines_of_continued line (group ∷ rest) = refl
@@ -13,7 +13,8 @@ unfolding groups
 lines_of_groups [] = refl
 lines_of_groups (line ∷ lines) = grind (arith, lines_of_groups lines, lines_of_continued line (groups lines))
 
--- The groups satisfy `AreGroups`
+-- `AreGroups` stays true when a continued line is added to the first group, and also when a line that isn't continued
+-- is put in front as a group of its own (`ended_groups`); so it is true of the result of `groups` (`are_groups`)
 continued_groups : (line : Line) (all : List Group) → is_continued line.text ≡ true → AreGroups all → AreGroups (continued_by line all)
 continued_groups line [] e h = tt
 continued_groups line (group ∷ []) e h = (e, h)
@@ -28,7 +29,8 @@ unfolding groups
 are_groups [] = tt
 are_groups (line ∷ lines) = grind (arith, are_groups lines, continued_groups line (groups lines), ended_groups line (groups lines))
 
--- There is no other grouping
+-- `groups` returns a complete group as it is, and also a group that the end of the file cuts off (`open_group`); so no
+-- other groups with the same lines satisfy `AreGroups` (`groups_of_lines`)
 closed_group : (line : Line) (more rest : List Line) → IsClosed line more → groups ((line ∷ more) ++ rest) ≡ record { first = line; more = more } ∷ groups rest
 unfolding groups
 closed_group line [] rest e = rw e refl

@@ -1,4 +1,4 @@
--- The logical lines of a text as a relation: systemd.syntax(7). It is stated without the functions of `Lines` that
+-- The logical lines of a text as a relation: systemd.syntax(7). The relation doesn't use the functions of `Lines` that
 -- compute the lines, but shares with them the tests for blanks, comments and continued lines.
 use Rattle.std.specs.Prelude.{◌≡◌, ◌⊎◌, ◌+◌, ℕ, true, false, not, List, [], ◌∷◌, ◌++◌, filter}
 use Rattle.std.specs.Str.Lines.{lines}
@@ -24,7 +24,7 @@ pub record IsContinuedPart (text part : List ℕ) : Type 0 where
 abbrev pub IsLinePart : List ℕ → List ℕ → Type 0
 IsLinePart text part = ((is_continued text ≡ false) × (part ≡ text)) ⊎ IsContinuedPart text part
 
--- the text is the concatenation of what the lines contribute
+-- the text is the concatenation of what the lines contribute to their logical line
 abbrev pub AreJoined : List Line → List ℕ → Type 0
 AreJoined [] text = text ≡ []
 AreJoined (line ∷ lines) text = (part : List ℕ) × (rest : List ℕ) × IsLinePart line.text part × AreJoined lines rest × (text ≡ part ++ rest)

@@ -1,5 +1,6 @@
--- The lines of a unit file: systemd.syntax(7). Each step is a function of the whole text: the physical lines, those
--- that are not comments, the groups of continued lines, and the logical lines.
+-- The lines of a unit file: systemd.syntax(7). They are found in four steps, each of which goes through the whole file:
+-- first the physical lines, then those that are not comments, then the groups of continued lines, and then the logical
+-- lines.
 use Rattle.std.specs.Prelude.{ℕ, ◌+◌, ◌-◌, ◌%◌, ◌==◌, Bool, not, ◌||◌, if◌then◌else◌, List, [], ◌∷◌, ◌++◌, length, map, filter, take, slice_index}
 use Rattle.std.specs.List.{flat_map, suffix_len}
 use Rattle.std.specs.Str.Lines.{lines}
@@ -20,8 +21,8 @@ abbrev pub numbered_lines : ℕ → List (List ℕ) → List Line
 numbered_lines number [] = []
 numbered_lines number (text ∷ texts) = record { number = number; text = text } ∷ numbered_lines (number + 1) texts
 
--- Physical lines end at a line feed, and one carriage return before it is dropped. Leading blanks are dropped too,
--- since no rule depends on them.
+-- The physical lines of a text, numbered from `number` on. They end at a line feed, and one carriage return before the
+-- line feed is dropped. Leading blanks are dropped too, since no rule depends on them.
 unfoldable pub physical_lines : ℕ → List ℕ → List Line
 physical_lines number text = numbered_lines number (map (trim_start_matches is_blank_or_return) (lines text))
 
@@ -37,8 +38,8 @@ plain_lines number text = filter (λ line. not (is_comment line.text)) (physical
 unfoldable pub is_continued : List ℕ → Bool
 is_continued text = suffix_len (λ b. b == 92) text % 2 == 1
 
--- what a physical line contributes to its logical line: the line itself, but if it is continued, a space takes the
--- place of its last backslash
+-- what a physical line contributes to its logical line: the line itself, with a space in place of its last backslash if
+-- the line is continued
 unfoldable pub part_of_line : List ℕ → List ℕ
 part_of_line text = if is_continued text then take (length text - 1) text ++ (32 ∷ []) else text
 
@@ -47,7 +48,7 @@ pub record Group : Type 0 where
   pub first : Line
   pub more : List Line
 
--- adds a continued line to the group that follows it; at the end of the file it forms a group of its own
+-- adds a continued line to the group that follows it; at the end of the file, the line forms a group of its own
 abbrev pub continued_by : Line → List Group → List Group
 continued_by line [] = record { first = line; more = [] } ∷ []
 continued_by line (group ∷ groups) = record { first = line; more = group.first ∷ group.more } ∷ groups

@@ -1,5 +1,5 @@
--- The logical lines of the whole text are the one being joined, which either continues in the remaining text or is
--- complete, followed by the logical lines after it.
+-- The logical lines of the whole text are the line being joined and the logical lines after it. The line being joined
+-- continues in the remaining text, or it is complete.
 use Rattle.std.proofs.Common.{◌≡◌, ◌+◌, ◌≤◌, ◌<◌, length, string_bytes}
 use denote.Shadow.{shadow}
 use denote.Text.{Utf8}

@@ -1,5 +1,5 @@
--- All lines so far were comments, so the lines that are not comments are all in the remaining text. Each line takes at
--- least one byte, so the number of the next line plus the length of the remaining text never grows.
+-- All lines so far have been comments, so the lines that are not comments are all in the remaining text. Each line
+-- takes at least one byte, so the number of the next line plus the length of the remaining text never grows.
 use Rattle.std.proofs.Common.{◌≡◌, ◌+◌, ◌≤◌, length}
 use denote.Shadow.{shadow}
 use denote.Text.{Utf8}
