@@ -7,18 +7,18 @@ use Rattle.cal_request.specs.declared.request.Verb.TheVariants.{Calendar, Timer,
 abbrev pub max_iterations : ℕ
 max_iterations = 1_000_000
 
--- a number of elapses that a request can ask for
+-- `n` is a number of elapses that a request can ask for
 abbrev pub IsCount : ℕ → Type 0
 IsCount n = (1 ≤ n) × (n ≤ max_iterations)
 
--- whether a verb computes elapses: only these verbs have a base time and allocate
+-- whether a verb computes elapses; only verbs that do so have a base time and allocate
 abbrev pub seeks_elapses : Verb → Bool
 seeks_elapses Calendar = true
 seeks_elapses Timestamp = false
 seeks_elapses Timespan = false
 seeks_elapses Timer = true
 
--- whether a verb reads or prints instants: only these verbs depend on the present and on zones
+-- whether a verb reads or prints instants; only verbs that do so depend on the present and on zones
 abbrev pub has_zones : Verb → Bool
 has_zones Calendar = true
 has_zones Timestamp = true

@@ -1,4 +1,4 @@
--- Tests for which of a run's two writers failed, if one did.
+-- Whether a run ended because one of its two writers failed, and which of them.
 use Rattle.std.specs.Prelude.{Bool, true, false, Result, Ok, Err}
 use Rattle.cal_request.specs.declared.request.RunFault.{RunFault}
 use Rattle.cal_request.specs.declared.request.RunFault.TheVariants.{OutFailed, ErrFailed, NoMemory}

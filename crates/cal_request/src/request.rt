@@ -20,14 +20,14 @@ impl Verb {
     ghost use Rattle.std.specs.Prelude.{◌≡◌};
     ghost use Rattle.cal_request.specs.Request.{has_zones, is_timer, seeks_elapses};
 
-    /// Returns whether the verb computes elapses. Only these verbs have a base time and allocate.
+    /// Returns whether the verb computes elapses. Only verbs that do so have a base time and allocate.
     pub fn seeks_elapses(self) -> bool
         ensures { result ≡ seeks_elapses self }
     {
         matches!(self, Verb::Calendar | Verb::Timer)
     }
 
-    /// Returns whether the verb reads or prints instants. Only these verbs depend on the present and on zones.
+    /// Returns whether the verb reads or prints instants. Only verbs that do so depend on the present and on zones.
     pub fn has_zones(self) -> bool
         ensures { result ≡ has_zones self }
     {
@@ -52,8 +52,8 @@ pub struct Request {
     pub texts: Vec<String>,
     /// The maximum number of elapses to report, 1 to 1,000,000.
     pub iterations: u32,
-    /// The base time, a timestamp that isn't parsed yet. Only elapses after the base time are reported. `None` stands
-    /// for the present. Verbs that don't compute elapses have no base time.
+    /// The base time, a timestamp that hasn't been parsed yet. Only elapses after the base time are reported. `None`
+    /// stands for the present. Verbs that don't compute elapses have no base time.
     pub base: Option<String>,
     ghost count: { IsCount iterations },
     ghost file: { is_timer verb ≡ true → vec_len texts ≡ 1 },
@@ -63,9 +63,9 @@ pub struct Request {
 /// The outcome of a run whose output could be written in full.
 #[derive(Clone, Copy, PartialEq, Eq, Debug)]
 pub enum Status {
-    /// Every text was valid.
+    /// Every text was answered with a report.
     Fine,
-    /// At least one text was invalid. Each error was written to standard error.
+    /// At least one text was answered with an error line on standard error.
     Refused,
 }
 
@@ -73,7 +73,7 @@ impl Status {
     ghost use Rattle.std.specs.Prelude.{◌≡◌};
     ghost use Rattle.cal_request.specs.Status.{is_fine, status_and};
 
-    /// Returns whether every text was valid.
+    /// Returns whether every text was answered with a report.
     pub fn is_fine(self) -> bool
         ensures { result ≡ is_fine self }
     {
