@@ -32,8 +32,9 @@ among p kind [] at holds = absurd at
 among p kind (k ∷ ks) (inl same) holds = grind (arith, ap p same)
 among p kind (k ∷ ks) (inr later) holds = grind (arith, among p kind ks later holds)
 
--- if the kind of an error of `clap` is out of memory, or one that `clap` may report for the arguments, then the error
--- that the code makes of it is right for the arguments, as `IsFaultOf` defines it
+-- Suppose that the kind of an error of `clap` is `OutOfMemory`, or that `clap` doesn't accept the arguments and may
+-- report an error of this kind for them. The error into which the code converts it is then right for the arguments, as
+-- `IsFaultOf` defines it.
 pub reported_fault : (arguments : List Text) (kind : ErrorKind) (fault : CommandFault) → (takes_arguments arguments ≡ true → kind ≡ OutOfMemory)
     → (kind ≡ OutOfMemory) ⊎ IsAmong kind (faults_in arguments) → IsReportedOf kind fault → IsFaultOf arguments fault
 reported_fault arguments kind (usage text) passes kinds reported =
@@ -45,8 +46,8 @@ reported_fault arguments kind bad_now passes kinds reported = absurd reported
 reported_fault arguments kind bad_zones passes kinds reported = absurd reported
 reported_fault arguments kind bad_local passes kinds reported = absurd reported
 
--- if `clap` parses the arguments, then checking the values that it found has a result that is right for the arguments,
--- as `IsAskOf` defines it
+-- if `clap` parses the arguments, then the result of checking the values that it found is right for the arguments, as
+-- `IsAskOf` defines it
 pub read_answer : (arguments : List Text) (option_texts : OptionTexts) (answer : Result Ask CommandFault) → faults_in arguments ≡ [] → Some option_texts ≡ parsed_in arguments
     → IsOrNoMemory answer (read_options option_texts) → IsAskOf arguments answer
 unfolding asked_in

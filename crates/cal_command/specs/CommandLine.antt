@@ -28,11 +28,11 @@ texts_rule = record (new_rule (codes "text")) { action = Some Append; value_name
 abbrev pub file_rule : Rule
 file_rule = record (new_rule (codes "text")) { action = Some Set; value_names = 1; required = true }
 
--- `zone_rules` are the options of the verbs that read or print instants, and `elapse_rules` are the options of the
--- verbs that compute elapses
+-- the options of the verbs that read or print instants
 abbrev pub zone_rules : List Rule
 zone_rules = option_rule (codes "local") ∷ option_rule (codes "zones") ∷ option_rule (codes "now") ∷ []
 
+-- the options of the verbs that compute elapses
 abbrev pub elapse_rules : List Rule
 elapse_rules = option_rule (codes "iterations") ∷ option_rule (codes "base-time") ∷ zone_rules
 
@@ -134,8 +134,8 @@ read_options option_texts =
       zones = zones;
     })))))
 
--- what the arguments ask for, if `clap` parses them; since there is then a verb with texts, the default `usage []` is
--- never the result
+-- what the arguments ask for, if `clap` parses them; in that case it finds a verb with texts, so the default `usage []`
+-- is never the result
 unfoldable pub asked_in : List Text → Result Ask CommandFault
 asked_in arguments = option_map_or read_options (parsed_in arguments) (Err (usage []))
 
@@ -150,7 +150,7 @@ is_of_help _ = false
 abbrev pub HasRead : List Text → Result Ask CommandFault → Type 0
 HasRead arguments answer = (faults_in arguments ≡ []) × (asked_in arguments ≡ answer)
 
--- `clap` doesn't accept the arguments, and may report an error of this kind for them
+-- `clap` doesn't accept the arguments, and may report for them an error of a kind that passes the test `is_kind`
 abbrev pub HasRefused : List Text → (ErrorKind → Bool) → Type 0
 HasRefused arguments is_kind = (takes_arguments arguments ≡ false) × (list_any is_kind (faults_in arguments) ≡ true)
 
@@ -163,13 +163,13 @@ IsFaultOf arguments bad_zones = HasRead arguments (Err bad_zones)
 IsFaultOf arguments bad_local = HasRead arguments (Err bad_local)
 IsFaultOf arguments no_memory = ⊤
 
--- `answer` is right for the arguments: it is what they ask for if `clap` parses them, usage or help if `clap` doesn't,
--- or a failed allocation, which is always possible
+-- `answer` is right for the arguments. If `clap` parses them, the right answer is what they ask for. Otherwise it is
+-- usage or help. A failed allocation is always right.
 abbrev pub IsAskOf : List Text → Result Ask CommandFault → Type 0
 IsAskOf arguments (Ok ask) = HasRead arguments (Ok ask)
 IsAskOf arguments (Err fault) = IsFaultOf arguments fault
 
--- this error may be reported if `clap` returns an error of this kind
+-- the error in the second argument may be reported if `clap` returns an error of the kind `kind`
 abbrev pub IsReportedOf : ErrorKind → CommandFault → Type 0
 IsReportedOf kind (usage text) = (is_of_help kind ≡ false) × (kind ≢ OutOfMemory)
 IsReportedOf kind (help text) = (is_of_help kind ≡ true) × (kind ≢ OutOfMemory)

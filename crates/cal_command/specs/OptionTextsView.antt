@@ -25,7 +25,7 @@ IsFaultOrNoMemory bad_zones answer = Err bad_zones ≡ answer
 IsFaultOrNoMemory bad_local answer = Err bad_local ≡ answer
 IsFaultOrNoMemory no_memory answer = ⊤
 
--- the code returns `answer`, unless memory ran out
+-- the first argument, which is the result of the code, is `answer`, unless memory ran out
 abbrev pub IsOrNoMemory : Result Ask CommandFault → Result Ask CommandFault → Type 0
 IsOrNoMemory (Ok ask) answer = Ok ask ≡ answer
 IsOrNoMemory (Err fault) answer = IsFaultOrNoMemory fault answer

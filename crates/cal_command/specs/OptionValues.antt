@@ -57,7 +57,7 @@ unfoldable pub zones_in : List ℕ → Option (List ZoneItem)
 zones_in text =
     let items = slice_split is_comma text in if nat_le (length items) max_zones then zone_items_in items else None
 
--- `--local`: `UTC` in any case, `posix:` and a rule, a name that has the form of a zone's name, or an offset
+-- `--local`: `UTC` (ignoring case), `posix:` and a rule, a name that has the form of a zone's name, or an offset
 unfoldable pub local_zone_in : List ℕ → Option LocalZone
 local_zone_in text =
     if str_eq_ignore_ascii_case text (codes "UTC") then Some in_utc

@@ -5,9 +5,9 @@ ghost use Rattle.cal_command.specs.declared.command_fault.CommandFault.TheVarian
 
 use std::alloc::AllocError;
 
-/// Why a command line is invalid, or that it only asks for help.
+/// Why a command line yields no request: it is invalid, it only asks for help or the version, or memory ran out.
 ///
-/// The variants have these numbers, which other error types declare with `= N`:
+/// The variants have these numbers. Error types whose variants hold no data declare theirs with `= N`.
 ///
 /// | Number | Variant |
 /// |---|---|

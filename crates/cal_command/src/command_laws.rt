@@ -8,8 +8,8 @@ ghost use Rattle.cal_command.specs.CommandLine.{IsAskOf, asked_in, parsed_in, ta
 ghost use Rattle.cal_command.specs.WorkedArguments.{daily_option_texts, daily_ask, daily_arguments, help_arguments};
 ghost use Rattle.cal_command.specs.WorkedArguments.{none_arguments, options_ask, options_arguments, stray_arguments};
 
-/// If `clap` accepts the arguments, the result is what they ask for or the error for their first invalid value, unless
-/// allocation fails. It is neither `Usage` nor `Help`.
+/// If `clap` accepts the arguments, the result is what they ask for, or the error for the first invalid value in the
+/// order in which the values are checked, unless allocation fails. The result is neither `Usage` nor `Help`.
 pub fn taken_arguments_are_answered()
     ensures { (arguments : List (List ℕ)) (answer : Result Ask CommandFault) → IsAskOf arguments answer → takes_arguments arguments ≡ true
         → (answer ≡ Err no_memory) ⊎ (answer ≡ asked_in arguments) }
@@ -26,7 +26,7 @@ pub fn worked_arguments_are_taken()
 {}
 
 /// `--iterations=0` is reported as `BadIterations`, `--help` as `Help`, and an unknown verb as `Usage`. The law says
-/// nothing about the texts of `clap` in the last two.
+/// nothing about the texts of `clap` in `Help` and `Usage`.
 pub fn worked_arguments_are_refused()
     ensures none { IsAskOf none_arguments (Err bad_iterations) }
     ensures help { (text : List ℕ) → IsAskOf help_arguments (Err (help text)) }

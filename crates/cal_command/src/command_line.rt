@@ -32,8 +32,8 @@ impl Ask {
     ///   [`CommandFault::BadNow`].
     /// - `--zones=NAME=FILE,..`: 1 to 64 items, each with a name that has the form of a zone's name and a path that
     ///   isn't empty. Anything else is [`CommandFault::BadZones`].
-    /// - `--local=Z`: `UTC` in any case, `+hh:mm` or `-hh:mm` up to 25:59, `posix:` and a rule, or a name that has the
-    ///   form of a zone's name; UTC by default. Anything else is [`CommandFault::BadLocal`].
+    /// - `--local=Z`: `UTC`, ignoring case; `+hh:mm` or `-hh:mm` up to 25:59; `posix:` and a rule; or a name that has
+    ///   the form of a zone's name. UTC by default. Anything else is [`CommandFault::BadLocal`].
     ///
     /// Fails with [`CommandFault::Usage`] if `clap` can't parse the arguments, for example because an option is given
     /// twice, and with [`CommandFault::Help`] if help or the version is asked for. If several values are invalid, the
@@ -189,8 +189,8 @@ fn convert_error(alloc: Global, error: &Error) -> CommandFault
     }
 }
 
-/// Returns the text of an error of `clap`, and adds a line feed if the text doesn't end in one (that of `--version`
-/// doesn't). Returns `None` if allocation fails.
+/// Returns the text of an error of `clap`. Adds a line feed if there is none at the end, as in the text of `--version`.
+/// Returns `None` if allocation fails.
 fn error_text(alloc: Global, error: &Error) -> Option<String> {
     let Ok(mut text) = error.to_string(alloc) else {
         return None;
