@@ -32,8 +32,8 @@ among p kind [] at holds = absurd at
 among p kind (k ∷ ks) (inl same) holds = grind (arith, ap p same)
 among p kind (k ∷ ks) (inr later) holds = grind (arith, among p kind ks later holds)
 
--- Suppose that the kind of an error of `clap` is `OutOfMemory`, or that `clap` doesn't accept the arguments and may
--- report an error of this kind for them. The error into which the code converts it is then right for the arguments, as
+-- `kind` is the kind of an error of `clap`: `OutOfMemory`, or a kind that `clap` may report for these arguments, which
+-- it then doesn't accept. The error into which the code converts that error of `clap` is right for the arguments, as
 -- `IsFaultOf` defines it.
 pub reported_fault : (arguments : List Text) (kind : ErrorKind) (fault : CommandFault) → (takes_arguments arguments ≡ true → kind ≡ OutOfMemory)
     → (kind ≡ OutOfMemory) ⊎ IsAmong kind (faults_in arguments) → IsReportedOf kind fault → IsFaultOf arguments fault

@@ -1,4 +1,5 @@
--- The elapses form exactly one list, and it can be continued from any of its elements.
+-- There is exactly one list of the elapses after a base. What follows any element of this list is the list of the
+-- elapses after that element.
 use Rattle.std.proofs.Common.{◌≡◌, ◌⊎◌, ◌↔◌, ℕ, zero, suc, ◌+◌, ◌<◌, ◌≤◌, cond, Bool, true, List, [], ◌∷◌, ◌++◌, take, drop, inl, inr, Option, None, Some, ℤ, ◌<ℤ◌, ◌≤ℤ◌, int_lt, refl, ap, subst, arith, map}
 use Rattle.std.specs.List.{filter, filter_map, cons_option, range_with_len, slice_get}
 use Rattle.std.proofs.Math.Seq.{take-add}

@@ -200,8 +200,8 @@ was_held : (old new : List ℕ) (at t : ℕ) → HasMore old new at → t % 187_
 unfolding is_held
 was_held old new at t more other holds = sym (more.others (t % 187_200) other) ∙ holds
 
--- if `IsRoundWith` is true, and all old elements are less than 187,200 seconds from `at`, then each of them is one of
--- the 187,200 seconds from `from` on
+-- if a ring that starts at `low` can start at `from` once `at` is added (`IsRoundWith`), and all old elements are less
+-- than 187,200 seconds from `at`, then each of them is one of the 187,200 seconds from `from` on
 kept_in : (old : List ℕ) (low at from t : ℕ) → IsRoundWith low at from → ((i : ℤ) → Has (instants_in old low) i → IsNear i (pos at))
     → low ≤ t → t < low + 187_200 → is_held old t ≡ true → (from ≤ t) × (t < from + 187_200)
 kept_in old low at from t round near above below holds =
