@@ -7,7 +7,7 @@ use std::alloc::AllocError;
 
 /// Why a command line yields no request: it is invalid, it only asks for help or the version, or memory ran out.
 ///
-/// The variants have these numbers. Error types whose variants hold no data declare theirs with `= N`.
+/// Two variants hold data, so the numbers of the variants can't be declared with `= N` as in other error types:
 ///
 /// | Number | Variant |
 /// |---|---|

@@ -18,8 +18,8 @@ abbrev pub IsSearched : Timed → ℤ → Option ℤ → ℕ → Type 0
 IsSearched e base (Some elapse) searches = searches ≡ matches_up_to e base (unsigned_abs elapse + 93_600) + 1
 IsSearched e base None searches = searches ≡ matches_up_to e base seconds_in_all + 1
 
--- When `next` returns, `most` is the largest number of months that a single search has examined. The searches are the
--- first one, and one after each match from the start of the first one on. If `next` returns `Some elapse`, only matches
+-- When `next` returns, `most` is the largest number of months that a single search has examined. Besides the first
+-- search, one search is made after each match that is at or after the start of the first search. If `next` returns `Some elapse`, only matches
 -- up to and including the local second `elapse` + `max_offset` have had a search after them.
 abbrev pub IsMostSearched : Sets → ℤ → Option ℤ → ℕ → Type 0
 IsMostSearched sets base (Some elapse) most = IsMost sets (start_of base) (unsigned_abs elapse + 93_600) most

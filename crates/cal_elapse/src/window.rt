@@ -100,8 +100,8 @@ impl<'z> Window<'z> {
         self.ahead = ahead;
     }
 
-    /// Searches for all remaining matches in the minute of `local`, a match that has already been converted, and
-    /// converts them at once. Returns the last match that was converted, which can be `local`.
+    /// Searches for all remaining matches in the minute of `local` and converts them together. `local` is a match that
+    /// has already been converted. Returns the last match that was converted, which can be `local`.
     ///
     /// If no later match in the minute is known, calls `skip_hour` instead. Otherwise, nothing changes unless three
     /// conditions are met:

@@ -95,8 +95,8 @@ unfolding counts_in_row
 counts_in_row-led [] = refl
 counts_in_row-led (c ∷ cs) = refl
 
--- if the unit at index `i` fits into `n`, then `led` of the counts from this unit on is `lead`, the count of this unit,
--- and `led` of the counts after it
+-- if the unit at index `i` fits into `n`, then `led lead` of the counts from this unit on consists of three texts:
+-- `lead`, the count of this unit, and `led` of the counts after it, with a space as their lead
 pub led_taken : (lead : List ℕ) (units : List TimeUnit) (i : ℕ) (d : TimeUnit) (size n : ℕ) → i < length units → size ≡ size_of (get_or units i d) → size ≤ n → led lead (positive (counts_of (drop i units) n)) ≡ joined (lead ∷ decimal (n / size) ∷ unit_name (get_or units i d) ∷ []) ++ led (codes " ") (positive (counts_of (drop (i + 1) units) (n % size)))
 led_taken lead units i d size n within e fits =
     rw e

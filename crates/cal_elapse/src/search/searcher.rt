@@ -217,8 +217,8 @@ impl Searcher {
         last
     }
 
-    /// Searches for the next match after `local` and returns it, if a later minute with matches in the hour of `local`
-    /// is known. Otherwise returns `None` without a search. `local` must itself match.
+    /// If the hour of `local` is known to have a later minute with matches, searches for the next match after `local`
+    /// and returns it. Otherwise returns `None` without a search. `local` must itself match.
     #[inline(always)]
     fn next_in_hour(&mut self, local: i64) -> Option<i64>
         requires start { CanStart (matches (sets_in self.old.masks)) (SearchStart.After local) }

@@ -7,7 +7,7 @@ use Rattle.cal_elapse.proofs.MinuteLemmas.{minutes_after, seconds_after}
 use Rattle.cal_elapse.proofs.search.searcher.Searcher.keep.Goals.{In-Some}
 use Rattle.cal_elapse.proofs.search.searcher.Searcher.keep.Goals as goal
 
--- the local second after the match fits a 64-bit integer, so storing it doesn't change it
+-- the local second after the match fits into a 64-bit integer, so storing it doesn't change it
 next_is : (c : In-Some) → to_z w64 (of_z w64 (to_z w64 (of_z w64 c.in-Some.local) +ℤ pos 1)) ≡ pos (unsigned_abs c.in-Some.local + 1)
 next_is c =
     let found = rw c.in-Some.is at c.requires in
