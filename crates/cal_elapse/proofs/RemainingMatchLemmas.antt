@@ -52,12 +52,12 @@ ahead_near tz from to offset ahead order inside =
     let near = within tz (pos from) (pos from -ℤ offset) (ahead (pos from) (omega (arith, ints), omega (arith, ints)) (omega (arith, ints)) (omega (arith, ints))) in
     (omega (arith, signed_arith, near), omega (arith, signed_arith, near))
 
--- a local second fits a 64-bit integer, so converting it to one and back doesn't change it
+-- a local second fits into a 64-bit integer, so converting it to one and back doesn't change it
 signed_word : (local : ℕ) (signed : ℤ) → local < seconds_in_all → signed ≡ pos local → to_z w64 (of_z w64 signed) ≡ pos local
 signed_word local signed inside is = ap (λ z. to_z w64 (of_z w64 z)) is ∙ to_z_pos w64 local (omega (arith, seconds_in_all-is))
 
 -- The UTC offset is constant from `local` to `end`, the end of its minute or hour. Both local seconds, the offset, the
--- instants of both local seconds, and the second after the instant of `local` fit 64-bit integers.
+-- instants of both local seconds, and the second after the instant of `local` fit into 64-bit integers.
 pub record IsRun (tz : TimeZone) (local end : ℕ) (from to offset : ℤ) : Type 0 where
   pub ahead : AreAtOffset tz (pos local) (pos end) offset
   pub low : offset ≤ℤ pos 93_599

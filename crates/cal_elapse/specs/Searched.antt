@@ -19,8 +19,9 @@ IsSearched e base (Some elapse) searches = searches ≡ matches_up_to e base (un
 IsSearched e base None searches = searches ≡ matches_up_to e base seconds_in_all + 1
 
 -- When `next` returns, `most` is the largest number of months that a single search has examined. Besides the first
--- search, one search is made after each match that is at or after the start of the first search. If `next` returns `Some elapse`, only matches
--- up to and including the local second `elapse` + `max_offset` have had a search after them.
+-- search, one search is made after each match that is at or after the start of the first search. If `next` returns
+-- `Some elapse`, only matches up to and including the local second `elapse` + `max_offset` have had a search after
+-- them.
 abbrev pub IsMostSearched : Sets → ℤ → Option ℤ → ℕ → Type 0
 IsMostSearched sets base (Some elapse) most = IsMost sets (start_of base) (unsigned_abs elapse + 93_600) most
 IsMostSearched sets base None most = IsMost sets (start_of base) seconds_in_all most

@@ -66,8 +66,8 @@ timed_by masks zone = record { matches = matches (sets_in masks); place = λ loc
 abbrev pub timed_of : Window → Timed
 timed_of w = timed_by w.searcher.masks w.zone
 
--- All matches before `w.ahead` have been converted, or all matches if `w.ahead` is `None`. Besides the first search, one
--- search has been made after each converted match that is at or after the start of the first search.
+-- All matches before `w.ahead` have been converted, or all matches if `w.ahead` is `None`. Besides the first search,
+-- one search has been made after each converted match that is at or after the start of the first search.
 pub record IsReady (w : Window) : Type 0 where
   pub windowed : Windowed (timed_of w) (start_of w.base) (bound_of w.ahead) w.last w.pending
   pub found : IsMatchAhead (timed_of w) w.ahead

@@ -84,8 +84,8 @@ IsFirstFault ps fault =
     (before : List Pair) × (p : Pair) × (after : List Pair) × (sum : ℕ) × (ps ≡ before ++ (p ∷ after)) × AreWorth before sum × (sum ≤ limit) × IsFaultAfter sum p fault
 
 -- The value or the error that the rule demands for these pairs. A value is the sum of all pairs; there is at least one
--- pair, and the sum doesn't exceed the limit. The error is `Empty` if there are no pairs, and otherwise the error of the
--- leftmost invalid pair.
+-- pair, and the sum doesn't exceed the limit. The error is `Empty` if there are no pairs, and otherwise the error of
+-- the leftmost invalid pair.
 abbrev pub Judges : List Pair → Result ℕ SpanFault → Type 0
 Judges ps (Ok n) = (0 < length ps) × AreWorth ps n × (n ≤ limit)
 Judges ps (Err Empty) = ps ≡ []

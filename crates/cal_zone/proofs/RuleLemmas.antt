@@ -1,5 +1,5 @@
--- Two local times in the same year have the same UTC offset under a POSIX rule if no transition is between them or too near
--- to either of them.
+-- Two local times in the same year have the same UTC offset under a POSIX rule if no transition is between them or too
+-- near to either of them.
 --
 -- In these lemmas, the variable `moment` is a time in nanoseconds at which a POSIX rule starts or ends daylight saving
 -- time, not the glossary's moment, and `w` is the pair of the start and the end in one year, in UTC.

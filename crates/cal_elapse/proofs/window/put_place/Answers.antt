@@ -8,7 +8,7 @@ use Rattle.cal_elapse.specs.PendingInstants.{IsNear}
 use Rattle.cal_elapse.proofs.WindowLemmas.{put_instant, put_near}
 use Rattle.cal_elapse.proofs.window.put_place.Goals as goal
 
--- the instant found is the instant of `local`: `local` fits a 64-bit integer, so passing it as an argument doesn't
+-- the instant found is the instant of `local`: `local` fits into a 64-bit integer, so passing it as an argument doesn't
 -- change it
 place_found : (tz : TimeZone) (local : ℤ) (found : Option ℤ) → FitsSigned w64 local → found ≡ place_of tz (to_z w64 (of_z w64 local)) → place_of tz local ≡ found
 place_found tz local found fits at = sym (at ∙ ap (place_of tz) (to_z-of_z w64 local fits))

@@ -11,7 +11,7 @@ use Rattle.cal_civil.proofs.LocalLemmas.{local_inside}
 use Rattle.cal_elapse.proofs.MostMonthsLemmas.{most_begun, most_on, most_then}
 use Rattle.cal_elapse.proofs.search.searcher.Searcher.search_hour.Goals as goal
 
--- `local` fits a 64-bit integer, so passing it as an argument doesn't change it
+-- `local` fits into a 64-bit integer, so passing it as an argument doesn't change it
 local_is : (local : ℤ) → FitsSigned w64 local → to_z w64 (of_z w64 local) ≡ local
 local_is local fits = to_z-of_z w64 local fits
 
