@@ -15,7 +15,7 @@ use Rattle.cal_report.proofs.HeadlineLemmas.{HaveOneNormalForm, each_report, is_
 use Rattle.cal_request.specs.headline.Request.{Request}
 use Rattle.cal_request.specs.declared.request.Verb.TheVariants.{Calendar}
 
--- Every expression in the list is accepted
+-- The expressions that `AreAcceptedAmong` selects are accepted
 
 all_found : (asked : Request) (texts : List (List ℕ)) (found : List (Option Expression)) → AllZip (IsReadAs asked) texts found
     → AllByRecursion (IsAccepted asked) (filter_map (λ it. it) found)

@@ -110,8 +110,8 @@ writes_nothing a (Err e) = record { front = []; rest = []; whole = refl; written
 
 -- One iteration of the loop over the texts: what is written so far
 
--- the reports of `done` and any later texts are the reports of `done`, followed by the reports of the later texts as
--- `reports_left` joins them
+-- whatever texts `rest` come after `done`, the reports of all these texts are the reports of `done`, followed by the
+-- reports of `rest` as `reports_left` joins them
 abbrev pub GoesOn : (List ℕ → Answer) → Bool → List (List ℕ) → Type 0
 GoesOn answer is_later done = (rest : List (List ℕ)) → reports_text answer (done ++ rest) ≡ reports_text answer done ++ reports_left is_later answer rest
 

@@ -13,8 +13,8 @@ pub texts_first : (local : Zone) (now : ℤ) (number count e : ℕ) (elapse : �
 texts_first local now number count e elapse [] h is = absurd (cc)
 texts_first local now number count e elapse (x ∷ xs) h is = rw (h, some_is x elapse is) refl
 
--- if there is an elapse time, its text is shown first, with the label for number 1, and the later elapse times follow,
--- counted from 2
+-- if there are elapse times, the lines of the first one come first, with the label for number 1, and the lines of the
+-- later ones follow, with labels that count from 2
 pub shown_first : (local : Zone) (now : ℤ) (count e : ℕ) (elapse : ℤ) (xs : List ℤ) → count ≡ suc e → Some elapse ≡ slice_get xs 0 → elapses_text local now (take count xs) ≡ elapse_text local now 1 elapse ++ elapse_texts local now 2 (take e (drop 1 xs))
 shown_first local now count e elapse [] h is = absurd (cc)
 shown_first local now count e elapse (x ∷ xs) h is = rw (h, some_is x elapse is) refl

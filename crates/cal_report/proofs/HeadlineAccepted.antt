@@ -138,8 +138,8 @@ fine_spelled some all fine before a after split = grind (arith, joining_spelled,
 abbrev IsSpelled : Assignment → Type 0
 IsSpelled a = (fields : Fields) × Spells a.value fields
 
--- if all assignments of `rest` that pass the test `adds` have a valid expression as their value, and `a` has one if it
--- passes (`is`), then all assignments of `a ∷ rest` that pass have one
+-- the induction step of `each_spelled`, from `rest` to `a ∷ rest`; `is` says whether the assignment `a` passes the test
+-- `adds`
 kept_spelled : (adds : Assignment → Bool) (a : Assignment) (rest : List Assignment) (is : Bool) → (is ≡ true → IsSpelled a) → AllByRecursion IsSpelled (filter adds rest)
     → AllByRecursion IsSpelled (cond is (a ∷ filter adds rest) (filter adds rest))
 kept_spelled adds a rest true here later = (here refl, later)

@@ -52,8 +52,8 @@ each_answered one some asked base [] verb = tt
 each_answered one some asked base (text ∷ texts) verb =
     (answered_so one some asked base text (answer_to asked base text) verb refl, each_answered one some asked base texts verb)
 
--- The next lemmas show by induction over the texts that the reports, the error lines and the status are the same for
--- `lined` answers as for the answers themselves.
+-- The reports, the error lines and the status are the same for `lined` answers as for the answers themselves
+
 report_more : (text : List ℕ) (a : Answer) (xs ys : List (List ℕ)) → xs ≡ ys → report_in a ++ xs ≡ cons_option (result_ok (lined text a)) ys
 report_more text (Ok report) xs ys h = ap (λ (l : List (List ℕ)). report ∷ l) h
 report_more text (Err message) xs ys h = h

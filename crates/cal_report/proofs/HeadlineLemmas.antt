@@ -143,8 +143,8 @@ calendar_report_is one asked read base es verb sought texts all =
 
 -- Timer files
 
--- assigning a valid expression or exception isn't an error, unless the list already has the maximum number of
--- expressions
+-- assigning a valid expression or exception isn't an error if the list of its kind has fewer than `max_expressions`
+-- entries
 joins_well : HaveOneNormalForm → (list : List Assignment) (a : Assignment) → (length list < max_expressions) × ((fields : Fields) × Spells a.value fields)
     → fault_joining expr_in list a ≡ None
 unfolding fault_joining
@@ -261,7 +261,6 @@ unfolding timer_answer
 file_is_answered one asked bytes name base s file all =
     rw (file_is_read one asked bytes s file all, all_there asked (entries_in bytes) s (file_entries one asked bytes s file all)) refl
 
--- joining the joined texts `a` and `b` with `c` concatenates all three
 layout_is : (a b c : List ℕ) → joined (joined (a ∷ b ∷ []) ∷ c ∷ []) ≡ (a ++ b) ++ c
 layout_is a b c = rw (append-nil b, append-nil c) refl
 

@@ -18,14 +18,14 @@ use Rattle.cal_request.specs.declared.request.Status.TheVariants.{Fine, Refused}
 use Rattle.cal_report.proofs.AnswerLemmas.{writes_nothing}
 use Rattle.cal_text.proofs.General.{if_ok}
 
--- if the answer is a report, and the run wrote it (or a prefix of it, if the run failed) and nothing to standard error,
--- then `IsReported` holds
+-- `IsReported` holds if the answer is a report, reading the input didn't run out of memory, and the run wrote the
+-- report to standard output and nothing to standard error. If the run failed, a prefix of the report is enough.
 pub report_reported : (r : Result Status RunFault) (a b e : Option (List ℕ)) (read : Result (List ℕ) WholeFault) (text : List ℕ) (answer : Result (List ℕ) (List ℕ))
     → answer ≡ Ok text → IfOk r (λ status. status ≡ Fine) → HadMemory read → Writes a b r text → IsReported r a b e e read (whole_report answer)
 report_reported r a b e read text answer is status had out = rw is (record { status = status; had = if_ok r (HadMemory read) had; out = out; err = writes_nothing e r; unread = λ h. absurd (had h) })
 
--- if the answer is an error line, and the run wrote it (or a prefix of it, if the run failed) and nothing to standard
--- output, then `IsReported` holds
+-- `IsReported` holds if the answer is an error line, reading the input didn't run out of memory, and the run wrote the
+-- error line to standard error and nothing to standard output. If the run failed, a prefix of the error line is enough.
 pub error_reported : (r : Result Status RunFault) (a d e : Option (List ℕ)) (read : Result (List ℕ) WholeFault) (line : List ℕ) (answer : Result (List ℕ) (List ℕ))
     → answer ≡ Err line → IfOk r (λ status. status ≡ Refused) → HadMemory read → Writes d e r line → IsReported r a a d e read (whole_report answer)
 error_reported r a d e read line answer is status had err = rw is (record { status = status; had = if_ok r (HadMemory read) had; out = writes_nothing a r; err = err; unread = λ h. absurd (had h) })
@@ -39,16 +39,16 @@ unread_if : (timer : Bool) (a : Option (List ℕ)) → ReadsIf (timer && false) 
 unread_if true a = (refl, refl)
 unread_if false a = (refl, refl)
 
--- if the base time is invalid, and the run wrote the error line about it (or a prefix, if the run failed), then
--- `ByReading` holds
+-- `ByReading` holds if the base time is invalid, and the run wrote the error line about it. If the run failed, a prefix
+-- of the error line is enough.
 pub base_refused : (asked : Request) (a b d e : Option (List ℕ)) (failed : Bool) (r : Result Status RunFault) (fault : StampFault) → base_in asked ≡ Err fault → failed ≡ false
     → IfOk r (λ status. status ≡ Refused) → Writes d e r (error_line (codes "--base-time") (message_of fault)) → ByReading asked a a failed (IsReported r b b d e)
 unfolding report
 base_refused asked a b d e failed r fault is works status err =
     record { read = Ok []; input = rw is (unread_if (is_timer asked.verb) a); fails = works; holds = rw is (error_reported r b d e (Ok []) _ _ refl status nothing_had err) }
 
--- for a verb other than `timer`: if the run wrote the reports and the error lines of all arguments (or prefixes of
--- both, if the run failed), then `ByReading` holds
+-- `ByReading` holds if the base time is valid, the verb isn't `timer`, and the run wrote the reports and the error
+-- lines of all arguments. If the run failed, prefixes of both texts are enough.
 pub texts_reported : (asked : Request) (a b c d e : Option (List ℕ)) (failed : Bool) (r : Result Status RunFault) (base : ℤ) → base_in asked ≡ Ok base → is_timer asked.verb ≡ false
     → failed ≡ false → IfOk r (λ status. status ≡ (texts_report asked base).status) → Writes b c r (texts_report asked base).out → Writes d e r (texts_report asked base).err
     → ByReading asked a a failed (IsReported r b c d e)
@@ -61,9 +61,10 @@ texts_reported asked a b c d e failed r base is plain works status out err =
       holds = rw (is, plain) (record { status = status; had = if_ok r (HadMemory (Ok [])) nothing_had; out = out; err = err; unread = λ h. absurd (nothing_had h) });
     }
 
--- a run that wrote nothing wrote a prefix of any text, and a run that wrote a whole text wrote a prefix of it
+-- a call that wrote nothing wrote a prefix of any text
 pub nothing_front : (a : Option (List ℕ)) (text : List ℕ) → AppendsFront a a text
 nothing_front a text = record { front = []; rest = text; whole = refl; written = Appends-nil a }
 
+-- a call that wrote a whole text wrote a prefix of this text
 pub whole_front : (a b : Option (List ℕ)) (text : List ℕ) → Appends a b text → AppendsFront a b text
 whole_front a b text h = record { front = text; rest = []; whole = sym (append-nil text); written = h }

@@ -61,8 +61,8 @@ texts_in_parts local now number (x ∷ xs) ys =
 
 -- Where the first lines end
 
--- the number of bytes up to the end of the first line of the elapse time after `before`; `start` bytes come before all
--- elapse times
+-- the number of bytes up to the end of the first line of `elapse`; `before` are the elapse times shown before `elapse`,
+-- and `start` bytes come before all elapse times
 abbrev line_end : Zone → ℤ → ℕ → ℕ → List ℤ → ℤ → ℕ
 line_end local now number start before elapse =
     start + (length (elapse_texts local now number before) + length (first_line local (number + length before) elapse))
@@ -82,7 +82,7 @@ end_of_later local now number start x before elapse =
     = ap (λ (n : ℕ). length (first_line local n elapse)) (omega arith) in
     omega (arith, same, length-append (elapse_text local now number x) (elapse_texts local now (number + 1) before))
 
--- no first line ends before the first line of the first elapse time, `x`
+-- `x` is the first elapse time; no elapse time has a first line that ends earlier than the first line of `x`
 end_low : (local : Zone) (now : ℤ) (number start : ℕ) (x : ℤ) (xs before : List ℤ) (elapse : ℤ) (after : List ℤ)
     → x ∷ xs ≡ before ++ (elapse ∷ after) → start + length (first_line local number x) ≤ line_end local now number start before elapse
 end_low local now number start x xs [] elapse after split =

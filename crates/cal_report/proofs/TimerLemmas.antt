@@ -1,5 +1,5 @@
--- Lemmas on the report of a timer file: all zones are known, the merge yields the elapse times of the file, and the
--- headings are those of its lines.
+-- Lemmas on the report of a timer file: on zones that are missing from the zone table, on the elapse times that the
+-- merge yields, and on the headings of the lines.
 use Rattle.std.proofs.Common.{◌≢◌, Result, Ok, ◌≡◌, ℕ, zero, suc, ◌+◌, ◌<◌, ◌++◌, Bool, true, false, List, [], ◌∷◌, length, map, take, drop, get_or, Option, None, Some, ℤ, pos, ◌≤ℤ◌, refl, ap, ◌∙◌, string_bytes, arith}
 use Rattle.std.specs.List.{find, flat_map}
 use Rattle.std.specs.Option.{option_map, unwrap_or}
@@ -27,7 +27,7 @@ pub none_mapped : (o : Option (TimerLine Fields)) → option_map (λ (e : TimerL
 none_mapped None h = refl
 none_mapped (Some e) h = cc
 
--- the lines up to and including index `i` are the lines before index `i` and the line at it
+-- the first `i + 1` lines are the first `i` lines and the line at index `i`
 pub shown_more : (lines : List declared_line.TimerLine) (i : ℕ) (d : declared_line.TimerLine) → i < length lines → map shown (take (i + 1) lines) ≡ map shown (take i lines) ++ shown (get_or lines i d) ∷ []
 shown_more lines i d h = rw (take_more lines i d h) (map-append shown (take i lines) (get_or lines i d ∷ []))
 
@@ -84,8 +84,8 @@ pub headings-all : (label : List ℕ) (lines : List declared_line.TimerLine) →
 unfolding headings_text
 headings-all label lines = flat_map-map (λ e. heading_text label e.text e.expr) shown lines
 
--- if a timer file was parsed to `lists`, and `merge` is the merge of `lists`, then the answer is their report,
--- `plan_text`
+-- if a timer file was parsed to `lists`, and `merge` is the merge of `lists`, then the answer is the report that
+-- `plan_text` returns for both
 pub plan_answers : (asked : Request) (base : ℤ) (read : Result (List ℕ) WholeFault) (lists : Timer Fields) (merge : Merge) → timer_text expr_in read ≡ Ok lists
     → IsMergeOf asked base lists merge → (name : List ℕ) → timer_answer asked base name read ≡ Ok (plan_text asked (record { timer = lists; merge = merge }))
 unfolding timer_answer timer_report

@@ -34,8 +34,8 @@ timer_error_line (errors.Timer fault) = line_of fault
 timer_error_line (errors.NoSuchZone line) = Some line
 timer_error_line errors.NoMemory = None
 
--- the error says that the line with this number names a zone missing from the zone table; without a number, this is
--- true of no error
+-- the error says that the line with this number names a zone missing from the zone table; if there is no number, no
+-- error fits
 abbrev pub IsUnzoned : Option ℕ → TimerError → Type 0
 IsUnzoned None error = ⊥
 IsUnzoned (Some number) error = error ≡ errors.NoSuchZone number

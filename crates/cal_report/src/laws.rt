@@ -45,8 +45,8 @@ pub fn headline()
     // In general, each accepted text has its report, and each rejected text has an error line on standard error.
     ensures each { (asked : Request) (read : Result (List ℕ) WholeFault) (base : ℤ) → asked.verb ≡ Calendar
         → base_in asked ≡ Ok base → AreAnswered asked base asked.texts (report asked read) }
-    // The report of a timer file consists of its headings, followed by the first elapse times of its expressions that
-    // aren't elapse times of an exception.
+    // The report of an accepted timer file consists of its headings, followed by the first elapse times of its
+    // expressions, without the elapse times of its exceptions.
     ensures timer { (asked : Request) (bytes : List ℕ) (base : ℤ) (s : Schedule)
         → asked.verb ≡ Timer → base_in asked ≡ Ok base → IsFileOf bytes s → AreAllAccepted asked s
         → IsReportOf asked base s (report asked (Ok bytes)).out × IsFine (report asked (Ok bytes)) }
@@ -89,8 +89,8 @@ pub fn headline()
         → AreElapses ts exceptions base xs → AreElapses ts exceptions base ys → xs ≡ ys }
 
     // Each elapse time is an instant, and `@` with the seconds of an instant is a valid base time for the same instant.
-    // If one of the elapse times is the next base time, the elapse times after this base are exactly those that follow
-    // it in the list. So a list can be printed in parts.
+    // If an elapse time in a list becomes the base time, the elapse times after this base time are exactly those that
+    // follow it in the list. So a list can be printed in parts.
     ensures instants { (asked : Request) (base : ℤ) (s : Schedule) (xs : List ℤ) → IsInstant asked.now
         → base_in asked ≡ Ok base → AreElapsesOf s base xs → AreInstants xs }
     ensures based { (asked : Request) (secs : ℤ) → IsInstant secs → base_in (started_at asked secs) ≡ Ok secs }
@@ -107,8 +107,8 @@ pub fn headline()
     ensures alone { (fields : Fields) (tz : TimeZone) (i j : ℤ) → IsPlace (timed fields tz) i
         → IsPlace (timed fields tz) j → local_shown_at tz i ≡ local_shown_at tz j → i ≡ j }
     // A local second that the clock never shows (in a gap) has no instant. If `jiff` finds that the clock shows a local
-    // second twice (in a fold), then its instant, if it has one, is computed with the UTC offset before the transition.
-    // It is the earlier of the two instants if this offset is the larger one.
+    // second twice (in a fold), and the local second has an instant, then this instant is computed with the UTC offset
+    // before the transition. If this offset is the larger one, the instant is the earlier of the two.
     ensures gap { (tz : TimeZone) (local : ℤ) → ((second : ℤ) → local_shown_at tz second ≡ local → ⊥)
         → place_of tz local ≡ None }
     ensures fold { (tz : TimeZone) (local i : ℤ) (before after : Offset)
@@ -123,26 +123,28 @@ pub fn headline()
 /// reduced by their number, prints exactly the remaining ones, with labels that count from 1 again. If no elapse time
 /// has a complete first line, the original request has to be run again.
 pub fn cut_output_resumes()
-    // If one calendar expression is requested, and its report begins with `front`.
+    // If the request is for one accepted calendar expression, its report can be continued after every prefix `front`.
     ensures calendar { (asked : Request) (read : Result (List ℕ) WholeFault) (base : ℤ) (e : Expression)
         (front rest : List ℕ) → asked.verb ≡ Calendar → base_in asked ≡ Ok base → asked.texts ≡ e.text ∷ []
         → IsAccepted asked e → (report asked read).out ≡ front ++ rest → Resumes asked base (alone e) read front }
-    // If any number of texts is requested, of which `es` are the accepted expressions. The prefix `front` consists of
-    // some complete reports and of a prefix of the next report. That report can be continued as if its expression had
-    // been requested alone. There is only one way to divide `front` like that.
+    // If the request is for several texts, and at least one of them is accepted, the output can be continued after
+    // every prefix `front`. `es` are the expressions of the accepted texts. The prefix consists of some complete
+    // reports and of a prefix of the next report, which can be continued as if its expression had been requested alone.
+    // There is only one way to divide `front` like that (`one_place`).
     ensures several { (asked : Request) (read : Result (List ℕ) WholeFault) (base : ℤ) (es : List Expression)
         (front rest : List ℕ) → asked.verb ≡ Calendar → base_in asked ≡ Ok base → AreAcceptedAmong asked asked.texts es
         → 0 < length es → (report asked read).out ≡ front ++ rest → ResumesAmong asked base es read front }
     ensures one_place { (asked : Request) (base : ℤ) (es : List Expression) (read : Result (List ℕ) WholeFault)
         (front : List ℕ) (p q : ResumesAmong asked base es read front) → (p.before ≡ q.before) × (p.last ≡ q.last) }
-    // Every request has exactly one list of accepted expressions. If the list is empty, standard output is empty too.
+    // Every request for `calendar` has exactly one list of accepted expressions. If the list is empty, standard output
+    // is empty too.
     ensures accepted { (asked : Request) → asked.verb ≡ Calendar
         → (es : List Expression) × AreAcceptedAmong asked asked.texts es }
     ensures one_list { (asked : Request) (texts : List (List ℕ)) (es fs : List Expression)
         → AreAcceptedAmong asked texts es → AreAcceptedAmong asked texts fs → es ≡ fs }
     ensures nothing { (asked : Request) (read : Result (List ℕ) WholeFault) (base : ℤ) → asked.verb ≡ Calendar
         → base_in asked ≡ Ok base → AreAcceptedAmong asked asked.texts [] → (report asked read).out ≡ [] }
-    // If a timer file is requested, and its report begins with `front`.
+    // If the request is for an accepted timer file, its report can be continued after every prefix `front`.
     ensures timer { (asked : Request) (bytes : List ℕ) (base : ℤ) (s : Schedule) (front rest : List ℕ)
         → asked.verb ≡ Timer → base_in asked ≡ Ok base → IsFileOf bytes s → AreAllAccepted asked s
         → (report asked (Ok bytes)).out ≡ front ++ rest → Resumes asked base s (Ok bytes) front }

@@ -67,8 +67,8 @@ pub record AreAllAccepted (asked : Request) (s : Schedule) : Type 0 where
   pub expressions : AllByRecursion (IsAccepted asked) s.expressions
   pub exceptions : AllByRecursion (IsAccepted asked) s.exceptions
 
--- `xs` is strictly increasing, and holds exactly the elapse times of the expressions after the base time that aren't
--- elapse times of an exception
+-- `xs` is strictly increasing, and holds exactly the elapse times of the expressions after the base time, except those
+-- that are also elapse times of an exception
 abbrev pub AreElapsesOf : Schedule → ℤ → List ℤ → Type 0
 AreElapsesOf s base xs = AreElapses (map meaning s.expressions) (map meaning s.exceptions) base xs
 
@@ -130,8 +130,9 @@ pub record IsFine (report : Report) : Type 0 where
 abbrev pub assigned_in : List ℕ → List Assignment
 assigned_in bytes = assignments_in false (logical_lines 1 (without_mark bytes))
 
--- every assigned expression and exception is valid according to the grammar, and the assignments before it leave fewer
--- than `max_expressions` of its kind in the list
+-- Every assigned expression and exception is valid according to the grammar. When an expression is assigned, the list
+-- of expressions still has fewer than `max_expressions` entries. When an exception is assigned, the same is true of the
+-- list of exceptions.
 abbrev pub AreSpelled : List Assignment → Type 0
 AreSpelled all =
     (before : List Assignment) (a : Assignment) (after : List Assignment) → all ≡ before ++ (a ∷ after)

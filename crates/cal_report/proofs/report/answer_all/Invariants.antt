@@ -1,5 +1,6 @@
 -- Neither writer has failed, and the answers to the texts before the loop's index are written completely. What remains
--- to be written are the answers to the texts from the index on, which also decide the final status.
+-- to be written are the answers to the texts from the index on. These answers and the status so far decide the final
+-- status.
 use Rattle.std.proofs.Common.{◌≡◌, false, drop, map, take}
 use Rattle.std.specs.String.{string_bytes}
 use Rattle.std.specs.Io.KnownBytes.{Appends}
