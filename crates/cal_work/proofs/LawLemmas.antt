@@ -1,5 +1,5 @@
--- Lemmas for the law `known_systems_decide`: if everything about a system is known, the program sees
--- exactly what is known.
+-- Lemmas for the law `known_systems_decide`: if everything about a system is known, the program sees exactly what is
+-- known.
 use Rattle.std.proofs.Common.{◌≡◌, ◌⊎◌, inl, inr, ℕ, ℤ, ◌<◌, ◌≤◌, Bool, true, false, List, [], ◌∷◌, length, Option, None, Some, Result, Ok, Err, IfOk, IfNone, refl, sym, arith, nat_le}
 use Rattle.std.specs.Prelude.{IsSome}
 use Rattle.std.specs.FinMap.{empty}
@@ -47,7 +47,8 @@ seen_known limit (Some (Some all)) (Some (Err whole.ReadFailed)) some h sure = a
 seen_known limit (Some (Some all)) (Some (Err whole.TooLarge)) some h sure = inl (rw (past_limit (nat_le (length all) limit) all limit refl h) refl)
 seen_known limit (Some (Some all)) (Some (Err whole.NoMemory)) some h sure = inr refl
 
--- if something is known about a file, and the file could be opened, then `known_seen` has a result of reading it
+-- if something is known about a file, and the file could be opened, then `known_seen` returns a result of reading the
+-- file
 known_open : (limit : ℕ) (known : Option (Option (List ℕ))) (came : Result (List ℕ) WholeFault) → IsSome known → SeesBytes known limit (Some came) → (c : Result (List ℕ) WholeFault) × (known_seen limit known ≡ Some c)
 unfolding known_seen
 known_open limit None came some h = absurd (false≢true some)
@@ -70,9 +71,9 @@ after_load : (known : Known) (items : List ZoneItem) (found : List ZoneFound) (n
 after_load known items found name later (Ok more) h = later more h
 after_load known items found name later (Err fault) h = inl refl
 
--- If memory ran out while a zone file was read, then the outcome is the known outcome or the stop for running
--- out of memory. It is the known outcome if the name of the zone is invalid, since the name is checked before
--- the file is read.
+-- If memory ran out while a zone file was read, then the outcome is the known outcome or the stop for running out of
+-- memory. It is the known outcome if the name of the zone is invalid, since the name is checked before the file is
+-- read.
 zone_unread : {A : Type 0} (next other : ZoneMap → Result A Stop) (table : ZoneMap) (item : ZoneItem) (f : ZoneFound) (c : Result (List ℕ) WholeFault) (seen : Seen) (b : Bool) → is_zone_name item.name ≡ b → f.seen ≡ Some (Err whole.NoMemory) → seen ≡ Some c
     → IsOr (and_then next (or_load_stop item.name (loaded table item f))) (and_then other (or_load_stop item.name (loaded table item (record { seen = seen; zone = f.zone }))))
 unfolding loaded

@@ -38,8 +38,8 @@ fault_written NoMemory expected out out' err err' status o e = record { by_statu
 same_status : (r : Result Unit RunFault) (shown : Stop) → ended_status r (Err shown) ≡ status_by r shown.status
 same_status r shown = grind arith
 
--- `stop_text` is all that the stop reports, and it is reported on this output; nothing is required of a stop that
--- is reported later
+-- `stop_text` is all that the stop reports, and it is reported on this output; nothing is required of a stop that is
+-- reported later
 TextsFit : Outlet → declared_stop.Stop → Type 0
 TextsFit OnOut stop = ((shown_stop stop).out ≡ stop_text stop) × ((shown_stop stop).err ≡ [])
 TextsFit OnErr stop = ((shown_stop stop).out ≡ []) × ((shown_stop stop).err ≡ stop_text stop)

@@ -1,5 +1,5 @@
--- Lemmas on the steps of the work: what all steps found makes up one world, and what was written is the
--- outcome in that world.
+-- Lemmas on the steps of the work: what all steps found makes up one world, and what was written is the outcome in that
+-- world.
 use Rattle.std.proofs.Common.{◌≡◌, ℕ, ℤ, ◌+◌, ◌<◌, ◌≤◌, Bool, true, false, ◌&&◌, List, [], ◌∷◌, length, Option, None, Some, Result, Ok, Err, IfNone, refl, sym, ap, subst, ◌∙◌, arith, length-append, nat_le}
 use Rattle.std.specs.Prelude.{IsSome, is_some, is_ok, MatchResult}
 use Rattle.std.specs.FinMap.{empty}
@@ -95,12 +95,13 @@ comes_beyond (Some xs) (Some ys) limit h =
     let more : limit < length h.front = h.is_more in
     omega (arith, e, more)
 
--- what reading could return for a file that was opened but not read: a result that agrees with what is known
--- about its bytes
+-- the result of reading a file with these bytes; the first argument says whether they are within the limit
 came_within : Bool → List ℕ → Result (List ℕ) WholeFault
 came_within true all = Ok all
 came_within false all = Err whole.TooLarge
 
+-- what reading could return for a file that was opened but not read: a result that agrees with what is known about the
+-- file's bytes
 came_of : Option (List ℕ) → ℕ → Result (List ℕ) WholeFault
 came_of None limit = Ok []
 came_of (Some all) limit = came_within (nat_le (length all) limit) all
@@ -192,9 +193,9 @@ loads_none known table item opens = record {
   loads = refl;
 }
 
--- The invariant of the loop over the zone files. `left` are the files that remain to be loaded, `rest` is what is found
--- of them, and `found` is what is found of all files. Adding all files to the empty table gives the same table or stop
--- as adding the remaining files to `table`, the table so far.
+-- What `GoesOn`, the invariant of the loop over the zone files, says about one `rest`. `left` are the files that remain
+-- to be loaded, `rest` is what is found of them, and `found` is what is found of all files. Adding all files to the
+-- empty table gives the same table or stop as adding the remaining files to `table`, the table so far.
 pub record Continues (known : Known) (items : List ZoneItem) (table : ZoneMap) (left : List ZoneItem) (rest : List ZoneFound) : Type 0 where
   pub found : List ZoneFound
   pub sees : SeesZones known empty items found
@@ -356,8 +357,8 @@ pub timer_runs : (known : Known) (asked : Request) (r : Result Status RunFault) 
 timer_runs known asked r old new may failed out out' err err' timer opens mays sure by =
     timer_by known asked r old new may failed out out' err err' by.read (reads_input asked) refl timer opens mays sure by.fails by.input by.holds
 
--- if the verb isn't `timer`, and the run fulfills its contract (`ByReading`), then the run agrees with
--- `run_by`, as `Runs` says
+-- if the verb isn't `timer`, and the run fulfills its contract (`ByReading`), then the run agrees with `run_by`, as
+-- `Runs` says
 pub texts_run : (known : Known) (asked : Request) (r : Result Status RunFault) (old new : Option (List ℕ)) (failed : Bool) (out out' err err' : Option (List ℕ))
     → is_timer asked.verb ≡ false → ByReading asked old new failed (IsReported r out out' err err') → Runs known asked (ran r) out out' err err'
 unfolding run_by
@@ -365,8 +366,8 @@ texts_run known asked r old new failed out out' err err' plain by =
     let same : report asked by.read ≡ report asked (Ok []) = unread_same asked by.read (Ok []) (and_left (is_timer asked.verb) (is_ok (base_in asked)) plain) in
     record { seen = None; sees = rw plain tt; ends = rw plain (rw (sym same) (run_ends r by.read _ out out' err err' by.holds)) }
 
--- if the timer file can't be opened, and nothing was written, then the stop for this file agrees with
--- `run_by`, as `Runs` says
+-- if the timer file can't be opened, and nothing was written, then the stop for this file agrees with `run_by`, as
+-- `Runs` says
 pub file_stops : (known : Known) (asked : Request) (stop : declared_stop.Stop) (out err : Option (List ℕ)) → is_timer asked.verb ≡ true → Opens (known.file (file_name asked)) None → StopsAs {X = Unit} stop (Err (unopened_stop (file_name asked)))
     → Runs known asked (Err stop) out out err err
 unfolding run_by

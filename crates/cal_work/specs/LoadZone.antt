@@ -37,8 +37,8 @@ pub record HasTakenName (old new : Option (List ℕ)) (table : ZoneMap) (name : 
   pub is_zone : IsFileZone name bytes zone
   pub is_taken : IsAddFault table name NameTaken
 
--- Whether loading can fail with this error. The name is checked before the file is read, the bytes after the file is
--- read to its end, and whether the name is free last of all.
+-- Whether loading can fail with this error. Loading first checks that the name is valid. Then it reads the file to its
+-- end and checks the bytes. Last, it checks that the name is free.
 abbrev pub IsZoneLoadFault : Option (List ℕ) → Option (List ℕ) → ZoneMap → List ℕ → ZoneFault → Type 0
 IsZoneLoadFault old new table name BadName = (is_zone_name name ≡ false) × (new ≡ old)
 IsZoneLoadFault old new table name BadRule = ⊥

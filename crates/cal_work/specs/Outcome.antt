@@ -25,13 +25,13 @@ use Rattle.cal_work.specs.declared.zone_files.LoadFault.TheVariants.{ReadFailed,
 use Rattle.cal_request.specs.declared.request.RunFault.{RunFault}
 use Rattle.cal_request.specs.declared.request.RunFault.TheVariants as run
 
--- what the program sees of a zone file, and the zone that `jiff` reads from it, if it accepts the file
+-- what the program sees of a zone file, and the zone that `jiff` reads from the file, if `jiff` accepts the file
 pub record ZoneFound : Type 0 where
   pub seen : Seen
   pub zone : Option TimeZone
 
--- Everything that the outcome depends on: the parsed arguments, what is found of each zone file, in order, the local
--- zone, the clock's time in seconds, and what the program sees of the timer file.
+-- Everything that the outcome depends on: the parsed arguments, what is found of the zone files (in their order), the
+-- local zone, the clock's time in seconds, and what the program sees of the timer file.
 pub record World : Type 0 where
   pub parsed : Result Ask CommandFault
   pub zones : List ZoneFound
@@ -58,7 +58,7 @@ with_bytes table name read (Err whole.TooLarge) = Err (Zone TooLarge)
 with_bytes table name read (Err whole.NoMemory) = Err (Zone NoMemory)
 
 -- the table with the zone of the file added, or why the file can't be loaded; the name is checked after the file is
--- opened, but before it is read
+-- opened, but before the file is read
 abbrev pub with_file : ZoneMap → List ℕ → Option TimeZone → Seen → Result ZoneMap LoadFault
 with_file table name read None = Err ReadFailed
 with_file table name read (Some came) = if is_zone_name name then with_bytes table name read came else Err (Zone BadName)
@@ -70,7 +70,7 @@ abbrev pub or_load_stop : List ℕ → Result ZoneMap LoadFault → Result ZoneM
 or_load_stop name (Ok table) = Ok table
 or_load_stop name (Err fault) = Err (load_stop name fault)
 
--- the table of all zone files, added in order, or the stop for the first file that can't be loaded
+-- the table with the zones of all files added in order, or the stop for the first file that can't be loaded
 unfoldable pub table_by : ZoneMap → List ZoneItem → List ZoneFound → Result ZoneMap Stop
 table_by table [] found = Ok table
 table_by table (item ∷ items) [] = Ok table
@@ -79,7 +79,7 @@ table_by table (item ∷ items) (f ∷ found) =
 
 -- The second step: determining the local zone
 
--- the local zone, or the stop if the rule or the name that the arguments give for it is invalid
+-- the local zone, or the stop if the arguments give an invalid rule or an unknown name for it
 unfoldable pub local_by : LocalZone → ZoneMap → ClockZone → Result ClockZone Stop
 local_by in_utc table zone = Ok utc
 local_by (ahead seconds) table zone = Ok zone
@@ -115,7 +115,8 @@ input_by path (Some (Err whole.ReadFailed)) = Ok (Err whole.ReadFailed)
 input_by path (Some (Err whole.TooLarge)) = Ok (Err whole.TooLarge)
 input_by path (Some (Err whole.NoMemory)) = Err memory_stop
 
--- for the verb `timer`, the result of reading the timer file; for other verbs, which read no file, no bytes
+-- the result of reading the timer file if the verb is `timer`, and no bytes for the other verbs, which don't read a
+-- file
 abbrev pub input_if : Bool → List ℕ → Seen → Result (Result (List ℕ) WholeFault) Stop
 input_if true path seen = input_by path seen
 input_if false path seen = Ok (Ok [])

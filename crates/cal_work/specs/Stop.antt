@@ -93,17 +93,19 @@ shown_stop Clock = clock_stop
 shown_stop (Open path) = unopened_stop (string_bytes path)
 shown_stop (Run fault) = fault_stop fault
 
--- the text that is written for a stop, to whichever output it goes
+-- the text that is written for help or for invalid arguments, to whichever output it goes
 abbrev pub command_text : declared_fault.CommandFault → List ℕ
 command_text (command.Help text) = string_bytes text
 command_text fault = (command_stop (shown_fault fault)).err
 
+-- the text that is written for a stop, to whichever output it goes
 abbrev pub stop_text : declared_stop.Stop → List ℕ
 stop_text (Command fault) = command_text fault
 stop_text stop = (shown_stop stop).err
 
 -- Where each stop is reported: help on standard output, other stops on standard error. A failed output and running out
 -- of memory are reported only after the output is flushed.
+
 abbrev pub zone_outlet : ZoneFault → Outlet
 zone_outlet zone.NoMemory = Later run.NoMemory
 zone_outlet fault = OnErr
@@ -126,8 +128,9 @@ outlet_of Clock = OnErr
 outlet_of (Open path) = OnErr
 outlet_of (Run fault) = Later fault
 
--- whether a stop stands for a failure of standard output, a failure of standard error, or running out of memory: first
+-- Whether a stop stands for a failure of standard output, a failure of standard error, or running out of memory: first
 -- for the outlet of the stop, then for the stop itself
+
 abbrev pub is_out_outlet : Outlet → Bool
 is_out_outlet (Later run.OutFailed) = true
 is_out_outlet outlet = false

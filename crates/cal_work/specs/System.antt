@@ -33,8 +33,8 @@ Opens (Some (Some bytes)) opened = opened ≡ Some (Some bytes)
 abbrev pub Seen : Type 0
 Seen = Option (Result (List ℕ) WholeFault)
 
--- the possible results of reading an open file to its end, with at most `limit` bytes; `known` are its bytes, if they
--- are known
+-- the possible results of reading an open file to its end if at most `limit` bytes are accepted; `known` are the bytes
+-- of the file, if they are known
 abbrev pub Comes : Option (List ℕ) → ℕ → Result (List ℕ) WholeFault → Type 0
 Comes known limit (Ok bytes) = (length bytes ≤ limit) × IfSome known (λ all. bytes ≡ all)
 Comes known limit (Err ReadFailed) = Unit {0}
@@ -54,8 +54,8 @@ abbrev pub is_cut : Seen → Bool
 is_cut None = false
 is_cut (Some came) = is_read_failed came
 
--- What the program sees of the file at `path` agrees with what is known about this file: about its bytes, and that no
--- read fails if it is known that reading can't fail.
+-- What the program sees of the file at `path` agrees with what is known about the file's bytes. If it is known that
+-- reading the file can't fail, then no read failed.
 pub record Sees (known : Known) (limit : ℕ) (path : List ℕ) (seen : Seen) : Type 0 where
   pub bytes : SeesBytes (known.file path) limit seen
   pub sure : known.may_fail path ≡ false → is_cut seen ≡ false

@@ -32,8 +32,8 @@ abbrev pub known_time : Option (Option ℤ) → Option ℤ
 known_time None = None
 known_time (Some time) = time
 
--- what the program finds of each zone file: it sees the bytes that the file is known to have, and the zone that `jiff`
--- reads from it is the one in `found`
+-- what is found of each zone file if the program sees the file as it is known to be; the zone that `jiff` reads from
+-- the file is taken from `found`
 unfoldable pub known_zones : Known → List ZoneItem → List ZoneFound → List ZoneFound
 known_zones known [] found = []
 known_zones known (item ∷ items) [] = []

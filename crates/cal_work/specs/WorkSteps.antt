@@ -25,18 +25,19 @@ use Rattle.cal_work.specs.declared.stop.Outlet.TheVariants.{OnOut, OnErr, Later}
 use Rattle.cal_work.specs.declared.stop.Stop as declared_stop
 use Rattle.cal_work.specs.declared.stop.Stop.TheVariants.{Run}
 
--- whether the work ended because standard output or standard error failed
+-- whether the work ended because standard output failed
 abbrev pub is_out_cut : {T : Type 0} → Result T declared_stop.Stop → Bool
 is_out_cut (Ok x) = false
 is_out_cut (Err stop) = is_out_stop stop
 
+-- whether the work ended because standard error failed
 abbrev pub is_err_cut : {T : Type 0} → Result T declared_stop.Stop → Bool
 is_err_cut (Ok x) = false
 is_err_cut (Err stop) = is_err_stop stop
 
--- `stop`, with which the work ended before the run, agrees with `expected`, the result of the definitions: `stop`
--- doesn't stand for a failed output, `expected` is a stop too, and both are the same stop, unless `stop` stands for
--- running out of memory.
+-- The work ended with `stop` before the run, and this agrees with `expected`, the result of the definitions. `stop`
+-- doesn't stand for a failed output. `expected` is a stop too, and it is the same stop unless `stop` stands for running
+-- out of memory.
 pub record StopsAs {X : Type 0} (stop : declared_stop.Stop) (expected : Result X Stop) : Type 0 where
   pub before_out : is_out_stop stop ≡ false
   pub before_err : is_err_stop stop ≡ false
@@ -109,8 +110,9 @@ abbrev pub ran : Result Status RunFault → Result Status declared_stop.Stop
 ran (Ok status) = Ok status
 ran (Err fault) = Err (Run fault)
 
--- The work ended with this stop, and this agrees with the outcome `expected`: a run that ended early wrote a prefix of
--- each text of the outcome, and a stop before the run wrote nothing.
+-- The work ended with this stop, and this agrees with the outcome `expected`. If the stop is `Run`, a prefix of each
+-- text of the outcome was written, and the exit status is 1. For any other stop, nothing was written, and `StopsAs`
+-- holds.
 abbrev pub StopEnds : declared_stop.Stop → Result Report Stop → Option (List ℕ) → Option (List ℕ) → Option (List ℕ) → Option (List ℕ) → Type 0
 StopEnds (Run fault) expected out out' err err' =
     (ended_status {T = Unit} (Err fault) expected ≡ 1) × AppendsFront out out' (out_text expected) × AppendsFront err err' (err_text expected)
@@ -152,15 +154,15 @@ pub record WritesOf {T : Type 0} (written : Result T RunFault) (status : ℕ) (e
   pub out_bytes : Writes out out' written (out_text expected)
   pub err_bytes : Writes err err' written (err_text expected)
 
--- The second result is the first one after a flush of standard output. A flush that fails changes the result only if
--- nothing failed before, and then to `OutFailed`.
+-- The first argument is the result before standard output is flushed, and the second is the result after the flush. The
+-- flush can change the result only from `Ok` to `OutFailed`.
 abbrev pub IsFlushed : {T : Type 0} → Result T RunFault → Result T RunFault → Type 0
 IsFlushed (Ok all) (Ok flushed) = Unit {0}
 IsFlushed (Ok all) (Err fault) = fault ≡ OutFailed
 IsFlushed (Err fault) flushed = flushed ≡ Err fault
 
--- the report of a stop, `text`, is written to the output where it belongs; if it has to be reported later, nothing is
--- written
+-- `text`, the report of a stop, is written to the output where it belongs; if the stop has to be reported later,
+-- nothing is written
 abbrev pub TellsOn : Outlet → List ℕ → Result Unit RunFault → Option (List ℕ) → Option (List ℕ) → Option (List ℕ) → Option (List ℕ) → Type 0
 TellsOn OnOut text result out out' err err' = Writes out out' result text × (err' ≡ err)
 TellsOn OnErr text result out out' err err' = Writes err err' result text × (out' ≡ out)

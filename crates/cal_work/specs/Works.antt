@@ -28,7 +28,7 @@ use Rattle.cal_work.specs.declared.arguments_to_bytes.Ended.{Ended}
 
 -- A world that agrees with what is known, as far as the program asked for it
 
--- whether the third argument is the zone that `jiff` reads from a zone file with these bytes, or `None` if it
+-- whether the third argument is the zone that `jiff` reads from a zone file with these bytes, or `None` if `jiff`
 -- rejects the file
 abbrev pub IsReadZone : List ℕ → List ℕ → Option TimeZone → Type 0
 IsReadZone name bytes None = IsFileFault name bytes BadFile
@@ -84,8 +84,8 @@ pub record FitsArguments (known : Known) (arguments : List (List ℕ)) (world : 
 
 -- What reaches the outputs
 
--- The whole text reached the output, unless something failed. In that case the bytes that reached the output and the
--- bytes left in a buffer that could not be flushed (`held`) are together a prefix of the text.
+-- If nothing failed, the whole text reached the output. If something failed, the bytes that reached the output,
+-- followed by the bytes `held` that are left in a buffer, are a prefix of the text.
 abbrev pub Reaches : {T : Type 0} → Option (List ℕ) → Option (List ℕ) → Result T RunFault → List ℕ → Type 0
 Reaches old reached (Ok all) text = Appends old reached text
 Reaches old reached (Err fault) text = (held : List ℕ) × AppendsFront old (append_known reached held) text

@@ -44,9 +44,9 @@ pub struct Ended {
 /// Reports and the text of help go to `out`, which is flushed at the end. Error lines go to `err`.
 ///
 /// The status is 0 for success and for help; 1 if an expression, a timestamp, a span or the timer file is rejected, if
-/// `out` fails or memory runs out, or if `err` fails during a report; and 2 if the arguments, a zone file, the local
-/// zone or the clock are invalid. If an output or an allocation fails, each output has a prefix of its whole text,
-/// followed on `err` by the line that reports the failure.
+/// the timer file can't be opened, if `out` fails or memory runs out, or if `err` fails during a report; and 2 if the
+/// arguments, a zone file, the local zone or the clock are invalid. If an output or an allocation fails, each output
+/// has a prefix of its whole text, followed on `err` by the line that reports the failure.
 pub fn work<S: System, T: AsStr, O: Output, E: Sink>(
     alloc: Global,
     system: &S,
@@ -72,8 +72,8 @@ pub fn work<S: System, T: AsStr, O: Output, E: Sink>(
     }
 }
 
-/// Returns the exit status after the output is flushed: 1 if the output or an allocation failed, and
-/// otherwise `status`.
+/// Returns the exit status after the output is flushed: 1 if the output or an allocation failed, and otherwise
+/// `status`.
 fn status_by(written: Result<(), RunFault>, status: u8) -> u8
     ensures { result ≡ status_by written status }
 {
@@ -376,7 +376,7 @@ fn flush_output<O: Output>(written: Result<(), RunFault>, out: &mut O) -> Result
     }
 }
 
-/// Reports why not everything was written, unless standard error is what failed.
+/// If not everything was written, reports the reason, unless standard error is what failed.
 fn tell_fault<E: Sink>(written: Result<(), RunFault>, err: &mut E)
     requires { E.is_failed err.old ≡ is_err_failed written }
     ensures line { TellsFault (E.written err.old) (E.written err.new) (E.is_failed err.new) written }

@@ -9,9 +9,9 @@ ghost use Rattle.cal_work.specs.WorkLaw.{IsOr, TellsAll, known_outcome};
 ghost use Rattle.cal_work.specs.WorkedSystem.{bare_system, daily_world};
 ghost use Rattle.cal_work.specs.Works.{FitsArguments};
 
-/// If everything about the system's files and clock is known, no read fails and `clap` accepts the arguments, then,
-/// unless memory runs out, there is only one possible outcome. It can be computed from the arguments, the system and
-/// the zones that `jiff` reads.
+/// States that only one outcome is possible, unless memory runs out, for a system whose files and clock are known
+/// completely. No read may fail, and `clap` must accept the arguments. The outcome can be computed from the arguments,
+/// the system and the zones that `jiff` reads.
 pub fn known_systems_decide()
     ensures { (known : Known) (arguments : List (List ℕ)) (world : World) → TellsAll known → takes_arguments arguments ≡ true
         → FitsArguments known arguments world → IsOr (outcome world) (known_outcome known (asked_in arguments) world) }
