@@ -1,4 +1,4 @@
--- Parsing a civil time follows the rule of `StampCivilRule`.
+-- Parsing words gives a civil time if and only if the words and the civil time satisfy `IsCivilTime`.
 use Rattle.std.proofs.Common.{ℕ, ◌<◌, ◌≡◌, Bool, inl, inr, true, false, ◌&&◌, ◌||◌, List, [], ◌∷◌, ◌++◌, length, refl, sym, ap, ◌∙◌, arith, Option, Some, None, Ok, ℤ}
 use Rattle.std.specs.Prelude.{nat_le, is_some}
 use Rattle.std.specs.Char.{is_ascii_digit}
@@ -38,7 +38,8 @@ number_by most word n true e h =
     record { some = grind (arith, nat_tests, long); digits = parts.1 }
 number_by most word n false e h = let none = rw e at h in cc
 
--- the next three lemmas: a number contains no colon, and a text that begins with a number begins with a digit
+-- the next three lemmas: a digit is not a colon, a number contains no colon, and a text that begins with a number
+-- begins with a digit
 pub digit_no_colon : (b : ℕ) → is_ascii_digit b ≡ true → is_colon b ≡ false
 digit_no_colon b h = grind (arith, nat_tests)
 
@@ -57,7 +58,8 @@ no_digit_first : (word : List ℕ) → begins_with_letter word ≡ true → begi
 no_digit_first [] h = refl
 no_digit_first (b ∷ bs) h = letter_no_digit b h
 
--- an offset begins with neither a letter nor a digit, so the word for a zone doesn't begin with a digit
+-- the next two lemmas: an offset begins with neither a letter nor a digit, and the word for a zone never begins with a
+-- digit
 offset_begins : (word : List ℕ) (seconds : ℤ) → IsOffsetWord word seconds → (begins_with_letter word ≡ false) × (begins_with_digit word ≡ false)
 offset_begins word seconds h = elim h.signed [
   | inl east ↦ rw east.0 (refl, refl)
@@ -143,7 +145,7 @@ unfolding time_written
 time_begins word micros h =
     let p = time_word word _ micros refl h in rw p.whole (digit_first p.hour (58 ∷ p.after) p.is_hour)
 
--- Words that satisfy the rule are parsed as the rule says
+-- Words that satisfy `IsCivilTime` are parsed as that civil time
 
 pub means_from : (find : List ℕ → Option TimeZone) (word : List ℕ) (zone : TimeZone) → MeansZone find word zone → zone_of_word find word ≡ Ok zone
 means_from find word zone (inl name) = rw (name.0, name.1) refl
@@ -189,7 +191,7 @@ pub only : (at : Setting) (ws : List (List ℕ)) (c : CivilStamp) → IsCivilTim
 only at ws c h =
     ap (civil_time at) h.whole ∙ civil_from at h.weekday h.date h.time h.zone c.weekday c.day c.micros c.zone h.some h.has_weekday h.has_date h.has_time h.has_zone
 
--- Words that are parsed without an error satisfy the rule
+-- Words that are parsed without an error satisfy `IsCivilTime`
 
 means_name : (found : Option TimeZone) (zone : TimeZone) → name_found found ≡ Ok zone → found ≡ Some zone
 means_name None zone h = cc

@@ -1,4 +1,6 @@
--- The error of a civil time is the one that the rule of `StampFaultRule` demands.
+-- Parsing the words of a civil time fails with an error if and only if it is their first error (`HasFirstError`).
+-- Parsing the words after `today`, `yesterday` or `tomorrow` fails with an error if and only if they have this error
+-- (`HasZoneError`).
 use Rattle.std.proofs.Common.{ℕ, ◌≡◌, ◌⊎◌, inl, inr, true, false, ◌||◌, List, [], ◌∷◌, ◌++◌, refl, sym, ap, ◌∙◌, append_assoc, Option, Some, None, Ok, Err, ℤ}
 use Rattle.std.specs.Prelude.{Result, is_some}
 use Rattle.std.specs.List.{list_any}
@@ -27,7 +29,7 @@ pub err_of : {A B : Type 0} (r : Result A StampFault) (f : A → Result B StampF
 err_of (Ok x) f e h = inr (x, refl, h)
 err_of (Err g) f e h = inl (let same : g ≡ e = cc in ap Err same)
 
--- The error that the rule demands is returned
+-- If words have a first error, parsing them fails with it
 
 no_offset_by : (word : List ℕ) (found : Option ℤ) → offset_in word ≡ found → ((seconds : ℤ) → IsOffsetWord word seconds → ⊥) → offset_in word ≡ None
 no_offset_by word None e none = e
@@ -62,7 +64,8 @@ date_or_time_only : (at : Setting) (weekday : Option Weekday) (word : List ℕ) 
 date_or_time_only at weekday word after fault (inl colon) = rw (colon.0, colon.1) refl
 date_or_time_only at weekday word after fault (inr none) = rw (none.0, none.1) refl
 
--- if a word that follows a date or a time has an error, parsing the words after the weekday fails with this error
+-- if a word that follows a date or a time has an error, and all words before it are valid, parsing the words after the
+-- weekday fails with this error
 body_only : (at : Setting) (first : Option (List ℕ)) (weekday : Option Weekday) (date time name : Option (List ℕ)) (day : Option ℤ) (micros : ℕ) (zone : TimeZone) (word : List ℕ) (after : List (List ℕ)) (fault : StampFault)
     → (is_some date || is_some time) ≡ true → WritesDate date day → WritesTime time micros → NamesZone at name zone → IsAtFault at first date time name word fault
     → after_weekday at weekday (option_to_list date ++ (option_to_list time ++ (option_to_list name ++ (word ∷ after)))) ≡ Err fault
@@ -110,7 +113,7 @@ first-only at ws fault (inl h) =
 first-only at ws fault (inr h) =
     let r = h.are_read in ap (civil_time at) r.whole ∙ soon_only at h.weekday r.has_weekday.0 fault r.has_weekday.1 h.is_bad_date
 
--- The error that is returned satisfies the rule
+-- If parsing words fails with an error, it is their first error
 
 name_missing : (found : Option TimeZone) (fault : StampFault) → name_found found ≡ Err fault → (found ≡ None) × (fault ≡ NoSuchZone)
 name_missing None fault h = (refl, cc)
@@ -150,8 +153,8 @@ module _ (at : Setting) (first : Option (List ℕ)) (weekday : Option Weekday) (
         is_at_fault = h;
       })
 
-  -- if parsing the words from the zone on fails with `fault`, then `fault` is the error that the rule demands for all
-  -- words
+  -- the next three lemmas: if parsing the words from the zone on fails with `fault`, then `fault` is the first error of
+  -- all the words
   second_zone : (date time : Option (List ℕ)) (day : Option ℤ) (micros : ℕ) (w : List ℕ) (zone : TimeZone) (ws : List (List ℕ)) → (is_some date || is_some time) ≡ true → WritesDate date day → WritesTime time micros → NamesZone at (Some w) zone
       → zone_alone zone ws ≡ Err fault → HasFirstError at (option_to_list first ++ (option_to_list date ++ (option_to_list time ++ (w ∷ ws)))) fault
   second_zone date time day micros w zone [] some d t z h = cc
@@ -175,16 +178,14 @@ module _ (at : Setting) (first : Option (List ℕ)) (weekday : Option Weekday) (
         | inr none ↦ (let e = none.2 in cc)
       ]
 
-  -- if parsing the words after the time fails with `fault`, then `fault` is the error that the rule demands for all
-  -- words
+  -- if parsing the words after the time fails with `fault`, then `fault` is the first error of all the words
   last_words : (date : Option (List ℕ)) (time : List ℕ) (day : Option ℤ) (micros : ℕ) (ws : List (List ℕ)) → WritesDate date day → time_written time ≡ Ok micros → civil_stamp_in at weekday day micros ws ≡ Err fault
       → HasFirstError at (option_to_list first ++ (option_to_list date ++ (time ∷ ws))) fault
   last_words date time day micros [] d t h = cc
   last_words None time day micros (w ∷ ws) d t h = written_words None (Some time) day micros w ws refl d t (λ no. no) h
   last_words (Some date) time day micros (w ∷ ws) d t h = written_words (Some date) (Some time) day micros w ws refl d t (λ no. no) h
 
-  -- if parsing the words after the date fails with `fault`, then `fault` is the error that the rule demands for all
-  -- words
+  -- if parsing the words after the date fails with `fault`, then `fault` is the first error of all the words
   day_words : (d : List ℕ) (day : ℤ) (ws : List (List ℕ)) → day_written d ≡ Ok day → after_date at weekday day ws ≡ Err fault → HasFirstError at (option_to_list first ++ (d ∷ ws)) fault
   day_words d day [] e h = cc
   day_words d day (w ∷ ws) e h =

@@ -1,4 +1,5 @@
--- Timestamps resolve to the moments that the rule of `StampMomentRule` demands.
+-- A timestamp resolves to a moment if and only if its form stands for this moment (`MeansTime`), and it has an error if
+-- and only if its form has this error (`HasError`).
 use Rattle.std.proofs.Common.{ℕ, ◌/◌, ◌%◌, ◌<◌, ◌≡◌, ◌⊎◌, Bool, true, false, inl, inr, List, refl, sym, ap, ◌∙◌, arith, rules, Option, Some, None, Ok, Err, ℤ, pos, negsuc, ◌+ℤ◌, ◌-ℤ◌, ◌*ℤ◌, ◌<ℤ◌, ◌≤ℤ◌, eq-eqb, unsigned_abs}
 use Rattle.std.specs.Prelude.{Result, ◌↔◌, if◌then◌else◌}
 use Rattle.std.specs.Int.{int_div_euclid, int_rem_euclid}

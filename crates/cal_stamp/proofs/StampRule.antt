@@ -1,4 +1,4 @@
--- Every text has exactly one form by the rule of `StampRule`.
+-- Every text has exactly one form (`HasForm`), and `form_of` returns this form.
 use Rattle.std.proofs.Common.{ℕ, ◌+◌, ◌-◌, ◌<◌, ◌≤◌, ◌≡◌, Bool, true, false, inl, inr, List, [], ◌∷◌, ◌++◌, suc, length, get_or, take, drop, refl, sym, ap, ◌∙◌, arith, length-append, drop-cons, ◌&&◌, ℤ, pos, codes, Option, Some, None, eq-eqb}
 use Rattle.std.specs.Prelude.{neg_ℤ, ◌==◌, if◌then◌else◌}
 use Rattle.std.specs.List.{list_all, list_any, suffix_len, before_last, after_last}
@@ -115,8 +115,9 @@ by_words core (w ∷ ws) are =
     (by_day (OrElse (IsRelativeDay (codes "tomorrow") (pos 1)) IsCivilForm) (codes "yesterday") (neg_ℤ (pos 1)) core w ws _ _ refl are
     (by_day IsCivilForm (codes "tomorrow") (pos 1) core w ws None _ refl are (ap civil (sym are))))
 
--- The next four lemmas lead to this: if the part of a text after its last blank is `word`, the text ends with a blank
--- and `word`; and vice versa, if `word` has no blank.
+-- The next four lemmas: if the part of a text after its last blank is `word`, the text ends with a blank and `word`.
+-- Conversely, if a text ends with a blank and `word`, and `word` has no blanks, then `word` is the part after the last
+-- blank of the text.
 some_blank_within : (text : List ℕ) → list_any is_blank text ≡ true → suffix_len is_solid text < length text
 some_blank_within text some =
     elim (cases_lt (suffix_len is_solid text) (length text)) [

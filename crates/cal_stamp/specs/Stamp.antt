@@ -39,12 +39,12 @@ unfoldable pub in_moments : ℤ → Result ℤ StampFault
 in_moments micros =
     if not (int_lt micros (pos 0)) && not (int_lt last_moment micros) then Ok micros else Err OutOfRange
 
--- the moment that is a time span after the second, given the result of parsing the span
+-- the moment at a Unix second plus a time span, or the error, given the result of parsing the span
 abbrev pub after_second : ℤ → Result ℕ SpanFault → Result ℤ StampFault
 after_second second (Ok span) = in_moments (micros_of second +ℤ pos span)
 after_second second (Err fault) = Err (BadSpan fault)
 
--- the moment that is a time span before the second, given the result of parsing the span
+-- the moment at a Unix second minus a time span, or the error, given the result of parsing the span
 abbrev pub before_second : ℤ → Result ℕ SpanFault → Result ℤ StampFault
 before_second second (Ok span) = in_moments (micros_of second -ℤ pos span)
 before_second second (Err fault) = Err (BadSpan fault)
@@ -78,7 +78,7 @@ offset_found (Some seconds) = Ok (fixed_offset_zone seconds)
 abbrev pub zone_of_word : (List ℕ → Option TimeZone) → List ℕ → Result TimeZone StampFault
 zone_of_word find w = if begins_with_letter w then name_found (find w) else offset_found (offset_in w)
 
--- the zone that the previous word stands for, or `StrayWord` if any words follow
+-- `zone`, for which the previous word stands, or `StrayWord` if another word follows
 abbrev pub zone_alone : TimeZone → List (List ℕ) → Result TimeZone StampFault
 zone_alone zone [] = Ok zone
 zone_alone zone (w ∷ ws) = Err StrayWord

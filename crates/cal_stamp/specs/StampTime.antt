@@ -22,7 +22,8 @@ clock_number greatest word = up_to greatest (digits_number 2 word)
 abbrev pub kept_digits : ℕ
 kept_digits = 6
 
--- the microseconds of a fraction of a second that has one or more digits; the digits after the sixth are dropped
+-- the microseconds of a fraction of a second, given by one or more digits, of which those after the sixth are dropped;
+-- `None` for anything else
 unfoldable pub fraction_in : List ℕ → Option ℕ
 fraction_in digits =
     if nat_le 1 (length digits) && list_all is_ascii_digit digits then Some (fraction_worth micros_per_second 1 (take kept_digits digits))
