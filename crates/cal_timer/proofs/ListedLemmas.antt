@@ -108,7 +108,7 @@ excepted_kept before a e = excepted_other before a (reset_is_no_exception_reset 
 pub listed_kept : (before : List Assignment) (a : Assignment) → is_exception_reset a ≡ true → listed (before ++ a ∷ []) ≡ listed before
 listed_kept before a e = listed_other before a (exception_reset_is_no_reset a e) (exception_reset_is_no_expression a e)
 
--- every assignment in `list` has an entry, so all of their expressions are valid
+-- every assignment in `list` has an entry, which means that its expression is valid
 abbrev AreAll : {E : Type 0} → (List ℕ → Result E SpecFault) → List Assignment → Type 0
 AreAll read list = length (entries_of read list) ≡ length list
 
@@ -143,15 +143,15 @@ joins_by {E} read list a false (Ok expr) m v all =
       λ h. ap length more ∙ length-append (entries_of read list) (entry ∷ []) ∙ ap (λ n. n + 1) all ∙ sym (length-append list (a ∷ [])),
     )
 
--- a step that fails with `o`, or returns `es` if `o` is `None`, is followed by `next`, which fails with `p`, or returns
--- `r` if `p` is `None`: the result is the first of these errors, or `r` if both are `None`
+-- Two steps in sequence. The first fails with `o`, or returns `es` if `o` is `None`. The second, `next es`, fails with
+-- `p`, or returns `r` if `p` is `None`. The result of both is the first error, or `r` if there is no error.
 decides : {E : Type 0} (o p : Option TimerFault) (es : List (TimerLine E)) (next : List (TimerLine E) → Result (Timer E) TimerFault) (r : Result (Timer E) TimerFault)
     → (o ≡ None → next es ≡ unless_fault p r) → with_list (unless_fault o (Ok es)) next ≡ unless_fault (option_or o p) r
 decides None p es next r h = h refl
 decides (Some fault) p es next r h = refl
 
--- if the assignments in `after` are applied to the lists that the assignments in `before` leave, the result is the
--- first error in `after`, or else the lists after all assignments
+-- applying the assignments in `after` to the lists that result from those in `before` gives the first error in `after`,
+-- or, if there is none, the lists after all assignments
 abbrev Resumes : {E : Type 0} → (List ℕ → Result E SpecFault) → List Assignment → List Assignment → Type 0
 Resumes read before after = resumed read (entries read before) after ≡ unless_fault (first_fault read before after) (Ok (entries read (before ++ after)))
 
@@ -172,7 +172,7 @@ all_with : {E : Type 0} (read : List ℕ → Result E SpecFault) (list now : Lis
 all_with read list now e all = subst (λ (l : List Assignment). AreAll read l) (sym e) all
 
 -- if all assignments in `list` are valid, adding `a` to their entries either fails with the error of `a`, or adds the
--- entry of `a`
+-- entry of `a`; in the latter case, `a` is valid, too
 joins : {E : Type 0} (read : List ℕ → Result E SpecFault) (list : List Assignment) (a : Assignment) → AreAll read list
     → (with_assignment read (entries_of read list) a ≡ unless_fault (fault_joining read list a) (Ok (entries_of read (list ++ a ∷ []))))
     × (fault_joining read list a ≡ None → AreAll read (list ++ a ∷ []))
@@ -186,8 +186,8 @@ pub fault_of_exception : {E : Type 0} (read : List ℕ → Result E SpecFault) (
 unfolding fault_following
 fault_of_exception read before a f = rw (exception_is_no_expression a f, f) refl
 
--- What the assignment `a` does to one of the lists: it fails with the error `fault`, or, if `fault` is `None`, the
--- result is the list after the assignments in `before` and `a`.
+-- What the assignment `a` does to one of the lists. If `fault` is an error, the result is this error. If `fault` is
+-- `None`, the result is the list after the assignments in `before` and `a`, and all assignments in this list are valid.
 record Changes {E : Type 0} (read : List ℕ → Result E SpecFault) (adds resets : Assignment → Bool) (before : List Assignment) (a : Assignment) (fault : Option TimerFault) : Type 0 where
   pub is : changed read (adds a) (resets a) (entries_of read (Kept adds resets before)) a ≡ unless_fault fault (Ok (entries_of read (Kept adds resets (before ++ a ∷ []))))
   pub all : fault ≡ None → AreAll read (Kept adds resets (before ++ a ∷ []))
@@ -281,7 +281,8 @@ pub first_from_fault : {E : Type 0} (read : List ℕ → Result E SpecFault) (al
 unfolding entries_or_fault
 first_from_fault read all fault h = some_by (first_fault read [] all) (entries read all) fault (sym (resumed_is_entries read all) ∙ h)
 
--- the result of `next` for the lists, or the error if there is one instead of lists
+-- two steps in sequence: if the first returns lists, the result of `next` for these lists; otherwise the error of the
+-- first
 abbrev pub with_lists : {E : Type 0} → Result (Timer E) TimerFault → (Timer E → Result (Timer E) TimerFault) → Result (Timer E) TimerFault
 with_lists (Ok lists) next = next lists
 with_lists (Err fault) next = Err fault
@@ -302,7 +303,8 @@ resumed_append read lists (a ∷ before) after =
     (λ es. list_then (changed read (is_exception a) (is_exception_reset a) lists.exceptions a) _ _ (λ now. resumed read now after)
     (λ xs. resumed_append read (record { expressions = es; exceptions = xs }) before after))
 
--- so the lists after more assignments have the entries of all assignments, or the error is their first error
+-- if lists have the entries of the assignments in `before`, applying the assignments in `after` to the lists gives the
+-- entries of all assignments, or the first error
 pub entries_add_up : {E : Type 0} (read : List ℕ → Result E SpecFault) (before after : List Assignment) (lists : Timer E) → entries_or_fault read before ≡ Ok lists → resumed read lists after ≡ entries_or_fault read (before ++ after)
 entries_add_up read before after lists h =
     sym (ap (λ now. with_lists now (λ lists. resumed read lists after)) (resumed_is_entries read before ∙ h))

@@ -1,5 +1,5 @@
--- Examples that check the definitions of timer files. In each example, parsing an expression either always gives back
--- its text (`reads`) or always fails (`rejects`).
+-- Examples that check the definitions of timer files. In each example, either every expression is valid and is parsed
+-- as its own text (`reads`), or every expression is invalid (`rejects`).
 use Rattle.std.proofs.Common.{◌≡◌, ℕ, List, [], ◌∷◌, ◌++◌, codes, refl, Result, Ok, Err}
 use Rattle.std.specs.Prelude.{map}
 use Rattle.std.specs.List.{flat_map}

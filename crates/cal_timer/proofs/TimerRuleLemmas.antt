@@ -1,4 +1,5 @@
--- Lemmas which say that the definitions of timer files follow the rule of `TimerRule`.
+-- Lemmas for the laws: on the lines of the section `Timer`, on the lists of expressions and exceptions, and on
+-- `JudgesTimer`, which holds for the result of `lists_of` and for no other.
 use Rattle.std.proofs.Common.{◌≡◌, ◌<◌, ℕ, Bool, true, false, List, [], ◌∷◌, ◌++◌, codes, filter, length, refl, sym, subst, ap, ◌∙◌, arith, append_assoc, append-nil, Option, Some, None, Result, Ok, Err}
 use Rattle.std.specs.List.{after_last, list_any}
 use Rattle.std.specs.Option.{option_or}
@@ -43,8 +44,7 @@ unfolding timer_lines
 last_header inside [] rest header e none = rw e (no_header (bytes_eq (section_of header.text) (codes "Timer")) rest none)
 last_header inside (line ∷ front) rest header e none = header_passed (is_header line.text) inside line front rest header refl (λ inside. last_header inside front rest header e none)
 
--- if no element of `ys` passes the test `p`, appending `ys` to a list appends `ys` to what comes after its last element
--- that passes the test
+-- if no element of `ys` passes the test `p`, then appending `ys` to `xs` also appends `ys` to `after_last p xs`
 after_last_after : {X : Type 0} (p : X → Bool) (xs ys : List X) → list_any p ys ≡ false → after_last p (xs ++ ys) ≡ after_last p xs ++ ys
 after_last_after p xs [] none = ap (after_last p) (append-nil xs) ∙ sym (append-nil (after_last p xs))
 after_last_after p xs (y ∷ ys) none =
@@ -159,8 +159,8 @@ some_from_fault read first (x ∷ before) a after fault fine e =
     let there : fault_following read ((first ++ x ∷ []) ++ before) a ≡ Some fault = subst (λ (front : List Assignment). fault_following read front a ≡ Some fault) (sym (append_assoc first (x ∷ []) before)) e in
     rw here (some_from_fault read (first ++ x ∷ []) before a after fault fine_after there)
 
--- The remaining lemmas say that a list of assignments has exactly one result by the rule. By this one, the first error
--- satisfies the rule.
+-- The remaining lemmas say that `JudgesTimer` holds for exactly one result. The first lemma: if an assignment has an
+-- error, `JudgesTimer` holds for the first error.
 judged_fault : {E : Type 0} (read : List ℕ → Result E SpecFault) (all : List Assignment) (fault : TimerFault) → is_of_line fault ≡ true → IsFirstTimerFault read all fault → JudgesTimer read all (Err fault)
 judged_fault read all NothingToDo e h = cc
 judged_fault read all fault e h = h

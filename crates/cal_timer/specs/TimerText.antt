@@ -39,7 +39,7 @@ fault_following read before a =
     if is_expression a then fault_joining read (listed before) a
     else (if is_exception a then fault_joining read (excepted before) a else None)
 
--- the first error among the assignments in the second list, which come after those in `before`
+-- the first error among the assignments that come after those in `before`
 unfoldable pub first_fault : {E : Type 0} → (List ℕ → Result E SpecFault) → List Assignment → List Assignment → Option TimerFault
 first_fault read before [] = None
 first_fault read before (a ∷ after) = option_or (fault_following read before a) (first_fault read (before ++ a ∷ []) after)

@@ -34,13 +34,14 @@ changed read true empties es a = with_assignment read es a
 changed read false true es a = Ok []
 changed read false false es a = Ok es
 
--- the result of `next` for the list, or the error if there is one instead of a list
+-- two steps in sequence: if the first returns a list, the result of `next` for this list; otherwise the error of the
+-- first
 abbrev pub with_list : {E A : Type 0} → Result (List (TimerLine E)) TimerFault → (List (TimerLine E) → Result A TimerFault) → Result A TimerFault
 with_list (Ok es) next = next es
 with_list (Err fault) next = Err fault
 
--- The lists after the remaining assignments, given the lists so far, or the first error. This follows the loop of the
--- code; the law `assignments_add_up` says the same by `entries_or_fault`.
+-- The lists after the remaining assignments, or the first error, given the lists so far. This definition follows the
+-- loop of the code. The law `assignments_add_up` relates it to `entries_or_fault`.
 unfoldable pub resumed : {E : Type 0} → (List ℕ → Result E SpecFault) → Timer E → List Assignment → Result (Timer E) TimerFault
 resumed read lists [] = Ok lists
 resumed read lists (a ∷ after) =

@@ -1,4 +1,5 @@
--- Going on with the remaining lines gives the result for the whole text.
+-- Applying the remaining lines to the lists so far has the same result as applying the whole text to the original
+-- lists.
 use Rattle.std.proofs.Common.{◌≡◌, ◌+◌, ◌≤◌, length, false}
 use denote.Shadow.{shadow}
 use denote.Text.{Utf8}
