@@ -30,7 +30,7 @@ pub no_settings : (name : List ℕ) (inside : Bool) → settings_in name inside 
 unfolding settings_in section_lines
 no_settings name inside = refl
 
--- after a header, the remaining lines belong to the section that it opens
+-- after a header, the lines up to the next header belong to the section that the header opens
 pub header_opens : (name : List ℕ) (inside : Bool) (line : Line) (after : List Line) → is_header (trim_matches is_blank_or_return line.text) ≡ true
     → settings_in name inside (line ∷ after) ≡ settings_in name (bytes_eq (section_of (trim_matches is_blank_or_return line.text)) name) after
 unfolding settings_in section_lines

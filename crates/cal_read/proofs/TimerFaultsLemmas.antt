@@ -1,4 +1,5 @@
--- Lemmas which say that counting the entries of the lists gives the same errors as keeping the lists.
+-- Lemmas which say that counting the entries of the lists gives the same errors as keeping the lists, and that the
+-- first of all errors is the error that `first_fault` returns.
 use Rattle.std.proofs.Common.{◌≡◌, ◌+◌, ◌<◌, ℕ, Bool, true, false, List, [], ◌∷◌, ◌++◌, filter, refl, subst, sym, ap, ◌∙◌, arith, append_assoc, append-nil, length, length-append, map, take, Option, Some, None, Result, drop, get_or, drop-cons, add-one}
 use Rattle.std.specs.Prelude.{nat_le, min}
 use Rattle.std.specs.List.{after_last, slice_get}
@@ -19,8 +20,8 @@ use Rattle.std.proofs.Math.Seq.{drop-length, take-append_seam}
 use Rattle.std.proofs.lemmas.List.Concat.{flat_map-append}
 use Rattle.cal_timer.proofs.ListedLemmas.{Kept, exception_is_no_exception_reset, expression_is_no_reset, kept_more, kept_other, kept_reset}
 
--- if `n` is the length of a list, capped at the limit, then `count_with` returns its capped length after one more
--- assignment
+-- if `n` is the length of a list, capped at the limit, then `count_with` returns the capped length of the list after
+-- one more assignment
 counted_kept : (adds resets : Assignment → Bool) (before : List Assignment) (a : Assignment) (joined empties : Bool) (n : ℕ)
     → adds a ≡ joined → resets a ≡ empties → (adds a ≡ true → resets a ≡ false) → n ≡ min (length (filter adds (after_last resets before))) max_expressions
     → count_with n joined empties ≡ min (length (filter adds (after_last resets (before ++ a ∷ [])))) max_expressions
@@ -147,7 +148,7 @@ unfolding first_fault all_faults
 first_is_head read before [] = refl
 first_is_head read before (a ∷ after) = head_by read before a after (fault_following read before a) (first_is_head read (before ++ a ∷ []) after)
 
--- the errors of two lists of assignments, one after the other
+-- the errors of `xs ++ ys` are the errors of `xs`, followed by those of `ys`
 all_append : {E : Type 0} (read : List ℕ → Result E SpecFault) (before xs ys : List Assignment) → all_faults read before (xs ++ ys) ≡ all_faults read before xs ++ all_faults read (before ++ xs) ys
 unfolding all_faults
 all_append read before [] ys = ap (λ all. all_faults read all ys) (sym (append-nil before))

@@ -13,7 +13,7 @@ use Rattle.cal_timer.specs.declared.fault.TimerFault.TheVariants.{TooMany}
 use Rattle.cal_read.specs.declared.texts.FileFault.{FileFault}
 use Rattle.cal_read.specs.declared.texts.UnitText.{UnitText}
 
--- all errors of the assignments in the second list, which come after those in `before`
+-- all errors of the assignments that come after those in `before`
 unfoldable pub all_faults : {E : Type 0} → (List ℕ → Result E SpecFault) → List Assignment → List Assignment → List TimerFault
 all_faults read before [] = []
 all_faults read before (a ∷ after) = option_to_list (fault_following read before a) ++ all_faults read (before ++ a ∷ []) after

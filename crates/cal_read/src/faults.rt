@@ -41,7 +41,8 @@ impl Counts {
     }
 }
 
-/// Returns the length of a list after an assignment: one more if it `adds`, or else 0 if it `empties`.
+/// Returns the length of a list after an assignment, given the length `count` before: one more, up to the limit, if
+/// `adds` is `true`; otherwise 0 if `empties` is `true`, and `count` if not.
 fn count_with(count: usize, adds: bool, empties: bool) -> usize
     ensures { result ≡ count_with count adds empties }
 {
@@ -138,7 +139,7 @@ fn take_faults(
 
 /// Returns all errors in the texts of a unit file and of its drop-ins, in the order of their lines.
 ///
-/// An expression or an exception is an error if it is invalid, or if its list already has 256 elements. Invalid
+/// An expression or an exception has an error if it is invalid, or if its list already has 256 elements. Invalid
 /// expressions and exceptions, too, count as elements until the list is cleared. [`TimerFault::NothingToDo`] is not
 /// among these errors. If this function returns any errors, [`crate::read_texts`] fails with the first one.
 pub fn find_faults(alloc: Global, files: &[UnitText<'_>]) -> Result<Vec<FileFault>, AllocError>

@@ -1,5 +1,5 @@
-//! Timestamps and timer files, for users of the library: the names of `cal_stamp` and `cal_timer`, and what reads
-//! several texts of a timer (systemd.time(7), Parsing Timestamps; systemd.timer(5)).
+//! Timestamps and timer files, for users of the library (systemd.time(7), Parsing Timestamps; systemd.timer(5)). This
+//! crate re-exports `cal_stamp` and `cal_timer`, and it reads timers from several texts.
 #![tactic(auto)]
 
 mod faults;

@@ -34,7 +34,8 @@ impl Setting {
     }
 }
 
-/// The remaining settings in the sections with a given name. Contracts see it as the list of these settings.
+/// An iterator over the settings in all sections with a given name. Contracts see it as the list of the settings that
+/// remain.
 #[derive(Debug, Drop)]
 pub struct Settings<'t> {
     section: &'t str,

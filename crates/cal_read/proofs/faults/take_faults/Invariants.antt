@@ -1,4 +1,5 @@
--- The errors so far, followed by those of the remaining settings, are all errors of the text.
+-- The errors so far, followed by those of the remaining settings, are all errors of the text. Counting the remaining
+-- settings as well gives the counts after the text.
 use Rattle.std.proofs.Common.{◌≡◌, ◌++◌, length, map}
 use Rattle.cal_spec.specs.Expr.{expr_in}
 use Rattle.cal_read.specs.TimerFaults.{counted_faults, counts_over, in_file}

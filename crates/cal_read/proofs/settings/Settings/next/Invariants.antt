@@ -1,4 +1,5 @@
--- No setting has been found yet, so the remaining lines have all remaining settings.
+-- No setting has been found yet: the settings in the remaining lines are all settings that remained when `next` was
+-- called.
 use Rattle.std.proofs.Common.{◌≡◌, ◌+◌, ◌<◌, ◌^◌, length}
 use denote.Shadow.{shadow}
 use denote.Text.{Utf8}
