@@ -42,8 +42,8 @@ pub(crate) fn elapses_of<'z>(
     elapses_from(alloc, &expr, zone, base)
 }
 
-/// Expects the source to return these values in this order. Just before it returns a number, `has` must not say that
-/// the source doesn't have the number.
+/// Expects the source to return these values in this order. Just before it returns a number, `has` must not return
+/// `Some(false)` for this number.
 fn expect_answers<S: Rising>(rt: &impl Abort, source: &mut S, answers: &[Option<i64>]) {
     for answer in answers {
         if let Some(number) = *answer {

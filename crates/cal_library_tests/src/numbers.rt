@@ -90,8 +90,8 @@ pub fn merge_without(
     Ok(merge)
 }
 
-/// Checks that the source returns these numbers, and that `has`, if it can tell, says that the source has each number
-/// until it returns it.
+/// Checks that the source returns these numbers. If `has` can tell, it must say that the source has each number just
+/// before the number is returned, and that the source doesn't have the number right afterwards.
 pub fn expect_first<S: Rising>(rt: &impl Abort, source: &mut S, numbers: &[i64]) {
     for number in numbers {
         assert!(rt; source.has(*number) != Some(false));

@@ -73,8 +73,9 @@ pub(crate) fn expect_members(rt: &impl Abort, pending: &mut Pending, members: &[
     assert_eq!(rt; (pending.least(), pending.take_least()), (None, None));
 }
 
-/// Pairs of instants, and the order in which the set returns them. The set is a ring of 187,200 seconds: the second
-/// pair is on both sides of its end, and the third pair is as far apart as instants in the set may be.
+/// Pairs of instants, and the order in which the set returns them. The set is a ring of 187,200 cells. The end of the
+/// ring lies between the instants of the second pair. Those of the third pair are as far apart as instants in the set
+/// may be.
 static PAIRS: [(i64, i64, [i64; 2]); 3] = [
     (100, 50, [50, 100]),
     (187_199, 187_201, [187_199, 187_201]),

@@ -158,7 +158,7 @@ static FAULTS: [(SpanFault, u8, &str); 4] = [
     (SpanFault::TooLarge, 4, "time span too large"),
 ];
 
-/// Each error has this number, and is displayed as this message.
+/// Each error has the number and the message that are listed in [`FAULTS`].
 #[test]
 fn numbers_and_shown_words(rt: HostRuntime) -> Result<(), Fail> {
     for (fault, number, message) in &FAULTS {

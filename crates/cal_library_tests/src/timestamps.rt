@@ -16,17 +16,18 @@ mod order;
 mod span_texts;
 mod zones;
 
-/// The present in most of these tests: Fri 2012-11-23 10:15:22 UTC.
+/// The instant that is the present in most of these tests, Fri 2012-11-23 10:15:22 UTC, in seconds of Unix time.
 const PRESENT: i64 = 1_353_665_722;
 
-/// Timestamps, separated by `|`. In `moments`, an arrow and the microseconds of its moment follow each timestamp. In
-/// `refusals`, each error has the timestamps that are rejected with it.
+/// Timestamps, separated by `|`. In `moments`, each timestamp is followed by an arrow and the microseconds of its
+/// moment. In `refusals`, each error is followed by the timestamps that are rejected with this error.
 struct Table {
     moments: &'static str,
     refusals: &'static [(StampFault, &'static str)],
 }
 
-/// A present, a local zone as its seconds east of UTC (0 for UTC itself), and what timestamps resolve to with both.
+/// The present in seconds of Unix time, the offset of the local zone in seconds east of UTC (0 for UTC itself), and
+/// what timestamps resolve to with this present and this local zone.
 struct Setting {
     now: i64,
     east: i32,

@@ -105,7 +105,7 @@ static NUMBERS: [Refused; 6] = [
     ),
 ];
 
-/// Expressions with several errors, listed by the one that is reported according to the documented order.
+/// Expressions with several errors, grouped by the error that comes first in the documented order.
 static ORDER: [Refused; 11] = [
     (
         BadDate,

@@ -1,18 +1,18 @@
-//! Timer files that are not UTF-8: the error has the line of the first wrong byte.
+//! Timer files that are not valid UTF-8. The error has the number of the line that contains the first invalid byte.
 
 use super::read;
 use cal_read::TimerFault;
 use std::alloc::Global;
 use std::process::Abort;
 
-/// Files that are not UTF-8, each with the line of the first wrong byte.
+/// Files that are not valid UTF-8, each with the number of the line that contains the first invalid byte.
 static WRONG_BYTES: [(&[u8], u32); 13] = [
     // A file of one byte.
     (b"\xFF", 1),
     (b"\n\xFF", 2),
-    // After a bad expression, which is not reported.
+    // An invalid byte after an invalid expression, which is not reported.
     (b"[Timer]\nOnCalendar=x!\n\n\xFF\n\xFF", 4),
-    // After a valid expression.
+    // An invalid byte after a valid expression.
     (b"[Timer]\nOnCalendar=daily\nx=\xFF\n", 3),
     // A two-byte character that breaks off before a line feed.
     (b"\n\xC3\n", 2),
@@ -22,18 +22,18 @@ static WRONG_BYTES: [(&[u8], u32); 13] = [
     (b"\xEF\xBB\xBF\n\xF0\x9F\x98", 2),
     // A surrogate.
     (b"\n\xED\xA0\x80", 2),
-    // Characters of two and three bytes, with the first byte of a character in place of the last byte.
+    // Characters of two and three bytes, each with the first byte of another character in place of its last byte.
     (b"\n\xC3\xC3", 2),
     (b"\n\xE2\x82\xC3", 2),
     // An overlong encoding of a line feed.
     (b"\n\xC0\x8A", 2),
     // A byte order mark that is cut short.
     (b"\xEF\xBB", 1),
-    // In another section, after continued lines.
+    // An invalid byte in another section, after continued lines.
     (b"[Unit]\\\n\\\n\xFF", 3),
 ];
 
-/// Expects the file to be rejected because this line is not UTF-8.
+/// Expects the file to be rejected because this line is not valid UTF-8.
 fn expect_broken(rt: &impl Abort, alloc: Global, file: &[u8], line: u32) {
     let fault = read(alloc, file).err();
     assert!(rt; fault == Some(TimerFault::NotUtf8(line)), "in {file:?}");

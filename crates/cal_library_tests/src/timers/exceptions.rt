@@ -38,7 +38,7 @@ static REFUSED: [(&str, TimerFault); 4] = [
         "[Timer]\nOnCalendar=daily\nX-ExceptOnCalendar=Sat\nOnBootSec=",
         TimerFault::NothingToDo,
     ),
-    // An invalid exception rejects the file, even if a later line drops it.
+    // A file with an invalid exception is rejected, even if a later line drops the exception.
     (
         "[Timer]\nOnCalendar=daily\nX-ExceptOnCalendar=20/4:00\nX-ExceptOnCalendar=",
         TimerFault::BadLine(3, SpecFault::NoRepeat),

@@ -7,14 +7,15 @@ use cal_spec::SpecFault;
 use std::process::Abort;
 use std::test::Fail;
 
-/// Texts, and all their errors, each with the index of its text and its line.
+/// Texts, and all their errors, each after the index of its text and the number of its line.
 type Row = (&'static [&'static str], &'static [(usize, u32, SpecFault)]);
 
 static BAD_LINES: [Row; 5] = [
     (&[], &[]),
     // `find_faults` doesn't report that there is no expression.
     (&["[Timer]\nOnCalendar=daily", "[Timer]\nOnCalendar="], &[]),
-    // Each invalid expression and exception is an error, with the index of its text and its line in that text.
+    // Each invalid expression and each invalid exception is reported, with the index of its text and the number of its
+    // line in this text.
     (
         &[
             "[Timer]\nOnCalendar=25:00\nOnCalendar=daily\nX-ExceptOnCalendar=x!",
@@ -29,7 +30,7 @@ static BAD_LINES: [Row; 5] = [
             (3, 2, SpecFault::NoRepeat),
         ],
     ),
-    // An invalid expression is an error even if a later setting clears the list.
+    // An invalid expression is reported even if a later setting clears the list.
     (
         &[
             "[Timer]\nOnCalendar=25:00",
@@ -92,7 +93,7 @@ fn bad_lines(rt: HostRuntime) -> Result<(), Fail> {
     Ok(())
 }
 
-/// Until a reset, each expression and each exception over the limit is an error. Invalid expressions count toward the
+/// Until a reset, each expression and each exception over the limit is reported. Invalid expressions count toward the
 /// limit.
 #[test]
 fn several_too_many(rt: HostRuntime) -> Result<(), Fail> {

@@ -50,7 +50,7 @@ static READ: [Row; 9] = [
         &[(2, "daily")],
         &[],
     ),
-    // A continued line ends with its text too, and so does a comment inside a continued line.
+    // A continued line ends with its text, too, even if a comment follows the backslash.
     (
         &[
             "[Timer]\nOnCalendar=Mon \\",

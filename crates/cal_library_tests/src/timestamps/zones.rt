@@ -8,7 +8,7 @@ use std::alloc::Global;
 use std::process::Abort;
 use std::test::Fail;
 
-/// Zone names have to match exactly, except that `UTC` may be in any case.
+/// Zone names have to match exactly, except that `UTC` may be in upper or lower case.
 static NAMES: Table = Table {
     moments: "\
 2012-11-23 Test/Fixed -> 1353625200000000|2012-11-23 1:2 Test/Fixed -> 1353628920000000|\
