@@ -32,7 +32,7 @@ const IN_UTC: Option<i64> = Some(1_704_067_200);
 /// The instant of local midnight on 2024-01-01 in a zone that is one hour ahead of UTC.
 const HOUR_AHEAD: Option<i64> = Some(1_704_063_600);
 
-/// A file to be loaded under a name, the expected result, and the midnights of the table afterwards.
+/// A file to be loaded under a name, the expected result, and what [`midnights`] should return afterwards.
 #[derive(Clone, Copy)]
 struct Row<'a> {
     name: &'a str,
@@ -65,7 +65,7 @@ fn load(alloc: Global, table: &mut ZoneTable, row: Row<'_>) -> Result<Loaded, Fa
     Ok((loaded, from.failed()))
 }
 
-/// Expects the result of loading the file, and the midnights of the table, to be those of the row.
+/// Expects the result of loading the file, and what [`midnights`] returned afterwards, to be as in the row.
 fn expect_loaded(rt: &impl Abort, row: Row<'_>, found: (Loaded, [Option<i64>; 4])) {
     let failed = row.want == Err(LoadFault::ReadFailed);
     let wanted = ((row.want, failed), row.midnights);
@@ -96,10 +96,10 @@ fn one_name_more(rt: HostRuntime) -> Result<(), Fail> {
     check(&rt, &[first, second])
 }
 
-/// A limit for the source of a zone file that cuts the file short.
+/// A limit that lets a source return only a part of the zone file.
 const CUTTING_LIMIT: usize = 9;
 
-/// A limit for the source of a zone file that leaves the file whole.
+/// A limit that lets a source return the whole zone file.
 const AMPLE_LIMIT: usize = 999;
 
 /// A name, the source's limit, what the source does after that, and the expected error. If there are several errors, an

@@ -171,8 +171,8 @@ fn push_instants<'t>(instants: &mut Vec<&'t str>, text: &'t str) -> Result<(), A
     Ok(())
 }
 
-/// Appends the instants of those elapses whose first line is complete in `front`, and then the instants that the run
-/// which continues after them prints.
+/// Appends the instants of the elapses whose first line is complete in `front`, and then the instants that are printed
+/// by the run that continues after these elapses.
 fn push_resumed(
     instants: &mut Vec<&'static str>,
     front: &'static str,

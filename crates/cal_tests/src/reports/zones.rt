@@ -14,7 +14,7 @@ Normalized form: *-*-* 02:30:00
        From now: 2d 30min left
 ";
 
-/// A local time that occurs twice elapses at its first occurrence.
+/// If a local time occurs twice, the expression elapses at the first occurrence.
 const FOLD: &str = "  Original form: 02:30
 Normalized form: *-*-* 02:30:00
     Next elapse: Sun 2024-10-27 02:30:00 +02:00
