@@ -14,7 +14,7 @@ use Rattle.cal_zone.specs.headline.Moment.{micros_of}
 use Rattle.cal_stamp.specs.Stamp.{Setting, after_second, in_moments, moment_in, moment_of_form}
 use Rattle.cal_stamp.specs.StampForm.{counted, form_of, form_of_solid}
 
--- The form of `@` and digits
+-- The form of a text that is `@` and digits
 
 solid_digits : (ds : List ℕ) → AreDigits ds → AllByRecursion (λ b. is_blank b ≡ false) ds
 solid_digits [] h = tt

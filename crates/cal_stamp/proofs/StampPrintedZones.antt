@@ -67,7 +67,7 @@ no_letter b to = grind (arith, nat_tests)
 digits_fit : (ds : List ℕ) → list_all is_ascii_digit ds ≡ true → list_all is_signed_byte ds ≡ true
 digits_fit ds = list_all-wider is_ascii_digit is_signed_byte ds digit_fits
 
--- `text` is a sign, a byte from `+` to `-`, followed by bytes from `+` to `:`
+-- `text` is a sign (a byte from `+` to `-`), followed by bytes from `+` to `:`
 record IsSigned (text : List ℕ) : Type 0 where
   sign : ℕ
   body : List ℕ

@@ -70,7 +70,7 @@ pub record IsCivilMoment (now : ℤ) (at : Setting) (words : List (List ℕ)) (t
   pub falls : FallsOn stamp.weekday day
   pub is_time : IsTimeOfDay stamp.zone day stamp.micros time
 
--- the form stands for this time in microseconds of Unix time, whether or not that is in the supported range
+-- the form stands for this time in microseconds of Unix time, whether or not the time is in the supported range
 abbrev pub MeansTime : ℤ → Setting → Form → ℤ → Type 0
 MeansTime now at nothing time = ⊥
 MeansTime now at present time = time ≡ micros_of now

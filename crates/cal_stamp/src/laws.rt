@@ -101,7 +101,7 @@ pub fn moments_are_in_range()
 /// is a whole number of minutes (systemd.time(7), Parsing Timestamps). In UTC, it holds for every instant of the years
 /// 1970 to 2199.
 ///
-/// An offset that isn't a whole number of minutes is printed with seconds, and the parser rejects such a word as a zone
+/// An offset that isn't a whole number of minutes is printed with seconds, and the parser rejects offsets with seconds
 /// (`StrayWord`). At the first instants, clocks west of UTC show 1969, and at the last instants most clocks show 2200;
 /// dates in these years are rejected (`NoSuchDate`).
 pub fn printed_instants_read_back()
