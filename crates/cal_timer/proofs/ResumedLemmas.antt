@@ -31,7 +31,8 @@ pub joined_many : {E : Type 0} (read : List ℕ → Result E SpecFault) (es : Li
 unfolding with_assignment
 joined_many read es a many = let is_many : nat_le max_expressions (length es) ≡ true = grind (arith, nat_tests) in rw is_many refl
 
--- adding an assignment to a list that isn't full fails if its expression is invalid, and otherwise adds its entry
+-- the next four lemmas: adding an assignment to a list that isn't full fails if the expression of the assignment is
+-- invalid, and otherwise adds the entry of the assignment
 read_bad : {E : Type 0} (es : List (TimerLine E)) (a : Assignment) (r : Result E SpecFault) (fault : TimerFault) → bad_line a.number r ≡ Some fault → with_read es a r ≡ Err fault
 read_bad es a (Ok expr) fault e = cc
 read_bad es a (Err f) fault e = cc

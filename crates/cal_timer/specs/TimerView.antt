@@ -18,7 +18,7 @@ shown line = record { number = line.number; text = string_bytes line.text; expr 
 abbrev pub empty_lists : {E : Type 0} → Timer E
 empty_lists = record { expressions = []; exceptions = [] }
 
--- a list with one more entry, given the result of parsing its expression, or the error
+-- given the result of parsing the expression of `a`: the list `es` with the entry of `a` added, or the error of `a`
 abbrev pub with_read : {E : Type 0} → List (TimerLine E) → Assignment → Result E SpecFault → Result (List (TimerLine E)) TimerFault
 with_read es a (Ok expr) = Ok (es ++ record { number = a.number; text = a.value; expr = expr } ∷ [])
 with_read es a (Err fault) = Err (BadLine a.number fault)
