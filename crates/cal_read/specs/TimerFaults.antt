@@ -22,7 +22,7 @@ all_faults read before (a ∷ after) = option_to_list (fault_following read befo
 abbrev pub in_file : ℕ → TimerFault → FileFault
 in_file k fault = record { file = Some k; fault = fault }
 
--- all errors of texts that come after the assignments in `before`; the first text has the index `k`
+-- all errors of several texts that come after the assignments in `before`; the first text has the index `k`
 unfoldable pub faults_of : {E : Type 0} → (List ℕ → Result E SpecFault) → List Assignment → ℕ → List UnitText → List FileFault
 faults_of read before k [] = []
 faults_of read before k (file ∷ files) =
@@ -48,13 +48,13 @@ counts_with counts a = record {
 abbrev pub fault_beside : {E : Type 0} → (List ℕ → Result E SpecFault) → ℕ → Assignment → Option TimerFault
 fault_beside read n a = if nat_le max_expressions n then Some (TooMany a.number) else bad_line a.number (read a.value)
 
--- the error of an assignment, given the lengths of the lists before it
+-- the error of an assignment, given the lengths of the lists before the assignment
 abbrev pub fault_at : {E : Type 0} → (List ℕ → Result E SpecFault) → Counts → Assignment → Option TimerFault
 fault_at read counts a =
     if is_expression a then fault_beside read counts.expressions a
     else (if is_exception a then fault_beside read counts.exceptions a else None)
 
--- all errors of assignments, given the lengths of the lists before them
+-- all errors of several assignments, given the lengths of the lists before these assignments
 unfoldable pub counted_faults : {E : Type 0} → (List ℕ → Result E SpecFault) → Counts → List Assignment → List TimerFault
 counted_faults read counts [] = []
 counted_faults read counts (a ∷ after) = option_to_list (fault_at read counts a) ++ counted_faults read (counts_with counts a) after
@@ -64,7 +64,7 @@ unfoldable pub counts_over : Counts → List Assignment → Counts
 counts_over counts [] = counts
 counts_over counts (a ∷ after) = counts_over (counts_with counts a) after
 
--- all errors of texts, given the lengths of the lists before them; the first text has the index `k`
+-- all errors of several texts, given the lengths of the lists before these texts; the first text has the index `k`
 unfoldable pub counted_files : {E : Type 0} → (List ℕ → Result E SpecFault) → Counts → ℕ → List UnitText → List FileFault
 counted_files read counts k [] = []
 counted_files read counts k (file ∷ files) =
