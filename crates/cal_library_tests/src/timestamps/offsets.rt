@@ -59,9 +59,9 @@ static RANGE_ENDS: [Setting; 1] = [Setting {
     },
 }];
 
-/// Instants as reports print them: at both occurrences of a repeated local time, on the days before and after one that
-/// is skipped, and at the ends of the range. A printed instant is not a valid timestamp if its offset has seconds, or
-/// if its local year is 1969 or 2200.
+/// Instants as reports print them: at both occurrences of a repeated local time, one day before and one day after a
+/// skipped local time, and at the ends of the range. A printed instant is not a valid timestamp if its offset has
+/// seconds, or if its local year is 1969 or 2200.
 static LINES_OF_REPORTS: [Setting; 1] = [Setting {
     now: 0,
     east: 19_800,
