@@ -126,8 +126,8 @@ Normalized form: Sat,Sun *-*-* 12:00:00
        From now: 3d 12h left
 ";
 
-/// [`EVERY_SECOND`], and the requests that continue its report. The row at index `n` continues after the first `n`
-/// elapses: its base is the last of these.
+/// [`EVERY_SECOND`], and the requests that continue its report. The row at index 1 has the first elapse as its base,
+/// and the row at index 2 has the second.
 static EVERY_SECOND_RESUMED: [Row<'static>; 3] = [
     EVERY_SECOND,
     FROM_THE_FIRST,
