@@ -29,7 +29,7 @@ use Rattle.cal_spec.proofs.SymbolLemmas.{digit_no_point}
 
 -- Numbers
 
--- `ds` is one to `width` digits that stand for the number `n`
+-- `ds` is a list of 1 to `width` digits that stand for the number `n`
 record IsPrinted (width n : ℕ) (ds : List ℕ) : Type 0 where
   number : IsNumber ds n
   short : length ds ≤ width
@@ -48,7 +48,8 @@ in_four n small = printed 4 n (omega arith) (omega arith) (omega arith) small
 in_two : (n : ℕ) → n < 100 → IsPrinted 2 n (padded 2 n)
 in_two n small = printed 2 n (omega arith) (omega arith) (omega arith) (omega arith)
 
--- parsing one to `width` digits that stand for `n` gives `n`; in a time, `n` must also be at most `greatest`
+-- `digits_number` parses 1 to `width` digits that stand for `n` as `n`; so does `clock_number` if `n` is at most
+-- `greatest`
 digits_read : (width n : ℕ) (ds : List ℕ) → IsPrinted width n ds → digits_number width ds ≡ Some n
 unfolding digits_number
 digits_read width n ds h =
@@ -150,8 +151,8 @@ due date from =
     ap day_due (date_numbers_back (year_of date) date.month date.day (writable date))
     ∙ ap (λ y. day_of_date y date.month date.day) (century_stays (year_of date) (omega (arith, signed_arith, year_is date.year from)))
 
--- parsing a printed date gives its day number if its year is from 1970 to 2199, and fails with `NoSuchDate` if its year
--- is 1969, or 2200 or later
+-- parsing a printed date gives the day number of the date if the year is from 1970 to 2199, and fails with `NoSuchDate`
+-- if the year is 1969, or 2200 or later
 pub date_back : (date : Date) → IsBetween (pos 1_970) (pos 2_199) date.year → day_written (date_word (year_of date) date.month date.day) ≡ Ok (epoch_day date)
 unfolding day_of_date
 date_back date h =
