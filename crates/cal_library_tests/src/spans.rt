@@ -15,7 +15,7 @@ static READ_AND_WRITTEN: [(&str, u64, &str); 11] = [
     (".7", 700_000, "700ms"),
     ("0", 0, "0"),
     ("300s", 300_000_000, "5min"),
-    // A fraction with an exact value, and two whose digits are rounded down one by one.
+    // A fraction with an exact value, and two fractions in which the value of each digit is rounded down.
     ("1.5h", 5_400_000_000, "1h 30min"),
     ("0.0000019s", 1, "1us"),
     ("1.0000001h", 3_600_000_360, "1h 360us"),
@@ -44,7 +44,7 @@ const UNIT_WORDS: &str = "\
 3week -> 1814400000000|3w -> 1814400000000|3months -> 7889400000000|3month -> 7889400000000|3M -> 7889400000000|\
 3years -> 94672800000000|3year -> 94672800000000|3y -> 94672800000000";
 
-/// Each digit after the point is rounded down by itself.
+/// The value of each digit after the point is rounded down separately.
 const FRACTIONS: &str = "\
 0.00000009min -> 5|0.000000019min -> 0|0.9us -> 0|0.1y -> 3155760000000|0.99999y -> 31557284424000|\
 0.999999999999999999999999999999y -> 31557599999997|0.123456789012345678901234567890y -> 3895999964934|\

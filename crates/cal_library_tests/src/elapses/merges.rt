@@ -28,7 +28,7 @@ fn two_lists(rt: HostRuntime) -> Result<(), AllocError> {
     Ok(())
 }
 
-/// If a number of an exception is in a list, the merge leaves it out. If it is in no list, nothing changes.
+/// A merge leaves out the numbers of its exception. A number of the exception that is in no list changes nothing.
 #[test]
 fn exceptions(rt: HostRuntime) -> Result<(), AllocError> {
     let alloc = rt.alloc();

@@ -99,7 +99,7 @@ static REFUSED: [(&[&str], Option<usize>, TimerFault); 7] = [
         None,
         TimerFault::NothingToDo,
     ),
-    // The error has the index of its text, and its line in that text.
+    // The error has the index of its text, and the number of its line in this text.
     (
         &["[Timer]\nOnCalendar=daily", "\n[Timer]\nOnCalendar=25:00"],
         Some(1),

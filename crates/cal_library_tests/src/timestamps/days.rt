@@ -6,7 +6,7 @@ use cal_base::{Zone, ZoneTable};
 use cal_read::StampFault::*;
 use std::test::Fail;
 
-/// The days next to the present one, in UTC and at +14:00, where the next day has already begun.
+/// Yesterday, today and tomorrow, in UTC and at +14:00, where the next day has already begun.
 static RELATIVE_DAYS: [Setting; 2] = [
     Setting {
         now: PRESENT,

@@ -32,8 +32,8 @@ today West -> 1353582000000000|Thu 1:2 West -> 1353585720000000|2012-11-23 West 
     refusals: &[(WrongWeekday, "Fri 1:2 East|Fri 1:2 West")],
 };
 
-/// A local time that the clock skips is moved forward by the length of the gap, and one that it shows twice resolves to
-/// the first occurrence.
+/// A local time that the clock skips is moved forward by the length of the gap, and a local time that the clock shows
+/// twice resolves to the first occurrence.
 static CHANGES_OF_A_CLOCK: Table = Table {
     moments: "\
 2024-03-31 01:59:59.5 -> 1711846799500000|2024-03-31 02:00 -> 1711846800000000|\
