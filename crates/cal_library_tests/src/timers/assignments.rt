@@ -85,7 +85,7 @@ static KEYS: [&str; 6] = [
     "OnUnitInactiveSec",
 ];
 
-/// A file in which `KEY` stands for one of the keys, and its expressions.
+/// A file, in which `KEY` stands for one of [`KEYS`], and the expressions that the file has.
 type RowOfKey = (&'static str, Lines);
 
 /// A key with an empty value resets the list. Another key, a comment or a key in another section doesn't.
