@@ -1,4 +1,4 @@
--- Converting all remaining matches of a minute or an hour at once, after one of its matches has been converted.
+-- Converting all remaining matches of a minute at once, after one of its matches has been converted.
 use Rattle.std.proofs.Common.{◌≡◌, ◌⊎◌, ◌↔◌, ◌+◌, ◌-◌, ◌*◌, ◌/◌, ◌<◌, ◌≤◌, ◌∙◌, Bool, true, ℕ, IsSomeAnd, List, None, Option, Some, ℤ, pos, ◌+ℤ◌, ◌-ℤ◌, ◌≤ℤ◌, ◌<ℤ◌, FitsSigned, arith, ap, inl, inr, of_z, refl, subst, sym, to_z, unsigned_abs, w64, slice_get}
 use Rattle.std.proofs.lemmas.Int.{ints, to_z-of_z, to_z_pos}
 use Rattle.jiff.proofs.SpanFacts.{signed_arith}
@@ -36,10 +36,6 @@ use Rattle.cal_elapse.proofs.WindowLemmas.{IsPlacedFrom, timed_by-near, windowed
 pub minute_end : (local : ℕ) → local < seconds_in_all → local / 60 * 60 + 59 < seconds_in_all
 minute_end local inside = let count = seconds_in_all-is in omega arith
 
--- the last second of a local second's hour is a local second too
-pub hour_end : (local : ℕ) → local < seconds_in_all → local / 3_600 * 3_600 + 3_599 < seconds_in_all
-hour_end local inside = let count = seconds_in_all-is in omega arith
-
 -- the last match found in the rest of a minute isn't after the end of that minute
 pub rest_inside : (passes : ℕ → Bool) (local bits last : ℕ) → IsRestOfMinute passes local bits last → last ≤ local / 60 * 60 + 59
 rest_inside passes local bits last rest = let same = rest.minute in omega arith
@@ -56,8 +52,8 @@ ahead_near tz from to offset ahead order inside =
 signed_word : (local : ℕ) (signed : ℤ) → local < seconds_in_all → signed ≡ pos local → to_z w64 (of_z w64 signed) ≡ pos local
 signed_word local signed inside is = ap (λ z. to_z w64 (of_z w64 z)) is ∙ to_z_pos w64 local (omega (arith, seconds_in_all-is))
 
--- The UTC offset is constant from `local` to `end`, the end of its minute or hour. Both local seconds, the offset, the
--- instants of both local seconds, and the second after the instant of `local` fit into 64-bit integers.
+-- The UTC offset is constant from `local` to `end`, the end of its minute. Both local seconds, the offset, the instants
+-- of both local seconds, and the second after the instant of `local` fit into 64-bit integers.
 pub record IsRun (tz : TimeZone) (local end : ℕ) (from to offset : ℤ) : Type 0 where
   pub ahead : AreAtOffset tz (pos local) (pos end) offset
   pub low : offset ≤ℤ pos 93_599

@@ -1,6 +1,6 @@
 //! A set of instants that are waiting to be returned in order.
 
-ghost use Rattle.std.specs.Prelude.{◌≡◌, [], ℤ, IfOk, slice_get, drop};
+ghost use Rattle.std.specs.Prelude.{◌≡◌, [], ℤ, pos, IfOk, slice_get, drop};
 ghost use Rattle.std.specs.Ordering.{int_cmp};
 ghost use Rattle.std.specs.List.Sorted.{IsStrictlySortedBy};
 ghost use Rattle.std.specs.BTreeSet.{insert_key};
@@ -60,7 +60,7 @@ impl Pending {
         requires near { (member : ℤ) → Has self.old member → IsNear member instant }
         ensures { self.new ≡ insert_key int_cmp self.old instant }
     {
-        let second = instant.unsigned_abs();
+        let second = second_of(instant);
         set_cell(self.cells.as_mut_slice(), second % CELLS);
         self.least = self.least.min(second);
     }
@@ -104,4 +104,12 @@ impl Pending {
         self.least = first_held(self.cells.as_slice(), second).unwrap_or(NO_SECOND);
         Some(second as i64)
     }
+}
+
+/// Returns the second of an instant, which isn't negative.
+fn second_of(instant: i64) -> u64
+    requires { IsInstant instant }
+    ensures { pos result ≡ instant }
+{
+    instant as u64
 }

@@ -1,11 +1,13 @@
 //! The conversion of an expression's matches to instants, in the order in which the matches are found.
 
-ghost use Rattle.std.specs.Prelude.{◌≡◌, ◌+◌, ◌*◌, ◌/◌, ◌≤◌, ℤ, pos, ◌+ℤ◌, ◌≤ℤ◌, cond, unsigned_abs};
+ghost use Rattle.std.specs.Prelude.{◌≡◌, ◌+◌, ◌*◌, ◌/◌, ◌≤◌, ℤ, pos, ◌+ℤ◌, ◌≤ℤ◌, ◌<ℤ◌, Some, cond, true, unsigned_abs};
 ghost use Rattle.cal_civil.specs.Local.{IsLocalSecond};
 ghost use Rattle.cal_civil.specs.headline.Local.{seconds_in_all, max_offset};
+ghost use Rattle.cal_zone.specs.Instant.{IsInstant};
 ghost use Rattle.cal_zone.specs.headline.Place.{place_of};
 ghost use Rattle.cal_zone.specs.headline.Zone.{zone_of};
 ghost use Rattle.cal_rising.specs.headline.Elements.{Has};
+ghost use Rattle.cal_elapse.specs.PendingInstants.{IsNear};
 ghost use Rattle.cal_elapse.specs.Window.{start_of, to_place, with_place};
 
 use crate::search::searcher::{SearchStart, Searcher};
@@ -103,7 +105,7 @@ impl<'z> Window<'z> {
     /// Searches for all remaining matches in the minute of `local` and converts them together. `local` is a match that
     /// has already been converted. Returns the last match that was converted, which can be `local`.
     ///
-    /// If no later match in the minute is known, calls `skip_hour` instead. Otherwise, nothing changes unless three
+    /// If no later match in the minute is known, calls `convert_hour` instead. Otherwise, nothing changes unless three
     /// conditions are met:
     ///
     /// - All matches in the minute have to be converted before the smallest pending instant can be returned.
@@ -121,7 +123,7 @@ impl<'z> Window<'z> {
         ensures last { self.new.last ≡ self.old.last }
     {
         if !self.searcher.has_more_in_minute(local) {
-            return self.skip_hour(local);
+            return self.convert_hour(local);
         }
         let end = minute_end(local);
         let least = self.pending.least();
@@ -147,12 +149,17 @@ impl<'z> Window<'z> {
         }
     }
 
-    /// Searches for later matches in the hour of `local`, a match that has already been converted, if none of them can
-    /// become pending. They can't if nothing is pending, the UTC offset is constant to the end of the hour, and the end
-    /// of the hour doesn't resolve to an instant after the one returned last. The matches then need no conversion.
-    /// Returns the last match found, or `local` if there was no search.
+    /// Searches for all remaining matches in the hour of `local` and converts them. `local` is a match that has already
+    /// been converted. Returns the last match that was converted, which can be `local`.
+    ///
+    /// If no later match in the hour is known, nothing changes. Otherwise, nothing changes unless two conditions are met
+    /// by the 3,600 local seconds from `local` on:
+    ///
+    /// - None of them is more than `MAX_OFFSET` after the instant returned last, so that each match among them has to be
+    ///   converted now.
+    /// - Their UTC offset is constant.
     #[tactic(auto, using(cal_civil::proofs::LocalLemmas::local_arith, crate::proofs::ReadyLemmas::few_searches, crate::proofs::ReadyLemmas::placed_is_match))]
-    fn skip_hour(&mut self, local: i64) -> i64
+    fn convert_hour(&mut self, local: i64) -> i64
         requires { IsPlacedTo self.old local }
         ensures placed { IsPlacedTo self.new result }
         ensures on { local ≤ℤ result }
@@ -161,14 +168,23 @@ impl<'z> Window<'z> {
         ensures base { self.new.base ≡ self.old.base }
         ensures last { self.new.last ≡ self.old.last }
     {
-        if self.pending.least().is_some() || !self.searcher.has_more_in_hour(local) {
+        let end = local + 3_599;
+        if end - MAX_OFFSET > self.last || !self.searcher.has_more_in_hour(local) {
             return local;
         }
-        let end = hour_end(local);
-        match self.zone.offset_over(local, end) {
-            Some(offset) if end - offset <= self.last => self.searcher.search_hour(local),
-            _ => local,
+        let Some(offset) = self.zone.offset_over(local, end) else {
+            return local;
+        };
+        let past = end - offset <= self.last;
+        let mut last = local;
+        while self.searcher.has_more_in_hour(last) {
+            let Some(next) = self.searcher.search(SearchStart::After(last)).local else {
+                unreachable!()
+            };
+            put_later(&mut self.pending, next - offset, self.last, past);
+            last = next;
         }
+        last
     }
 
     /// Removes and returns the smallest pending instant, which is the next elapse, or returns `None` if nothing is
@@ -225,14 +241,6 @@ fn minute_end(local: i64) -> i64
     local / 60 * 60 + 59
 }
 
-/// Returns the last local second of the hour of `local`.
-fn hour_end(local: i64) -> i64
-    requires { IsLocalSecond local }
-    ensures { result ≡ pos (unsigned_abs local / 3_600 * 3_600 + 3_599) }
-{
-    local / 3_600 * 3_600 + 3_599
-}
-
 /// Returns whether the match `local` could yield an instant at or before `least`, the smallest pending instant, and so
 /// has to be converted first. If nothing is pending, every match has to be converted.
 fn is_to_place(local: i64, least: Option<i64>) -> bool
@@ -255,11 +263,21 @@ fn put_place(pending: &mut Pending, place_cache: &mut PlaceCache<'_>, local: i64
     ensures put { pending.new ≡ with_place (place_of (zone_of place_cache.old) local) last pending.old }
     ensures zone { place_cache.new ≡ place_cache.old }
 {
-    let Some(instant) = place_cache.place(local) else {
-        return;
-    };
-    if instant <= last {
-        return;
+    if let Some(instant) = place_cache.place(local) {
+        put_later(pending, instant, last, false);
     }
-    pending.put(instant);
+}
+
+/// Adds an instant to the pending instants, if it is after `last`, the instant returned last. If `past` is true, the
+/// caller knows that it isn't. In a loop in which `past` doesn't change, the compiler then leaves the call out, and
+/// keeps the state of the search in registers.
+fn put_later(pending: &mut Pending, instant: i64, last: i64, past: bool)
+    requires past { past ≡ true → instant ≤ℤ last }
+    requires instant { last <ℤ instant → IsInstant instant }
+    requires near { (i : ℤ) → Has pending.old i → last <ℤ instant → IsNear i instant }
+    ensures { pending.new ≡ with_place (Some instant) last pending.old }
+{
+    if !past && last < instant {
+        pending.put(instant);
+    }
 }

@@ -6,7 +6,7 @@ ghost use Rattle.std.specs.Option.{option_map};
 ghost use Rattle.cal_civil.specs.Local.{IsLocalSecond};
 ghost use Rattle.cal_civil.specs.headline.Local.{seconds_in_all};
 ghost use Rattle.cal_elapse.specs.Count.{count_from};
-ghost use Rattle.cal_elapse.specs.RemainingMatches.{AreRemaining, HasMoreInHour, HasMoreInMinute, IsNextInHour, IsNextInMinute, IsRestOfMinute, NoneLeftInMinute, minute_matches};
+ghost use Rattle.cal_elapse.specs.RemainingMatches.{AreRemaining, HasMoreInHour, HasMoreInMinute, IsNextInMinute, IsRestOfMinute, NoneLeftInMinute, minute_matches};
 ghost use Rattle.cal_elapse.specs.ExaminedMonths.{IsSearch};
 ghost use Rattle.cal_elapse.specs.Masks.{sets_in};
 ghost use Rattle.cal_elapse.specs.MostMonths.{IsMostAfter};
@@ -194,49 +194,6 @@ impl Searcher {
             → HasMoreInHour (matches (sets_in self.now.masks)) (unsigned_abs local) }
     {
         self.minutes != 0 && self.found == local
-    }
-
-    /// Searches for the matches after `local`, which must itself match, as long as a later minute with matches in the
-    /// same hour is known. Returns the last match found, or `local` if none was found.
-    pub fn search_hour(&mut self, local: i64) -> i64
-        requires start { CanStart (matches (sets_in self.old.masks)) (SearchStart.After local) }
-        requires few { self.old.searches ≤ unsigned_abs local + 1 }
-        ensures begun { unsigned_abs local ≤ unsigned_abs result }
-        ensures hour { unsigned_abs result / 3_600 ≡ unsigned_abs local / 3_600 }
-        ensures is_match { CanStart (matches (sets_in self.old.masks)) (SearchStart.After result) }
-        ensures masks { self.new.masks ≡ self.old.masks }
-        ensures counted { self.new.searches ≡ self.old.searches
-            + count_from (matches (sets_in self.old.masks)) (unsigned_abs local + 1) (unsigned_abs result - unsigned_abs local) }
-        ensures most { IsMostAfter (sets_in self.old.masks) (unsigned_abs local) (unsigned_abs result)
-            self.old.most_months self.new.most_months }
-    {
-        let mut last = local;
-        while let Some(next) = self.next_in_hour(last) {
-            last = next;
-        }
-        last
-    }
-
-    /// If the hour of `local` is known to have a later minute with matches, searches for the next match after `local`
-    /// and returns it. Otherwise returns `None` without a search. `local` must itself match.
-    #[inline(always)]
-    fn next_in_hour(&mut self, local: i64) -> Option<i64>
-        requires start { CanStart (matches (sets_in self.old.masks)) (SearchStart.After local) }
-        requires few { self.old.searches ≤ seconds_in_all }
-        ensures inside { IfSome result IsLocalSecond }
-        ensures next { IfSome result
-            (λ next. IsNextInHour (matches (sets_in self.old.masks)) (unsigned_abs local) (unsigned_abs next)) }
-        ensures masks { self.new.masks ≡ self.old.masks }
-        ensures counted { self.new.searches ≡ self.old.searches
-            + count_from (matches (sets_in self.old.masks)) (unsigned_abs local + 1)
-            (unsigned_abs (unwrap_or result local) - unsigned_abs local) }
-        ensures most { IsMostAfter (sets_in self.old.masks) (unsigned_abs local) (unsigned_abs (unwrap_or result local))
-            self.old.most_months self.new.most_months }
-    {
-        if !self.has_more_in_hour(local) {
-            return None;
-        }
-        self.search(SearchStart::After(local)).local
     }
 
     /// Finds the first match at or after a local second.
