@@ -11,9 +11,9 @@ use Rattle.cal_report.specs.TimespanReport.{timespan_report}
 use Rattle.cal_report.specs.TimestampReport.{timestamp_report}
 use Rattle.cal_report.specs.declared.parsed.Parsed.{Parsed}
 use Rattle.cal_report.specs.declared.parsed.Parsed.TheVariants.{Calendar, Timestamp, Timespan}
-use Rattle.cal_report.specs.declared.parsed.TextError.{TextError}
+use Rattle.cal_report.specs.declared.text_error.TextError.{TextError}
 use Rattle.cal_request.specs.declared.request.Verb.{Verb}
-use Rattle.cal_report.specs.declared.parsed.TextError.TheVariants.{Spec, NoSuchZone, Stamp, Span, NoMemory}
+use Rattle.cal_report.specs.declared.text_error.TextError.TheVariants.{Spec, NoSuchZone, Stamp, Span, NoMemory}
 
 -- the verb that takes arguments of this kind
 abbrev pub verb_of : Parsed → Verb

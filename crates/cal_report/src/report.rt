@@ -20,7 +20,9 @@ ghost use Rattle.cal_request.specs.declared.request.RunFault.TheVariants.{NoMemo
 ghost use Rattle.cal_request.specs.declared.request.Status.TheVariants.{Refused};
 
 use crate::context::Context;
-use crate::parsed::{TextError, put_report, read_text};
+use crate::parsed::read_text;
+use crate::text_error::TextError;
+use crate::text_report::put_report;
 use crate::timer_report::{TimerError, read_plan, write_timer};
 use cal_bytes::{Sink, Source, WriteFault, put_pieces};
 use cal_request::{Request, RunFault, Status, Verb};

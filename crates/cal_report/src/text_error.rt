@@ -1,0 +1,38 @@
+//! Why an argument of the verbs `calendar`, `timestamp` and `timespan` is rejected.
+
+ghost use Rattle.std.specs.Prelude.{◌≡◌};
+ghost use Rattle.cal_report.specs.Parsed.{text_error_message};
+
+use cal_span::SpanFault;
+use cal_spec::SpecFault;
+use cal_stamp::StampFault;
+
+/// Why an argument is rejected.
+#[derive(Clone, Copy, PartialEq, Eq, Debug)]
+pub enum TextError {
+    /// Not a valid calendar expression.
+    Spec(SpecFault),
+    /// A valid calendar expression whose time zone isn't in the zone table.
+    NoSuchZone,
+    /// Not a valid timestamp.
+    Stamp(StampFault),
+    /// Not a valid time span.
+    Span(SpanFault),
+    /// Allocation failed.
+    NoMemory,
+}
+
+impl TextError {
+    /// Returns the message to report, which is empty for [`TextError::NoMemory`]: the caller handles that case.
+    pub fn words(&self) -> &str
+        ensures { result.now ≡ text_error_message self.now }
+    {
+        match self {
+            TextError::Spec(fault) => fault.words(),
+            TextError::NoSuchZone => "no such zone",
+            TextError::Stamp(fault) => fault.words(),
+            TextError::Span(fault) => fault.words(),
+            TextError::NoMemory => "",
+        }
+    }
+}

@@ -1,0 +1,52 @@
+//! Writing the report of an argument of the verbs `calendar`, `timestamp` and `timespan`.
+
+ghost use Rattle.std.specs.Prelude.{◌≡◌, [], ◌∷◌, false};
+ghost use Rattle.cal_bytes.specs.Puts.{Puts};
+ghost use Rattle.cal_bytes.specs.headline.Bytes.{joined};
+ghost use Rattle.cal_report.specs.Answer.{lead_text};
+ghost use Rattle.cal_report.specs.Context.{asked_by};
+ghost use Rattle.cal_report.specs.Parsed.{HasInstants, report_text};
+
+use crate::calendar_report::write_calendar;
+use crate::context::Context;
+use crate::parsed::Parsed;
+use crate::timespan_report::write_timespan;
+use crate::timestamp_report::write_timestamp;
+use cal_bytes::{Sink, WriteFault, put_all};
+
+/// Writes the report of a parsed argument. `is_later` says whether another report precedes it; if so, an empty line is
+/// written first.
+#[tactic(auto, using(cal_bytes::proofs::PutLemmas::puts))]
+pub fn put_report<W: Sink>(
+    out: &mut W,
+    is_later: bool,
+    context: Context<'_>,
+    text: &str,
+    parsed: Parsed<'_>,
+) -> Result<(), WriteFault>
+    requires instants { HasInstants parsed }
+    requires out { W.is_failed out.old ≡ false }
+    ensures { Puts W.Sink out.old out.new result
+        (joined (lead_text is_later ∷ report_text (asked_by context.entry) text.now parsed.entry ∷ [])) }
+{
+    put_lead(out, is_later)?;
+    match parsed {
+        Parsed::Calendar(expr, mut elapses) => {
+            write_calendar(out, context, text, &expr, &mut elapses)
+        }
+        Parsed::Timestamp(moment) => write_timestamp(out, context, text, moment),
+        Parsed::Timespan(span) => write_timespan(out, text, span),
+    }
+}
+
+/// Writes the empty line that separates a report from the previous one, if there is a previous one.
+fn put_lead<W: Sink>(out: &mut W, is_later: bool) -> Result<(), WriteFault>
+    requires { W.is_failed out.old ≡ false }
+    ensures { Puts W.Sink out.old out.new result (lead_text is_later) }
+{
+    if is_later {
+        put_all(out, b"\n")
+    } else {
+        Ok(())
+    }
+}
