@@ -71,8 +71,8 @@ no_none : (b : Bool) (moment : ℤ × OffsetInfo) → b ≡ true → (if b then 
 no_none true moment e f = cc
 no_none false moment e f = cc
 
--- `transition_of` returns a transition for every `moment` from `low` to `high` if both are in `jiff`'s range of
--- timestamps
+-- if `low` and `high` are in `jiff`'s range of timestamps, `transition_of` returns a transition for every `moment` from
+-- `low` to `high`
 transition_some : (rule : Posix) (d : Dst) (w : ℤ × ℤ) (low high moment : ℤ) → neg_ℤ (pos 377_705_023_201_000_000_000) ≤ℤ low → high ≤ℤ pos 253_402_207_200_999_999_999
     → IsIn low high moment → transition_of rule d w moment ≡ None → ⊥
 transition_some rule d w low high moment from to p e = grind (arith, signed_arith, no_none, int_le, and_from, le_yes)
@@ -87,7 +87,7 @@ passed_ends rule d y first last low high o rises true b e f from to p q g = absu
 passed_ends rule d y first last low high o rises false true e f from to p q g = absurd (transition_some rule d (utc_window d y rule.std_offset) first last o.1 from to q g)
 passed_ends rule d y first last low high o rises false false e f from to p q g = grind (arith, signed_arith)
 
--- the first and the last nanosecond in `jiff`'s range of timestamps
+-- `lowest` and `highest` are the first and the last nanosecond in `jiff`'s range of timestamps
 abbrev lowest : ℤ
 lowest = neg_ℤ (pos 377_705_023_201_000_000_000)
 

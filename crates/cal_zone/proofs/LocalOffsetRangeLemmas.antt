@@ -50,14 +50,14 @@ end_near row = grind (arith, signed_arith, max_in_range)
 transition_passed : (z : Table) (second : ℤ) (row : ℕ) → row < count_at z second → (transition_at z row).second ≤ℤ second
 transition_passed z second row l = grind (arith, signed_arith, prefix_len_passes, int_le)
 
--- the count stays the same until the next transition
+-- the number of transitions at or before a second stays the same until the next transition
 pub count_stays : (z : Table) (from second : ℤ) → count_at z from < vec_len z.transitions → from ≤ℤ second
     → second <ℤ (transition_at z (count_at z from)).second → count_at z second ≡ count_at z from
 count_stays z from second some begun within = grind (arith, signed_arith, prefix_len_is, int_le, le_yes, transition_passed, le_no)
 
 -- `local` is at least 93,599 seconds (the largest UTC offset) after `from`, and more than 93,599 seconds before the
--- next transition after `from`. Then the number of transitions whose gap or fold has begun by `local` is the count at
--- `from`.
+-- next transition after `from`. Then the number of transitions whose gap or fold has begun by `local` is the number of
+-- transitions at or before `from`.
 civil_count_stays : (z : Table) (from local : ℤ) → count_at z from < vec_len z.transitions → (from +ℤ pos 93_599) ≤ℤ local
     → (local +ℤ pos 93_599) <ℤ (transition_at z (count_at z from)).second → civil_count_at z local ≡ count_at z from
 civil_count_stays z from local some begun within =
@@ -139,7 +139,7 @@ pub ordered_copy : (z : Table) (rows : List Transition) → map transition_text 
     → (row later : ℕ) (d : Transition) → row ≤ later → later < length rows → (get_or rows row d).second ≤ℤ (get_or rows later d).second
 ordered_copy z rows copy row later d le l = grind (arith, signed_arith, seconds_rise)
 
--- the count at a second is the same in a copy as in the table
+-- a copy has the same number of transitions at or before `second` as the table
 pub count_of_copy : (z : Table) (rows : List Transition) → map transition_text rows ≡ map transition_text z.transitions.items
     → (second : ℤ) (count : ℕ) (d : Transition) → count ≤ length rows → IsPartitionPoint (λ t. int_le t.second second ≡ true) (λ t. int_le t.second second ≡ false) rows count
     → count ≡ count_at z second
@@ -198,7 +198,7 @@ unfolding offset_at
 instants_same_offsets None type offset local other h = refl
 instants_same_offsets (Some rule) type offset local other h = h.instants offset
 
--- from the last transition on, the count is the number of all transitions
+-- if all transitions are at or before `from`, they are also at or before any later second
 pub count_after_table : (z : Table) (from second : ℤ) → vec_len z.transitions ≤ count_at z from → from ≤ℤ second → count_at z second ≡ vec_len z.transitions
 count_after_table z from second all begun =
     prefix_len_is (λ t. int_le t.second second) z.transitions.items (vec_len z.transitions) (no_transition z) (omega arith)

@@ -75,8 +75,8 @@ civil_in_year rule d past other local next has e from begun later years before_n
     (year_goes_on past other past_in other_in (omega (arith, signed_arith)) (omega (arith, signed_arith)))
     part.civil_from part.civil_to moments.0 moments.1 (omega (arith, signed_arith)) later (omega (arith, signed_arith))
 
--- `o` is the start and the end of daylight saving time in the year `y`, in ascending order. If the first transition
--- after `low`, which is in this year, is later than both the start and the end, then it is the first transition of the
+-- `low` is in the year `y`, and `o` is the start and the end of daylight saving time in this year, in ascending order.
+-- If the first transition after `low` is later than both the start and the end, then it is the first transition of the
 -- next year.
 next_in_next_year : (rule : Posix) (d : Dst) (y low : ℤ) (next : ℤ × OffsetInfo) (o : ℤ × ℤ) (a b : Bool) → o.0 <ℤ next.0 → o.1 <ℤ next.0 → int_lt low o.0 ≡ a → int_lt low o.1 ≡ b
     → (if a then transition_of rule d (utc_window d y rule.std_offset) o.0 else (if b then transition_of rule d (utc_window d y rule.std_offset) o.1 else next_year rule d y)) ≡ Some next
@@ -121,7 +121,8 @@ year_comes y second year under second_in begun before =
     let day = epoch_day-date_of (day_of second) second_in in
     of_the_year (date_of (day_of second)) (y +ℤ pos 1) (omega (arith, signed_arith), omega (arith, signed_arith)) (omega (arith, signed_arith)) (omega (arith, signed_arith))
 
--- Like `civil_in_year`, but with `other` after the year of `past`. Both local seconds are then in the next year.
+-- The counterpart of `civil_in_year` for an `other` after the year of `past`: `local` and `other` are in the next year,
+-- and `jiff` reports the same for their civil times.
 civil_in_next_year : (rule : Posix) (d : Dst) (past other local : ℤ) (next : ℤ × OffsetInfo) → rule.dst ≡ Some d → next_by rule d (datetime_of past).date.year (nanos_of_seconds past) ≡ Some next
     → pos 0 ≤ℤ past → (past +ℤ pos 374_397) ≡ other → other ≤ℤ local → IsLocalSecond local → nanos_of_seconds (local +ℤ pos 374_397) ≤ℤ next.0
     → year_end (datetime_of past).date.year ≤ℤ other → ambiguous_at (ByRule rule) (datetime_of local) ≡ ambiguous_at (ByRule rule) (datetime_of other)
