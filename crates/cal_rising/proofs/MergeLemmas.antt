@@ -64,14 +64,14 @@ first-union_more (s ∷ ss) (suc i) d lt h =
     ∙ ap (λ a. lesser a (get_or ss i d).head) (sym (first-with_numbers (numbers s) (union (map numbers (take i ss))) here.1))
 
 -- if `least` is the smallest number read ahead from the first i sources, then the lesser of `least` and the number read
--- ahead from the source at index i is the smallest of the first i + 1 sources
+-- ahead from the source at index i is the smallest number read ahead from the first i + 1 sources
 pub least_more : (ss ts : List Peeked) (i : ℕ) (s : Peeked) (least head next : Option ℤ) → ss ≡ ts → All HasHead ts → i < length ss
     → least ≡ slice_get (union (map numbers (take i ss))) 0 → s ≡ get_or ss i s → head ≡ s.head → next ≡ lesser least head
     → next ≡ slice_get (union (map numbers (take (i + 1) ss))) 0
 least_more ss ts i s least head next same heads lt so_far there its now = grind (arith, ints, add-one, first-union_more)
 
--- if no number of a strictly increasing list is below `m`, then after `m` is returned exactly its numbers above `m`
--- remain
+-- if no number of a strictly increasing list is below `m`, then the numbers that remain after `m` is returned are
+-- exactly those above `m`
 Has-advanced : (m : ℤ) (xs : List ℤ) → IsStrictlySortedBy int_cmp xs → ((i : ℤ) → Has xs i → m ≤ℤ i) → (i : ℤ) → Has (advanced m xs) i ↔ ((m <ℤ i) × Has xs i)
 Has-advanced m [] h low i = (λ n. absurd n, λ p. p.1)
 Has-advanced m (y ∷ ys) h low i = grind (arith, ints, above_first y i ys h, low y (inl refl))
@@ -101,9 +101,9 @@ union-advanced m ss h e =
     same_rising (union (map (advanced m) lists)) (drop 1 (union lists)) (rises-union (map (advanced m) lists)) (rises-drop (union lists) 1 rises)
     (λ i. grind (arith, HasAny-advanced m ss h low i, later_by_first m (union lists) rises e i, Has-union (map (advanced m) lists) i, Has-union lists i))
 
--- Suppose that the numbers of each of the first i sources of `xs` are `f` of the numbers of the source of `ys` at the
--- same index. If the source of `xs` at index i is replaced by one for which this is also true, it is true for the first
--- i + 1 sources.
+-- Suppose that for each of the first i sources of `xs`, applying `f` to the numbers of the source of `ys` at the same
+-- index gives the numbers of the source of `xs`. If the source of `xs` at index i is replaced by one for which this is
+-- also true, it is true for the first i + 1 sources.
 changed_next : (f : List ℤ → List ℤ) (xs ys : List Peeked) (i : ℕ) (y d : Peeked) → i < length xs → i < length ys
     → map numbers (take i xs) ≡ map f (map numbers (take i ys)) → numbers y ≡ f (numbers (get_or ys i d))
     → map numbers (take (suc i) (set xs i y)) ≡ map f (map numbers (take (suc i) ys))

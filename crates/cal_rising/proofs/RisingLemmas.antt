@@ -35,7 +35,7 @@ Has-insert_key = has-insert_key int_cmp int_cmp-IsAntisymmetric
 pub rises-insert_key : (x : ℤ) (ys : List ℤ) → IsStrictlySortedBy int_cmp ys → IsStrictlySortedBy int_cmp (insert_key int_cmp ys x)
 rises-insert_key = sorted-insert_key int_cmp int_cmp_total
 
--- inserting several numbers adds all of these and no other
+-- inserting the numbers of `xs` into `ys` adds these numbers and no others
 pub Has-with_numbers : (xs ys : List ℤ) (i : ℤ) → Has (with_numbers xs ys) i ↔ (Has xs i ⊎ Has ys i)
 Has-with_numbers [] ys i = (λ m. inr m, λ m. elim m [ inl n ↦ absurd n | inr n ↦ n ])
 Has-with_numbers (x ∷ xs) ys i = grind (arith, ints, Has-insert_key, Has-with_numbers xs ys i)

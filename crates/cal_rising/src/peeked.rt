@@ -120,9 +120,9 @@ impl<S: Rising> Peeked<S> {
         }
     }
 
-    /// Reads the next number from the source in place of the number read ahead. If the number read ahead is at least
-    /// `number`, this does nothing. Otherwise the first [`MISSES_BEFORE_STEP`] calls are only counted, and the next one
-    /// reads.
+    /// Does nothing if the number read ahead is at least `number`. Otherwise counts the call or, after
+    /// [`MISSES_BEFORE_STEP`] counted calls, reads the next number from the source in place of the number read ahead
+    /// and starts counting again.
     fn step_toward(&mut self, number: i64)
         ensures { IsSameFrom number (numbers self.new) (numbers self.old) }
     {
