@@ -37,7 +37,7 @@ same_date a b e =
 pub date_of-epoch_day : (d : Date) → date_of (epoch_day d) ≡ d
 date_of-epoch_day d = same_date (date_of (epoch_day d)) d (epoch_day-date_of (epoch_day d) (epoch_day_range d))
 
--- like `date_of-epoch_day`, for a date in 1970 or later: `civil_date` takes its day number as a natural number
+-- if the day number of a date is the natural number `day`, `civil_date` returns this date for `day`
 pub date_numbered : (d : Date) (day : ℕ) → epoch_day d ≡ pos day → d ≡ civil_date day
 unfolding civil_date
 date_numbered d day number = sym (date_of-epoch_day d) ∙ ap date_of number

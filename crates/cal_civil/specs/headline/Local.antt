@@ -4,8 +4,8 @@ use Rattle.std.specs.Int.{int_div_euclid, int_rem_euclid}
 use Rattle.jiff_core.specs.declared.civil.date.Date.{Date}
 use Rattle.cal_civil.specs.headline.Days.{date_of}
 
--- The number of local seconds in the years 1970 to 2199. Other proofs use the lemma below, which states the value, and
--- don't unfold the definition, so that no proof builds the list of all local seconds.
+-- The number of local seconds in the years 1970 to 2199. Proofs use the lemma below, which states the value, instead of
+-- unfolding the definition. A proof that unfolds it could build a list of this length.
 pub seconds_in_all : ℕ
 seconds_in_all = 7_258_118_400
 
