@@ -369,7 +369,8 @@ items_taken f xs i x y h is e =
 flat_map-drop : {A : Type 0} (f : A → List ℕ) (i : ℕ) (xs : List A) (d : A) → i < length xs → flat_map f (drop i xs) ≡ f (get_or xs i d) ++ flat_map f (drop (i + 1) xs)
 flat_map-drop f i xs d h = rw (add-one, drop-cons xs i d h) refl
 
--- like `flat_map-drop`, but with `piece`, which is equal to the text of item `i`, in its place
+-- if `piece` is the text of item `i`, the joined texts of the items from index `i` on are `piece` followed by the
+-- joined texts of the items from index `i + 1` on
 pub item_first : {A : Type 0} (f : A → List ℕ) (i : ℕ) (xs : List A) (d : A) {piece : List ℕ} → i < length xs → piece ≡ f (get_or xs i d) → flat_map f (drop i xs) ≡ piece ++ flat_map f (drop (i + 1) xs)
 item_first f i xs d h is = flat_map-drop f i xs d h ∙ ap (λ first. first ++ flat_map f (drop (i + 1) xs)) (sym is)
 
@@ -591,7 +592,8 @@ pub cut_none : (p : ℕ → Bool) (xs : List ℕ) → position p xs ≡ None →
 cut_none p xs at =
     (split_none p xs at, filter_none p xs (ltb-false _ _ (not_found (nat_lt (position_or_len p xs) (length xs)) (position_or_len p xs) at)))
 
--- if the first byte that passes the test is at index `n`, `position_or_len` is `n`, which is at most the length
+-- if the first byte that passes the test is at index `n`, then `position_or_len` returns `n`, and `n` is at most the
+-- length of the text
 pub index_some : (p : ℕ → Bool) (xs : List ℕ) (n : ℕ) → position p xs ≡ Some n → (n ≡ position_or_len p xs) × (n ≤ length xs)
 index_some p xs n at =
     let found = cond_some (nat_lt (position_or_len p xs) (length xs)) (position_or_len p xs) n at in
@@ -670,7 +672,7 @@ digit_value_at digits i within all =
     let high = leb-true (get_or digits i 0) 57 range.1 in
     (low, high, digit_value_digit (get_or digits i 0) (low, high))
 
--- if n is below 100, the decimal digits of 100 + n are a 1 and then two digits of n
+-- if n is below 100, the decimal digits of 100 + n are a 1, the digit for the tens of n and the digit for its ones
 pub hundred_more : (n : ℕ) → n < 100 → decimal (100 + n) ≡ 49 ∷ (48 + n / 10) ∷ (48 + n % 10) ∷ []
 hundred_more n h =
     let front : (100 + n) / 10 / 10 ≡ 1 = omega arith in
@@ -689,8 +691,8 @@ letter_no_digit b h = grind (arith, nat_tests)
 pub boundary_at : (text : List ℕ) (m n : ℕ) → m ≡ n → IsCharBoundary text m → IsCharBoundary text n
 boundary_at text m n e h = let P : ℕ → Type 0 = λ k. IsCharBoundary text k in subst P e h
 
--- take the longest suffix of a text in which all bytes pass `p`: the byte before it doesn't pass, and every byte in it
--- does (`in_suffix`)
+-- the byte before the longest suffix whose bytes all pass `p` doesn't pass `p`; by `in_suffix`, every byte of this
+-- suffix does
 pub before_suffix : (p : ℕ → Bool) (text : List ℕ) → suffix_len p text < length text → p (get_or text (length text - suffix_len p text - 1) 0) ≡ false
 before_suffix p text within =
     let n = suffix_len p text in
