@@ -22,7 +22,8 @@ abbrev pub taken_of : Bool → List ℕ → Result (List ℕ) WholeFault
 taken_of true all = Ok all
 taken_of false all = Err TooLarge
 
--- what the program sees of a file about which this is known, if no read fails and memory doesn't run out
+-- what the program sees of a file if no read fails and memory doesn't run out; the second argument is what is known
+-- about the file
 unfoldable pub known_seen : ℕ → Option (Option (List ℕ)) → Seen
 known_seen limit None = None
 known_seen limit (Some None) = None

@@ -97,7 +97,8 @@ TellsFault old new failed (Ok all) = Keeps old new
 TellsFault old new false (Err fault) = Appends old new (fault_stop fault).err
 TellsFault old new true (Err fault) = AppendsFront old new (fault_stop fault).err
 
--- the text is written to standard error, or a prefix of the text followed by the final error line
+-- The text is written to standard error, or a prefix of the text if an output or an allocation failed. What follows it
+-- is the final error line, if `TellsFault` says so.
 pub record Tells {T : Type 0} (old new : Option (List ℕ)) (failed : Bool) (written : Result T RunFault) (text : List ℕ) : Type 0 where
   pub before : Option (List ℕ)
   pub text_bytes : Writes old before written text

@@ -120,7 +120,7 @@ fn load_status(fault: LoadFault) -> u8
     }
 }
 
-/// Returns the exit status for a run that could not write everything.
+/// Returns the exit status for a run that ended early: 1 for each reason.
 fn fault_status(fault: RunFault) -> u8
     ensures { result ≡ (fault_stop fault).status }
 {
