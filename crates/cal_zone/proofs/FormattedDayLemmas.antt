@@ -1,4 +1,5 @@
--- The instants of one day with the same UTC offset are printed with the same day and zone, and only the time differs.
+-- If two instants are on the same day and have the same UTC offset, they are printed with the same day and zone, and
+-- only the time differs.
 use Rattle.std.proofs.Common.{◌≡◌, ◌∙◌, ◌+◌, ◌*◌, ℕ, ℤ, pos, ◌+ℤ◌, ◌-ℤ◌, ◌≤ℤ◌, ◌<ℤ◌, unsigned_abs, codes, List, [], ◌∷◌, ◌++◌, refl, ap, arith}
 use Rattle.std.specs.Int.Signed.{pos-nat_abs, yes_non_neg}
 use Rattle.std.proofs.lemmas.List.{append-nil, append_assoc}

@@ -1,8 +1,8 @@
 -- Two local times in the same year have the same UTC offset under a POSIX rule if no transition is between them or too
 -- near to either of them.
 --
--- In these lemmas, the variable `moment` is a time in nanoseconds at which a POSIX rule starts or ends daylight saving
--- time, not the glossary's moment, and `w` is the pair of the start and the end in one year, in UTC.
+-- In these lemmas, `moment` is a nanosecond at which a POSIX rule starts or ends daylight saving time, and `w` is the
+-- pair of such a start and such an end in one year, in UTC.
 use Rattle.std.proofs.Common.{◌≡◌, ◌∙◌, ◌⊎◌, inl, inr, ℤ, pos, ◌+ℤ◌, ◌-ℤ◌, ◌*ℤ◌, ◌≤ℤ◌, ◌<ℤ◌, Bool, true, false, ◌&&◌, ◌||◌, ◌≤◌, vec_len, if◌then◌else◌, int_le, int_lt, Option, None, Some, refl, sym, arith}
 use Rattle.std.proofs.lemmas.Bool.{and_parts}
 use borrow.Author.Differences.{lt-true, lt-false}

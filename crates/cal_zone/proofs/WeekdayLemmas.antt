@@ -16,7 +16,8 @@ in_week Friday = refl
 in_week Saturday = refl
 in_week Sunday = refl
 
--- `n` is the number of `day`, where 1 is Monday; `monday_zero`, the number that `jiff` uses, is one less
+-- if `n` is the number of `day`, where 1 is Monday, `weekday_name n` is the short name of `day`; `monday_zero`, the
+-- number that `jiff` uses, is one less than `n`
 pub numbered : (day : Weekday) (n : ℕ) → monday_zero day ≡ n - 1 → short_name_of day ≡ weekday_name n
 unfolding weekday_name
 numbered day n e = ap short_name_of (in_week day) ∙ ap (λ k. short_name_of (slice_index_or week k Sunday)) e
