@@ -17,7 +17,7 @@ pub record PutsUpTo {W : Type 0} (sink : Ghosts W) (old new : W) (rest text : Li
 module _ {W : Type 0} {sink : Ghosts W} where
   -- Two consecutive calls
 
-  -- if the first of two calls fails, a prefix of the two texts together was written
+  -- if the first of two calls fails, then `Puts` holds for the two texts together and any result that is an error
   pub first_fails : {T E T' E' : Type 0} (a b : W) (first : Result T' E') (r : Result T E) (x y : List ℕ) → Puts sink a b first x → IsErr first → IsErr r → Puts sink a b r (x ++ y)
   first_fails a b (Ok u) r x y p failed is_err = absurd (false≢true failed)
   first_fails a b (Err e) r x y p failed is_err = record {
