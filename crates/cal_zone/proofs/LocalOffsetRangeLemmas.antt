@@ -1,7 +1,7 @@
 -- Local seconds between two consecutive transitions of a zone file's table, and far enough from both, have the same UTC
 -- offset. After the last transition, this depends on the table's POSIX rule.
 --
--- The "count" at a second is the number of the table's transitions at or before it.
+-- `count_at` returns the number of a table's transitions at or before a second.
 use Rattle.std.proofs.Common.{◌≡◌, ◌∙◌, ◌-◌, ◌<◌, ◌≤◌, ℕ, zero, suc, ℤ, pos, ◌+ℤ◌, ◌-ℤ◌, ◌≤ℤ◌, ◌<ℤ◌, Option, Some, None, true, false, cond, int_le, int_lt, get_or, length, map, List, refl, sym, ap, arith, vec_len}
 use Rattle.std.specs.Int.{int_min, int_max}
 use Rattle.std.proofs.lemmas.Bool.Decides.{nat_tests}
@@ -46,7 +46,7 @@ start_near row = grind (arith, signed_arith, min_in_range)
 end_near : (row : Transition) → IsOffsetSeconds (civil_end row -ℤ row.second)
 end_near row = grind (arith, signed_arith, max_in_range)
 
--- the transitions with an index below the count at `second` are at or before `second`
+-- every transition with an index below `count_at z second` is at or before `second`
 transition_passed : (z : Table) (second : ℤ) (row : ℕ) → row < count_at z second → (transition_at z row).second ≤ℤ second
 transition_passed z second row l = grind (arith, signed_arith, prefix_len_passes, int_le)
 
