@@ -38,8 +38,8 @@ fault_written NoMemory expected out out' err err' status o e = record { by_statu
 same_status : (r : Result Unit RunFault) (shown : Stop) → ended_status r (Err shown) ≡ status_by r shown.status
 same_status r shown = grind arith
 
--- a stop that is reported right away reports `stop_text` on the output that the first argument names, and nothing on the
--- other output
+-- a stop that is reported right away reports `stop_text` on the output that the first argument names, and nothing on
+-- the other output
 TextsFit : Outlet → declared_stop.Stop → Type 0
 TextsFit OnOut stop = ((shown_stop stop).out ≡ stop_text stop) × ((shown_stop stop).err ≡ [])
 TextsFit OnErr stop = ((shown_stop stop).out ≡ []) × ((shown_stop stop).err ≡ stop_text stop)
@@ -112,7 +112,8 @@ tells_stop (Open path) r out1 out' err1 err' t expected out err s = early_writte
 
 -- What of a text has reached standard output, and what is left in its buffer
 
--- If a write failed, the bytes that reached the output and those still in the buffer make up a prefix of the text.
+-- if a prefix of the text was written, then the bytes that reached the output and those still in the buffer make up
+-- a prefix of the text
 reaches_front : (before written reached : Option (List ℕ)) (text : List ℕ) (b : Bool) → AppendsFront before written text → Flushes written reached b → (held : List ℕ) × AppendsFront before (append_known reached held) text
 reaches_front before written reached text true w s =
     ([], record { front = w.front; rest = w.rest; whole = w.whole; written = rw (append_known-nil reached) (Appends-kept before written reached w.front w.written s) })

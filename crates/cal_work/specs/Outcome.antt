@@ -173,7 +173,7 @@ abbrev pub cut_status : Result Report Stop → ℕ
 cut_status (Ok report) = 1
 cut_status (Err stop) = stop.status
 
--- the exit status, which depends on the outcome, and on which output or allocation failed, if any did
+-- the exit status; it depends on the outcome, and on whether standard output, standard error or an allocation failed
 abbrev pub ended_status : {T : Type 0} → Result T RunFault → Result Report Stop → ℕ
 ended_status (Ok all) outcome = outcome_status outcome
 ended_status (Err run.OutFailed) outcome = 1

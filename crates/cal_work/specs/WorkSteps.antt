@@ -69,7 +69,7 @@ pub record ReadsZones {T : Type 0} (view : T → ZoneMap) (known : Known) (items
   pub sees : SeesZones known empty items found
   pub answers : Answers view result (table_by empty items found)
 
--- if the local zone is given as a POSIX rule, `rules` are its parsed rules
+-- if the local zone is given as a POSIX rule, `jiff` can parse this rule, and `rules` is the zone that it stands for
 abbrev pub HasRules : LocalZone → Option TimeZone → Type 0
 HasRules in_utc rules = Unit {0}
 HasRules (ahead seconds) rules = Unit {0}
