@@ -15,8 +15,8 @@ pub record IsAddable (table : ZoneMap) (name : List ℕ) : Type 0 where
   pub named : is_zone_name name ≡ true
   pub free : is_taken table name ≡ false
 
--- whether adding a zone under `name` may fail with this error: the form of the name is checked first, then whether it
--- is taken
+-- whether adding a zone under `name` may fail with this error: the form of the name is checked first, and then whether
+-- the name is taken
 abbrev pub IsAddFault : ZoneMap → List ℕ → ZoneFault → Type 0
 IsAddFault table name BadName = is_zone_name name ≡ false
 IsAddFault table name BadRule = ⊥
