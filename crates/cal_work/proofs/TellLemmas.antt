@@ -112,8 +112,8 @@ tells_stop (Open path) r out1 out' err1 err' t expected out err s = early_writte
 
 -- What of a text has reached standard output, and what is left in its buffer
 
--- if a prefix of the text was written, then the bytes that reached the output and those still in the buffer make up
--- a prefix of the text
+-- if a prefix of the text was written, then the bytes that reached the output and those still in the buffer make up a
+-- prefix of the text
 reaches_front : (before written reached : Option (List ℕ)) (text : List ℕ) (b : Bool) → AppendsFront before written text → Flushes written reached b → (held : List ℕ) × AppendsFront before (append_known reached held) text
 reaches_front before written reached text true w s =
     ([], record { front = w.front; rest = w.rest; whole = w.whole; written = rw (append_known-nil reached) (Appends-kept before written reached w.front w.written s) })
