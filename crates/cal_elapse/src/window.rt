@@ -152,8 +152,8 @@ impl<'z> Window<'z> {
     /// Searches for all remaining matches in the hour of `local` and converts them. `local` is a match that has already
     /// been converted. Returns the last match that was converted, which can be `local`.
     ///
-    /// If no later match in the hour is known, nothing changes. Otherwise, nothing changes unless two conditions are met
-    /// by the 3,600 local seconds from `local` on:
+    /// If no later match in the hour is known, nothing changes. Otherwise, nothing changes unless two conditions are
+    /// met by the 3,600 local seconds from `local` on:
     ///
     /// - None of them is more than `MAX_OFFSET` after the instant returned last, so that each match among them has to be
     ///   converted now.
