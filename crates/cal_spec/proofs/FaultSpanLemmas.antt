@@ -10,7 +10,8 @@ use Rattle.cal_text.specs.headline.Words.{is_blank}
 use Rattle.cal_text.proofs.General.{in_suffix}
 use Rattle.cal_spec.specs.FaultSpan.{IsWordAt}
 
--- if a text has trailing blanks, the byte at which they begin is a blank, as `text_until` requires
+-- `end` is where the text's trailing blanks begin; if there are any, the byte at `end` is a blank, as `text_until`
+-- requires
 pub trailing_blank : (text : List ℕ) (end : ℕ) → end ≡ length text - suffix_len is_blank text → end < length text → is_blank (get_or text end 0) ≡ true
 trailing_blank text end e within = in_suffix is_blank text end 0 (omega arith) within
 
@@ -59,7 +60,7 @@ only_blanks text from start e none inside i after within =
           absurd (cc)
     ]
 
--- if a word ends at or before `end`, the end of the next word, then it ends either at `end` or no later than `from`
+-- the next word after `from` ends at `end`, so each word that ends at or before `end` ends there or at most at `from`
 pub earlier_word : (text : List ℕ) (from start end s e : ℕ) → end ≤ length text
     → ((i : ℕ) → from ≤ i → i < start → is_blank (get_or text i 0) ≡ true)
     → ((i : ℕ) → start ≤ i → i < end → is_blank (get_or text i 0) ≡ false)

@@ -42,14 +42,14 @@ runs_apart day [] = tt
 runs_apart day (true ∷ bs) = with_day_apart day (runs_from (day + 1) bs) (runs_apart (day + 1) bs)
 runs_apart day (false ∷ bs) = lower day (day + 1) (runs_from (day + 1) bs) (omega arith) (runs_apart (day + 1) bs)
 
--- if the runs begin after the next day, adding `day` before them makes it a run of its own
+-- if the runs begin at `day + 2` or later, `with_day` adds `day` as a run of its own
 with_day-alone : (day : ℕ) (rs : List Run) → AreApartFrom (day + 2) rs → with_day day rs ≡ record { first = day; last = day } ∷ rs
 with_day-alone day [] a = refl
 with_day-alone day (r ∷ rs) a =
     let other : nat_eq r.first (day + 1) ≡ false = ne_eqb r.first (day + 1) (λ e. absurd (omega (arith, a.0))) in
     rw other
 
--- if the first run begins on the next day, adding `day` makes this run begin on `day`
+-- if the first run begins at `day + 1`, `with_day` makes this run begin at `day`
 with_day-joins : (day last : ℕ) (rs : List Run) → with_day day (record { first = day + 1; last = last } ∷ rs) ≡ record { first = day; last = last } ∷ rs
 with_day-joins day last rs = let same : nat_eq (day + 1) (day + 1) ≡ true = eq-eqb (day + 1) (day + 1) refl in rw same
 

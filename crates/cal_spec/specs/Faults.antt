@@ -64,7 +64,8 @@ abbrev pub numbered_in : Option DateTexts → ℕ
 numbered_in None = 0
 numbered_in (Some t) = numbered Year t.year + numbered Month t.month + numbered (day_slot t.from_end) t.day
 
--- all checks of a date: the number of its components, then the components from left to right
+-- all checks of a date: first the number of its components and the signs between them, then the components from left
+-- to right
 abbrev pub date_faults : Option DateTexts → List (Option SpecFault)
 date_faults None = Some BadDate ∷ []
 date_faults (Some t) =
