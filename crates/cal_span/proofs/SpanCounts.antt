@@ -122,7 +122,7 @@ pub weight-positive : (cs : List Count) → weight (positive cs) ≡ weight cs
 weight-positive [] = refl
 weight-positive (c ∷ cs) = weight-kept c (positive cs) (weight cs) (weight-positive cs) (nat_lt 0 c.number) refl
 
--- all counts of the empty span are zero
+-- all counts of a span of 0 microseconds are zero
 positive-counts_of_zero : (units : List TimeUnit) → positive (counts_of units 0) ≡ []
 positive-counts_of_zero [] = refl
 positive-counts_of_zero (unit ∷ units) =

@@ -91,15 +91,15 @@ pub no_number_from_parts : (xs before after : List ℕ) → before ≡ before_fi
 unfolding is_number
 no_number_from_parts xs before after at_before at_after some = rw (one_point xs, ← at_before, ← at_after, some) refl
 
--- dividing a number below `top` by a divisor that saturates at `top` gives the same as dividing by the divisor itself
+-- dividing a number below `top` by `min divisor top` gives the same as dividing it by `divisor`
 quotient_at_top : (n divisor : ℕ) → n < top → 0 < divisor → n / min divisor top ≡ n / divisor
 quotient_at_top n divisor below positive = ⊎_elim (λ (h : divisor < top). rw (min-eq_left {n = divisor} {m = top} (omega arith)) refl) (λ (h : top ≤ divisor). rw (min-eq_right {n = top} {m = divisor} h) (div-eq_of_lt below ∙ sym (div-eq_of_lt {n = n} {m = divisor} (omega arith)))) (cases_lt divisor top)
 
 pub divisor_more : (i divisor : ℕ) → divisor ≡ min (10 ^ i) top → min (divisor * 10) top ≡ min (10 ^ (i + 1)) top
 divisor_more i divisor so_far = rw (add-one, pow-suc) (omega arith)
 
--- if a unit is at most a year, then dividing the digit at index `i` times the unit by a power of 10 that saturates
--- gives the same as dividing by the power itself
+-- The code multiplies each digit by the size of the unit and divides the product by `divisor`, a power of 10 that
+-- saturates at `top`. If the unit is at most a year, this gives the same as dividing by the exact power.
 pub term_is : (digits : List ℕ) (i divisor size : ℕ) → i < length digits → list_all is_ascii_digit digits ≡ true → size ≤ 31557600000000 → divisor ≡ min (10 ^ (i + 1)) top → (get_or digits i 0 - 48) * size / divisor ≡ digit_value (get_or digits i 0) * size / 10 ^ (i + 1)
 term_is digits i divisor size within all small at_power = grind (arith, nat_tests, digit_value_at, mul-le-mul, one-le-pow, quotient_at_top)
 

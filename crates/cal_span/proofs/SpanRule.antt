@@ -117,7 +117,7 @@ only_value ps (Err TooLarge) fault = only_first_fault ps TooLarge fault
 pub one_judgement : (ps : List Pair) (a b : Result ℕ SpanFault) → Judges ps a → Judges ps b → a ≡ b
 one_judgement ps a b by_a by_b = sym (only_value ps a by_a) ∙ only_value ps b by_b
 
--- no spelling belongs to two units
+-- each spelling of a unit is recognized as this unit, so no spelling belongs to two units
 pub spelled_once : (unit : TimeUnit) → AllByRecursion (λ (word : List ℕ). unit_named word ≡ Some unit) (spellings_of unit)
 unfolding unit_named spellings_of
 spelled_once Year = (refl, (refl, (refl, tt)))

@@ -73,12 +73,12 @@ apart_after : (w : Piece) (ws : List Piece) → AreApart (w ∷ ws) → AreApart
 apart_after w [] apart = tt
 apart_after w (v ∷ ws) (first, rest) = rest
 
--- a character in front of runs is a run of its own if the first of them is of another kind, or if there are none
+-- `with_front` adds a character as a run of its own if the first run is of another kind, or if there are no runs
 first_apart : (s : Piece) (k : CharKind) (ws : List Piece) → s.kind ≡ k → BeginsApart k ws → with_front s ws ≡ s ∷ ws
 first_apart s k [] kind apart = refl
 first_apart s k (v ∷ ws) kind apart = rw kind (rw apart refl)
 
--- a character in front of a run of its own kind is joined to that run
+-- `with_front` joins a character to the first run if this run is of the same kind
 first_joined : (s : Piece) (k : CharKind) (text : List ℕ) (ws : List Piece) → s.kind ≡ k → with_front s (record { kind = k; text = text } ∷ ws) ≡ record { kind = k; text = s.text ++ text } ∷ ws
 first_joined s k text ws kind = rw kind (rw (is_kind-same k) refl)
 

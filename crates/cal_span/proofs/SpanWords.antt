@@ -72,7 +72,8 @@ after_blanks : (ss : List Piece) (s : Piece) (rest : List Piece) → after_front
 after_blanks [] s rest at = cc
 after_blanks (t ∷ ts) s rest at = grind (arith, nat_tests, after_blanks_step, after_blanks ts s rest)
 
--- if `s` is the first character that is not a blank, the first word is the longest prefix of its kind from `s` on
+-- if `s` is the first character that is not a blank, the first word is `s` and all characters of the same kind that
+-- follow it directly
 word_first : (ss : List Piece) (s : Piece) (rest : List Piece) → after_front Blank ss ≡ s ∷ rest → without_blanks (runs ss) ≡ record { kind = s.kind; text = front_of s.kind (s ∷ rest) } ∷ without_blanks (runs (after_front s.kind (s ∷ rest)))
 word_first ss s rest at = grind (arith, nat_tests, after_blanks, without_blanks_after, runs_first, is_kind-same)
 

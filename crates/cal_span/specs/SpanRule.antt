@@ -30,7 +30,7 @@ AreApart (w ∷ v ∷ ws) = (is_kind w.kind v.kind ≡ false) × AreApart (v ∷
 
 -- Pairs
 
--- there are no words, or the first of them is not a unit, which would be a word of letters
+-- the words don't begin with a unit, that is, with a word of letters
 abbrev pub BeginsWithNoUnit : List Piece → Type 0
 BeginsWithNoUnit [] = ⊤
 BeginsWithNoUnit (v ∷ ws) = v.kind ≡ Letter → ⊥
