@@ -254,8 +254,8 @@ printed_line zone secs =
 second_below : (secs : ℤ) → second_of_day secs < 86_400
 second_below secs = omega (arith, signed_arith)
 
--- At an instant, a clock shows a local second from -93,599 to 7,258,305,597. So in `jiff`'s calendar, the date that it
--- shows has the day number of this local second, and its year is 1969 or later.
+-- At an instant, a clock shows a local second from -93,599 to 7,258,305,597. So the date that the clock shows has the
+-- day number of this local second in `jiff`'s calendar, and the year of the date is 1969 or later.
 local_within : (zone : Zone) (secs : ℤ) → IsInstant secs → IsBetween (neg_ℤ (pos 93_599)) (pos 7_258_305_597) (local_in zone secs)
 unfolding local_shown_at
 local_within zone secs h =
@@ -368,8 +368,8 @@ reads_as_none now local table zone secs h none =
     ∙ words_read now at (shown_date zone secs) (second_of_day shows) (shown_word zone secs) (second_below shows) (shown_last zone secs)
     ∙ rw (other_date_back (shown_date zone secs) (shown_since zone secs h) none) refl
 
--- at a second of the years 1970 to 2199, a clock in UTC shows one of these years, and its UTC offset is a whole number
--- of minutes
+-- at a second of the years 1970 to 2199, a clock in UTC shows one of these years; `utc_minute` adds that its UTC offset
+-- is a whole number of minutes
 utc_shows : (secs : ℤ) → IsLocalSecond secs → ShowsYear (civil_of (zone_of utc) secs)
 unfolding civil_of zone_of
 utc_shows secs h =

@@ -28,7 +28,7 @@ abbrev pub WritesTime : Option (List ℕ) → ℕ → Type 0
 WritesTime None micros = micros ≡ 0
 WritesTime (Some word) micros = time_written word ≡ Ok micros
 
--- the word is the name of the zone in the table, or the UTC offset of the zone
+-- the word is a name by which `find` finds the zone, or the UTC offset of the zone
 abbrev pub MeansZone : (List ℕ → Option TimeZone) → List ℕ → TimeZone → Type 0
 MeansZone find word zone =
     ((begins_with_letter word ≡ true) × (find word ≡ Some zone))
