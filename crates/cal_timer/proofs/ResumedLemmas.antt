@@ -49,8 +49,8 @@ pub joined_read : {E : Type 0} (read : List ℕ → Result E SpecFault) (es : Li
 unfolding with_assignment
 joined_read read es a entry few good = let is_few : nat_le max_expressions (length es) ≡ false = grind (arith, nat_tests) in rw is_few (read_good es a (read a.value) entry good)
 
--- if a line is a header, the lines up to the next header are in the section `Timer` if and only if this header names
--- the section
+-- the lines after a header, up to the next header, are in the section `Timer` if and only if the header opens this
+-- section
 pub header_here : (inside : Bool) (line : Line) (after : List Line) → is_header (trim_matches is_blank_or_return line.text) ≡ true → assignments_in inside (line ∷ after) ≡ assignments_in (bytes_eq (section_of (trim_matches is_blank_or_return line.text)) (codes "Timer")) after
 unfolding assignments_in timer_lines
 header_here inside line after e = rw e refl

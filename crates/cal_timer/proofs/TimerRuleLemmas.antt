@@ -29,7 +29,7 @@ no_header false (line ∷ lines) h =
     let parts = or_parts (is_header line.text) (list_any (λ line. is_header line.text) lines) h in
     rw parts.0 (no_header false lines parts.1)
 
--- `rest`, which are the lines after the last header, if this header opens the section `Timer`, and otherwise no lines
+-- the lines `rest` after a header if this header opens the section `Timer`, and otherwise no lines
 abbrev opened : Line → List Line → List Line
 opened header rest = if bytes_eq (section_of header.text) (codes "Timer") then rest else []
 
@@ -54,8 +54,8 @@ after_last_after p xs (y ∷ ys) none =
     ∙ ap (λ front. front ++ ys) (after_last_more p xs y parts.0)
     ∙ append_assoc (after_last p xs) (y ∷ []) ys
 
--- if assignments that pass the test `adds` are added to a list, and assignments that pass `resets` clear it, the list
--- has what was added since it was last cleared, or all that was added if it was never cleared
+-- Assignments that pass the test `adds` are added to a list, and assignments that pass `resets` clear it. The list has
+-- what has been added since it was last cleared, or all that has been added if it was never cleared.
 kept_after_reset : (adds resets : Assignment → Bool) (front rest : List Assignment) (reset : Assignment) → resets reset ≡ true → list_any resets rest ≡ false → filter adds (after_last resets (front ++ (reset ∷ rest))) ≡ filter adds rest
 kept_after_reset adds resets front rest reset e none =
     ap (λ all. filter adds (after_last resets all)) (sym (append_assoc front (reset ∷ []) rest))
@@ -159,8 +159,8 @@ some_from_fault read first (x ∷ before) a after fault fine e =
     let there : fault_following read ((first ++ x ∷ []) ++ before) a ≡ Some fault = subst (λ (front : List Assignment). fault_following read front a ≡ Some fault) (sym (append_assoc first (x ∷ []) before)) e in
     rw here (some_from_fault read (first ++ x ∷ []) before a after fault fine_after there)
 
--- The remaining lemmas say that `JudgesTimer` holds for exactly one result. The first lemma: if an assignment has an
--- error, `JudgesTimer` holds for the first error.
+-- The remaining lemmas say that `JudgesTimer` holds for exactly one result. The first of them: if some assignment has
+-- an error, `JudgesTimer` holds for the first error.
 judged_fault : {E : Type 0} (read : List ℕ → Result E SpecFault) (all : List Assignment) (fault : TimerFault) → is_of_line fault ≡ true → IsFirstTimerFault read all fault → JudgesTimer read all (Err fault)
 judged_fault read all NothingToDo e h = cc
 judged_fault read all fault e h = h

@@ -33,7 +33,7 @@ fault_joining read list a =
     if nat_le max_expressions (length list) then Some (TooMany a.number) else bad_line a.number (read a.value)
 
 -- the error of the assignment `a`, which comes after those in `before`; a list is full if `max_expressions` entries
--- were added to it since it was last cleared
+-- have been added to it since it was last cleared
 unfoldable pub fault_following : {E : Type 0} → (List ℕ → Result E SpecFault) → List Assignment → Assignment → Option TimerFault
 fault_following read before a =
     if is_expression a then fault_joining read (listed before) a

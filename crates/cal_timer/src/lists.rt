@@ -165,8 +165,8 @@ fn change(
     Ok(())
 }
 
-/// Adds the expression of an assignment to a list. Fails with `TooMany` if the list is full, before the expression is
-/// parsed.
+/// Adds the expression of an assignment to a list. If the list is full, fails with `TooMany` without parsing the
+/// expression.
 #[tactic(auto, unfolding(crate::specs::TimerView::with_assignment))]
 fn add_line(
     alloc: Global,
