@@ -96,7 +96,8 @@ pub no_files : {E : Type 0} (read : List ℕ → Result E SpecFault) (counts : C
 unfolding counted_files
 no_files read counts k = refl
 
--- the errors of a list of assignments are the error of the first one, if any, followed by those of the others
+-- the errors of a list of assignments are the error of the first assignment, if it has one, followed by the errors of
+-- the others
 pub setting_more : {E : Type 0} (read : List ℕ → Result E SpecFault) (counts : Counts) (a : Assignment) (after : List Assignment) → counted_faults read counts (a ∷ after) ≡ option_to_list (fault_at read counts a) ++ counted_faults read (counts_with counts a) after
 unfolding counted_faults
 setting_more read counts a after = refl
@@ -105,8 +106,8 @@ pub counts_step : (counts : Counts) (a : Assignment) (after : List Assignment) �
 unfolding counts_over
 counts_step counts a after = refl
 
--- the next lemmas are the steps and the ends of the loops in the code: what an assignment adds to the errors and to the
--- counts, and what a text adds
+-- The next six lemmas are about the loops in the code: each step of a loop keeps its invariant, and when nothing
+-- remains, the errors and the counts so far are complete.
 pub step_faults : {E : Type 0} (read : List ℕ → Result E SpecFault) (k : ℕ) (found more : List FileFault) (counts now : Counts) (all : List Assignment) (a : Assignment) (after : List Assignment) (fault : Option TimerFault)
     → all ≡ a ∷ after → fault ≡ fault_at read counts a → now ≡ counts_with counts a → more ≡ found ++ map (in_file k) (option_to_list fault)
     → more ++ map (in_file k) (counted_faults read now after) ≡ found ++ map (in_file k) (counted_faults read counts all)

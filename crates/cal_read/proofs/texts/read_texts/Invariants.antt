@@ -1,4 +1,4 @@
--- Applying the texts before `index` to two empty lists gives the lists so far.
+-- Applying the assignments of the texts before `index` to two empty lists gives the lists so far.
 use Rattle.std.proofs.Common.{◌≡◌, take, Ok}
 use Rattle.cal_spec.specs.Expr.{expr_in}
 use Rattle.cal_read.specs.TimerTexts.{assignments_of}
