@@ -60,7 +60,7 @@ only_blanks text from start e none inside i after within =
           absurd (cc)
     ]
 
--- the next word after `from` ends at `end`, so each word that ends at or before `end` ends there or at most at `from`
+-- the next word after `from` ends at `end`, and no other word ends between `from` and `end`
 pub earlier_word : (text : List ℕ) (from start end s e : ℕ) → end ≤ length text
     → ((i : ℕ) → from ≤ i → i < start → is_blank (get_or text i 0) ≡ true)
     → ((i : ℕ) → start ≤ i → i < end → is_blank (get_or text i 0) ≡ false)

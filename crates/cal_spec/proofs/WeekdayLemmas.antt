@@ -91,8 +91,8 @@ unfolding run_text
 led-comma [] = refl
 led-comma (r ∷ rs) = refl
 
--- if `day` matches, the text of the runs from `day` on is the text of the run from `day` to `last`, and then the text
--- of the runs from `next` on
+-- if the days from `day` to `last` are a run, the text of the runs from `day` on is the text of this run, followed by
+-- the text of the runs from `next` on
 pub led-front : (lead : List ℕ) (day last next n : ℕ) (days : List Bool) → n ≡ front (drop day days) → 0 < n → last ≡ day + n - 1 → next ≡ day + (n + 1)
     → led lead (runs_from day (drop day days)) ≡ run_text lead (record { first = day; last = last }) ++ led (codes ",") (runs_from next (drop next days))
 led-front lead day last next zero days e positive at_last at_next = absurd (omega arith)

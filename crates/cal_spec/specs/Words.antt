@@ -1,5 +1,5 @@
 -- Recognition of the weekdays, the date, the time and the zone among the words of an expression: systemd.time(7),
--- Calendar Events. A word's role is which of these it is.
+-- Calendar Events. The role of a word says which of the four it is.
 use Rattle.std.specs.Prelude.{ℕ, if◌then◌else◌, List, [], ◌∷◌, Option, None, Some}
 use Rattle.std.specs.List.{list_any}
 use Rattle.cal_text.specs.headline.Separators.{is_colon}

@@ -5,7 +5,7 @@ use Rattle.std.specs.Str.{str_eq_ignore_ascii_case}
 use Rattle.cal_spec.specs.declared.shorthand.Shorthand.{Shorthand}
 use Rattle.cal_spec.specs.declared.shorthand.Shorthand.TheVariants.{Minutely, Hourly, Daily, Weekly, Monthly, Quarterly, Semiannually, Yearly}
 
--- the date and the time that are used if an expression has none
+-- the date of an expression that has no date, and the time of an expression that has no time
 abbrev pub any_date : List ℕ
 any_date = codes "*-*-*"
 
