@@ -77,8 +77,8 @@ after_blanks (t ∷ ts) s rest at = grind (arith, nat_tests, after_blanks_step, 
 word_first : (ss : List Piece) (s : Piece) (rest : List Piece) → after_front Blank ss ≡ s ∷ rest → without_blanks (runs ss) ≡ record { kind = s.kind; text = front_of s.kind (s ∷ rest) } ∷ without_blanks (runs (after_front s.kind (s ∷ rest)))
 word_first ss s rest at = grind (arith, nat_tests, after_blanks, without_blanks_after, runs_first, is_kind-same)
 
--- Let `solid` be the bytes after the leading blanks, `text` their longest prefix of the kind of their first character,
--- and `rest` the bytes after this prefix. Then the words are `text` and the words of `rest`.
+-- Let `solid` be the bytes after the leading blanks, `text` the longest prefix of `solid` that has only characters of
+-- one kind, and `rest` the bytes after `text`. Then the first word is `text`, and the words of `rest` follow it.
 pub first_word_is : (bytes solid : List ℕ) (kind : CharKind) (width : ℕ) (text rest : List ℕ) → characters solid ≡ after_front Blank (characters bytes) → characters solid ≡ record { kind = kind; text = take width solid } ∷ characters (drop width solid) → text ≡ front_of kind (characters solid) → characters rest ≡ after_front kind (characters solid) → words_in bytes ≡ record { kind = kind; text = text } ∷ words_in rest
 unfolding words_in
 first_word_is bytes solid kind width text rest at first front after =
