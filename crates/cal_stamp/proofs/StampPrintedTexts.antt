@@ -48,8 +48,8 @@ in_four n small = printed 4 n (omega arith) (omega arith) (omega arith) small
 in_two : (n : ℕ) → n < 100 → IsPrinted 2 n (padded 2 n)
 in_two n small = printed 2 n (omega arith) (omega arith) (omega arith) (omega arith)
 
--- `digits_number` parses 1 to `width` digits that stand for `n` as `n`; so does `clock_number` if `n` is at most
--- `greatest`
+-- for 1 to `width` digits that stand for `n`, `digits_number` returns `n`; so does `clock_number` if there are at most
+-- two digits and `n` is at most `greatest`
 digits_read : (width n : ℕ) (ds : List ℕ) → IsPrinted width n ds → digits_number width ds ≡ Some n
 unfolding digits_number
 digits_read width n ds h =

@@ -33,7 +33,7 @@ date_of_pieces pieces = None
 unfoldable pub date_numbers : List ℕ → Option DateNumbers
 date_numbers word = date_of_pieces (slice_split is_hyphen word)
 
--- whether this is a day from 1970-01-01 to 2199-12-31
+-- whether the year, month and day are a date from 1970-01-01 to 2199-12-31
 abbrev pub is_day : ℕ → ℕ → ℕ → Bool
 is_day year month day =
     nat_le 1970 year && nat_le year 2199 && nat_le 1 month && nat_le month 12 && nat_le 1 day

@@ -25,7 +25,7 @@ LiesBefore second span time = (micros : ℕ) × (span_of span ≡ Ok micros) × 
 
 -- Days
 
--- the zone's clock at present shows a time on this day: midnight, or less than 86,400 seconds after midnight
+-- at present, the zone's clock shows a time on this day: midnight, or less than 86,400 seconds after midnight
 pub record IsPresentDay (now : ℤ) (zone : TimeZone) (day : ℤ) : Type 0 where
   pub begun : (day *ℤ pos seconds_per_day) ≤ℤ local_shown_at zone now
   pub lasts : local_shown_at zone now <ℤ (day *ℤ pos seconds_per_day +ℤ pos seconds_per_day)
