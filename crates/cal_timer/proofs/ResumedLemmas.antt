@@ -13,8 +13,8 @@ use Rattle.cal_timer.specs.TimerView.{changed, with_assignment, resumed, with_li
 use Rattle.cal_timer.specs.declared.fault.TimerFault.{TimerFault}
 use Rattle.cal_timer.specs.declared.fault.TimerFault.TheVariants.{TooMany}
 
--- an assignment first changes the list of expressions and then the list of exceptions; if one of these changes fails,
--- the result is its error
+-- applying an assignment changes first the list of expressions and then the list of exceptions; if one of these changes
+-- fails, the result is the error of this change
 pub resumed_changed : {E : Type 0} (read : List ℕ → Result E SpecFault) (lists : Timer E) (a : Assignment) (after : List Assignment) (es : List (TimerLine E)) (r : Result (List (TimerLine E)) TimerFault)
     → changed read (is_expression a) (is_reset a) lists.expressions a ≡ Ok es → changed read (is_exception a) (is_exception_reset a) lists.exceptions a ≡ r
     → resumed read lists (a ∷ after) ≡ with_list r (λ xs. resumed read (record { expressions = es; exceptions = xs }) after)
