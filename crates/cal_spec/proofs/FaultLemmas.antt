@@ -30,8 +30,8 @@ use Rattle.cal_spec.proofs.FieldLemmas.{fields_with, DateRead, date_found}
 use Rattle.cal_spec.proofs.ReadLemmas.{Follows, bind_ok, cond_ok}
 use Rattle.cal_spec.specs.headline.Fields.{max_counted_parts}
 
--- two parsers that run one after the other fail with the error `u` of the first, or, if `u` is None, with the error `v`
--- of the second; `v` must be the same for every value that the first parser can return
+-- the error, if any, of two parsers that run one after the other is the error `u` of the first, or, if `u` is None, the
+-- error `v` of the second; `v` must be the same for every value that the first parser can return
 pub err_of_bind : {A B : Type 0} (r : Result A SpecFault) (f : A → Result B SpecFault) (u v : Option SpecFault) → result_err r ≡ u → ((a : A) → r ≡ Ok a → result_err (f a) ≡ v) → result_err (r >>= f) ≡ option_or u v
 err_of_bind (Ok x) f u v first next = next x refl ∙ ap (λ o. option_or o v) first
 err_of_bind (Err e) f u v first next = ap (λ o. option_or o v) first
