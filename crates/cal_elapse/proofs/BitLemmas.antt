@@ -35,8 +35,8 @@ first_bit m some fits =
     let h = bit_at-trailing_zeros w64 m some fits in
     (omega arith, h.0, is_bit-one m (trailing_zeros w64 m) h.1, λ t low below. is_bit-zero m t (h.2 t below))
 
--- If `m` shifted right by `from` bits is 0, no bit of `m` from `from` on is set. Otherwise the index of the lowest such
--- bit is `from` plus the number of trailing zeros of the shifted word (`next_some`).
+-- If `m` shifted right by `from` bits is 0, `m` has no set bit from bit `from` on. Otherwise it has one, and the index
+-- of the lowest is `from` plus the number of trailing zeros of the shifted word (`next_some`).
 pub next_none : (m from : ℕ) → m / 2 ^ from ≡ 0 → NonePasses (is_bit m) from 64
 next_none m from none = λ t low below.
     let place : from + (t - from) ≡ t = omega arith in
@@ -79,9 +79,9 @@ is_bit-up_none m k i low high =
     let whole : m * 2 ^ k + 0 ≡ m * 2 ^ k = omega arith in
     is_bit-zero (m * 2 ^ k % 2 ^ 64) i (bit_at-mod (m * 2 ^ k) i low ∙ (ap (λ (x : ℕ). bit_at x i) (sym whole) ∙ (bit_at_cat_low m k 0 i high ∙ bit_at-zero i)))
 
--- The word of 64 ones, shifted right by 64 - `high` bits, has exactly the bits below `high` set. Shifted left by `low`
--- bits, it has exactly the bits from `low` on set (`ones_from`). The bitwise and of both has exactly the bits in
--- between set (`is_bit-run`).
+-- If a word of 64 ones is shifted right by 64 - `high` bits, exactly the bits below `high` are set. If it is shifted
+-- left by `low` bits instead, exactly the bits from `low` on are set (`ones_from`). In the bitwise AND of both results,
+-- exactly the bits from `low` up to but not including `high` are set (`is_bit-run`).
 ones_below : (high i : ℕ) → high ≤ 64 → is_bit ((2 ^ 64 - 1) / 2 ^ (64 - high)) i ≡ nat_lt i high
 ones_below high i within =
     let width : 64 - (64 - high) ≡ high = omega arith in

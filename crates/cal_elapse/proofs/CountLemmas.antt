@@ -27,7 +27,7 @@ count_from-none passes a k (suc n) none =
     let before = count_from-none passes a k n (λ t low high. none t low (omega arith)) in
     rw (next, fails) (omega arith)
 
--- if `local` passes, the count up to and including `local` is 1 more than the count up to but not including it
+-- if `local` passes, one more number passes up to and including `local` than before `local`
 pub count_from-with : (passes : ℕ → Bool) (start local : ℕ) → start ≤ local → passes local ≡ true → count_from passes start (local + 1 - start) ≡ count_from passes start (local - start) + 1
 count_from-with passes start local low holds =
     let k = local - start in
@@ -35,7 +35,7 @@ count_from-with passes start local low holds =
     let ends : local + 1 - start ≡ k + 1 = omega arith in
     ap (count_from passes start) ends ∙ count_from-one passes start k (subst (λ (t : ℕ). passes t ≡ true) here holds)
 
--- if no number from `middle` up to but not including `bound` passes, the count up to `bound` is the count up to
+-- if no number from `middle` up to but not including `bound` passes, as many numbers pass below `bound` as below
 -- `middle`
 pub count_from-on : (passes : ℕ → Bool) (start middle bound : ℕ) → start ≤ middle → middle ≤ bound → NonePasses passes middle bound
     → count_from passes start (bound - start) ≡ count_from passes start (middle - start)
@@ -46,8 +46,8 @@ count_from-on passes start middle bound low high none =
     let nothing = λ (t : ℕ) (above : start + k ≤ t) (below : t < start + k + n). none t (omega arith) (omega arith) in
     ap (count_from passes start) ends ∙ count_from-none passes start k n nothing
 
--- if `next` is the first number after `local` that passes, the count up to and including `next` is 1 more than the
--- count up to and including `local`
+-- if `next` is the first number after `local` that passes, one more number passes up to and including `next` than up to
+-- and including `local`
 pub count_from-to : (passes : ℕ → Bool) (start local next : ℕ) → start ≤ local → local + 1 ≤ next → passes next ≡ true → NonePasses passes (local + 1) next
     → count_from passes (start + 1) (next - start) ≡ count_from passes (start + 1) (local - start) + 1
 count_from-to passes start local next low high holds none =
@@ -59,7 +59,7 @@ count_from-to passes start local next low high holds none =
     ap (count_from passes (start + 1)) ends
     ∙ (count_from-one passes (start + 1) (k + n) (subst (λ (t : ℕ). passes t ≡ true) there holds) ∙ ap (λ (c : ℕ). c + 1) (count_from-none passes (start + 1) k n nothing))
 
--- the count of an empty range is 0
+-- in an empty range, no number passes
 pub count_from-nothing : (passes : ℕ → Bool) (a k : ℕ) → count_from passes a (k - k) ≡ 0
 unfolding count_from
 count_from-nothing passes a k = let none : k - k ≡ 0 = omega arith in rw none refl
@@ -72,8 +72,8 @@ count_from-both passes a k (suc n) =
     let place : a + (k + n) ≡ a + k + n = omega arith in
     rw (next, place) (omega (arith, count_from-both passes a k n))
 
--- the count up to and including `last` is the count up to and including `local` plus the count of the numbers after
--- `local` up to and including `last`
+-- the numbers up to and including `last` that pass are counted in two parts: those up to and including `local`, and
+-- those after `local`
 pub count_from-part : (passes : ℕ → Bool) (start local last : ℕ) → start ≤ local → local ≤ last
     → count_from passes start (last + 1 - start) ≡ count_from passes start (local + 1 - start) + count_from passes (local + 1) (last - local)
 count_from-part passes start local last low high =
@@ -92,7 +92,7 @@ count_from-then passes start local last low high =
     ∙ (count_from-both passes (start + 1) (local - start) (last - local)
     ∙ ap (λ (t : ℕ). count_from passes (start + 1) (local - start) + count_from passes t (last - local)) there)
 
--- the count is 0 if no number passes
+-- if no number from `start` up to but not including `bound` passes, counting them gives 0
 pub count_from-begun : (passes : ℕ → Bool) (start bound : ℕ) → start ≤ bound → NonePasses passes start bound → count_from passes start (bound - start) ≡ 0
 unfolding count_from
 count_from-begun passes start bound low none =

@@ -54,6 +54,7 @@ days_are m n first length lowest ones k within begins long place member small al
     (day ∙ (rw (number, ← weekday)
     (sym (in_order (is_bit m.days ((if m.from_end then 31 - length_of n else 0) + k)) (is_bit m.weekdays ((first_day n + 3) % 7 + k)) _ _ member))))))
 
--- if exactly the lowest `length` bits of `ones` are set, the bitwise and of `ones` and any word has no higher bits set
+-- if exactly the lowest `length` bits of `ones` are set, no other bits are set in the bitwise AND of `ones` and any
+-- word
 pub days_end : (bits ones length k : ℕ) → ((i : ℕ) → is_bit ones i ≡ nat_lt i length) → is_bit (bit_and bits ones) k ≡ true → k < length
 days_end bits ones length k all holds = grind (arith, nat_lt, nat_tests, bit_and, is_bit-and, and_right)

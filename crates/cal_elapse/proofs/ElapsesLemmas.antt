@@ -84,8 +84,8 @@ Has-above b (x ∷ xs) i =
       λ p. elim p.1 [ inl e ↦ one.1 (inl (p.0, e)) | inr n ↦ one.1 (inr (rest.1 (p.0, n))) ],
     )
 
--- one of the elapse sets, each without the instants up to `b`, contains `i` if and only if `i` is after `b` and an
--- elapse of one of the expressions
+-- after the instants up to `b` are removed from the elapse set of each expression, `i` is in one of these sets if and
+-- only if `i` is after `b` and is an elapse of one of the expressions
 HasAny-elapses : (es : List Timed) (b i : ℤ) → HasAny (map (λ e. filter (int_lt b) (places e)) es) i ↔ ((b <ℤ i) × IsElapse es i)
 HasAny-elapses [] b i = (λ m. absurd m, λ p. p.1)
 HasAny-elapses (e ∷ es) b i =
@@ -160,8 +160,8 @@ Has-drop (x ∷ xs) (suc k) e h at i =
       λ p. elim p.1 [ inl f ↦ absurd (not_both x e i up p.0 f) | inr n ↦ rest.1 (p.0, n) ],
     )
 
--- if `e` has index `k` in `xs`, the list of the numbers after `b`, then `ys`, the list of the numbers after `e`,
--- consists of the elements of `xs` after `e`
+-- Let `xs` be the list of the numbers after `b` that satisfy `Holds`, and `ys` the list of those after `e`. If `e` has
+-- the index `k` in `xs`, then `ys` is what follows `e` in `xs`.
 later_above : {Holds : ℤ → Type 0} (b e : ℤ) (xs ys : List ℤ) (k : ℕ) → AreAbove Holds b xs → AreAbove Holds e ys → slice_get xs k ≡ Some e → ys ≡ drop (suc k) xs
 later_above b e xs ys k all again at =
     let up = ((all.members e).0 (has_at xs k e at)).0 in
@@ -219,8 +219,8 @@ first_elapse-least es b i above m least =
     first-least (elapses_after es b) i all.rises ((all.members i).1 (above, m))
     (λ j n. least j ((all.members j).0 n).0 ((all.members j).0 n).1)
 
--- one of the lists of elapses after `b`, one list for each expression, contains `i` if and only if `i` is after `b` and
--- an elapse of one of the expressions
+-- if the elapses after `b` are listed for each expression separately, `i` is in one of these lists if and only if `i`
+-- is after `b` and is an elapse of one of the expressions
 HasAny-each : (es : List Timed) (b i : ℤ) → HasAny (map (λ e. elapses_after (e ∷ []) b) es) i ↔ ((b <ℤ i) × IsElapse es i)
 HasAny-each [] b i = (λ m. absurd m, λ p. p.1)
 HasAny-each (e ∷ es) b i =

@@ -35,8 +35,8 @@ pub none_in_month : (sets : Sets) (first length bits from : ℕ) → HasDays set
     → NonePasses (is_bit bits) (from - first) 64 → NonePasses (day_in sets) from (first + length)
 none_in_month sets first length bits from has low short none = grind (arith, day_is)
 
--- if `next` is the first month from `index` on that passes, the count up to and including `next` is 1 more than the
--- count up to but not including `index`
+-- if `next` is the first month from `index` on that passes, one more month passes up to and including `next` than
+-- before `index`
 pub count_step : (passes : ℕ → Bool) (from index next : ℕ) → from ≤ index → index ≤ next → NonePasses passes index next → passes next ≡ true
     → count_from passes from (suc next - from) ≡ count_from passes from (index - from) + 1
 count_step passes from index next low high none holds =

@@ -37,8 +37,8 @@ day_of_match sets t holds =
 
 -- Lemmas for any unit of 60: local seconds in their minute, or minutes in their hour.
 
--- whether an hour, counted from the start of 1970, is before the year 2200 and matches: its date and its hour of the
--- day
+-- whether an hour, counted from the start of 1970, is before the year 2200, and has a date and an hour of the day that
+-- match
 hour_matches : Masks → ℕ → Bool
 hour_matches m hour = nat_lt hour 2_016_144 && (day_in (sets_in m) (hour / 24) && is_bit m.hours (hour % 24))
 

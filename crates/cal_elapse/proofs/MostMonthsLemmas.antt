@@ -1,4 +1,4 @@
--- How the largest number of months that one of several searches examines changes as further searches are made.
+-- The largest number of months that any of several searches examines, and how it changes when more searches are made.
 use Rattle.std.proofs.Common.{◌≡◌, ◌∙◌, ℕ, ◌+◌, ◌<◌, ◌≤◌, Bool, true, Option, max, unwrap_or, IsSome, ◌-◌, arith, inl, inr, option_map, refl, subst, sym, unsigned_abs, ℤ}
 use Rattle.std.proofs.lemmas.Bool.{cases_lt}
 use Rattle.cal_spec.specs.headline.Match.{Sets, matches}
@@ -76,12 +76,13 @@ most_same sets start a b most same h = record {
 pub most_more : (sets : Sets) (start a b most more : ℕ) → start ≤ a → a ≤ b → IsMost sets start a most → IsMostAfter sets a b most more → IsMost sets start b more
 most_more sets start a b most more low high h later = record { first = h.first; begun = h.begun; later = most_on sets start a b h.first most more low high h.later later }
 
--- if there is no match from `start` up to but not including `bound`, the maximum is what the first search examined
+-- if there is no match from `start` up to but not including `bound`, the maximum is the number of months that the first
+-- search examined
 pub most_start : (sets : Sets) (start bound old most months : ℕ) → IsExamined sets start months → start ≤ bound → NonePasses (matches sets) start bound → old ≡ 0
     → most ≡ max old months → IsMost sets start bound most
 most_start sets start bound old most months examined low none zero is = grind (arith, max_from_zero, most_same)
 
--- The next match in a minute or an hour.
+-- When a search finds the next match in a minute or an hour: one more match is counted, and the maximum may rise.
 
 pub next_counted : (passes : ℕ → Bool) (local : ℤ) (next : Option ℤ) → IsFirstPassing passes (unsigned_abs local + 1) seconds_in_all (option_map unsigned_abs next) → IsSome next
     → count_from passes (unsigned_abs local + 1) (unsigned_abs (unwrap_or next local) - unsigned_abs local) ≡ 1

@@ -144,7 +144,7 @@ module _ (v : Window) (local bits last : ℕ) (offset least : ℤ) (h : IsPlaced
   least_has : Has v.pending least
   least_has = subst (λ (ys : List ℤ). Has ys least) (sym (list-first v.pending least (sym b.least_is))) (inl refl)
 
-  -- the instants for which the bits stand are exactly the instants of the remaining matches
+  -- each instant for which a bit stands is the instant of a remaining match; the converse is `placed_one`
   one_placed : (i : ℤ) → IsOneOf ((pos local -ℤ offset) +ℤ pos 1) bits i → IsPlacedFrom (timed_of v) (local + 1) (last + 1) i
   unfolding timed_by
   one_placed i one =

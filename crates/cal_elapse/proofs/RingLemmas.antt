@@ -116,7 +116,7 @@ members_near cells low i j m n =
 pub same_second : (low i j : ℕ) → low ≤ i → i < low + 187_200 → low ≤ j → j < low + 187_200 → i % 187_200 ≡ j % 187_200 → i ≡ j
 same_second low i j il ih jl jh same = omega arith
 
--- the one second among the 187,200 seconds from `low` on that has the same cell as `i`
+-- the one second in the range `low..low + 187_200` that has the same cell as `i`
 record Turned (low i : ℕ) : Type 0 where
   at : ℕ
   above : low ≤ at
@@ -170,8 +170,8 @@ none_kept cells least first none = let test : (least == no_second) ≡ true = gr
 
 -- Adding an instant
 
--- A ring that starts at `low` can start at `from` once `at` is added: `at` is one of the 187,200 seconds from `from`
--- on, and so is each of the 187,200 seconds from `low` on that is less than 187,200 seconds from `at`.
+-- The range `from..from + 187_200` contains `at`, and every second of `low..low + 187_200` that is less than 187,200
+-- seconds before or after `at`. So a ring that starts at `low` can start at `from` once `at` is added.
 record IsRoundWith (low at from : ℕ) : Type 0 where
   above : from ≤ at
   below : at < from + 187_200
@@ -200,8 +200,8 @@ was_held : (old new : List ℕ) (at t : ℕ) → HasMore old new at → t % 187_
 unfolding is_held
 was_held old new at t more other holds = sym (more.others (t % 187_200) other) ∙ holds
 
--- if a ring that starts at `low` can start at `from` once `at` is added (`IsRoundWith`), and all old elements are less
--- than 187,200 seconds from `at`, then each of them is one of the 187,200 seconds from `from` on
+-- if a ring that starts at `low` can start at `from` once `at` is added (`IsRoundWith`), and all old elements are near
+-- `at` (`IsNear`), then each old element is in the range `from..from + 187_200`
 kept_in : (old : List ℕ) (low at from t : ℕ) → IsRoundWith low at from → ((i : ℤ) → Has (instants_in old low) i → IsNear i (pos at))
     → low ≤ t → t < low + 187_200 → is_held old t ≡ true → (from ≤ t) × (t < from + 187_200)
 kept_in old low at from t round near above below holds =
@@ -352,8 +352,8 @@ taken_round old new low at found less whole was =
       members = λ i m. was.members i (left_in old new low at i found less ((Has-instants new at i).0 m)).1;
     }
 
--- if all elements are among the 187,200 seconds from `from` on, the ring has the same list of elements whether it
--- starts at `from` or at `low`
+-- if all elements of a ring that starts at `low` are in the range `from..from + 187_200`, the ring has the same list of
+-- elements when it starts at `from`
 seen_from : (cells : List ℕ) (low from : ℕ) → ((t : ℕ) → low ≤ t → t < low + 187_200 → is_held cells t ≡ true → (from ≤ t) × (t < from + 187_200))
     → instants_in cells from ≡ instants_in cells low
 seen_from cells low from kept =

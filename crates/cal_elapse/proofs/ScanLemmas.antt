@@ -37,7 +37,7 @@ position-found xs k h zeros here = grind (arith, at_first, cond-true, ltb, lengt
 pub position-none : (xs : List ℕ) → ((j : ℕ) → j < length xs → is_set (get_or xs j 0) ≡ false) → None ≡ position is_set xs
 position-none xs zeros = grind (arith, all_zero, ltb, length)
 
--- if the bitwise or of the `n` words from index `at` on is 0, all of these words are 0
+-- if the bitwise OR of the `n` words from index `at` on is 0, all of these words are 0
 load_zero : (xs : List ℕ) (at n : ℕ) → at + n ≤ length xs → fold_l bit_or 0 (chunk at n xs) ≡ 0 → (k : ℕ) → at ≤ k → k < at + n → is_set (get_or xs k 0) ≡ false
 load_zero xs at n room empty k low high =
     let long = length-chunk at n xs room in
@@ -46,7 +46,7 @@ load_zero xs at n room empty k low high =
     let least = fold_each 0 (chunk at n xs) (k - at) (omega (arith, long)) in
     zero_word _ (omega (arith, word, least, empty))
 
--- if the first `at` words are 0, and the bitwise or of the next `n` words is 0, then the first `at` + `n` words are 0
+-- if the first `at` words are 0, and the bitwise OR of the next `n` words is 0, then the first `at` + `n` words are 0
 pub zeros_more : (xs : List ℕ) (at n : ℕ) → at + n ≤ length xs → fold_l bit_or 0 (chunk at n xs) ≡ 0 → ((k : ℕ) → k < at → is_set (get_or xs k 0) ≡ false)
     → (k : ℕ) → k < at + n → is_set (get_or xs k 0) ≡ false
 zeros_more xs at n room empty before k below = grind (arith, load_zero)

@@ -1,4 +1,5 @@
--- The largest number of months that one of several searches examines: a first search, and one after each match.
+-- Of several searches, the largest number of months that any of them examines. The searches are a first one, and one
+-- after each match.
 use Rattle.std.specs.Prelude.{◌≡◌, ◌⊎◌, ◌+◌, ◌<◌, ◌≤◌, ℕ, true, Option}
 use Rattle.cal_civil.specs.headline.Local.{seconds_in_all}
 use Rattle.cal_elapse.specs.ExaminedMonths.{examined_months}

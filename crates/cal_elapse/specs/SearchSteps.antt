@@ -1,5 +1,5 @@
--- The two steps of a search for a local second: the day from which on it searches for a matching day, and the time that
--- it returns on the day found.
+-- The two steps of a search for a local second: on which day it begins to look for a matching day, and which time of
+-- day it returns on the day found.
 use Rattle.std.specs.Prelude.{ℕ, ◌+◌, ◌==◌, cond, Option, None, Some}
 
 -- The earliest day on which a search can find a match. The search starts on `day`, and the second argument is the first

@@ -10,18 +10,17 @@ use Rattle.cal_spec.specs.headline.Match.{Sets}
 abbrev pub matches_up_to : Timed → ℤ → ℕ → ℕ
 matches_up_to e base bound = count_from e.matches (start_of base) (bound - start_of base)
 
--- How many searches have been made when `next` returns. If it returns `Some elapse`, this is 1 more than the number of
--- matching local seconds from the start of the first search up to and including the local second `elapse` +
--- `max_offset`. If it returns `None`, this is 1 more than the number of all matching local seconds from the start of
--- the first search on.
+-- When `next` returns, `searches` is how many searches have been made: 1 more than the number of matching local seconds
+-- in a range. This range begins where the first search starts. If `next` returns `Some elapse`, the range ends with the
+-- local second `elapse` + `max_offset`; if it returns `None`, it ends with the last local second.
 abbrev pub IsSearched : Timed → ℤ → Option ℤ → ℕ → Type 0
 IsSearched e base (Some elapse) searches = searches ≡ matches_up_to e base (unsigned_abs elapse + 93_600) + 1
 IsSearched e base None searches = searches ≡ matches_up_to e base seconds_in_all + 1
 
 -- When `next` returns, `most` is the largest number of months that a single search has examined. Besides the first
--- search, one search is made after each match that is at or after the start of the first search. If `next` returns
--- `Some elapse`, only matches up to and including the local second `elapse` + `max_offset` have had a search after
--- them.
+-- search, there has been one search after each match in a range of local seconds. This range begins where the first
+-- search starts. If `next` returns `Some elapse`, the range ends with the local second `elapse` + `max_offset`; if it
+-- returns `None`, it ends with the last local second.
 abbrev pub IsMostSearched : Sets → ℤ → Option ℤ → ℕ → Type 0
 IsMostSearched sets base (Some elapse) most = IsMost sets (start_of base) (unsigned_abs elapse + 93_600) most
 IsMostSearched sets base None most = IsMost sets (start_of base) seconds_in_all most
