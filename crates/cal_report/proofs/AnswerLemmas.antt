@@ -13,8 +13,8 @@ use Rattle.cal_request.specs.Status.{is_fine, status_and}
 use Rattle.cal_request.specs.declared.request.Status.{Status}
 use Rattle.cal_request.specs.declared.request.Status.TheVariants.{Fine, Refused}
 
--- the remaining reports, with an empty line between consecutive reports, and also one before the first if the flag says
--- that a report was already written
+-- the remaining reports, with an empty line between consecutive reports; if the flag is `true`, a report has already
+-- been written, and there is an empty line before the first of them, too
 pub left_of : Bool → List (List ℕ) → List ℕ
 left_of true reports = flat_map (λ report. codes "\n" ++ report) reports
 left_of false reports = join_by (λ report. report) (codes "\n") reports

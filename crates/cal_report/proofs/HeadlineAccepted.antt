@@ -138,8 +138,8 @@ fine_spelled some all fine before a after split = grind (arith, joining_spelled,
 abbrev IsSpelled : Assignment → Type 0
 IsSpelled a = (fields : Fields) × Spells a.value fields
 
--- the induction step of `each_spelled`, from `rest` to `a ∷ rest`; `is` says whether the assignment `a` passes the test
--- `adds`
+-- the induction step of `each_spelled`, from `rest` to `a ∷ rest`; `is` stands for the result of the test `adds` for
+-- the assignment `a`
 kept_spelled : (adds : Assignment → Bool) (a : Assignment) (rest : List Assignment) (is : Bool) → (is ≡ true → IsSpelled a) → AllByRecursion IsSpelled (filter adds rest)
     → AllByRecursion IsSpelled (cond is (a ∷ filter adds rest) (filter adds rest))
 kept_spelled adds a rest true here later = (here refl, later)

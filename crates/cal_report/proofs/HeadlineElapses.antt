@@ -81,8 +81,8 @@ none_shown tz local (Some second) never e = absurd (never second (place_of-Some 
 pub gap_has_no_place : (tz : TimeZone) (local : ℤ) → ((second : ℤ) → local_shown_at tz second ≡ local → ⊥) → place_of tz local ≡ None
 gap_has_no_place tz local never = none_shown tz local (place_of tz local) never refl
 
--- if the UTC offset `after` is smaller than `before`, then a local second is a later instant at `after` than at
--- `before`
+-- if the UTC offset `after` is smaller than the UTC offset `before`, a local second converted at `after` is a later
+-- instant than the same local second converted at `before`
 later_by : (local i before after : ℤ) → i ≡ local -ℤ before → after <ℤ before → i <ℤ (local -ℤ after)
 later_by local i before after is less = omega (arith, signed_arith)
 

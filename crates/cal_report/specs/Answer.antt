@@ -39,7 +39,7 @@ abbrev pub status_in : Answer → Status
 status_in (Ok report) = Fine
 status_in (Err message) = Refused
 
--- The reports in the order of the arguments, with an empty line between consecutive reports.
+-- the reports in the order of the arguments, with an empty line between consecutive reports
 unfoldable pub reports_text : (List ℕ → Answer) → List (List ℕ) → List ℕ
 reports_text answer texts = join_by (λ report. report) (codes "\n") (flat_map (λ text. report_in (answer text)) texts)
 

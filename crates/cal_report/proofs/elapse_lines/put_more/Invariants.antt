@@ -1,5 +1,5 @@
--- What remains to be written are the elapse times that the source still has, up to the number of iterations, with
--- labels that count from `number`. The writer hasn't failed, and all these elapse times are instants.
+-- All elapse times that the source still has are instants. The first of them remain to be written, with the labels from
+-- `number` to at most `iterations`. The writer hasn't failed.
 use Rattle.std.proofs.Common.{◌≡◌, ◌+◌, ◌-◌, take}
 use Rattle.cal_bytes.proofs.PutLemmas.{PutsUpTo}
 use Rattle.cal_report.specs.ElapseLines.{AreInstants}
