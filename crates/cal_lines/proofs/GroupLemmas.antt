@@ -35,7 +35,7 @@ abbrev pub goes_on_in : ℕ → List ℕ → Bool → List Line → List Line
 goes_on_in n front true ls = after n front (groups ls)
 goes_on_in n front false ls = record { number = n; text = front } ∷ map joined_line (groups ls)
 
--- adding a continued line to the first group is the same as adding what the line contributes to `front`
+-- adding a continued line to the first group has the same effect as appending `part_of_line line.text` to `front`
 pub joined_continued : (n : ℕ) (front : List ℕ) (line : Line) (gs : List Group) → after n front (continued_by line gs) ≡ after n (front ++ part_of_line line.text) gs
 joined_continued n front line [] = ap (λ text. record { number = n; text = text } ∷ []) (ap (λ xs. front ++ xs) (append-nil (part_of_line line.text)))
 joined_continued n front line (g ∷ gs) = ap (λ text. record { number = n; text = text } ∷ map joined_line gs) (sym (append_assoc front (part_of_line line.text) (parts_of (g.first ∷ g.more))))

@@ -17,7 +17,7 @@ abbrev pub IsOpen : Line → List Line → Type 0
 IsOpen line [] = Unit {0}
 IsOpen line (next ∷ more) = (is_continued line.text ≡ true) × IsOpen next more
 
--- each group ends at a line that isn't continued, except that the last group may end with the file
+-- every group is complete, except that the end of the file may cut off the last one
 abbrev pub AreGroups : List Group → Type 0
 AreGroups [] = Unit {0}
 AreGroups (group ∷ []) = IsOpen group.first group.more
