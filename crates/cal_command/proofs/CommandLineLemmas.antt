@@ -32,9 +32,9 @@ among p kind [] at holds = absurd at
 among p kind (k ∷ ks) (inl same) holds = grind (arith, ap p same)
 among p kind (k ∷ ks) (inr later) holds = grind (arith, among p kind ks later holds)
 
--- `kind` is the kind of an error of `clap`: `OutOfMemory`, or a kind that `clap` may report for these arguments, which
--- it then doesn't accept. The error into which the code converts that error of `clap` is right for the arguments, as
--- `IsFaultOf` defines it.
+-- Suppose that `clap` returns an error of the kind `kind`: either `OutOfMemory`, or a kind that it may report for these
+-- arguments, and then it doesn't accept them. The code converts this error to `fault`, which is right for the
+-- arguments, as `IsFaultOf` defines it.
 pub reported_fault : (arguments : List Text) (kind : ErrorKind) (fault : CommandFault) → (takes_arguments arguments ≡ true → kind ≡ OutOfMemory)
     → (kind ≡ OutOfMemory) ⊎ IsAmong kind (faults_in arguments) → IsReportedOf kind fault → IsFaultOf arguments fault
 reported_fault arguments kind (usage text) passes kinds reported =
