@@ -65,8 +65,8 @@ put_at : (masks : Masks) (zone : Zone) (from bound : ℕ) (last : ℤ) (xs : Lis
 unfolding timed_by
 put_at masks zone from bound last xs w holds near = windowed_put (timed_by masks zone) from bound last xs (timed_by-near masks zone) w holds near
 
--- if a window is ready and its next match is `local`, then adding the instant of `local` to the pending instants
--- converts all matches up to `local`
+-- if a window is ready, its next match is `local`, and the instant of `local` is added to the pending instants, then
+-- all matches up to and including `local` have been converted
 pub placed_to : (v : Window) (local : ℤ) (ahead : Option ℤ) (pending : List ℤ) → IsReady v → v.ahead ≡ Some local → ((i : ℤ) → Has v.pending i → local ≤ℤ (i +ℤ pos 93_599))
     → pending ≡ with_place (place_of (zone_of v.zone) local) v.last v.pending → IsPlacedTo (record v { ahead = ahead; pending = pending }) local
 placed_to v (negsuc n) ahead pending h at near put =
@@ -94,7 +94,8 @@ pub placed_is_match : (v : Window) (local : ℤ) → IsPlacedTo v local → IsLo
 unfolding timed_by
 placed_is_match v local h = h.found
 
--- if all matches up to `local` were converted, the window is ready again after a search finds the next match
+-- if all matches up to and including `local` have been converted, the window is ready again after the search for the
+-- next match
 pub next_ready : (v : Window) (local : ℤ) (searcher : Searcher) (found : Found) → IsPlacedTo v local → searcher.masks ≡ v.searcher.masks
     → searcher.searches ≡ v.searcher.searches + 1 → searcher.most_months ≡ max v.searcher.most_months found.months → IsSearch (sets_in v.searcher.masks) (unsigned_abs local + 1) found
     → IsReady (record v { searcher = searcher; ahead = found.local })

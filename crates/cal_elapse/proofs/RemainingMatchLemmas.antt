@@ -107,10 +107,10 @@ place_there v local t end offset h ahead low high inside =
     let count = seconds_in_all-is in
     ahead (pos t) (omega (arith, ints), omega (arith, ints)) (omega (arith, ints)) (omega (arith, ints))
 
--- The condition for adding the remaining matches of a minute to the pending instants: `bits` and `last` describe the
--- rest of the minute of `local`; the UTC offset is constant to the end of the minute; the instant of `local` isn't
--- before `least`, the smallest pending instant; and the end of the minute is at most 93,599 seconds after every pending
--- instant.
+-- What has to be true before the remaining matches of a minute are added to the pending instants. `bits` and `last`
+-- describe the rest of the minute of `local`. The UTC offset is constant from `local` to the end of the minute. The
+-- instant of `local` isn't before `least`, the smallest pending instant. The end of the minute is at most 93,599
+-- seconds after every pending instant.
 pub record IsBehind (v : Window) (local bits last : ℕ) (offset least : ℤ) : Type 0 where
   pub rest : IsRestOfMinute (matches (sets_in v.searcher.masks)) local bits last
   pub ahead : AreAtOffset (zone_of v.zone) (pos local) (pos (local / 60 * 60 + 59)) offset
@@ -204,14 +204,14 @@ no_later xs none i m = subst (λ (ys : List ℤ). Has ys i) (list-no_first xs (s
 passed_by : (t end : ℕ) (last offset i : ℤ) → Some (pos t -ℤ offset) ≡ Some i → t ≤ end → (pos end -ℤ offset) ≤ℤ last → last <ℤ i → ⊥
 passed_by t end last offset i at up early above = grind (arith, signed_arith)
 
--- the window after the remaining matches up to `last` were found
+-- the window after the remaining matches up to `last` have been found
 module _ (v : Window) (local : ℕ) (searcher : Searcher) (last : ℕ) (h : IsPlacedTo v (pos local)) (masks : searcher.masks ≡ v.searcher.masks)
     (more : searcher.searches ≡ v.searcher.searches + count_from (matches (sets_in v.searcher.masks)) (local + 1) (last - local))
     (most : IsMostAfter (sets_in v.searcher.masks) local last v.searcher.most_months searcher.most_months)
     (later : local ≤ last) (holds : matches (sets_in v.searcher.masks) last ≡ true)
   where
     -- if `pending` consists of the pending instants of the matches up to and including `last` (`Windowed`), then all of
-    -- these matches were converted
+    -- these matches have been converted
     rest_placed : (pending : List ℤ) → Windowed (timed_of v) (start_of v.base) (last + 1) v.last pending
         → IsPlacedTo (record v { searcher = searcher; pending = pending }) (pos last)
     unfolding timed_by
@@ -234,8 +234,8 @@ module _ (v : Window) (local : ℕ) (searcher : Searcher) (last : ℕ) (h : IsPl
               (most_more (sets_in v.searcher.masks) start local last v.searcher.most_months searcher.most_months begun later h.examined most);
         }
 
-    -- if nothing is pending, and no local second up to `end` has an instant after the instant returned last, all
-    -- matches up to `last` were converted, without new pending instants
+    -- if nothing is pending, and no local second from `local` to `end` has an instant after the instant returned last,
+    -- then all matches up to `last` have been converted, and nothing new is pending
     pub rest_passed : (end : ℕ) (offset : ℤ) → last ≤ end → end < seconds_in_all → None ≡ slice_get v.pending 0 → AreAtOffset (zone_of v.zone) (pos local) (pos end) offset
         → (pos end -ℤ offset) ≤ℤ v.last → IsPlacedTo (record v { searcher = searcher }) (pos last)
     rest_passed end offset high end_in none ahead early =
@@ -248,8 +248,8 @@ module _ (v : Window) (local : ℕ) (searcher : Searcher) (last : ℕ) (h : IsPl
         (λ i. (λ m. inl m, λ o. elim o [ inl m ↦ m | inr p ↦ absurd (not_above i p.0 p.1) ]))
         (λ i m. absurd (no_later v.pending none i m)))
 
-    -- if the instants of the remaining matches were added to the pending instants, all matches up to `last` were
-    -- converted
+    -- if the instants of the remaining matches have been added to the pending instants, all matches up to `last` have
+    -- been converted
     pub rest_put : (bits : ℕ) (offset least : ℤ) (pending : List ℤ) → IsBehind v local bits last offset least → IsStrictlySortedBy int_cmp pending
         → ((i : ℤ) → Has pending i ↔ (Has v.pending i ⊎ IsOneOf ((pos local -ℤ offset) +ℤ pos 1) bits i)) → IsPlacedTo (record v { searcher = searcher; pending = pending }) (pos last)
     rest_put bits offset least pending b rises members =

@@ -22,7 +22,7 @@ none_past : (masks : Masks) (zone : Zone) (t : ℕ) → seconds_in_all ≤ t →
 unfolding timed_by matches
 none_past masks zone t late = and_left (nat_lt t seconds_in_all) _ (grind (arith))
 
--- if `i` is pending, no match that was converted is more than 93,599 seconds after `i`
+-- if `i` is pending, no match that has been converted is more than 93,599 seconds after `i`
 matches_below : (v : Window) (i : ℤ) (top : ℕ) → IsReady v → Has v.pending i → (pos top) ≡ (i +ℤ pos 93_600) → start_of v.base ≤ top → (t : ℕ) → top ≤ t → t < bound_of v.ahead
     → (timed_of v).matches t ≡ true → ⊥
 matches_below v i top h m is begun t late inside holds =

@@ -96,8 +96,9 @@ put_by e from bound last xs None near w is_match at close = put_none e from boun
 put_by e from bound last xs (Some p) near w is_match at close =
     put_test e from bound last p xs (int_lt last p) refl near w is_match at close
 
--- if all matches below `bound` were converted, and `bound` matches and is at most 93,599 seconds after each pending
--- instant, then adding its instant converts all matches up to and including `bound`
+-- Suppose that all matches below `bound` have been converted, and that `bound` matches and is at most 93,599 seconds
+-- after each pending instant. Once the instant of `bound` is added, all matches up to and including `bound` have been
+-- converted.
 pub windowed_put : (e : Timed) (from bound : ℕ) (last : ℤ) (xs : List ℤ) → AreNear e → Windowed e from bound last xs → e.matches bound ≡ true
     → ((i : ℤ) → Has xs i → pos bound ≤ℤ (i +ℤ pos 93_599)) → Windowed e from (bound + 1) last (with_place (e.place bound) last xs)
 windowed_put e from bound last xs near w is_match close = put_by e from bound last xs (e.place bound) near w is_match refl close
@@ -105,8 +106,8 @@ windowed_put e from bound last xs near w is_match close = put_by e from bound la
 none_between : (e : Timed) (a b t : ℕ) → NonePasses e.matches a b → t < b → e.matches t ≡ true → t < a
 none_between e a b t none below m = grind arith
 
--- if all matches below `a` were converted, and no local second from `a` up to but not including `b` matches, then all
--- matches below `b` were converted
+-- if all matches below `a` have been converted, and no local second from `a` up to but not including `b` matches, then
+-- all matches below `b` have been converted
 pub windowed_on : (e : Timed) (from a b : ℕ) (last : ℤ) (xs : List ℤ) → a ≤ b → NonePasses e.matches a b → Windowed e from a last xs → Windowed e from b last xs
 windowed_on e from a b last xs h none w = grind (arith, placed_on, none_between)
 

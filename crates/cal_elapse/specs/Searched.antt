@@ -12,15 +12,15 @@ matches_up_to e base bound = count_from e.matches (start_of base) (bound - start
 
 -- When `next` returns, `searches` is how many searches have been made: 1 more than the number of matching local seconds
 -- in a range. This range begins where the first search starts. If `next` returns `Some elapse`, the range ends with the
--- local second `elapse` + `max_offset`; if it returns `None`, it ends with the last local second.
+-- local second `elapse` + `max_offset`. If `next` returns `None`, the range ends with the last local second.
 abbrev pub IsSearched : Timed → ℤ → Option ℤ → ℕ → Type 0
 IsSearched e base (Some elapse) searches = searches ≡ matches_up_to e base (unsigned_abs elapse + 93_600) + 1
 IsSearched e base None searches = searches ≡ matches_up_to e base seconds_in_all + 1
 
 -- When `next` returns, `most` is the largest number of months that a single search has examined. Besides the first
 -- search, there has been one search after each match in a range of local seconds. This range begins where the first
--- search starts. If `next` returns `Some elapse`, the range ends with the local second `elapse` + `max_offset`; if it
--- returns `None`, it ends with the last local second.
+-- search starts. If `next` returns `Some elapse`, the range ends with the local second `elapse` + `max_offset`. If
+-- `next` returns `None`, the range ends with the last local second.
 abbrev pub IsMostSearched : Sets → ℤ → Option ℤ → ℕ → Type 0
 IsMostSearched sets base (Some elapse) most = IsMost sets (start_of base) (unsigned_abs elapse + 93_600) most
 IsMostSearched sets base None most = IsMost sets (start_of base) seconds_in_all most
