@@ -96,7 +96,7 @@ abbrev pub IsRejected : Request → List ℕ → Type 0
 IsRejected asked text = (e : Expression) → e.text ≡ text → IsAccepted asked e → ⊥
 
 -- the answer to a text: the report of an accepted expression with this text, or, if the text is rejected, an error line
--- that begins with the text
+-- of the form `TEXT: MESSAGE`
 abbrev pub IsAnswerTo : Request → ℤ → List ℕ → Result (List ℕ) (List ℕ) → Type 0
 IsAnswerTo asked base text (Ok report) =
     (e : Expression) × (e.text ≡ text) × IsAccepted asked e × IsReportOf asked base (alone e) report
@@ -104,8 +104,8 @@ IsAnswerTo asked base text (Err line) =
     IsRejected asked text × ((message : List ℕ) × (line ≡ text ++ (codes ": " ++ (message ++ codes "\n"))))
 
 -- The report answers each text, whether or not other texts are rejected. Standard output has the reports in the order
--- of the texts, with an empty line between consecutive reports. Standard error has the error lines, and the status is
--- `Fine` unless a text is rejected.
+-- of the texts, with an empty line between consecutive reports. Standard error has the error lines, also in the order
+-- of the texts. The status is `Fine` unless a text is rejected.
 pub record AreAnswered (asked : Request) (base : ℤ) (texts : List (List ℕ)) (report : Report) : Type 0 where
   pub answers : List (Result (List ℕ) (List ℕ))
   pub each : AllZip (IsAnswerTo asked base) texts answers
