@@ -163,8 +163,8 @@ IsFaultOf arguments bad_zones = HasRead arguments (Err bad_zones)
 IsFaultOf arguments bad_local = HasRead arguments (Err bad_local)
 IsFaultOf arguments no_memory = ⊤
 
--- `answer` is right for the arguments. If `clap` parses them, the right answer is what they ask for. Otherwise it is
--- usage or help. A failed allocation is always right.
+-- `answer` is right for the arguments. If `clap` parses them, the right answer is what they ask for. Otherwise the
+-- right answer is usage or help. The error for a failed allocation is right for all arguments.
 abbrev pub IsAskOf : List Text → Result Ask CommandFault → Type 0
 IsAskOf arguments (Ok ask) = HasRead arguments (Ok ask)
 IsAskOf arguments (Err fault) = IsFaultOf arguments fault
