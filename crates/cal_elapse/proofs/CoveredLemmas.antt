@@ -25,8 +25,8 @@ matches_among sets others h local =
     (both_follow _ _ _ _ (λ m. grind (arith, h.weekday)) (both_follow _ _ _ _ (h.year _) (both_follow _ _ _ _ (h.month _) (rw h.from_end (h.day _)))))
     (both_follow _ _ _ _ (h.hour _) (both_follow _ _ _ _ (h.minute _) (h.second _))))
 
--- if the expression `others` matches all values of the expression `fields`, field by field, then in the same zone
--- `fields` is covered by `others`
+-- if `others` matches all values that `fields` matches, field by field, then in the same zone the expression `fields`
+-- is covered by the expression `others`
 pub place_among : (fields others : Fields) (zone : TimeZone) → AreAmong (sets_of fields) (sets_of others) → IsCovered (timed fields zone) (timed others zone ∷ [])
 unfolding timed
 place_among fields others zone among i p = grind (arith, matches_among)

@@ -16,7 +16,7 @@ use Rattle.cal_spec.specs.declared.part.Part.{Part}
 use Rattle.cal_spec.specs.declared.slot.Slot.{Slot}
 use Rattle.cal_spec.specs.declared.slot.Slot.TheVariants.{DayFromEnd}
 
--- the largest value that a component of a slot can match; if days are counted from the end of the month it is 31,
+-- the largest value that a component of a slot can match; if days are counted from the end of the month, it is 31,
 -- because `*` matches every count up to 31
 abbrev pub last_of : Slot → ℕ
 last_of DayFromEnd = 31

@@ -17,19 +17,19 @@ pub search_examined : (sets : Sets) (from : ℕ) (found : Found) → IsSearch se
 search_examined sets from found search =
     record { answer = option_map unsigned_abs found.local; first = first_passing (matches sets) from found.local search.first; examined = search.counted }
 
--- an empty range contains no match, so it leaves the maximum unchanged
+-- an empty range contains no match, so the largest number of months stays the same
 pub most_begun : (sets : Sets) (from before : ℕ) → IsMostAfter sets from from before before
 most_begun sets from before = record { not_below = omega arith; all = λ months one. absurd (let low = one.low in let high = one.high in omega arith); one = inl refl }
 
--- if `t` is the only match from `t` up to but not including `next`, and the search after it examines `months` months,
--- then the maximum is the larger of `before` and `months`
+-- if `t` is the only match from `t` up to but not including `next`, and the search after `t` examines `months` months,
+-- then the largest number of months rises from `before` to the larger of `before` and `months`
 pub most_next : (sets : Sets) (t next before months : ℕ) → matches sets t ≡ true → IsExamined sets (t + 1) months → t < next → NonePasses (matches sets) (t + 1) next
     → IsMostAfter sets t next before (max before months)
 most_next sets t next before months holds examined later none = grind (arith, max_is)
 
--- Suppose that the searches after the matches of one range raise the maximum from `x` to `y`, and that the searches
--- after the matches of the adjacent range raise it from `y` to `z`. All these searches together then raise it from `x`
--- to `z`.
+-- Suppose that the searches after the matches of one range raise the largest number of months from `x` to `y`, and that
+-- the searches after the matches of the adjacent range raise this number from `y` to `z`. All these searches together
+-- then raise it from `x` to `z`.
 pub most_on : (sets : Sets) (a b c x y z : ℕ) → a ≤ b → b ≤ c → IsMostAfter sets a b x y → IsMostAfter sets b c y z → IsMostAfter sets a c x z
 most_on sets a b c x y z low high one two =
     record {
@@ -56,7 +56,7 @@ most_on sets a b c x y z low high one two =
 pub most_then : (sets : Sets) (a b c x y z most : ℕ) → a ≤ b → b ≤ c → IsMostAfter sets a b x y → IsMostAfter sets b c y z → most ≡ z → IsMostAfter sets a c x most
 most_then sets a b c x y z most low high one two is = subst (IsMostAfter sets a c x) (sym is) (most_on sets a b c x y z low high one two)
 
--- a different end of the range changes nothing if the range contains the same matches
+-- if a range with a different end contains the same matches, the largest number of months is the same
 pub most_same : (sets : Sets) (start a b most : ℕ) → ((t : ℕ) → start ≤ t → matches sets t ≡ true → (t < a → t < b) × (t < b → t < a)) → IsMost sets start a most → IsMost sets start b most
 most_same sets start a b most same h = record {
   first = h.first;
@@ -71,18 +71,20 @@ most_same sets start a b most same h = record {
   };
 }
 
--- the maximum up to `a`, raised by the searches after the matches from `a` up to but not including `b`, is the maximum
--- up to `b`
+-- Suppose that `most` is the largest number of months for the range that ends before `a`, and that the searches after
+-- the matches from `a` up to but not including `b` raise this number to `more`. Then `more` is the largest number of
+-- months for the range that ends before `b`.
 pub most_more : (sets : Sets) (start a b most more : ℕ) → start ≤ a → a ≤ b → IsMost sets start a most → IsMostAfter sets a b most more → IsMost sets start b more
 most_more sets start a b most more low high h later = record { first = h.first; begun = h.begun; later = most_on sets start a b h.first most more low high h.later later }
 
--- if there is no match from `start` up to but not including `bound`, the maximum is the number of months that the first
--- search examined
+-- if there is no match from `start` up to but not including `bound`, the largest number of months is that of the first
+-- search
 pub most_start : (sets : Sets) (start bound old most months : ℕ) → IsExamined sets start months → start ≤ bound → NonePasses (matches sets) start bound → old ≡ 0
     → most ≡ max old months → IsMost sets start bound most
 most_start sets start bound old most months examined low none zero is = grind (arith, max_from_zero, most_same)
 
--- When a search finds the next match in a minute or an hour: one more match is counted, and the maximum may rise.
+-- When a search finds the next match in a minute or an hour: one more match is counted, and the largest number of
+-- months may rise.
 
 pub next_counted : (passes : ℕ → Bool) (local : ℤ) (next : Option ℤ) → IsFirstPassing passes (unsigned_abs local + 1) seconds_in_all (option_map unsigned_abs next) → IsSome next
     → count_from passes (unsigned_abs local + 1) (unsigned_abs (unwrap_or next local) - unsigned_abs local) ≡ 1
