@@ -71,8 +71,8 @@ added_without asked base lines exceptions i line old new h is a covered =
       is = a.is;
     }
 
--- if the expressions of a timer file were added to an empty merge, and then the exceptions, the merge yields the elapse
--- times of the timer file
+-- if the expressions of a timer file, and then its exceptions, have been added to an empty merge, the merge yields the
+-- elapse times of the timer file
 pub merge_added : (asked : Request) (base : ℤ) (lists : Timer Fields) (empty some merge : Merge) → empty ≡ record { started = false; lists = []; exceptions = [] }
     → IsAdded asked base lists.expressions lists.exceptions empty some
     → merge ≡ record { started = false; lists = some.lists; exceptions = some.exceptions ++ each_of asked base lists.exceptions }
