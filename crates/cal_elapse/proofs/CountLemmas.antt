@@ -92,7 +92,7 @@ count_from-then passes start local last low high =
     ∙ (count_from-both passes (start + 1) (local - start) (last - local)
     ∙ ap (λ (t : ℕ). count_from passes (start + 1) (local - start) + count_from passes t (last - local)) there)
 
--- if no number from `start` up to but not including `bound` passes, counting them gives 0
+-- if no number from `start` up to but not including `bound` passes, counting those that pass gives 0
 pub count_from-begun : (passes : ℕ → Bool) (start bound : ℕ) → start ≤ bound → NonePasses passes start bound → count_from passes start (bound - start) ≡ 0
 unfolding count_from
 count_from-begun passes start bound low none =

@@ -116,7 +116,7 @@ pub record Located (day n : ℕ) : Type 0 where
   pub year_low : pos 1_970 ≤ℤ (civil_date day).year
   pub year_high : (civil_date day).year ≤ℤ pos 2_199
 
--- a year from 1970 to 2199 fits a 16-bit integer, so converting it to one and back doesn't change it
+-- a year from 1970 to 2199 fits into a 16-bit integer, so converting it to one and back doesn't change it
 pub year_word : (y : ℤ) → pos 1_970 ≤ℤ y → y ≤ℤ pos 2_199 → to_z w16 (of_z w16 y) ≡ y
 year_word y low high = grind (arith, to_z_pos, w16, signed_arith)
 

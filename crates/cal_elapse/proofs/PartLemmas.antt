@@ -22,8 +22,8 @@ pub members_by : (f : Field) (e : Fields) (v : ℕ) → members_of f (sets_of e)
 unfolding sets_of
 members_by f e v = grind arith
 
--- an index `i` below `count` is from `a` - `first` up to but not including `b` + 1 - `first` if and only if the value
--- `first` + `i` is from `a` to `b`
+-- an index `i` below `count` is in the range `a - first..b + 1 - first` if and only if the value `first` + `i` is from
+-- `a` to `b`
 pub between_in_window : (a b first count i : ℕ) → (nat_le (a - first) i && nat_lt i (min (b + 1 - first) count)) ≡ (nat_lt i count && is_between a b (first + i))
 between_in_window a b first count i = grind (arith, nat_tests)
 

@@ -104,7 +104,8 @@ later_today sets t second below holds found =
     first_within (matches sets) (t + 1) ((t / 86_400 + 1) * 86_400) seconds_in_all (t / 86_400 * 86_400 + second) (omega arith)
     (first_here (locals_split sets) (t / 86_400) (t % 86_400 + 1) (t + 1) 86_400 second (omega arith) day (and_parts _ _ both).0 found.1 found)
 
--- if a search after the match `t` finds a match on the same day, at `second`, it examines one month
+-- if `t` is a match, and `second` is the first matching time of day after the time of `t`, then a search after `t`
+-- finds the match at `second` on the same day, and examines one month
 pub search_today : (sets : Sets) (t second : ℕ) (found : ℤ) → t < seconds_in_all → matches sets t ≡ true → IsFirstPassing (time_in sets) (t % 86_400 + 1) 86_400 (Some second)
     → found ≡ pos (t / 86_400 * 86_400 + second) → IsSearch sets (t + 1) (record { local = Some found; months = 1 })
 search_today sets t second found below holds time same =

@@ -12,8 +12,7 @@ pub record IsExamined (sets : Sets) (from months : ℕ) : Type 0 where
   pub first : IsFirstPassing (matches sets) from seconds_in_all answer
   pub examined : months ≡ examined_months sets from answer
 
--- there is a match from `from` up to but not including `to`, and a search that starts just after this match examines
--- `months` months
+-- there is a match in the range `from..to`, and a search that starts just after this match examines `months` months
 pub record IsExaminedAfter (sets : Sets) (from to months : ℕ) : Type 0 where
   pub local : ℕ
   pub low : from ≤ local
