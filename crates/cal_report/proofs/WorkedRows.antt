@@ -95,7 +95,7 @@ noon_thirty-at : time_in (sets_of noon_thirty) 45_000 ≡ true
 unfolding noon_thirty time_in sets_of part_has
 noon_thirty-at = refl
 
--- the local second 1,704,112,200 is Mon 2024-01-01 12:30:00
+-- the local second 1,704,112,200, which is Mon 2024-01-01 12:30:00, matches `*-*-* 12:30:00`
 noon_thirty-matches : matches (sets_of noon_thirty) 1_704_112_200 ≡ true
 unfolding matches
 noon_thirty-matches = rw (inside 1_704_112_200 (omega arith), new_year-is, noon_thirty-on, noon_thirty-at) refl
@@ -121,7 +121,7 @@ noon_thirty-on_again : date_in (sets_of noon_thirty) day_after ≡ true
 unfolding noon_thirty date_in sets_of
 noon_thirty-on_again = rw day_after-weekday (unfold day_after in refl)
 
--- the local second 1,704,198,600 is Tue 2024-01-02 12:30:00
+-- the local second 1,704,198,600, which is Tue 2024-01-02 12:30:00, matches `*-*-* 12:30:00`
 noon_thirty-matches_again : matches (sets_of noon_thirty) 1_704_198_600 ≡ true
 unfolding matches
 noon_thirty-matches_again = rw (inside 1_704_198_600 (omega arith), day_after-is, noon_thirty-on_again, noon_thirty-at) refl
