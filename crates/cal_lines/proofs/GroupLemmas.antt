@@ -48,7 +48,8 @@ continued_alone : (line : Line) (gs : List Group) → map joined_line (continued
 continued_alone line [] = ap (λ text. record { number = line.number; text = text } ∷ []) (append-nil (part_of_line line.text))
 continued_alone line (g ∷ gs) = refl
 
--- a logical line begins with what its first physical line contributes
+-- the first logical line begins with what the first physical line contributes, and goes on in the later physical lines
+-- if the first is continued
 pub line_begins : (line : Line) (ls : List Line) → map joined_line (groups (line ∷ ls)) ≡ goes_on_in line.number (part_of_line line.text) (is_continued line.text) ls
 unfolding groups
 line_begins line ls = grind (arith, append-nil (part_of_line line.text), continued_alone line (groups ls))
