@@ -206,7 +206,7 @@ first-least [] i h m least = absurd m
 first-least (x ∷ xs) i h (inl e) least = ap Some e
 first-least (x ∷ xs) i h (inr n) least = absurd (below_and_above x i (above_first x i xs h n) (least x (inl refl)))
 
--- if no elapse is after `b`, there is no first elapse after `b`
+-- if no elapse is after `b`, the list of the elapses after `b` has no first element
 pub first_elapse-none : (es : List Timed) (b : ℤ) → ((i : ℤ) → b <ℤ i → IsElapse es i → ⊥) → slice_get (elapses_after es b) 0 ≡ None
 first_elapse-none es b h =
     let all = AreAbove-elapses_after es b in

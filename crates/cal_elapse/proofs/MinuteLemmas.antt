@@ -119,7 +119,7 @@ seconds_after m local holds =
 pub left_inside : (m : Masks) (found from left bit : ℕ) → AreRemaining (matches (sets_in m)) found from left → IsFirstPassing (is_bit left) 0 64 (Some bit) → from + bit < seconds_in_all
 left_inside m found from left bit h lowest = match_inside (sets_in m) (from + bit) (bit_passes _ found from left bit h lowest.2)
 
--- A search after a match examines one month if it finds a match later on the same day.
+-- a search after a match examines one month if it finds a match later on the same day
 search_on : (m : Masks) (found next : ℕ) → next / 86_400 ≡ found / 86_400 → IsFirstPassing (matches (sets_in m)) (found + 1) seconds_in_all (Some next)
     → IsSearch (sets_in m) (found + 1) (record { local = Some (pos next); months = 1 })
 search_on m found next day first =
