@@ -183,7 +183,7 @@ every_second-spelled = record {
   normal = record { weekdays = refl; year = refl; month = refl; day = refl; hour = refl; minute = refl; second = refl; from_end = refl; suffix = refl };
 }
 
--- a request for two elapse times of `*:*:*`, at 12:30:00 UTC on Mon 2024-01-01
+-- a request for two elapse times of `*:*:*`, made at 12:30:00 UTC on Mon 2024-01-01
 two_seconds : Request
 two_seconds = record { verb = Calendar; texts = codes "*:*:*" ∷ []; iterations = 2; base = None; now = pos 1_704_112_200; local = utc; zones = empty }
 
