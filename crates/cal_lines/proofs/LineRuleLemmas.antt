@@ -29,8 +29,9 @@ unfolding groups
 are_groups [] = tt
 are_groups (line ∷ lines) = grind (arith, are_groups lines, continued_groups line (groups lines), ended_groups line (groups lines))
 
--- `groups` returns a complete group as it is, and also a group that the end of the file cuts off (`open_group`); so no
--- other groups with the same lines satisfy `AreGroups` (`groups_of_lines`)
+-- `groups` puts the lines of a complete group together again, and also those of a group that the end of the file cuts
+-- off (`open_group`). So what `groups` returns is the only list of groups with these lines that satisfies `AreGroups`
+-- (`groups_of_lines`).
 closed_group : (line : Line) (more rest : List Line) → IsClosed line more → groups ((line ∷ more) ++ rest) ≡ record { first = line; more = more } ∷ groups rest
 unfolding groups
 closed_group line [] rest e = rw e refl

@@ -116,7 +116,7 @@ fn advance_all_past<S: Rising>(sources: &mut Vec<Peeked<S>>, number: i64)
 }
 
 /// Returns whether `number` is among the remaining numbers of any source. The caller promises not to ask for a smaller
-/// number again, so sources that do not have `number` may drop smaller numbers.
+/// number again, so numbers below `number` may be dropped.
 fn has_onward_in_any<S: Rising>(sources: &mut Vec<Peeked<S>>, number: i64) -> bool
     ensures has { result ≡ list_any (λ xs. is_member int_eq xs number) (map numbers sources.old.items) }
     ensures left { (i : ℤ) → number ≤ℤ i → list_any (λ xs. is_member int_eq xs i) (map numbers sources.new.items)

@@ -54,7 +54,7 @@ characters (b ∷ c ∷ bytes) =
 
 -- Words (systemd.time(7), Parsing Time Spans: blanks may come before, between and after them)
 
--- puts a character in front of runs: if the first run is of the same kind, it is extended by the character, otherwise
+-- puts a character in front of runs: if the first run is of the same kind, it is extended by the character; otherwise
 -- the character is a run of its own
 abbrev pub with_front : Piece → List Piece → List Piece
 with_front s [] = s ∷ []

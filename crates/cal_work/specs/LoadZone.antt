@@ -1,6 +1,6 @@
--- When loading a zone file (RFC 8536) succeeds, what it adds to the zone table, and why it fails. The option `--zones`
--- is this project's own. In these definitions, `old` and `new` are the bytes that are left to read before and after
--- loading, if they are known.
+-- The conditions under which loading a zone file (RFC 8536) succeeds, what it then adds to the zone table, and why it
+-- can fail. Zone files are given with `--zones`, an option that is this project's own. In these definitions, `old` and
+-- `new` are the bytes that are left to read before and after loading, if they are known.
 use Rattle.std.specs.Prelude.{◌≡◌, ℕ, Bool, true, false, List, Option, Result, Ok, Err}
 use Rattle.std.specs.FinMap.{insert}
 use Rattle.jiff.specs.Types.{TimeZone}

@@ -34,7 +34,8 @@ pub enum SearchStart {
 /// The matches that `search_minute` found: those after a given match in the same minute.
 #[derive(Drop)]
 pub struct RestOfMinute {
-    /// One bit for each match found. Bit i stands for the local second i + 1 seconds after the given match.
+    /// One bit for each match found. Bit i stands for the local second that comes i + 1 seconds after
+    /// the given match.
     pub bits: u64,
     /// The last match found, or the given match if none was found.
     pub last: i64,

@@ -3,7 +3,7 @@ use Rattle.cal_rising.specs.Merge.{merged}
 use Rattle.cal_rising.specs.RisingList.{union, without}
 use Rattle.cal_rising.proofs.merge.MergeRising.next.Given as goal
 
--- `next` is marked as called, and the numbers that the merge has yet to return are the same as before the loop
+-- the merge is marked as started, and the numbers that the merge has yet to return are the same as before the loop
 abbrev pub invariant-loop-number : goal.invariant-loop-number
 invariant-loop-number g l = record {
   started : l.self-inside.started ≡ true;
