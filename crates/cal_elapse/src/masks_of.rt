@@ -92,8 +92,7 @@ fn in_part(part: Part, first: u16, count: u32) -> u64
     }
 }
 
-/// Returns the largest value that the part can match, or 65,535 for an open-ended repetition, which has no limit of its
-/// own.
+/// Returns an upper bound of the values that the part matches: its end, or 65,535 for an open-ended repetition.
 fn last_of(part: Part) -> u16
     ensures { result ≡ last_number part.start part.end part.step }
 {

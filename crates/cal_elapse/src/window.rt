@@ -1,6 +1,6 @@
 //! The conversion of an expression's matches to instants, in the order in which the matches are found.
 
-ghost use Rattle.std.specs.Prelude.{◌≡◌, ◌+◌, ◌*◌, ◌/◌, ◌≤◌, ℤ, pos, ◌+ℤ◌, ◌≤ℤ◌, ◌<ℤ◌, Some, cond, true, unsigned_abs};
+ghost use Rattle.std.specs.Prelude.{◌≡◌, ◌+◌, ◌*◌, ◌/◌, ◌≤◌, ℤ, pos, ◌+ℤ◌, ◌≤ℤ◌, ◌<ℤ◌, Some, cond, unsigned_abs};
 ghost use Rattle.cal_civil.specs.Local.{IsLocalSecond};
 ghost use Rattle.cal_civil.specs.headline.Local.{seconds_in_all, max_offset};
 ghost use Rattle.cal_zone.specs.Instant.{IsInstant};
@@ -155,8 +155,8 @@ impl<'z> Window<'z> {
     /// If no later match in the hour is known, nothing changes. Otherwise, nothing changes unless two conditions are
     /// met by the 3,600 local seconds from `local` on:
     ///
-    /// - None of them is more than `MAX_OFFSET` after the instant returned last, so that each match among them has to be
-    ///   converted now.
+    /// - None of them is more than `MAX_OFFSET` after the instant returned last, so that each match among them has to
+    ///   be converted now.
     /// - Their UTC offset is constant.
     #[tactic(auto, using(cal_civil::proofs::LocalLemmas::local_arith, crate::proofs::ReadyLemmas::few_searches, crate::proofs::ReadyLemmas::placed_is_match))]
     fn convert_hour(&mut self, local: i64) -> i64
@@ -175,13 +175,12 @@ impl<'z> Window<'z> {
         let Some(offset) = self.zone.offset_over(local, end) else {
             return local;
         };
-        let past = end - offset <= self.last;
         let mut last = local;
         while self.searcher.has_more_in_hour(last) {
             let Some(next) = self.searcher.search(SearchStart::After(last)).local else {
                 unreachable!()
             };
-            put_later(&mut self.pending, next - offset, self.last, past);
+            put_later(&mut self.pending, next - offset, self.last);
             last = next;
         }
         last
@@ -264,20 +263,17 @@ fn put_place(pending: &mut Pending, place_cache: &mut PlaceCache<'_>, local: i64
     ensures zone { place_cache.new ≡ place_cache.old }
 {
     if let Some(instant) = place_cache.place(local) {
-        put_later(pending, instant, last, false);
+        put_later(pending, instant, last);
     }
 }
 
-/// Adds an instant to the pending instants, if it is after `last`, the instant returned last. If `past` is true, the
-/// caller knows that it isn't. In a loop in which `past` doesn't change, the compiler then leaves the call out, and
-/// keeps the state of the search in registers.
-fn put_later(pending: &mut Pending, instant: i64, last: i64, past: bool)
-    requires past { past ≡ true → instant ≤ℤ last }
+/// Adds an instant to the pending instants, if it is after `last`, the instant returned last.
+fn put_later(pending: &mut Pending, instant: i64, last: i64)
     requires instant { last <ℤ instant → IsInstant instant }
     requires near { (i : ℤ) → Has pending.old i → last <ℤ instant → IsNear i instant }
     ensures { pending.new ≡ with_place (Some instant) last pending.old }
 {
-    if !past && last < instant {
+    if last < instant {
         pending.put(instant);
     }
 }

@@ -112,8 +112,8 @@ fn push_fault(
     Ok(())
 }
 
-/// Appends the errors of the text with the index `place`, and returns the lengths of the lists after this text.
-/// `counts` are the lengths before it.
+/// Appends the errors of the text with the index `place` to `found`, and returns the lengths that the lists of
+/// expressions and exceptions have after this text. `counts` are the lengths before it.
 fn take_faults(
     alloc: Global,
     found: &mut Vec<FileFault>,

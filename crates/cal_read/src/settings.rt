@@ -22,7 +22,7 @@ pub struct Setting {
 }
 
 impl Setting {
-    /// Borrows the key and the value.
+    /// Returns the setting as an assignment that borrows its key and value.
     pub(crate) fn assignment(&self) -> Assignment<'_>
         ensures { shown_assignment result ≡ shown_setting self.now }
     {

@@ -77,8 +77,8 @@ rows =
     ∷ (codes "Wed 1969-12-31 23:00:00 -01:00", Err NoSuchDate)
     ∷ []
 
--- day `day` of November 2012 has the day number 15,644 + `day`; this is proved here so that computing an example
--- doesn't count the years from 1970 on
+-- day `day` of November 2012 has the day number 15,644 + `day`; this is proved here so that evaluating an example
+-- needn't count through the years since 1970
 in_november : (day : ℕ) → 1 ≤ day → days_from_civil (pos 2_012) 11 day ≡ pos (15_644 + day)
 in_november day first =
     omega (arith, signed_arith, days_from_civil-day_count (pos 2_012) 11 day, day_count-late (pos 2_012) 12_012 11 day refl (omega arith) (omega arith) first)

@@ -1,8 +1,8 @@
 //! Calls that allocate. `tests/refused` makes each of their allocations fail in turn.
 //!
-//! A test succeeds if every allocation succeeds. Otherwise it fails with the call's `NoMemory` or `AllocError`, after
-//! it has checked that the call left its arguments unchanged. `tests/refused` checks that a test fails if and only if
-//! an allocation has failed.
+//! A test succeeds if every allocation succeeds. Otherwise it fails with the call's `NoMemory` or `AllocError`; if the
+//! call could have changed an argument, the test first checks that it didn't. `tests/refused` checks that a test fails
+//! if and only if an allocation has failed.
 
 use cal_command::Ask;
 use cal_library_tests::shared::zone_file;

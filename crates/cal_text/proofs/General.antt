@@ -263,7 +263,7 @@ high_bits_same m k i h high =
     ∙ (bit_at_cat_high a (k + 1) (2 ^ k) i (omega arith) (omega arith)
     ∙ (sym (bit_at_cat_high a (k + 1) (2 ^ k - 1) i (omega arith) (omega arith)) ∙ ap (λ (x : ℕ). bit_at x i) (sym (less_split m k h))))
 
--- the bitwise or of `a` and of the words `xs` is at least `a`
+-- the bitwise OR of `a` and all the words in `xs` is at least `a`
 fold_least : (a : ℕ) (xs : List ℕ) → a ≤ fold_l bit_or a xs
 fold_least a [] = omega arith
 fold_least a (x ∷ xs) = omega (arith, le_or_l a x, fold_least (bit_or a x) xs)
@@ -481,8 +481,8 @@ take_front text n h =
 
 -- Splitting a text at separators
 
--- `onto_first` puts `x` in front of the first piece, or makes it a piece of its own if there is none. It therefore
--- always returns at least one piece, and so does `slice_split` (`some_piece`).
+-- `onto_first` prepends `x` to the first piece, or makes `x` a piece of its own if there are no pieces. So it always
+-- returns at least one piece, and so does `slice_split` (`some_piece`).
 some_onto : (x : ℕ) (pieces : List (List ℕ)) → (first : List ℕ) × (more : List (List ℕ)) × (onto_first x pieces ≡ first ∷ more)
 some_onto x [] = (x ∷ [], [], refl)
 some_onto x (t ∷ ts) = (x ∷ t, ts, refl)

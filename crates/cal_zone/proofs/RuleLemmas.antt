@@ -38,13 +38,13 @@ pub record IsBeside (moment at other : ℤ) : Type 0 where
   pub le : int_le moment at ≡ int_le moment other
   pub lt : int_lt at moment ≡ int_lt other moment
 
--- `moment` is at most `by` inside the range from `low` to `high`: it is outside this range, or inside it and at most
--- `by` away from one of its ends
+-- `moment` is outside the range from `low` to `high`, or at most `by` away from one of its ends
 abbrev pub IsApart : ℤ → ℤ → ℤ → ℤ → Type 0
 IsApart low high by moment = (moment ≤ℤ (low +ℤ by)) ⊎ (high ≤ℤ (moment +ℤ by))
 
--- `moment` is at most `by` inside the range from `low` to `high`, while `at` and `other` are at least `far` inside it.
--- If `by` is less than `far`, then `at` and `other` are on the same side of `moment`.
+-- Suppose that `moment` is outside the range from `low` to `high`, or at most `by` away from one of its ends, while
+-- `at` and `other` are in this range and at least `far` away from its ends. If `by` is less than `far`, then `at` and
+-- `other` are on the same side of `moment`.
 beside : (low high by far moment at other : ℤ) → IsApart low high by moment → by <ℤ far → (low +ℤ far) ≤ℤ at → (at +ℤ far) ≤ℤ high → (low +ℤ far) ≤ℤ other → (other +ℤ far) ≤ℤ high
     → IsBeside moment at other
 beside low high by far moment at other (inl h) more a b c d = record {
@@ -94,9 +94,9 @@ near_by low high a b kept other more p q some h (inr x) y = omega (arith, signed
 clamped_near : (low high a b more : ℤ) → low ≤ℤ high → pos 0 ≤ℤ more → a ≤ℤ (b +ℤ more) → clamp_to low high a ≤ℤ (clamp_to low high b +ℤ more)
 clamped_near low high a b more order some h = grind (arith, signed_arith, clamped, near_by)
 
--- The lemmas `kept_low` and `kept_high` are the two cases of `apart_kept`: if `moment` is at most `by` inside the range
--- from `low` to `high`, and `moved` differs from `moment` by at most `more`, then `moved`, clamped to the civil times
--- of `jiff`, is at most `by` plus `more` inside this range.
+-- The lemmas `kept_low` and `kept_high` are the two cases of `apart_kept`: if `moment` is outside the range from `low`
+-- to `high`, or at most `by` away from one of its ends (`IsApart`), and `moved` differs from `moment` by at most
+-- `more`, then the same holds for `moved`, clamped to the civil times of `jiff`, with `by` + `more` in place of `by`.
 kept_low : (low high by more moment moved kept : ℤ) → moment ≤ℤ (low +ℤ by) → civil_min ≤ℤ low → pos 0 ≤ℤ by → pos 0 ≤ℤ more → moved ≤ℤ (moment +ℤ more)
     → (kept ≤ℤ moved) ⊎ (kept ≤ℤ civil_min) → IsApart low high (by +ℤ more) kept
 kept_low low high by more moment moved kept h from some also a (inl k) = inl (omega (arith, signed_arith))

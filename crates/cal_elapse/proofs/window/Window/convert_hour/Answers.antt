@@ -1,4 +1,4 @@
-use Rattle.std.proofs.Common.{◌≡◌, ◌≤◌, ◌/◌, ◌∙◌, FitsSigned, IfSome, IsSome, List, Option, Some, ℤ, negsuc, pos, ◌+ℤ◌, ◌-ℤ◌, ◌≤ℤ◌, ◌<ℤ◌, ap, false, int_le, int_lt, true, arith, of_z, refl, rules, subst, sym, to_z, unsigned_abs, w64}
+use Rattle.std.proofs.Common.{◌≡◌, ◌≤◌, ◌/◌, ◌∙◌, FitsSigned, IfSome, IsSome, List, Option, Some, ℤ, negsuc, pos, ◌+ℤ◌, ◌-ℤ◌, ◌≤ℤ◌, ◌<ℤ◌, ap, false, int_lt, arith, of_z, refl, rules, subst, sym, to_z, unsigned_abs, w64}
 use Rattle.std.proofs.lemmas.Int.{ints, to_z-of_z}
 use Rattle.jiff.proofs.SpanFacts.{signed_arith}
 use Rattle.jiff.specs.Types.{TimeZone}
@@ -19,23 +19,21 @@ use Rattle.cal_elapse.specs.declared.window.Window.{Window}
 use Rattle.cal_elapse.proofs.MinuteLemmas.{hour_found}
 use Rattle.cal_elapse.proofs.ReadyLemmas.{next_ready, placed_before, placed_is_match, placed_to}
 use Rattle.cal_elapse.proofs.WindowLemmas.{put_instant, put_near}
-use Rattle.cal_elapse.proofs.window.Window.convert_hour.Goals.{After-search, In-Some}
+use Rattle.cal_elapse.proofs.window.Window.convert_hour.Goals.{After-search}
 use Rattle.cal_elapse.proofs.window.Window.convert_hour.Goals as goal
 
--- A search found the match `next`, which isn't after `end`, in a range with a constant UTC offset. `next` is at most
--- 93,599 seconds after the instant returned last. `next`, the offset, the instant of `next` and the instant returned
--- last fit 64-bit integers.
-record IsStep (v : Window) (searcher : Searcher) (next offset end : ℤ) : Type 0 where
+-- A search found the match `next` in a range with a constant UTC offset. `next` is at most 93,599 seconds after the
+-- instant returned last. `next`, the offset, the instant of `next` and the instant returned last fit 64-bit integers.
+record IsStep (v : Window) (searcher : Searcher) (next offset : ℤ) : Type 0 where
   ready : IsReady (record v { searcher = searcher; ahead = Some next })
   place : place_of (zone_of v.zone) next ≡ Some (next -ℤ offset)
-  up : next ≤ℤ end
   late : next ≤ℤ (v.last +ℤ pos 93_599)
   fits : FitsSigned w64 (next -ℤ offset)
   next_is : to_z w64 (of_z w64 next) ≡ next
   offset_is : to_z w64 (of_z w64 offset) ≡ offset
   last_is : to_z w64 (of_z w64 v.last) ≡ v.last
 
-module _ (v : Window) (searcher : Searcher) (next offset end : ℤ) (s : IsStep v searcher next offset end) where
+module _ (v : Window) (searcher : Searcher) (next offset : ℤ) (s : IsStep v searcher next offset) where
   -- if the instant of `next` is after the one returned last, it may be added to the pending instants
   step_instant : v.last <ℤ (next -ℤ offset) → IsInstant (next -ℤ offset)
   step_instant later = put_instant (zone_of v.zone) next (next -ℤ offset) v.last s.place s.ready.found.0 (omega (arith, ints, s.ready.low, s.ready.above)) later
@@ -66,37 +64,13 @@ in_hour (pos a) (negsuc b) low next_low same on = absurd (omega (arith, ints, ne
 not_late : (last local next : ℤ) → int_lt last ((local +ℤ pos 3_599) -ℤ pos 93_599) ≡ false → next ≤ℤ (local +ℤ pos 3_599) → next ≤ℤ (last +ℤ pos 93_599)
 not_late last local next test near = grind (arith, ints)
 
--- if the instant of `end` isn't after `last`, no instant of an earlier local second is
-all_past : (next end offset last : ℤ) → next ≤ℤ end → int_le (end -ℤ offset) last ≡ true → (next -ℤ offset) ≤ℤ last
-all_past next end offset last up before = grind (arith, signed_arith)
-
--- the end of the hour, the offset and the instant of the end fit 64-bit integers
-end_is : (c : In-Some) → to_z w64 (of_z w64 (to_z w64 (of_z w64 c.args.local) +ℤ pos 3_599)) ≡ (c.args.local +ℤ pos 3_599)
-end_is c =
-    let fits : FitsSigned w64 c.args.local = c.ranges.local in
-    let inside = c.requires.found.0 in
-    let end_fits : FitsSigned w64 (c.args.local +ℤ pos 3_599) = omega (arith, signed_arith, inside) in
-    rw (to_z-of_z w64 c.args.local fits) (to_z-of_z w64 (c.args.local +ℤ pos 3_599) end_fits)
-
-offset_is : (c : In-Some) → to_z w64 (of_z w64 c.in-Some.offset) ≡ c.in-Some.offset
-offset_is c = let fits : FitsSigned w64 c.in-Some.offset = search rules in to_z-of_z w64 c.in-Some.offset fits
-
-past_fits : (c : In-Some) → FitsSigned w64 ((c.args.local +ℤ pos 3_599) -ℤ c.in-Some.offset)
-past_fits c =
-    let fits : FitsSigned w64 c.args.local = c.ranges.local in
-    let inside = c.requires.found.0 in
-    let from : to_z w64 (of_z w64 c.args.local) ≤ℤ c.args.local = rw (to_z-of_z w64 c.args.local fits) (omega (arith, ints)) in
-    let to : c.args.local ≤ℤ to_z w64 (of_z w64 (to_z w64 (of_z w64 c.args.local) +ℤ pos 3_599)) = rw (end_is c) (omega (arith, ints)) in
-    let near = within (zone_of c.args.self.now.zone) c.args.local (c.args.local -ℤ c.in-Some.offset) (c.in-Some.ensures c.args.local inside from to) in
-    omega (arith, signed_arith, near, inside)
-
 -- the search finds a later match in the hour
 next_in : (c : After-search) → IfSome c.search.result.local (λ next. IsNextInHour (matches (sets_in c.loop-self.self.searcher.masks)) (unsigned_abs (to_z w64 c.loop-self.last-bits)) (unsigned_abs next)) × IsSome c.search.result.local
 next_in c = hour_found c.loop-self.self.searcher.masks (unsigned_abs (to_z w64 c.loop-self.last-bits)) c.search.result.local
     (c.has_more_in_hour-in-loop-self.ensures c.loop-self-test.true (placed_is_match _ _ c.loop-self.invariant.placed).1) c.search.ensures.found.first
 
 -- the match that the search found can be converted
-step : (c : After-search) (next : ℤ) → c.search.result.local ≡ Some next → IsStep c.loop-self.self c.search.new.self next c.in-Some.offset (c.args.local +ℤ pos 3_599)
+step : (c : After-search) (next : ℤ) → c.search.result.local ≡ Some next → IsStep c.loop-self.self c.search.new.self next c.in-Some.offset
 step c next is =
     let kept = c.loop-self.invariant in
     let fits : FitsSigned w64 c.args.local = c.ranges.local in
@@ -123,7 +97,6 @@ step c next is =
     record {
       ready = ready;
       place = place;
-      up = near.1;
       late = rw kept.last (not_late _ c.args.local next (rw (to_z-of_z w64 c.args.self.now.last args_last, reach) at c.if-end-self.false) near.1);
       fits = fits_instant (zone_of c.loop-self.self.zone) next _ ready.found.0 place;
       next_is = to_z-of_z w64 next (omega (arith, signed_arith, next_inside));
@@ -144,26 +117,15 @@ overflow_sub-next c =
     let s = step (goal.at.overflow_sub-next c).After-search c.in-Some-local.next c.in-Some-local.is in
     rw (s.next_is, s.offset_is) s.fits
 
-pub overflow_sub-past : goal.overflow_sub-past
-overflow_sub-past c = rw (end_is c, offset_is c) (past_fits c)
-
-pub put_later-requires-clause-past : goal.put_later-requires-clause-past
-put_later-requires-clause-past c = λ past.
-    let at = goal.at.put_later-requires-clause-past c in
-    let s = step at.After-search c.in-Some-local.next c.in-Some-local.is in
-    let last : FitsSigned w64 c.args.self.now.last = search rules in
-    let before = rw (end_is at.In-Some, s.offset_is, to_z-of_z w64 ((c.args.local +ℤ pos 3_599) -ℤ c.in-Some.offset) (past_fits at.In-Some), to_z-of_z w64 c.args.self.now.last last) at past in
-    rw (s.next_is, s.offset_is, s.last_is, to_z-of_z w64 (c.in-Some-local.next -ℤ c.in-Some.offset) s.fits, c.loop-self.invariant.last) (all_past _ _ _ _ s.up before)
-
 pub put_later-requires-clause-instant : goal.put_later-requires-clause-instant
 put_later-requires-clause-instant c =
     let s = step (goal.at.put_later-requires-clause-instant c).After-search c.in-Some-local.next c.in-Some-local.is in
-    rw (s.next_is, s.offset_is, s.last_is, to_z-of_z w64 (c.in-Some-local.next -ℤ c.in-Some.offset) s.fits) (step_instant _ _ _ _ _ s)
+    rw (s.next_is, s.offset_is, s.last_is, to_z-of_z w64 (c.in-Some-local.next -ℤ c.in-Some.offset) s.fits) (step_instant _ _ _ _ s)
 
 pub put_later-requires-clause-near : goal.put_later-requires-clause-near
 put_later-requires-clause-near c = λ member has later.
     let s = step (goal.at.put_later-requires-clause-near c).After-search c.in-Some-local.next c.in-Some-local.is in
-    rw (s.next_is, s.offset_is, to_z-of_z w64 (c.in-Some-local.next -ℤ c.in-Some.offset) s.fits) (step_near _ _ _ _ _ s member has)
+    rw (s.next_is, s.offset_is, to_z-of_z w64 (c.in-Some-local.next -ℤ c.in-Some.offset) s.fits) (step_near _ _ _ _ s member has)
 
 pub loop-self-smaller : goal.loop-self-smaller
 loop-self-smaller c =
@@ -180,7 +142,7 @@ loop-self-preserved c =
     let found = rw c.in-Some-local.is at (next_in at).0 in
     let begun = kept.on in
     rw s.next_is (record {
-      placed = step_placed _ _ _ _ _ s c.put_later.new.pending (rw (s.next_is, s.offset_is, s.last_is, to_z-of_z w64 (c.in-Some-local.next -ℤ c.in-Some.offset) s.fits) at c.put_later.ensures);
+      placed = step_placed _ _ _ _ s c.put_later.new.pending (rw (s.next_is, s.offset_is, s.last_is, to_z-of_z w64 (c.in-Some-local.next -ℤ c.in-Some.offset) s.fits) at c.put_later.ensures);
       hour = found.0 ∙ kept.hour;
       on = omega (arith, found, begun);
       masks = c.search.ensures.masks ∙ kept.masks;
