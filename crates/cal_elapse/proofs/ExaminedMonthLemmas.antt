@@ -3,10 +3,9 @@ use Rattle.std.proofs.Common.{◌≡◌, ℕ, zero, suc, ◌+◌, ◌-◌, ◌*�
 use Rattle.std.proofs.lemmas.Bool.{true_from_ne_false}
 use Rattle.cal_civil.specs.headline.Local.{civil_date}
 use Rattle.cal_elapse.specs.Bits.{is_bit}
-use Rattle.cal_elapse.specs.Count.{count_from}
+use Rattle.cal_elapse.specs.Search.{count_from, IsFirstPassing, NonePasses}
 use Rattle.cal_elapse.specs.ExaminedMonths.{examined_from, examined_months}
 use Rattle.cal_elapse.specs.Months.{day_in, first_day, first_day-suc, length_of, month_in, month_of}
-use Rattle.cal_elapse.specs.Search.{IsFirstPassing, NonePasses}
 use Rattle.cal_elapse.proofs.CountLemmas.{count_from-most, count_from-none, count_from-one}
 use Rattle.cal_elapse.proofs.MonthLemmas.{first_day-end, length_bounds, located, month_low, month_of-is, months_none, no_day}
 use Rattle.cal_spec.specs.headline.Match.{Sets}

@@ -15,9 +15,8 @@ use Rattle.cal_zone.specs.headline.Zone.{zone_of}
 use Rattle.cal_zone.specs.Instant.{IsInstant}
 use Rattle.cal_civil.specs.Local.{IsLocalSecond}
 use Rattle.cal_elapse.specs.Bits.{is_bit}
-use Rattle.cal_elapse.specs.PendingInstants.{IsNear}
-use Rattle.cal_elapse.specs.Ring.{IsOneOf}
-use Rattle.cal_elapse.specs.Count.{count_from}
+use Rattle.cal_elapse.specs.Ring.{IsNear, IsOneOf}
+use Rattle.cal_elapse.specs.Search.{count_from}
 use Rattle.cal_elapse.specs.headline.Elapses.{Timed}
 use Rattle.cal_elapse.specs.RemainingMatches.{IsRestOfMinute}
 use Rattle.cal_elapse.specs.Masks.{sets_in}

@@ -13,8 +13,7 @@ use Rattle.std.specs.declared.cmp.Ordering.TheVariants.{Less}
 use Rattle.cal_zone.specs.Instant.{IsInstant}
 use Rattle.cal_elapse.specs.Bits.{is_bit, is_bit_in}
 use Rattle.cal_elapse.proofs.BitLemmas.{is_bit-zero}
-use Rattle.cal_elapse.specs.PendingInstants.{IsNear}
-use Rattle.cal_elapse.specs.Ring.{cells_in_all, cells_in_all-is, instants_in, is_held, least_kept, no_second, rising_from, IsRound, IsRoundFrom}
+use Rattle.cal_elapse.specs.Ring.{IsNear, cells_in_all, cells_in_all-is, instants_in, is_held, least_kept, no_second, rising_from, IsRound, IsRoundFrom}
 use Rattle.cal_rising.specs.headline.Elements.{Has}
 use Rattle.cal_elapse.specs.Search.{IsFirstPassing}
 use Rattle.cal_elapse.proofs.ElapsesLemmas.{first-least, first-none}

@@ -5,7 +5,7 @@ use lib.Bits.{bit_or}
 use lib.Lanes.{chunk, fold_l}
 use Rattle.std.proofs.lemmas.Bool.{cond-true, eq-eqb, lt-ltb, ne_eqb}
 use Rattle.std.proofs.lemmas.Simd.{get_or-chunk, length-chunk}
-use Rattle.cal_elapse.specs.Scan.{is_set}
+use Rattle.cal_elapse.specs.Bits.{is_set}
 use Rattle.cal_text.proofs.General.{fold_each}
 
 pub set_word : (x : ℕ) → x ≢ 0 → is_set x ≡ true

@@ -15,7 +15,7 @@ use Rattle.cal_zone.specs.declared.zone.Zone.{Zone}
 use Rattle.cal_zone.specs.headline.Place.{place_of}
 use Rattle.jiff.specs.Types.{TimeZone}
 use Rattle.cal_civil.proofs.LocalLemmas.{local_inside}
-use Rattle.cal_elapse.specs.PendingInstants.{IsNear}
+use Rattle.cal_elapse.specs.Ring.{IsNear}
 use Rattle.cal_zone.proofs.PlaceLemmas.{within}
 use Rattle.cal_elapse.specs.declared.masks.Masks.{Masks}
 use Rattle.cal_elapse.specs.Elapses.{elapses_after}

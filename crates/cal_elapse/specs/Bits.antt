@@ -1,5 +1,5 @@
 -- Sets of small numbers, represented as the bits of one or several masks.
-use Rattle.std.specs.Prelude.{◌==◌, ℕ, ◌/◌, ◌%◌, Bool, List, slice_index_or}
+use Rattle.std.specs.Prelude.{◌==◌, ℕ, ◌/◌, ◌%◌, Bool, not, List, slice_index_or}
 use Rattle.std.specs.Int.{bit_at}
 
 -- whether the set in a mask contains i: bit i, counted from the lowest, is 1
@@ -9,3 +9,7 @@ is_bit mask i = bit_at mask i == 1
 -- whether the set in a list of masks of 64 bits contains i: bit i % 64 of the mask with index i / 64 is 1
 unfoldable pub is_bit_in : List ℕ → ℕ → Bool
 is_bit_in masks i = is_bit (slice_index_or masks (i / 64) 0) (i % 64)
+
+-- whether a word of masks isn't 0
+abbrev pub is_set : ℕ → Bool
+is_set x = not (x == 0)

@@ -5,9 +5,8 @@ use Rattle.std.specs.Prelude.{◌≡◌, ◌≤◌, ℕ, suc, ◌-◌, ◌/◌, 
 use Rattle.std.specs.Option.{option_map}
 use Rattle.cal_civil.specs.headline.Local.{civil_date, seconds_per_day}
 use Rattle.cal_spec.specs.headline.Match.{Sets, matches}
-use Rattle.cal_elapse.specs.Count.{count_from}
+use Rattle.cal_elapse.specs.Search.{count_from, IsFirstLocal}
 use Rattle.cal_elapse.specs.Months.{month_in, month_of, months_in_all}
-use Rattle.cal_elapse.specs.Search.{IsFirstLocal}
 use Rattle.cal_elapse.specs.declared.search.Found.{Found}
 
 -- the number of months that a search for a day examines if it starts in month `n`: those whose year and number match,

@@ -1,5 +1,4 @@
 pub mod Bits
-pub mod Count
 pub mod Covered
 pub mod Elapses
 pub mod RemainingMatches
@@ -8,10 +7,8 @@ pub mod Masks
 pub mod Merged
 pub mod Months
 pub mod MostMonths
-pub mod PendingInstants
 pub mod RemainingElapses
 pub mod Ring
-pub mod Scan
 pub mod Search
 pub mod Searched
 pub mod SearchStart

@@ -41,6 +41,10 @@ abbrev pub rising_from : (ℕ → Bool) → ℕ → ℕ → List ℤ
 rising_from passes from zero = []
 rising_from passes from (suc n) = cond (passes from) (pos from ∷ rising_from passes (suc from) n) (rising_from passes (suc from) n)
 
+-- `i` and `j` are less than `cell_count` seconds apart, so they have different cells unless they are equal
+abbrev pub IsNear : ℤ → ℤ → Type 0
+IsNear i j = (i ≤ℤ (j +ℤ pos 187_199)) × (j ≤ℤ (i +ℤ pos 187_199))
+
 -- the instants in a ring that starts at the second `low`: of the `cell_count` seconds from `low` on, those whose cell
 -- is set
 unfoldable pub instants_in : List ℕ → ℕ → List ℤ

@@ -1,5 +1,6 @@
--- What it means that a search returns the first number, or the first local second, that passes a test.
-use Rattle.std.specs.Prelude.{◌≡◌, ◌<◌, ◌≤◌, ℕ, Bool, true, false, Option, None, Some, ℤ, pos, unsigned_abs, ◌≤ℤ◌, ◌<ℤ◌}
+-- What it means that a search returns the first number, or the first local second, that passes a test, and how many of
+-- several consecutive numbers pass it.
+use Rattle.std.specs.Prelude.{◌≡◌, ◌+◌, ◌<◌, ◌≤◌, ℕ, zero, suc, cond, Bool, true, false, Option, None, Some, ℤ, pos, unsigned_abs, ◌≤ℤ◌, ◌<ℤ◌}
 use Rattle.cal_civil.specs.headline.Local.{seconds_in_all}
 
 -- no number from `from` up to but not including `to` passes
@@ -17,3 +18,8 @@ IsFirstLocal passes from None = (t : ℕ) → from ≤ℤ pos t → t < seconds_
 IsFirstLocal passes from (Some s) =
     (from ≤ℤ s) × (s <ℤ pos seconds_in_all) × (passes (unsigned_abs s) ≡ true)
     × ((t : ℕ) → from ≤ℤ pos t → pos t <ℤ s → passes t ≡ false)
+
+-- how many of the `k` numbers from `a` on pass
+unfoldable pub count_from : (ℕ → Bool) → ℕ → ℕ → ℕ
+count_from passes a zero = 0
+count_from passes a (suc k) = count_from passes a k + cond (passes (a + k)) 1 0

@@ -9,7 +9,7 @@ use Rattle.cal_civil.specs.headline.Local.{seconds_in_all, max_offset}
 use Rattle.cal_zone.specs.headline.Place.{place_of}
 use Rattle.cal_zone.specs.headline.Zone.{zone_of}
 use Rattle.cal_zone.specs.declared.zone.Zone.{Zone}
-unfoldable pub use Rattle.cal_elapse.specs.Count.{count_from}
+unfoldable pub use Rattle.cal_elapse.specs.Search.{count_from}
 use Rattle.cal_elapse.specs.headline.Elapses.{Timed}
 use Rattle.cal_elapse.specs.Masks.{sets_in}
 use Rattle.cal_elapse.specs.MostMonths.{IsMost}

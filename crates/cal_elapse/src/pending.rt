@@ -5,7 +5,7 @@ ghost use Rattle.std.specs.Ordering.{int_cmp};
 ghost use Rattle.std.specs.List.Sorted.{IsStrictlySortedBy};
 ghost use Rattle.std.specs.BTreeSet.{insert_key};
 ghost use Rattle.cal_zone.specs.Instant.{IsInstant};
-ghost use Rattle.cal_elapse.specs.PendingInstants.{IsNear};
+ghost use Rattle.cal_elapse.specs.Ring.{IsNear};
 ghost use Rattle.cal_rising.specs.headline.Elements.{Has};
 
 use crate::NoMemory;

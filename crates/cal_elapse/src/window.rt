@@ -7,7 +7,7 @@ ghost use Rattle.cal_zone.specs.Instant.{IsInstant};
 ghost use Rattle.cal_zone.specs.headline.Place.{place_of};
 ghost use Rattle.cal_zone.specs.headline.Zone.{zone_of};
 ghost use Rattle.cal_rising.specs.headline.Elements.{Has};
-ghost use Rattle.cal_elapse.specs.PendingInstants.{IsNear};
+ghost use Rattle.cal_elapse.specs.Ring.{IsNear};
 ghost use Rattle.cal_elapse.specs.Window.{start_of, to_place, with_place};
 
 use crate::search::searcher::{SearchStart, Searcher};

@@ -5,7 +5,7 @@ ghost use Rattle.std.specs.Prelude.{◌≡◌, ◌+◌, ◌-◌, ◌*◌, ◌/�
 ghost use Rattle.std.specs.Option.{option_map};
 ghost use Rattle.cal_civil.specs.Local.{IsLocalSecond};
 ghost use Rattle.cal_civil.specs.headline.Local.{seconds_in_all};
-ghost use Rattle.cal_elapse.specs.Count.{count_from};
+ghost use Rattle.cal_elapse.specs.Search.{count_from};
 ghost use Rattle.cal_elapse.specs.RemainingMatches.{AreRemaining, HasMoreInHour, HasMoreInMinute, IsNextInMinute, IsRestOfMinute, NoneLeftInMinute, minute_matches};
 ghost use Rattle.cal_elapse.specs.ExaminedMonths.{IsSearch};
 ghost use Rattle.cal_elapse.specs.Masks.{sets_in};

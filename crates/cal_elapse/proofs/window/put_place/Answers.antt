@@ -4,7 +4,7 @@ use Rattle.jiff.specs.Types.{TimeZone}
 use Rattle.cal_zone.specs.Instant.{IsInstant}
 use Rattle.cal_zone.specs.headline.Place.{place_of}
 use Rattle.cal_zone.specs.headline.Zone.{zone_of}
-use Rattle.cal_elapse.specs.PendingInstants.{IsNear}
+use Rattle.cal_elapse.specs.Ring.{IsNear}
 use Rattle.cal_elapse.proofs.WindowLemmas.{put_instant, put_near}
 use Rattle.cal_elapse.proofs.window.put_place.Goals as goal
 

@@ -11,7 +11,7 @@ use Rattle.cal_zone.specs.Instant.{IsInstant}
 use Rattle.cal_zone.specs.headline.Place.{place_of}
 use Rattle.cal_zone.specs.headline.Zone.{zone_of}
 use Rattle.cal_elapse.specs.Masks.{sets_in}
-use Rattle.cal_elapse.specs.PendingInstants.{IsNear}
+use Rattle.cal_elapse.specs.Ring.{IsNear}
 use Rattle.cal_elapse.specs.RemainingMatches.{IsNextInHour}
 use Rattle.cal_elapse.specs.Window.{IsPlacedTo, IsReady, with_place}
 use Rattle.cal_elapse.specs.declared.search.searcher.Searcher.{Searcher}

@@ -2,7 +2,7 @@ use Rattle.std.proofs.Common.{◌≡◌, ◌∙◌, ◌+◌, ◌-◌, FitsSigned
 use Rattle.std.proofs.lemmas.Int.{to_z-of_z}
 use Rattle.cal_civil.specs.headline.Local.{seconds_in_all-is}
 use Rattle.cal_spec.specs.headline.Match.{matches}
-use Rattle.cal_elapse.specs.Count.{count_from}
+use Rattle.cal_elapse.specs.Search.{count_from}
 use Rattle.cal_elapse.specs.RemainingMatches.{IsNextInMinute, NoneLeftInMinute}
 use Rattle.cal_elapse.specs.Masks.{sets_in}
 use Rattle.cal_elapse.specs.MostMonths.{IsMostAfter}
