@@ -1,11 +1,11 @@
 //! Reading and writing through sources and sinks that end, fail or never end.
 
+use crate::shared::ensure;
 use cal_base::{
     Faulty, Output, Port, Sink, Source, Then, WholeFault, WriteFault, put_all, read_whole,
 };
 use std::alloc::Global;
 use std::io::BufWriter;
-use std::process::Abort;
 use std::test::Fail;
 
 /// A test of `read_whole`: the bytes of the source, how many of them each call returns, what the source does after its
@@ -37,15 +37,15 @@ fn read(alloc: Global, reader: Faulty, limit: usize) -> (Result<Vec<u8>, WholeFa
 }
 
 /// Reads the source, and expects its bytes or the error of the test, after the expected number of calls.
-fn expect_reading(rt: &(impl Abort + AllocGlobal), reading: Reading) -> Result<(), Fail> {
-    let (text, step, then, limit, wanted, calls) = reading;
-    assert!(rt; step > 0);
-    let bytes = text.as_bytes().to_vec(rt.alloc())?;
+fn expect_reading(alloc: Global, reading: &Reading) -> Result<(), Fail> {
+    let (text, step, then, limit, wanted, calls) = *reading;
+    if step == 0 {
+        return Err("no step".into());
+    }
+    let bytes = text.as_bytes().to_vec(alloc)?;
     let reader = Faulty::new(bytes, step, text.len(), then);
-    let (whole, made) = read(rt.alloc(), reader, limit);
-    let holds = made == calls && is_wanted(text, wanted, &whole);
-    assert!(rt; holds, "{text} by {step} at {limit}");
-    Ok(())
+    let (whole, made) = read(alloc, reader, limit);
+    ensure(made == calls && is_wanted(text, wanted, &whole), text)
 }
 
 /// Returns whether the result is `text`, or the error `wanted`.
@@ -56,30 +56,27 @@ fn is_wanted(text: &str, wanted: Option<WholeFault>, whole: &Result<Vec<u8>, Who
     }
 }
 
-fn expect_readings(rt: &(impl Abort + AllocGlobal), readings: &[Reading]) -> Result<(), Fail> {
-    for reading in readings {
-        expect_reading(rt, *reading)?;
+#[test]
+fn reads_whole(rt: HostRuntime) -> Result<(), Fail> {
+    for reading in &READINGS {
+        expect_reading(rt.alloc(), reading)?;
     }
     Ok(())
 }
 
-#[test]
-fn reads_whole(rt: HostRuntime) -> Result<(), Fail> {
-    expect_readings(&rt, &READINGS)
-}
-
 /// Expects the next call to return `count` bytes (or to fail, for `None`), and `into` to hold `held` afterwards.
 fn expect_fetch(
-    rt: &impl Abort,
     reader: &mut Port<Faulty>,
     into: &mut [u8],
     count: Option<usize>,
     held: &str,
-) {
-    assert!(rt; !reader.failed());
-    let given = reader.fetch(into);
-    let holds = given == count && reader.failed() == count.is_none();
-    assert!(rt; holds && &*into == held.as_bytes(), "for {held}");
+) -> Result<(), Fail> {
+    if reader.failed() {
+        return Err("it failed before".into());
+    }
+    ensure(reader.fetch(into) == count, held)?;
+    ensure(reader.failed() == count.is_none(), held)?;
+    ensure(&*into == held.as_bytes(), held)
 }
 
 #[test]
@@ -87,22 +84,22 @@ fn reads_until_it_fails(rt: HostRuntime) -> Result<(), Fail> {
     let bytes = b"abc".to_vec(rt.alloc())?;
     let mut port = Port::new(Faulty::new(bytes, 2, 3, Then::Interrupted));
     let mut into = *b"####";
-    expect_fetch(&rt, &mut port, &mut into, Some(2), "ab##");
-    expect_fetch(&rt, &mut port, &mut into, Some(1), "cb##");
-    expect_fetch(&rt, &mut port, &mut into, None, "cb##");
-    assert_eq!(rt; port.into_inner().calls(), 3);
-    Ok(())
+    expect_fetch(&mut port, &mut into, Some(2), "ab##")?;
+    expect_fetch(&mut port, &mut into, Some(1), "cb##")?;
+    expect_fetch(&mut port, &mut into, None, "cb##")?;
+    ensure(port.into_inner().calls() == 3, "not three calls")
 }
 
 #[test]
-fn readers_end_or_go_on(rt: HostRuntime) {
+fn readers_end_or_go_on(rt: HostRuntime) -> Result<(), Fail> {
     let mut into = *b"\0\0";
     let mut used_up = Port::new(Faulty::new(Vec::new(rt.alloc()), 1, 9, Then::Error));
-    expect_fetch(&rt, &mut used_up, &mut into, Some(0), "\0\0");
+    expect_fetch(&mut used_up, &mut into, Some(0), "\0\0")?;
     let mut endless = Port::new(Faulty::new(Vec::new(rt.alloc()), 9, 0, Then::Endless));
     for _ in 0..3 {
-        expect_fetch(&rt, &mut endless, &mut into, Some(2), "##");
+        expect_fetch(&mut endless, &mut into, Some(2), "##")?;
     }
+    Ok(())
 }
 
 /// A sink that `abc` is written to: how many bytes it takes in each call and in total, what it does after that, the
@@ -128,19 +125,24 @@ fn write(writer: Faulty) -> (Option<WriteFault>, Faulty) {
     (fault, port.into_inner())
 }
 
-/// Expects each sink to get all of `abc`, or a prefix if it fails.
-fn expect_written(rt: &(impl Abort + AllocGlobal), writers: &[Writer]) {
-    for (step, limit, then, written, calls) in writers {
-        assert!(rt; *step > 0);
-        let (fault, writer) = write(Faulty::new(Vec::new(rt.alloc()), *step, *limit, *then));
-        let holds = writer.calls() == *calls && fault.is_some() == (*written != "abc");
-        assert!(rt; holds && writer.bytes() == written.as_bytes(), "at {limit}");
+/// Expects the sink to get all of `abc` or, if it fails, a prefix.
+fn expect_written(alloc: Global, writer: &Writer) -> Result<(), Fail> {
+    let (step, limit, then, written, calls) = *writer;
+    if step == 0 {
+        return Err("no step".into());
     }
+    let (fault, writer) = write(Faulty::new(Vec::new(alloc), step, limit, then));
+    ensure(fault.is_some() == (written != "abc"), written)?;
+    ensure(writer.calls() == calls, written)?;
+    ensure(writer.bytes() == written.as_bytes(), written)
 }
 
 #[test]
-fn writes_until_it_fails(rt: HostRuntime) {
-    expect_written(&rt, &WRITERS);
+fn writes_until_it_fails(rt: HostRuntime) -> Result<(), Fail> {
+    for writer in &WRITERS {
+        expect_written(rt.alloc(), writer)?;
+    }
+    Ok(())
 }
 
 /// Offers `abc` to a buffer over a sink that takes `limit` bytes, and flushes it. Returns the results of the two calls
@@ -156,10 +158,10 @@ fn hold_back(alloc: Global, limit: usize) -> Result<((Option<usize>, bool, bool)
 /// When a buffer is flushed, it passes on the bytes that it holds, as far as the sink takes them.
 #[test]
 fn held_back_until_flushed(rt: HostRuntime) -> Result<(), Fail> {
-    for (limit, is_flushed, written) in [(3, true, "abc"), (2, false, "ab")] {
-        let (answers, writer) = hold_back(rt.alloc(), limit)?;
-        let holds = answers == (Some(3), is_flushed, !is_flushed);
-        assert!(rt; holds && writer.bytes() == written.as_bytes(), "at {limit}");
+    for (limit, is_flushed, written) in &[(3, true, "abc"), (2, false, "ab")] {
+        let (answers, writer) = hold_back(rt.alloc(), *limit)?;
+        ensure(answers == (Some(3), *is_flushed, !*is_flushed), written)?;
+        ensure(writer.bytes() == written.as_bytes(), written)?;
     }
     Ok(())
 }

@@ -6,12 +6,11 @@ mod merges;
 
 ghost use Rattle.cal_base.specs.Local.{IsLocalSecond};
 
-use crate::shared::{NEW_YEAR, expr, instant};
+use crate::shared::{NEW_YEAR, ensure, expr, instant};
 use cal_base::Zone;
 use cal_elapse::{Elapses, Rising};
 use cal_spec::Expr;
 use std::alloc::Global;
-use std::process::Abort;
 use std::test::Fail;
 
 /// Returns whether the expression matches a local second.
@@ -42,31 +41,29 @@ pub(crate) fn elapses_of<'z>(
     elapses_from(alloc, &expr, zone, base)
 }
 
-/// Expects the source to return these values in this order. Just before it returns a number, `has` must not return
-/// `Some(false)` for this number.
-fn expect_answers<S: Rising>(rt: &impl Abort, source: &mut S, answers: &[Option<i64>]) {
+/// Expects the elapses to be these, in this order. Before each one, `has` must not deny it.
+fn expect_answers(
+    elapses: &mut Elapses<'_>,
+    answers: &[Option<i64>],
+    about: &str,
+) -> Result<(), Fail> {
     for answer in answers {
         if let Some(number) = *answer {
-            assert!(rt; source.has(number) != Some(false));
+            ensure(elapses.has(number) != Some(false), about)?;
         }
-        assert_eq!(rt; source.next(), *answer);
+        ensure(elapses.next() == *answer, about)?;
     }
+    Ok(())
 }
 
 /// An expression, a base time, and the first elapses after it, followed by `None` if there are no more.
 type Row = (&'static str, i64, &'static [Option<i64>]);
 
-/// Expects the first elapses of each expression to be those of its row.
-fn expect_elapses(
-    rt: &(impl Abort + AllocGlobal),
-    zone: Zone<'_>,
-    rows: &[Row],
-) -> Result<(), Fail> {
-    for (text, base, answers) in rows {
-        let mut elapses = elapses_of(rt.alloc(), text, zone, *base)?;
-        expect_answers(rt, &mut elapses, answers);
-    }
-    Ok(())
+/// Expects the first elapses of the expression to be those of the row.
+fn expect_elapses(alloc: Global, zone: Zone<'_>, row: &Row) -> Result<(), Fail> {
+    let (text, base, answers) = row;
+    let mut elapses = elapses_of(alloc, text, zone, *base)?;
+    expect_answers(&mut elapses, answers, text)
 }
 
 /// UTC offsets in seconds, each with a row for a zone at that offset.
@@ -110,8 +107,10 @@ static AT_OFFSETS: [(i32, Row); 6] = [
 #[test]
 fn at_offsets(rt: HostRuntime) -> Result<(), Fail> {
     for (offset, row) in &AT_OFFSETS {
-        assert!(rt; *offset >= -93_599 && *offset <= 93_599);
-        expect_elapses(&rt, Zone::offset(*offset), &[*row])?;
+        if *offset < -93_599 || *offset > 93_599 {
+            return Err((*offset).into());
+        }
+        expect_elapses(rt.alloc(), Zone::offset(*offset), row)?;
     }
     Ok(())
 }
@@ -122,12 +121,12 @@ fn at_offsets(rt: HostRuntime) -> Result<(), Fail> {
 #[test]
 fn searches_of_every_second(rt: HostRuntime) -> Result<(), Fail> {
     let mut elapses = elapses_of(rt.alloc(), "*:*:*", Zone::utc(), NEW_YEAR)?;
-    assert_eq!(rt; elapses.searches(), 1);
+    let before = elapses.searches();
     for _ in 0..3 {
         let _elapse = elapses.next();
     }
-    assert_eq!(rt; (elapses.searches(), elapses.most_months()), (187_203, 1));
-    Ok(())
+    let counts = (before, elapses.searches(), elapses.most_months());
+    ensure(counts == (1, 187_203, 1), "searches or months")
 }
 
 /// Returns the next elapse and the number of searches made so far.
@@ -140,8 +139,8 @@ fn next_counted(elapses: &mut Elapses<'_>) -> (Option<i64>, u64) {
 #[test]
 fn searches_to_the_end(rt: HostRuntime) -> Result<(), Fail> {
     let mut elapses = elapses_of(rt.alloc(), "2024-01-02", Zone::utc(), NEW_YEAR)?;
-    for answer in [(Some(1_704_153_600), 2), (None, 2), (None, 2)] {
-        assert_eq!(rt; next_counted(&mut elapses), answer);
+    for answer in &[(Some(1_704_153_600), 2), (None, 2), (None, 2)] {
+        ensure(next_counted(&mut elapses) == *answer, "2024-01-02")?;
     }
     Ok(())
 }

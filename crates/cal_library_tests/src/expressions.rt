@@ -1,10 +1,11 @@
 //! Calendar expressions: the error for each kind of invalid expression, the normal form of valid ones, and their
 //! accessors.
 
+use crate::shared::{ensure, expr};
 use cal_base::Port;
 use cal_spec::{SpecFault, read_expr, write_expr};
 use std::alloc::Global;
-use std::process::Abort;
+use std::test::Fail;
 
 mod counts;
 mod fault_words;
@@ -14,21 +15,23 @@ mod normal_texts;
 mod offsets;
 mod refusals;
 
-/// Expects `text` to be a valid expression with this normal form.
-fn expect_normal_text(rt: &impl Abort, alloc: Global, text: &str, normal: &str) {
+/// Returns the normal form of an expression, or `None` if writing it fails.
+fn normal_form(alloc: Global, text: &str) -> Result<Option<Vec<u8>>, Fail> {
     let mut out = Port::new(Vec::new(alloc));
-    match read_expr(alloc, text) {
-        Ok(expr) => assert!(rt; write_expr(&mut out, &expr).is_ok()),
-        Err(fault) => panic!(rt; "{fault} at {text:?}"),
+    let expr = expr(alloc, text)?;
+    if write_expr(&mut out, &expr).is_err() {
+        return Ok(None);
     }
-    assert_eq!(rt;
-        out.into_inner().as_slice(),
-        normal.as_bytes(),
-        "at {text:?}"
-    );
+    Ok(Some(out.into_inner()))
+}
+
+/// Expects `text` to be a valid expression with this normal form.
+fn expect_normal_text(alloc: Global, text: &str, normal: &str) -> Result<(), Fail> {
+    let found = normal_form(alloc, text)?.ok_or("not written")?;
+    ensure(found.as_slice() == normal.as_bytes(), text)
 }
 
 /// Expects `text` to be rejected with this error.
-fn expect_fault(rt: &impl Abort, alloc: Global, text: &str, fault: SpecFault) {
-    assert_eq!(rt; read_expr(alloc, text).err(), Some(fault), "at {text:?}");
+fn expect_fault(alloc: Global, text: &str, fault: SpecFault) -> Result<(), Fail> {
+    ensure(read_expr(alloc, text).err() == Some(fault), text)
 }

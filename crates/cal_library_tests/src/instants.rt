@@ -1,36 +1,27 @@
 //! Instants: the local time that a clock shows, and how instants are printed.
 
-use crate::shared::{SUMMER_TIME, instant, posix, zone_file_of_2024};
+use crate::shared::{SUMMER_TIME, ensure, instant, posix, zone_file_of_2024};
 use cal_base::{Instant, InstantFormatter, Port, Rules, ShortText, Zone, civil, write_instant};
 use std::alloc::Global;
-use std::process::Abort;
 use std::test::Fail;
 
-/// Returns the printed instant, or `None` if writing it fails.
-fn text_of(alloc: Global, zone: Zone, instant: Instant) -> Option<Vec<u8>> {
+/// Returns whether `write_instant` prints the instant as `text`.
+fn is_printed(alloc: Global, zone: Zone, instant: Instant, text: &str) -> bool {
     let mut out = Port::new(Vec::new(alloc));
-    write_instant(&mut out, zone, instant).ok()?;
-    Some(out.into_inner())
+    let written = write_instant(&mut out, zone, instant);
+    written.is_ok() && out.into_inner().as_slice() == text.as_bytes()
 }
 
 /// Expects each instant to be printed with the text next to it, by `write_instant` and by one `InstantFormatter` that
 /// prints them all one after another.
-fn expect_texts(
-    rt: &(impl Abort + AllocGlobal),
-    zone: Zone,
-    rows: &[(i64, &str)],
-) -> Result<(), Fail> {
+fn expect_texts(alloc: Global, zone: Zone, rows: &[(i64, &str)]) -> Result<(), Fail> {
     let mut formatter = InstantFormatter::new(zone);
     for (secs, text) in rows {
         let (at, mut shown) = (instant(*secs)?, ShortText::new());
         formatter.push(&mut shown, at);
-        let written = text_of(rt.alloc(), zone, at).ok_or("not written")?;
-        let texts = (written.as_slice(), shown.as_slice());
-        let holds = formatter.civil(at) == civil(zone, at);
-        assert!(rt;
-            holds && texts == (text.as_bytes(), text.as_bytes()),
-            "at {secs}"
-        );
+        ensure(is_printed(alloc, zone, at, text), text)?;
+        ensure(shown.as_slice() == text.as_bytes(), text)?;
+        ensure(formatter.civil(at) == civil(zone, at), text)?;
     }
     Ok(())
 }
@@ -38,7 +29,7 @@ fn expect_texts(
 #[test]
 fn in_utc(rt: HostRuntime) -> Result<(), Fail> {
     expect_texts(
-        &rt,
+        rt.alloc(),
         Zone::utc(),
         &[
             (1_582_934_400, "Sat 2020-02-29 00:00:00 UTC"),
@@ -68,8 +59,10 @@ static BY_OFFSET: [(i32, i64, &str); 7] = [
 #[test]
 fn at_offsets(rt: HostRuntime) -> Result<(), Fail> {
     for (offset, secs, text) in &BY_OFFSET {
-        assert!(rt; *offset >= -93_599 && *offset <= 93_599);
-        expect_texts(&rt, Zone::offset(*offset), &[(*secs, *text)])?;
+        if *offset < -93_599 || *offset > 93_599 {
+            return Err((*offset).into());
+        }
+        expect_texts(rt.alloc(), Zone::offset(*offset), &[(*secs, *text)])?;
     }
     Ok(())
 }
@@ -89,10 +82,10 @@ static IN_2024: [(i64, &str); 6] = [
 #[test]
 fn by_rules(rt: HostRuntime) -> Result<(), Fail> {
     let rules = posix(rt.alloc(), SUMMER_TIME)?;
-    expect_texts(&rt, Zone::rules(&rules), &IN_2024)?;
+    expect_texts(rt.alloc(), Zone::rules(&rules), &IN_2024)?;
     let bytes = zone_file_of_2024(rt.alloc())?;
     let Ok(rules) = Rules::file(rt.alloc(), "Europe/Berlin", bytes.as_slice()) else {
         return Err("a zone file is refused".into());
     };
-    expect_texts(&rt, Zone::rules(&rules), &IN_2024)
+    expect_texts(rt.alloc(), Zone::rules(&rules), &IN_2024)
 }

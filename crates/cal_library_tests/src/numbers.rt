@@ -4,9 +4,10 @@ ghost use Rattle.std.specs.Prelude.{◌≡◌, false, IfOk};
 ghost use Rattle.std.specs.List.Sorted.{IsStrictlySortedBy};
 ghost use Rattle.std.specs.Ordering.{int_cmp};
 
+use crate::shared::ensure;
 use cal_elapse::{Listed, Merge, Rising};
 use std::alloc::{AllocError, Global};
-use std::process::Abort;
+use std::test::Fail;
 
 /// Returns a source of these numbers.
 pub fn listed(alloc: Global, numbers: &[i64]) -> Result<Listed, AllocError>
@@ -73,35 +74,22 @@ pub fn merge_two(alloc: Global, one: &[i64], two: &[i64]) -> Result<Merge<Listed
     Ok(merge)
 }
 
-/// Returns the merge of two lists, without the numbers of a third list.
-pub fn merge_without(
-    alloc: Global,
-    one: &[i64],
-    two: &[i64],
-    exception: &[i64],
-) -> Result<Merge<Listed>, AllocError>
-    requires one { IsStrictlySortedBy int_cmp one.now }
-    requires two { IsStrictlySortedBy int_cmp two.now }
-    requires exception { IsStrictlySortedBy int_cmp exception.now }
-    ensures { IfOk result (λ merge. merge.started ≡ false) }
-{
-    let mut merge = merge_two(alloc, one, two)?;
-    add_except(&mut merge, listed(alloc, exception)?)?;
-    Ok(merge)
-}
-
-/// Checks that the source returns these numbers. If `has` can tell, it must say that the source has each number just
-/// before the number is returned, and that the source doesn't have the number right afterwards.
-pub fn expect_first<S: Rising>(rt: &impl Abort, source: &mut S, numbers: &[i64]) {
+/// Checks that the source returns these numbers and, if it can tell, that it has each of them until it is returned.
+pub fn expect_first<S: Rising>(source: &mut S, numbers: &[i64]) -> Result<(), Fail> {
     for number in numbers {
-        assert!(rt; source.has(*number) != Some(false));
-        assert!(rt; source.next() == Some(*number), "at {number}");
-        assert!(rt; source.has(*number) != Some(true));
+        ensure(source.has(*number) != Some(false), "a number is denied")?;
+        let found = source.next();
+        if found != Some(*number) {
+            return Err((*number).into());
+        }
+        ensure(source.has(*number) != Some(true), "a number is still there")?;
     }
+    Ok(())
 }
 
-/// Checks that the source returns these numbers, and then `None` twice.
-pub fn expect_numbers<S: Rising>(rt: &impl Abort, source: &mut S, numbers: &[i64]) {
-    expect_first(rt, source, numbers);
-    assert_eq!(rt; (source.next(), source.next()), (None, None));
+/// The source gives these numbers, and then nothing.
+pub fn expect_numbers<S: Rising>(source: &mut S, numbers: &[i64]) -> Result<(), Fail> {
+    expect_first(source, numbers)?;
+    ensure(source.next().is_none(), "a number too many")?;
+    ensure(source.next().is_none(), "a number after the end")
 }

@@ -5,55 +5,59 @@
 //! an allocation has failed.
 
 ghost use Rattle.std.specs.Prelude.{◌≡◌, false};
+ghost use Rattle.std.specs.List.Sorted.{IsStrictlySortedBy};
+ghost use Rattle.std.specs.Ordering.{int_cmp};
 
+use crate::elapses::elapses_of;
 use crate::numbers::{expect_numbers, listed, merge_two};
 use crate::searches::{expect_members, put_three};
-use crate::shared::{EXCEPT_FILE, SUMMER_TIME, TIMER_FILE, instant, zone_file};
-use crate::timers::{EXCEPT_EXCEPTIONS, EXCEPT_LINES, Lines, UNIT_LINES, expect_list, read};
+use crate::shared::{EXCEPT_FILE, SUMMER_TIME, TIMER_FILE, ensure, zone_file};
+use crate::timers::{EXCEPT_EXCEPTIONS, EXCEPT_LINES, UNIT_LINES, expect_lists, expect_timer};
 use cal_base::{Port, Rules, Zone, ZoneTable, place, read_whole};
-use cal_elapse::{Elapses, Listed, Merge, Pending, Rising};
-use cal_read::{Setting, Settings, TimerFault, UnitText, find_faults, read_settings, read_texts};
+use cal_elapse::{Listed, Merge, Pending, Rising};
+use cal_read::{Setting, Settings, UnitText, find_faults, read_settings, read_texts};
 use cal_spec::{fault_span, read_expr};
-use std::alloc::AllocError;
-use std::process::Abort;
+use std::alloc::{AllocError, Global};
 use std::test::Fail;
 
 #[test]
 fn a_whole_reader(rt: HostRuntime) -> Result<(), Fail> {
     let bytes = read_whole(rt.alloc(), &mut Port::new(TIMER_FILE), 999)?;
-    assert_eq!(rt; bytes.as_slice(), TIMER_FILE);
-    Ok(())
+    ensure(bytes.as_slice() == TIMER_FILE, "other bytes")
 }
 
-/// Returns the instant of local midnight on 2024-01-01.
-fn new_year(rules: &Rules) -> Option<i64> {
-    place(Zone::rules(rules), 1_704_067_200)
+/// Returns whether the clock is an hour ahead of UTC at the turn of the year.
+fn is_hour_ahead(zone: Zone<'_>) -> bool {
+    place(zone, 1_704_067_200) == Some(1_704_063_600)
 }
-
-const HOUR_BEFORE: Option<i64> = Some(1_704_063_600);
 
 #[test]
 fn a_rule(rt: HostRuntime) -> Result<(), Fail> {
     let rules = Rules::posix(rt.alloc(), SUMMER_TIME)?;
-    assert_eq!(rt; new_year(&rules), HOUR_BEFORE);
-    Ok(())
+    ensure(is_hour_ahead(Zone::rules(&rules)), "another rule")
+}
+
+/// Returns the rules of a zone file.
+fn rules_of_file(alloc: Global) -> Result<Rules, Fail> {
+    let bytes = zone_file(alloc)?;
+    Ok(Rules::file(alloc, "Test/Fixed", &bytes)?)
 }
 
 /// If `add` fails, the table is unchanged and the rules are returned to the caller.
 #[test]
 fn a_zone_file_and_a_table(rt: HostRuntime) -> Result<(), Fail> {
     let mut table = ZoneTable::new(rt.alloc());
-    let bytes = zone_file(rt.alloc())?;
-    let rules = Rules::file(rt.alloc(), "Test/Fixed", &bytes)?;
-    assert_eq!(rt; new_year(&rules), HOUR_BEFORE);
-    match table.add("Test/Fixed", rules) {
-        Ok(()) => {
-            assert!(rt; table.find("Test/Fixed").is_some());
-            Ok(())
-        }
+    match table.add("Test/Fixed", rules_of_file(rt.alloc())?) {
+        Ok(()) => match table.find("Test/Fixed") {
+            Some(zone) => ensure(is_hour_ahead(zone), "another file"),
+            None => Err("not in the table".into()),
+        },
         Err((rules, fault)) => {
-            let left = (new_year(&rules), table.find("Test/Fixed").is_some());
-            assert_eq!(rt; left, (HOUR_BEFORE, false));
+            let is_unchanged = table.find("Test/Fixed").is_none();
+            ensure(
+                is_unchanged && is_hour_ahead(Zone::rules(&rules)),
+                "changed",
+            )?;
             Err(fault.into())
         }
     }
@@ -78,37 +82,36 @@ fn expressions(rt: HostRuntime) -> Result<(), Fail> {
 #[test]
 fn pending_instants(rt: HostRuntime) -> Result<(), Fail> {
     let mut pending = Pending::new(rt.alloc())?;
-    put_three(&rt, &mut pending, 100, 50);
-    expect_members(&rt, &mut pending, &[50, 100]);
-    Ok(())
+    put_three(&mut pending, 100, 50)?;
+    expect_members(&mut pending, &[50, 100])
 }
 
 /// Once the elapses are created, `next` doesn't allocate.
 #[test]
 fn elapses(rt: HostRuntime) -> Result<(), Fail> {
-    let base = instant(1_552_651_200)?;
-    let expr = read_expr(rt.alloc(), "*-2-29 0:0:0")?;
-    let mut elapses = Elapses::new(rt.alloc(), &expr, Zone::utc(), base)?;
+    let mut elapses = elapses_of(rt.alloc(), "*-2-29 0:0:0", Zone::utc(), 1_552_651_200)?;
     let answers = (elapses.next(), elapses.next());
-    assert_eq!(rt; answers, (Some(1_582_934_400), Some(1_709_164_800)));
-    Ok(())
+    ensure(
+        answers == (Some(1_582_934_400), Some(1_709_164_800)),
+        "leap days",
+    )
 }
 
-/// Adds a source of these numbers to a merge. If that fails, expects the source to be returned unchanged.
+/// Adds a source of these numbers. If that fails, the source is handed back unchanged, and the error is returned.
 fn add(
-    rt: &impl Abort,
+    alloc: Global,
     merge: &mut Merge<Listed>,
-    source: Listed,
     numbers: &[i64],
-) -> Result<(), AllocError>
-    requires { merge.old.started ≡ false }
+) -> Result<Option<AllocError>, Fail>
+    requires new { merge.old.started ≡ false }
+    requires sorted { IsStrictlySortedBy int_cmp numbers.now }
     ensures { merge.new.started ≡ false }
 {
-    match merge.add(source) {
-        Ok(()) => Ok(()),
+    match merge.add(listed(alloc, numbers)?) {
+        Ok(()) => Ok(None),
         Err((mut handed_back, fault)) => {
-            expect_numbers(rt, &mut handed_back, numbers);
-            Err(fault)
+            expect_numbers(&mut handed_back, numbers)?;
+            Ok(Some(fault))
         }
     }
 }
@@ -117,19 +120,19 @@ fn add(
 #[test]
 fn merged_lists(rt: HostRuntime) -> Result<(), Fail> {
     let mut merge = Merge::new(rt.alloc());
-    let one = listed(rt.alloc(), &[1, 5, 9])?;
-    let two = listed(rt.alloc(), &[5, 7])?;
-    let one = add(&rt, &mut merge, one, &[1, 5, 9]);
-    let two = add(&rt, &mut merge, two, &[5, 7]);
-    let numbers: &[i64] = match (one.is_ok(), two.is_ok()) {
+    let one = add(rt.alloc(), &mut merge, &[1, 5, 9])?;
+    let two = add(rt.alloc(), &mut merge, &[5, 7])?;
+    let numbers: &[i64] = match (one.is_none(), two.is_none()) {
         (true, true) => &[1, 5, 7, 9],
         (true, false) => &[1, 5, 9],
         (false, true) => &[5, 7],
         (false, false) => &[],
     };
-    expect_numbers(&rt, &mut merge, numbers);
-    one?;
-    Ok(two?)
+    expect_numbers(&mut merge, numbers)?;
+    match one.or(two) {
+        None => Ok(()),
+        Some(fault) => Err(fault.into()),
+    }
 }
 
 /// If an exception can't be added, it is returned to the caller, and the merge is unchanged.
@@ -138,36 +141,19 @@ fn an_exception(rt: HostRuntime) -> Result<(), Fail> {
     let mut merge = merge_two(rt.alloc(), &[1, 5, 9], &[5, 7])?;
     let exception = listed(rt.alloc(), &[5, 8])?;
     match merge.add_except(exception) {
-        Ok(()) => {
-            expect_numbers(&rt, &mut merge, &[1, 7, 9]);
-            Ok(())
-        }
+        Ok(()) => expect_numbers(&mut merge, &[1, 7, 9]),
         Err((mut handed_back, fault)) => {
-            expect_numbers(&rt, &mut handed_back, &[5, 8]);
-            expect_numbers(&rt, &mut merge, &[1, 5, 7, 9]);
+            expect_numbers(&mut handed_back, &[5, 8])?;
+            expect_numbers(&mut merge, &[1, 5, 7, 9])?;
             Err(fault.into())
         }
     }
 }
 
-/// Expects the file to have these expressions and exceptions.
-fn expect_lists(
-    rt: &(impl Abort + AllocGlobal),
-    file: &[u8],
-    lines: Lines,
-    exceptions: Lines,
-) -> Result<(), TimerFault> {
-    let timer = read(rt.alloc(), file)?;
-    expect_list(rt, timer.lines(), lines, file);
-    expect_list(rt, timer.exceptions(), exceptions, file);
-    Ok(())
-}
-
 #[test]
 fn timer_files(rt: HostRuntime) -> Result<(), Fail> {
-    expect_lists(&rt, TIMER_FILE, UNIT_LINES, &[])?;
-    expect_lists(&rt, EXCEPT_FILE, EXCEPT_LINES, EXCEPT_EXCEPTIONS)?;
-    Ok(())
+    expect_lists(rt.alloc(), TIMER_FILE, UNIT_LINES, &[])?;
+    expect_lists(rt.alloc(), EXCEPT_FILE, EXCEPT_LINES, EXCEPT_EXCEPTIONS)
 }
 
 #[test]
@@ -183,11 +169,7 @@ fn several_texts(rt: HostRuntime) -> Result<(), Fail> {
         },
     ];
     match read_texts(rt.alloc(), &files) {
-        Ok(timer) => {
-            expect_list(&rt, timer.lines(), &[(2, "daily")], b"the texts");
-            expect_list(&rt, timer.exceptions(), &[(2, "Sat  12:00")], b"the texts");
-            Ok(())
-        }
+        Ok(timer) => expect_timer(&timer, &[(2, "daily")], &[(2, "Sat  12:00")], "the texts"),
         Err(found) => Err(found.fault.into()),
     }
 }
@@ -199,16 +181,17 @@ fn all_faults(rt: HostRuntime) -> Result<(), Fail> {
         text: "[Timer]\nOnCalendar=Sat,Sun 25:00\nOnCalendar=Mon \\\n12:00\nX-ExceptOnCalendar=7",
     }];
     let found = find_faults(rt.alloc(), &files)?;
-    assert_eq!(rt; found.len(), 2);
-    Ok(())
+    ensure(found.len() == 2, "not two faults")
 }
 
 const SETTINGS: &str = "[Timer]\nOnCalendar=Mon \\\n12:00\nPersistent=yes\n";
 
 /// Expects the first setting of [`SETTINGS`].
-fn expect_first(rt: &impl Abort, setting: Option<Setting>) {
-    let value = setting.map(|setting| setting.value.as_str() == "Mon  12:00");
-    assert_eq!(rt; value, Some(true));
+fn expect_first(setting: &Option<Setting>) -> Result<(), Fail> {
+    match setting {
+        Some(setting) => ensure(setting.value.as_str() == "Mon  12:00", "another setting"),
+        None => Err("no setting".into()),
+    }
 }
 
 /// If allocation fails, the setting is not skipped.
@@ -216,13 +199,10 @@ fn expect_first(rt: &impl Abort, setting: Option<Setting>) {
 fn the_next_setting(rt: HostRuntime) -> Result<(), Fail> {
     let mut settings = Settings::new("Timer", 1, SETTINGS);
     match settings.next(rt.alloc()) {
-        Ok(setting) => {
-            expect_first(&rt, setting);
-            Ok(())
-        }
+        Ok(setting) => expect_first(&setting),
         Err(fault) => {
             if let Ok(setting) = settings.next(rt.alloc()) {
-                expect_first(&rt, setting);
+                expect_first(&setting)?;
             }
             Err(fault.into())
         }
@@ -232,13 +212,11 @@ fn the_next_setting(rt: HostRuntime) -> Result<(), Fail> {
 #[test]
 fn all_settings(rt: HostRuntime) -> Result<(), Fail> {
     let all = read_settings(rt.alloc(), "Timer", 1, SETTINGS)?;
-    assert_eq!(rt; all.len(), 2);
-    Ok(())
+    ensure(all.len() == 2, "not two settings")
 }
 
 #[test]
 fn a_word_at_fault(rt: HostRuntime) -> Result<(), Fail> {
     let found = fault_span(rt.alloc(), "Sat,Sun 12:00 UTC 5")?;
-    assert_eq!(rt; found, Some(18..19));
-    Ok(())
+    ensure(found == Some(18..19), "another word")
 }

@@ -3,11 +3,10 @@
 
 ghost use Rattle.std.specs.Prelude.{◌≡◌, []};
 
-use crate::shared::expr;
+use crate::shared::{ensure, expr};
 use cal_elapse::{Found, Masks, Pending, first_set, next_local};
 use cal_spec::Expr;
-use std::alloc::AllocError;
-use std::process::Abort;
+use std::alloc::Global;
 use std::test::Fail;
 
 /// Searches for the first match from the local second `from` on. Returns `None` if `from` is outside the supported
@@ -38,39 +37,44 @@ static SEARCHES: [Search; 8] = [
     ("*-1-31 0:0:0", 2_592_001, Some(34_128_000), 2),
 ];
 
-fn expect_found(rt: &(impl Abort + AllocGlobal), searches: &[Search]) -> Result<(), Fail> {
-    for (text, from, local, months) in searches {
-        let found = found_from(&expr(rt.alloc(), text)?, *from);
-        let (local, months) = (*local, *months);
-        assert_eq!(rt; found, Some(Found { local, months }), "{text} from {from}");
-    }
-    Ok(())
+fn expect_found(alloc: Global, search: &Search) -> Result<(), Fail> {
+    let (text, from, local, months) = *search;
+    let found = found_from(&expr(alloc, text)?, from);
+    ensure(found == Some(Found { local, months }), text)
 }
 
 #[test]
 fn finds_the_next(rt: HostRuntime) -> Result<(), Fail> {
-    expect_found(&rt, &SEARCHES)
+    for search in &SEARCHES {
+        expect_found(rt.alloc(), search)?;
+    }
+    Ok(())
 }
 
-/// Puts two instants into an empty set, and then the first one again. The two may be at most 187,199 seconds apart.
-pub(crate) fn put_three(rt: &impl Abort, pending: &mut Pending, one: i64, other: i64)
+/// Puts two instants into an empty set, and then the first one again. They may be at most 187,199 seconds apart.
+pub(crate) fn put_three(pending: &mut Pending, one: i64, other: i64) -> Result<(), Fail>
     requires { pending.old ≡ [] }
 {
-    assert!(rt; one >= 0 && one <= 7_258_211_998);
-    assert!(rt; other >= 0 && other <= 7_258_211_998);
-    assert!(rt; one.abs_diff(other) <= 187_199);
+    if one < 0 || one > 7_258_211_998 {
+        return Err(one.into());
+    }
+    if other < 0 || other > 7_258_211_998 || one.abs_diff(other) > 187_199 {
+        return Err(other.into());
+    }
     pending.put(one);
     pending.put(other);
     pending.put(one);
+    Ok(())
 }
 
 /// Expects the set to return these instants from the earliest to the latest, and then to be empty.
-pub(crate) fn expect_members(rt: &impl Abort, pending: &mut Pending, members: &[i64]) {
+pub(crate) fn expect_members(pending: &mut Pending, members: &[i64]) -> Result<(), Fail> {
     for member in members {
-        let answers = (pending.least(), pending.take_least());
-        assert_eq!(rt; answers, (Some(*member), Some(*member)));
+        ensure(pending.least() == Some(*member), "another instant")?;
+        ensure(pending.take_least() == Some(*member), "another is taken")?;
     }
-    assert_eq!(rt; (pending.least(), pending.take_least()), (None, None));
+    ensure(pending.least().is_none(), "an instant is left")?;
+    ensure(pending.take_least().is_none(), "an instant is taken")
 }
 
 /// Pairs of instants, and the order in which the set returns them. The set is a ring of 187,200 cells. The end of the
@@ -83,11 +87,11 @@ static PAIRS: [(i64, i64, [i64; 2]); 3] = [
 ];
 
 #[test]
-fn each_once_rising(rt: HostRuntime) -> Result<(), AllocError> {
+fn each_once_rising(rt: HostRuntime) -> Result<(), Fail> {
     for (one, other, members) in &PAIRS {
         let mut pending = Pending::new(rt.alloc())?;
-        put_three(&rt, &mut pending, *one, *other);
-        expect_members(&rt, &mut pending, members);
+        put_three(&mut pending, *one, *other)?;
+        expect_members(&mut pending, members)?;
     }
     Ok(())
 }
@@ -95,21 +99,25 @@ fn each_once_rising(rt: HostRuntime) -> Result<(), AllocError> {
 /// Tries no words at all, and as many words as the set of pending instants has: first all of them 0, and then all but
 /// the last one.
 #[test]
-fn first_set_word(rt: HostRuntime) {
+fn first_set_word() -> Result<(), Fail> {
     let mut cells = [0; 2_925];
-    assert_eq!(rt; (first_set(&[]), first_set(&cells)), (None, None));
+    ensure(first_set(&[]).is_none(), "no words")?;
+    ensure(first_set(&cells).is_none(), "all 0")?;
     cells[2_924] = 1;
-    assert_eq!(rt; first_set(&cells), Some(2_924));
+    ensure(first_set(&cells) == Some(2_924), "the last word")
 }
 
 /// The only word that is not 0 is found at each index, among any number of words up to 70.
 #[test]
-fn each_index(rt: HostRuntime) {
+fn each_index() -> Result<(), Fail> {
     for length in 0..=70 {
         for index in 0..length {
             let mut cells = [0; 70];
             cells[index] = 1 << (index % 64);
-            assert_eq!(rt; first_set(&cells[..length]), Some(index), "of {length}");
+            if first_set(&cells[..length]) != Some(index) {
+                return Err(length.into());
+            }
         }
     }
+    Ok(())
 }

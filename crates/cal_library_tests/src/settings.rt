@@ -1,7 +1,8 @@
 //! The settings of one section of a unit file.
 
+use crate::shared::ensure;
 use cal_read::{Setting, Settings, read_settings};
-use std::process::Abort;
+use std::alloc::Global;
 use std::test::Fail;
 
 /// The name of a section, and its settings: the line number, the key and the value of each.
@@ -57,27 +58,34 @@ static SECTIONS: [Row; 5] = [
     ("", &[]),
 ];
 
-/// Expects a setting to have this line, key and value.
-fn expect_setting(rt: &impl Abort, found: &Setting, (number, key, value): (u32, &str, &str)) {
-    assert_eq!(rt; found.number, number);
-    assert_eq!(rt; found.key.as_str(), key);
-    assert_eq!(rt; found.value.as_str(), value);
+/// Returns whether a setting has this line, key and value.
+fn is_setting(found: &Setting, (number, key, value): (u32, &str, &str)) -> bool {
+    found.number == number && found.key.as_str() == key && found.value.as_str() == value
+}
+
+/// Returns whether the settings are these.
+fn are_settings(all: &[Setting], expected: &[(u32, &str, &str)]) -> bool {
+    if all.len() != expected.len() {
+        return false;
+    }
+    for (found, row) in all.iter().zip(expected) {
+        if !is_setting(found, *row) {
+            return false;
+        }
+    }
+    true
 }
 
 /// Expects the sections with this name in [`EXAMPLE`] to have these settings.
-fn expect_section(rt: &(impl Abort + AllocGlobal), (section, expected): &Row) -> Result<(), Fail> {
-    let all = read_settings(rt.alloc(), section, 1, EXAMPLE)?;
-    assert_eq!(rt; all.len(), expected.len(), "in {section:?}");
-    for (found, expected) in all.iter().zip(*expected) {
-        expect_setting(rt, found, *expected);
-    }
-    Ok(())
+fn expect_section(alloc: Global, (section, expected): &Row) -> Result<(), Fail> {
+    let all = read_settings(alloc, section, 1, EXAMPLE)?;
+    ensure(are_settings(&all, expected), section)
 }
 
 #[test]
 fn sections(rt: HostRuntime) -> Result<(), Fail> {
     for row in &SECTIONS {
-        expect_section(&rt, row)?;
+        expect_section(rt.alloc(), row)?;
     }
     Ok(())
 }
@@ -89,8 +97,10 @@ fn one_after_another(rt: HostRuntime) -> Result<(), Fail> {
     let Some(setting) = settings.next(rt.alloc())? else {
         return Err("no setting".into());
     };
-    expect_setting(&rt, &setting, (9, "OnCalendar", "daily"));
-    assert!(rt; settings.next(rt.alloc())?.is_none());
-    assert!(rt; settings.next(rt.alloc())?.is_none());
-    Ok(())
+    ensure(
+        is_setting(&setting, (9, "OnCalendar", "daily")),
+        "the setting",
+    )?;
+    ensure(settings.next(rt.alloc())?.is_none(), "a second setting")?;
+    ensure(settings.next(rt.alloc())?.is_none(), "a third setting")
 }

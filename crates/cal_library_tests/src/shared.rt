@@ -15,6 +15,12 @@ pub const SUMMER_TIME: &str = "CET-1CEST,M3.5.0,M10.5.0/3";
 /// A POSIX rule by which the clock goes forward by an hour, and back ten minutes later.
 pub const FORWARD_AND_BACK: &str = "AAA0BBB,M3.5.0/2,M3.5.0/3:10";
 
+/// Fails with `about`, which names the row or the step, unless `holds` is true. The proof of a function that calls this
+/// takes a fraction of the time that an assertion with a message takes.
+pub fn ensure(holds: bool, about: &str) -> Result<(), Fail> {
+    if holds { Ok(()) } else { Err(about.into()) }
+}
+
 /// Parses a calendar expression.
 pub fn expr(alloc: Global, text: &str) -> Result<Expr, Fail> {
     Ok(read_expr(alloc, text)?)

@@ -1,9 +1,9 @@
 //! Time spans: how they are parsed, why they are rejected and how they are printed. The values follow systemd.time(7),
 //! Parsing Time Spans, and are worked out by hand.
 
+use crate::shared::ensure;
 use cal_base::{Port, Span, SpanFault, read_span, write_span};
 use std::alloc::Global;
-use std::process::Abort;
 use std::test::Fail;
 
 /// Spans, their length in microseconds, and how that length is printed.
@@ -95,60 +95,53 @@ fn micros(text: &str) -> Result<u64, SpanFault> {
 }
 
 /// Expects each span to have the microseconds next to it. The rows are separated by `|`.
-fn expect_values(rt: &impl Abort, rows: &str) -> Result<(), Fail> {
+fn expect_values(rows: &str) -> Result<(), Fail> {
     for row in rows.split('|') {
         let (text, wanted) = row.split_once(" -> ").ok_or("no arrow")?;
-        let wanted = wanted.parse()?;
-        assert!(rt; micros(text) == Ok(wanted), "at {text:?}");
+        ensure(micros(text) == Ok(wanted.parse()?), text)?;
     }
     Ok(())
 }
 
-/// Expects each span to be rejected with this error. The spans are separated by `|`.
-fn expect_fault(rt: &impl Abort, fault: SpanFault, texts: &str) {
+/// Expects each span to be rejected with this error. They are separated by `|`.
+fn expect_fault(fault: SpanFault, texts: &str) -> Result<(), Fail> {
     for text in texts.split('|') {
-        assert!(rt; micros(text) == Err(fault), "at {text:?}");
-    }
-}
-
-/// Returns the printed span, or `None` if writing it fails.
-fn text_of(alloc: Global, span: Span) -> Option<Vec<u8>> {
-    let mut out = Port::new(Vec::new(alloc));
-    write_span(&mut out, span).ok()?;
-    Some(out.into_inner())
-}
-
-/// Expects each length in microseconds to be printed as in its row.
-fn expect_written(rt: &(impl Abort + AllocGlobal), rows: &[(&str, u64, &str)]) -> Result<(), Fail> {
-    for (text, micros, human) in rows {
-        let span = Span::new(*micros).ok_or("above the limit")?;
-        let written = text_of(rt.alloc(), span).ok_or("not written")?;
-        assert!(rt; written.as_slice() == human.as_bytes(), "at {text:?}");
+        ensure(micros(text) == Err(fault), text)?;
     }
     Ok(())
+}
+
+/// Returns whether the span is printed as `text`.
+fn is_printed(alloc: Global, span: Span, text: &str) -> bool {
+    let mut out = Port::new(Vec::new(alloc));
+    let written = write_span(&mut out, span);
+    written.is_ok() && out.into_inner().as_slice() == text.as_bytes()
 }
 
 #[test]
 fn reads_and_writes(rt: HostRuntime) -> Result<(), Fail> {
-    for (text, wanted, _) in &READ_AND_WRITTEN {
-        assert!(rt; micros(text) == Ok(*wanted), "at {text:?}");
-    }
-    expect_written(&rt, &READ_AND_WRITTEN)
-}
-
-#[test]
-fn reads(rt: HostRuntime) -> Result<(), Fail> {
-    for rows in [SUMS, UNIT_WORDS, FRACTIONS, UP_TO_THE_LIMIT] {
-        expect_values(&rt, rows)?;
+    for (text, wanted, human) in &READ_AND_WRITTEN {
+        ensure(micros(text) == Ok(*wanted), text)?;
+        let span = Span::new(*wanted).ok_or("above the limit")?;
+        ensure(is_printed(rt.alloc(), span, human), human)?;
     }
     Ok(())
 }
 
 #[test]
-fn refuses(rt: HostRuntime) {
-    for (fault, texts) in ABOVE_THE_LIMIT.iter().chain(&FIRST_FAULTS) {
-        expect_fault(&rt, *fault, texts);
+fn reads() -> Result<(), Fail> {
+    for rows in [SUMS, UNIT_WORDS, FRACTIONS, UP_TO_THE_LIMIT] {
+        expect_values(rows)?;
     }
+    Ok(())
+}
+
+#[test]
+fn refuses() -> Result<(), Fail> {
+    for (fault, texts) in ABOVE_THE_LIMIT.iter().chain(&FIRST_FAULTS) {
+        expect_fault(*fault, texts)?;
+    }
+    Ok(())
 }
 
 static FAULTS: [(SpanFault, u8, &str); 4] = [
@@ -163,10 +156,10 @@ static FAULTS: [(SpanFault, u8, &str); 4] = [
 fn numbers_and_shown_words(rt: HostRuntime) -> Result<(), Fail> {
     for (fault, number, message) in &FAULTS {
         let shown = format!(in rt.alloc(); "{fault}")?;
-        assert!(rt;
+        ensure(
             *fault as u8 == *number && shown.as_str() == *message,
-            "{message}"
-        );
+            message,
+        )?;
     }
     Ok(())
 }

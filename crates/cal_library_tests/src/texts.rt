@@ -5,9 +5,9 @@ use std::process::Abort;
 
 #[test]
 fn words(rt: HostRuntime) {
-    assert_eq!(rt; first_word(" \tMon  09:00"), Some(("Mon", "  09:00")));
-    assert_eq!(rt; first_word(" \t"), None);
-    assert_eq!(rt; last_word("1h  ago"), Some(("1h ", "ago")));
-    assert_eq!(rt; last_word("1h"), None);
-    assert_eq!(rt; trim_blanks("\t a b\r "), "a b\r");
+    assert!(rt; first_word(" \tMon  09:00") == Some(("Mon", "  09:00")));
+    assert!(rt; first_word(" \t").is_none());
+    assert!(rt; last_word("1h  ago") == Some(("1h ", "ago")));
+    assert!(rt; last_word("1h").is_none());
+    assert!(rt; trim_blanks("\t a b\r ") == "a b\r");
 }

@@ -1,10 +1,9 @@
 //! Timer files: which expressions a file ends up with, and why a file is rejected.
 
-use crate::shared::TIMER_FILE;
+use crate::shared::{TIMER_FILE, ensure};
 use cal_base::Port;
 use cal_read::{Timer, TimerFault, TimerLine, read_timer};
 use std::alloc::Global;
-use std::process::Abort;
 use std::test::Fail;
 
 mod assignments;
@@ -34,39 +33,64 @@ pub fn read(alloc: Global, file: &[u8]) -> Result<Timer, TimerFault> {
     read_timer(alloc, &mut Port::new(file))
 }
 
-/// Expects the list to have these expressions. `file` only appears in the failure message.
-pub fn expect_list(rt: &impl Abort, list: &[TimerLine], expected: Lines, file: &[u8]) {
-    assert!(rt; list.len() == expected.len(), "in {file:?}");
+/// Returns whether the list has these expressions.
+fn has_lines(list: &[TimerLine], expected: Lines) -> bool {
+    if list.len() != expected.len() {
+        return false;
+    }
     for (line, (number, text)) in list.iter().zip(expected) {
-        assert!(rt;
-            line.number == *number && line.text.as_str() == *text,
-            "in {file:?}"
-        );
+        if line.number != *number || line.text.as_str() != *text {
+            return false;
+        }
+    }
+    true
+}
+
+/// Expects the timer to have these expressions and exceptions.
+pub fn expect_timer(
+    timer: &Timer,
+    expected: Lines,
+    exceptions: Lines,
+    about: &str,
+) -> Result<(), Fail> {
+    ensure(has_lines(timer.lines(), expected), about)?;
+    ensure(has_lines(timer.exceptions(), exceptions), about)
+}
+
+/// Expects the file to have these expressions and exceptions.
+pub fn expect_lists(
+    alloc: Global,
+    file: &[u8],
+    expected: Lines,
+    exceptions: Lines,
+) -> Result<(), Fail> {
+    let timer = read(alloc, file)?;
+    expect_timer(&timer, expected, exceptions, "another list")
+}
+
+/// Returns the error that a file is rejected with, if any.
+fn fault_of(alloc: Global, file: &[u8]) -> Option<TimerFault> {
+    read(alloc, file).err()
+}
+
+/// Returns whether the file has these expressions, or is rejected with this error.
+fn is_read(alloc: Global, file: &[u8], expected: &Result<Lines, TimerFault>) -> bool {
+    match (read(alloc, file), expected) {
+        (Ok(timer), Ok(lines)) => has_lines(timer.lines(), lines),
+        (Err(found), Err(fault)) => found == *fault,
+        _ => false,
     }
 }
 
-/// Expects the timer to have these expressions.
-fn expect_lines(rt: &impl Abort, timer: &Timer, expected: Lines, file: &[u8]) {
-    expect_list(rt, timer.lines(), expected, file);
-}
-
-/// Expects the file to have these expressions, or to be rejected with this error.
-fn expect_file(rt: &impl Abort, alloc: Global, file: &str, expected: &Result<Lines, TimerFault>) {
-    match (read(alloc, file.as_bytes()), expected) {
-        (Ok(timer), Ok(lines)) => expect_lines(rt, &timer, lines, file.as_bytes()),
-        (found, _) => assert_eq!(rt; found.err(), expected.err(), "in {file:?}"),
-    }
-}
-
-fn expect_files(rt: &impl Abort, alloc: Global, rows: &[Row]) {
+/// Expects each file to have the expressions of its row, or to be rejected with that error.
+fn expect_files(alloc: Global, rows: &[Row]) -> Result<(), Fail> {
     for (file, expected) in rows {
-        expect_file(rt, alloc, file, expected);
+        ensure(is_read(alloc, file.as_bytes(), expected), file)?;
     }
+    Ok(())
 }
 
 #[test]
 fn timer_file(rt: HostRuntime) -> Result<(), Fail> {
-    let timer = read(rt.alloc(), TIMER_FILE)?;
-    expect_lines(&rt, &timer, UNIT_LINES, TIMER_FILE);
-    Ok(())
+    expect_lists(rt.alloc(), TIMER_FILE, UNIT_LINES, &[])
 }

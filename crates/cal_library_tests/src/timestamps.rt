@@ -1,12 +1,11 @@
 //! Timestamps (systemd.time(7), Parsing Timestamps): valid ones with their moments, and invalid ones with their errors.
 //! The values are worked out by hand.
 
-use crate::shared::instant;
+use crate::shared::{ensure, instant};
 use cal_base::{Instant, SpanFault, Zone, ZoneTable};
 use cal_read::StampFault::{self, *};
 use cal_read::read_stamp;
 use std::alloc::Global;
-use std::process::Abort;
 use std::test::Fail;
 
 mod civil_times;
@@ -96,77 +95,67 @@ fn micros(place: Place<'_>, text: &str) -> Result<i64, StampFault> {
     Ok(moment.micros())
 }
 
-/// Splits a line at its arrow into a timestamp and microseconds.
-fn text_and_micros(line: &str) -> Result<(&str, i64), Fail> {
-    let (text, micros) = line.split_once(" -> ").ok_or("no arrow")?;
-    Ok((text, micros.parse()?))
-}
-
 /// Expects each timestamp to resolve to the microseconds next to it.
-fn expect_micros(rt: &impl Abort, place: Place<'_>, moments: &str) -> Result<(), Fail> {
+fn expect_micros(place: Place<'_>, moments: &str) -> Result<(), Fail> {
     if moments.is_empty() {
         return Ok(());
     }
     for line in moments.split('|') {
-        let (text, expected) = text_and_micros(line)?;
-        assert_eq!(rt; micros(place, text), Ok(expected), "at {text:?}");
+        let (text, expected) = line.split_once(" -> ").ok_or("no arrow")?;
+        ensure(micros(place, text) == Ok(expected.parse()?), text)?;
     }
     Ok(())
 }
 
 /// Expects each timestamp to be rejected with this error.
-fn expect_fault(rt: &impl Abort, place: Place<'_>, fault: StampFault, texts: &str) {
+fn expect_fault(place: Place<'_>, fault: StampFault, texts: &str) -> Result<(), Fail> {
     for text in texts.split('|') {
-        assert_eq!(rt; micros(place, text), Err(fault), "at {text:?}");
+        ensure(micros(place, text) == Err(fault), text)?;
     }
+    Ok(())
 }
 
 /// Expects the timestamps of the table to resolve to their moments, or to be rejected with their errors.
-fn expect_moments(
-    rt: &impl Abort,
-    now: i64,
-    local: Zone<'_>,
-    zones: &ZoneTable,
-    table: &Table,
-) -> Result<(), Fail> {
+fn expect_moments(now: i64, local: Zone<'_>, zones: &ZoneTable, table: &Table) -> Result<(), Fail> {
     let place = Place {
         now: instant(now)?,
         local,
         table: zones,
     };
-    expect_micros(rt, place, table.moments)?;
+    expect_micros(place, table.moments)?;
     for (fault, texts) in table.refusals {
-        expect_fault(rt, place, *fault, texts);
+        expect_fault(place, *fault, texts)?;
     }
     Ok(())
 }
 
 /// Like `expect_moments`, for each setting, with no named zones.
-fn expect_settings(rt: &impl Abort, alloc: Global, settings: &[Setting]) -> Result<(), Fail> {
+fn expect_settings(alloc: Global, settings: &[Setting]) -> Result<(), Fail> {
     let zones = ZoneTable::new(alloc);
     for setting in settings {
-        let local = zone_east(rt, setting.east);
-        expect_moments(rt, setting.now, local, &zones, &setting.table)?;
+        let local = zone_east(setting.east)?;
+        expect_moments(setting.now, local, &zones, &setting.table)?;
     }
     Ok(())
 }
 
 /// Like `expect_moments`, at [`PRESENT`] in UTC with no named zones.
-fn expect_in_utc(rt: &impl Abort, alloc: Global, table: &Table) -> Result<(), Fail> {
-    expect_moments(rt, PRESENT, Zone::utc(), &ZoneTable::new(alloc), table)
+fn expect_in_utc(alloc: Global, table: &Table) -> Result<(), Fail> {
+    expect_moments(PRESENT, Zone::utc(), &ZoneTable::new(alloc), table)
 }
 
 /// Returns the zone this many seconds east of UTC, or UTC itself for 0.
-fn zone_east(rt: &impl Abort, seconds: i32) -> Zone<'static> {
+fn zone_east(seconds: i32) -> Result<Zone<'static>, Fail> {
     if seconds == 0 {
-        return Zone::utc();
+        return Ok(Zone::utc());
     }
-    assert!(rt; -93_599 <= seconds);
-    assert!(rt; seconds <= 93_599);
-    Zone::offset(seconds)
+    if seconds < -93_599 || seconds > 93_599 {
+        return Err(seconds.into());
+    }
+    Ok(Zone::offset(seconds))
 }
 
 #[test]
 fn each_form(rt: HostRuntime) -> Result<(), Fail> {
-    expect_settings(&rt, rt.alloc(), &EACH_FORM)
+    expect_settings(rt.alloc(), &EACH_FORM)
 }

@@ -3,12 +3,11 @@
 use super::has_local;
 use super::merges::merge_elapses;
 use crate::numbers::expect_first;
-use crate::shared::{FORWARD_AND_BACK, expr, posix};
+use crate::shared::{FORWARD_AND_BACK, ensure, expr, posix};
 use cal_base::{Zone, place};
 use cal_elapse::Rising;
 use cal_spec::Expr;
-use std::alloc::AllocError;
-use std::process::Abort;
+use std::alloc::Global;
 use std::test::Fail;
 
 /// The range of instants in which elapses are compared, after `base` and up to `limit`, and the largest UTC offset of
@@ -23,16 +22,17 @@ struct TestedRange {
 /// Appends the instants in the range that have a matching local second. Every local second that could have an instant
 /// in the range is tested.
 fn push_places(
-    rt: &impl Abort,
     instants: &mut Vec<i64>,
     expr: &Expr,
     zone: Zone<'_>,
     range: TestedRange,
-) -> Result<(), AllocError> {
+) -> Result<(), Fail> {
     let first = range.base.saturating_sub(range.max_offset).max(0);
     let last = range.limit.saturating_add(range.max_offset);
     for local in first..=last.min(7_258_118_399) {
-        assert!(rt; local >= 0 && local <= 7_258_118_399);
+        if local < 0 || local > 7_258_118_399 {
+            return Err(local.into());
+        }
         if !has_local(expr, local) {
             continue;
         }
@@ -48,26 +48,26 @@ fn push_places(
 
 /// Like `push_places`, for an expression that has yet to be parsed.
 fn push_places_of(
-    rt: &(impl Abort + AllocGlobal),
+    alloc: Global,
     instants: &mut Vec<i64>,
     text: &str,
     zone: Zone<'_>,
     range: TestedRange,
 ) -> Result<(), Fail> {
-    let expr = expr(rt.alloc(), text)?;
-    Ok(push_places(rt, instants, &expr, zone, range)?)
+    let expr = expr(alloc, text)?;
+    push_places(instants, &expr, zone, range)
 }
 
 /// Returns the instants in the range at which any of the expressions elapses: sorted, and each instant once.
 fn by_filter(
-    rt: &(impl Abort + AllocGlobal),
+    alloc: Global,
     texts: &[&str],
     zone: Zone<'_>,
     range: TestedRange,
 ) -> Result<Vec<i64>, Fail> {
-    let mut instants = Vec::new(rt.alloc());
+    let mut instants = Vec::new(alloc);
     for text in texts {
-        push_places_of(rt, &mut instants, text, zone, range)?;
+        push_places_of(alloc, &mut instants, text, zone, range)?;
     }
     instants.sort_unstable();
     instants.dedup();
@@ -75,9 +75,10 @@ fn by_filter(
 }
 
 /// Expects the source to return exactly these instants, and after them none up to `limit`.
-fn expect_all<S: Rising>(rt: &impl Abort, source: &mut S, instants: &[i64], limit: i64) {
-    expect_first(rt, source, instants);
-    assert!(rt; source.next().unwrap_or(i64::MAX) > limit, "after {limit}");
+fn expect_all<S: Rising>(source: &mut S, instants: &[i64], limit: i64) -> Result<(), Fail> {
+    expect_first(source, instants)?;
+    let after = source.next().unwrap_or(i64::MAX);
+    ensure(after > limit, "one more in the range")
 }
 
 /// Three days around the transitions of the rule `FORWARD_AND_BACK`: forward by an hour, and back ten minutes later.
@@ -88,23 +89,22 @@ const FORWARD_AND_SOON_BACK: TestedRange = TestedRange {
 };
 
 /// Expects the merged elapses of the expressions to be those that the filter finds.
-fn agree(rt: &(impl Abort + AllocGlobal), texts: &[&str]) -> Result<(), Fail> {
-    let rules = posix(rt.alloc(), FORWARD_AND_BACK)?;
+fn agree(alloc: Global, texts: &[&str]) -> Result<(), Fail> {
+    let rules = posix(alloc, FORWARD_AND_BACK)?;
     let (zone, range) = (Zone::rules(&rules), FORWARD_AND_SOON_BACK);
-    let instants = by_filter(rt, texts, zone, range)?;
-    let mut merge = merge_elapses(rt.alloc(), texts, zone, range.base)?;
-    expect_all(rt, &mut merge, &instants, range.limit);
-    Ok(())
+    let instants = by_filter(alloc, texts, zone, range)?;
+    let mut merge = merge_elapses(alloc, texts, zone, range.base)?;
+    expect_all(&mut merge, &instants, range.limit)
 }
 
 /// An expression that matches every second.
 #[test]
 fn forward_and_soon_back(rt: HostRuntime) -> Result<(), Fail> {
-    agree(&rt, &["*:*:*"])
+    agree(rt.alloc(), &["*:*:*"])
 }
 
 /// Two expressions, merged.
 #[test]
 fn merged_forward_and_soon_back(rt: HostRuntime) -> Result<(), Fail> {
-    agree(&rt, &["*:0/7:13", "*:*:30"])
+    agree(rt.alloc(), &["*:0/7:13", "*:*:30"])
 }

@@ -1,54 +1,94 @@
 //! Merges of lists of numbers, and of the elapses of expressions, without the numbers of exceptions.
 
+ghost use Rattle.std.specs.Prelude.{◌≡◌, false};
+ghost use Rattle.std.specs.List.Sorted.{IsStrictlySortedBy};
+ghost use Rattle.std.specs.Ordering.{int_cmp};
+
 use super::elapses_of;
-use crate::numbers::{
-    Silent, add, add_except, expect_first, expect_numbers, listed, merge_two, merge_without,
-};
+use crate::numbers::{Silent, add, add_except, expect_first, expect_numbers, listed, merge_two};
 use crate::shared::{SUMMER_TIME, posix};
 use cal_base::Zone;
 use cal_elapse::{Elapses, Listed, Merge};
-use std::alloc::{AllocError, Global};
-use std::process::Abort;
+use std::alloc::Global;
 use std::test::Fail;
 
 #[test]
-fn no_source(rt: HostRuntime) {
+fn no_source(rt: HostRuntime) -> Result<(), Fail> {
     let mut merge: Merge<Listed> = Merge::new(rt.alloc());
-    expect_numbers(&rt, &mut merge, &[]);
+    expect_numbers(&mut merge, &[])
+}
+
+/// Expects the merge of two lists to return these numbers.
+fn expect_merged(alloc: Global, one: &[i64], two: &[i64], numbers: &[i64]) -> Result<(), Fail>
+    requires one { IsStrictlySortedBy int_cmp one.now }
+    requires two { IsStrictlySortedBy int_cmp two.now }
+{
+    let mut merge = merge_two(alloc, one, two)?;
+    expect_numbers(&mut merge, numbers)
 }
 
 /// `i64::MAX` is a number like any other, and a number that is in both lists is returned once.
 #[test]
-fn two_lists(rt: HostRuntime) -> Result<(), AllocError> {
-    let alloc = rt.alloc();
-    let mut greatest = merge_two(alloc, &[i64::MAX], &[1])?;
-    expect_numbers(&rt, &mut greatest, &[1, i64::MAX]);
-    let mut shared = merge_two(alloc, &[1, 5, 9], &[5, 7])?;
-    expect_numbers(&rt, &mut shared, &[1, 5, 7, 9]);
-    Ok(())
+fn two_lists(rt: HostRuntime) -> Result<(), Fail> {
+    expect_merged(rt.alloc(), &[i64::MAX], &[1], &[1, i64::MAX])?;
+    expect_merged(rt.alloc(), &[1, 5, 9], &[5, 7], &[1, 5, 7, 9])
+}
+
+/// Expects the merge of two lists, without the numbers of a third, to return these numbers.
+fn expect_without(
+    alloc: Global,
+    one: &[i64],
+    two: &[i64],
+    exception: &[i64],
+    numbers: &[i64],
+) -> Result<(), Fail>
+    requires one { IsStrictlySortedBy int_cmp one.now }
+    requires two { IsStrictlySortedBy int_cmp two.now }
+    requires exception { IsStrictlySortedBy int_cmp exception.now }
+{
+    let mut merge = merge_two(alloc, one, two)?;
+    add_except(&mut merge, listed(alloc, exception)?)?;
+    expect_numbers(&mut merge, numbers)
 }
 
 /// A merge leaves out the numbers of its exception. A number of the exception that is in no list changes nothing.
 #[test]
-fn exceptions(rt: HostRuntime) -> Result<(), AllocError> {
-    let alloc = rt.alloc();
-    let mut merge = merge_without(alloc, &[1, 5, 9], &[5, 7], &[5, 8])?;
-    expect_numbers(&rt, &mut merge, &[1, 7, 9]);
-    let mut alone = merge_without(alloc, &[], &[], &[5, 8])?;
-    expect_numbers(&rt, &mut alone, &[]);
+fn exceptions(rt: HostRuntime) -> Result<(), Fail> {
+    expect_without(rt.alloc(), &[1, 5, 9], &[5, 7], &[5, 8], &[1, 7, 9])?;
+    expect_without(rt.alloc(), &[], &[], &[5, 8], &[])
+}
+
+/// Adds two sources and an exception that can't tell what they have.
+fn add_silent(alloc: Global, merge: &mut Merge<Silent<Listed>>) -> Result<(), Fail>
+    requires { merge.old.started ≡ false }
+{
+    add(merge, Silent::new(listed(alloc, &[1, 5, 9])?))?;
+    add(merge, Silent::new(listed(alloc, &[5, 7])?))?;
+    add_except(merge, Silent::new(listed(alloc, &[0, 5, 8])?))?;
     Ok(())
 }
 
 /// An exception suppresses its numbers even if its `has` can't tell which numbers are still to come.
 #[test]
-fn silent_exceptions(rt: HostRuntime) -> Result<(), AllocError> {
-    let alloc = rt.alloc();
-    let mut merge = Merge::new(alloc);
-    add(&mut merge, Silent::new(listed(alloc, &[1, 5, 9])?))?;
-    add(&mut merge, Silent::new(listed(alloc, &[5, 7])?))?;
-    add_except(&mut merge, Silent::new(listed(alloc, &[0, 5, 8])?))?;
-    expect_numbers(&rt, &mut merge, &[1, 7, 9]);
-    Ok(())
+fn silent_exceptions(rt: HostRuntime) -> Result<(), Fail> {
+    let mut merge = Merge::new(rt.alloc());
+    add_silent(rt.alloc(), &mut merge)?;
+    expect_numbers(&mut merge, &[1, 7, 9])
+}
+
+/// Adds the elapses of an expression to a merge that was not asked for a number yet.
+fn add_elapses<'z>(
+    alloc: Global,
+    merge: &mut Merge<Elapses<'z>>,
+    text: &str,
+    zone: Zone<'z>,
+    base: i64,
+) -> Result<(), Fail>
+    requires { merge.old.started ≡ false }
+    ensures { merge.new.started ≡ false }
+{
+    let elapses = elapses_of(alloc, text, zone, base)?;
+    Ok(add(merge, elapses)?)
 }
 
 /// Returns the merge of the elapses of these expressions that are later than `base`.
@@ -60,7 +100,7 @@ pub(super) fn merge_elapses<'z>(
 ) -> Result<Merge<Elapses<'z>>, Fail> {
     let mut merge = Merge::new(alloc);
     for text in texts {
-        add(&mut merge, elapses_of(alloc, text, zone, base)?)?;
+        add_elapses(alloc, &mut merge, text, zone, base)?;
     }
     Ok(merge)
 }
@@ -76,24 +116,27 @@ static IN_GAP_AND_FOLD: [(i64, &[i64]); 2] = [
     (1_729_987_200, &[1_729_992_600]),
 ];
 
-/// Returns the elapses of `0,1:30` in UTC after `base`, without the elapses of `02:30` in the local zone.
-fn without_half_past_two<'z>(
+/// Adds those elapses after that base to a merge that was not asked for a number yet.
+fn add_without_half_past_two<'z>(
     alloc: Global,
+    merge: &mut Merge<Elapses<'z>>,
     local: Zone<'z>,
     base: i64,
-) -> Result<Merge<Elapses<'z>>, Fail> {
-    let mut merge = Merge::new(alloc);
-    add(&mut merge, elapses_of(alloc, "0,1:30", Zone::utc(), base)?)?;
-    add_except(&mut merge, elapses_of(alloc, "02:30", local, base)?)?;
-    Ok(merge)
+) -> Result<(), Fail>
+    requires { merge.old.started ≡ false }
+{
+    add_elapses(alloc, merge, "0,1:30", Zone::utc(), base)?;
+    let exception = elapses_of(alloc, "02:30", local, base)?;
+    Ok(add_except(merge, exception)?)
 }
 
 #[test]
 fn in_gap_and_fold(rt: HostRuntime) -> Result<(), Fail> {
     let rules = posix(rt.alloc(), SUMMER_TIME)?;
     for (base, instants) in &IN_GAP_AND_FOLD {
-        let mut merge = without_half_past_two(rt.alloc(), Zone::rules(&rules), *base)?;
-        expect_first(&rt, &mut merge, instants);
+        let mut merge = Merge::new(rt.alloc());
+        add_without_half_past_two(rt.alloc(), &mut merge, Zone::rules(&rules), *base)?;
+        expect_first(&mut merge, instants)?;
     }
     Ok(())
 }

@@ -3,7 +3,6 @@
 use super::{expect_fault, expect_normal_text};
 use cal_spec::SpecFault::{self, *};
 use std::alloc::{AllocError, Global};
-use std::process::Abort;
 use std::test::Fail;
 
 /// Long expressions. Each line begins with a count, and `#` in the line stands for that many copies of `piece`.
@@ -99,51 +98,40 @@ fn split_count(line: &str) -> Result<(u16, &str), Fail> {
 }
 
 /// Expects each expression to have the normal form next to it.
-fn expect_accepted(rt: &impl Abort, alloc: Global, piece: &str, lines: &str) -> Result<(), Fail> {
+fn expect_accepted(alloc: Global, piece: &str, lines: &str) -> Result<(), Fail> {
     for line in lines.lines() {
         let (count, rest) = split_count(line)?;
         let (text, normal) = rest.split_once(" -> ").ok_or("no arrow")?;
         let text = written_out(alloc, text, piece, count)?;
         let normal = written_out(alloc, normal, piece, count)?;
-        expect_normal_text(rt, alloc, &text, &normal);
+        expect_normal_text(alloc, &text, &normal)?;
     }
     Ok(())
 }
 
 /// Expects each expression to be rejected with this error.
-fn expect_refused(
-    rt: &impl Abort,
-    alloc: Global,
-    piece: &str,
-    fault: SpecFault,
-    lines: &str,
-) -> Result<(), Fail> {
+fn expect_refused(alloc: Global, piece: &str, fault: SpecFault, lines: &str) -> Result<(), Fail> {
     for line in lines.lines() {
         let (count, text) = split_count(line)?;
         let text = written_out(alloc, text, piece, count)?;
-        expect_fault(rt, alloc, &text, fault);
+        expect_fault(alloc, &text, fault)?;
     }
     Ok(())
 }
 
 /// Expects the accepted expressions to have their normal forms, and the others to be rejected with their errors.
-fn expect_table(rt: &impl Abort, alloc: Global, table: &Table) -> Result<(), Fail> {
-    expect_accepted(rt, alloc, table.piece, table.accepted)?;
+fn expect_table(alloc: Global, table: &Table) -> Result<(), Fail> {
+    expect_accepted(alloc, table.piece, table.accepted)?;
     for (fault, lines) in table.refused {
-        expect_refused(rt, alloc, table.piece, *fault, lines)?;
-    }
-    Ok(())
-}
-
-fn expect_tables(rt: &impl Abort, alloc: Global, tables: &[Table]) -> Result<(), Fail> {
-    for table in tables {
-        expect_table(rt, alloc, table)?;
+        expect_refused(alloc, table.piece, *fault, lines)?;
     }
     Ok(())
 }
 
 #[test]
 fn bytes_and_parts(rt: HostRuntime) -> Result<(), Fail> {
-    expect_tables(&rt, rt.alloc(), &BYTES)?;
-    expect_tables(&rt, rt.alloc(), &PARTS)
+    for table in BYTES.iter().chain(&PARTS) {
+        expect_table(rt.alloc(), table)?;
+    }
+    Ok(())
 }

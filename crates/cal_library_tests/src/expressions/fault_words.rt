@@ -1,8 +1,8 @@
 //! The word at fault in an invalid expression.
 
+use crate::shared::ensure;
 use cal_spec::fault_span;
 use std::alloc::{AllocError, Global};
-use std::process::Abort;
 use std::test::Fail;
 
 /// The text before the word at fault, this word, and the text after it.
@@ -54,20 +54,19 @@ static NO_FAULT: [&str; 14] = [
 ];
 
 /// Expects the word between `front` and `back` to be at fault.
-fn expect_word(rt: &(impl Abort + AllocGlobal), (front, word, back): &Row) -> Result<(), Fail> {
-    let mut text = String::from_str(rt.alloc(), front)?;
+fn expect_word(alloc: Global, (front, word, back): &Row) -> Result<(), Fail> {
+    let mut text = String::from_str(alloc, front)?;
     text.push_str(word)?;
     let end = text.len();
     text.push_str(back)?;
-    let found = fault_span(rt.alloc(), &text)?;
-    assert_eq!(rt; found, Some(front.len()..end), "at {text:?}");
-    Ok(())
+    let found = fault_span(alloc, &text)?;
+    ensure(found == Some(front.len()..end), &text)
 }
 
 #[test]
 fn words_at_fault(rt: HostRuntime) -> Result<(), Fail> {
     for row in &FAULT_WORDS {
-        expect_word(&rt, row)?;
+        expect_word(rt.alloc(), row)?;
     }
     Ok(())
 }
@@ -75,29 +74,41 @@ fn words_at_fault(rt: HostRuntime) -> Result<(), Fail> {
 #[test]
 fn no_word_at_fault(rt: HostRuntime) -> Result<(), Fail> {
     for text in &NO_FAULT {
-        assert_eq!(rt; fault_span(rt.alloc(), text)?, None, "at {text:?}");
+        ensure(fault_span(rt.alloc(), text)?.is_none(), text)?;
     }
     Ok(())
 }
 
-/// Returns `count` blanks.
-fn blanks(alloc: Global, count: usize) -> Result<String, AllocError> {
-    let mut text = String::new(alloc);
-    for _ in 0..count {
-        text.push(' ')?;
+/// Returns `text` with `before` blanks before it and `after` blanks after it.
+fn with_blanks(
+    alloc: Global,
+    before: usize,
+    text: &str,
+    after: usize,
+) -> Result<String, AllocError> {
+    let mut padded = String::new(alloc);
+    for _ in 0..before {
+        padded.push(' ')?;
     }
-    Ok(text)
+    padded.push_str(text)?;
+    for _ in 0..after {
+        padded.push(' ')?;
+    }
+    Ok(padded)
 }
 
-/// In a text that is too long, the first word that ends past byte 4,096 is at fault. If only blanks are past byte
-/// 4,096, no word is at fault.
+/// A text that is too long has the word at fault that ends past 4,096 bytes.
 #[test]
 fn long_texts(rt: HostRuntime) -> Result<(), Fail> {
-    let mut text = blanks(rt.alloc(), 4_092)?;
-    text.push_str("12:00")?;
-    assert_eq!(rt; fault_span(rt.alloc(), &text)?, Some(4_092..4_097));
-    let mut text = String::from_str(rt.alloc(), "12:00")?;
-    text.push_str(&blanks(rt.alloc(), 4_092)?)?;
-    assert_eq!(rt; fault_span(rt.alloc(), &text)?, None);
-    Ok(())
+    let text = with_blanks(rt.alloc(), 4_092, "12:00", 0)?;
+    let found = fault_span(rt.alloc(), &text)?;
+    ensure(found == Some(4_092..4_097), "blanks and a word")
+}
+
+/// If only blanks end past 4,096 bytes, no word is at fault.
+#[test]
+fn long_blanks(rt: HostRuntime) -> Result<(), Fail> {
+    let text = with_blanks(rt.alloc(), 0, "12:00", 4_092)?;
+    let found = fault_span(rt.alloc(), &text)?;
+    ensure(found.is_none(), "a word and blanks")
 }

@@ -1,5 +1,6 @@
 //! The numbers and the messages of the errors of expressions.
 
+use crate::shared::ensure;
 use cal_spec::SpecFault;
 use std::test::Fail;
 
@@ -38,10 +39,10 @@ static FAULTS: [(SpecFault, u8, &str); 15] = [
 fn numbers_and_shown_words(rt: HostRuntime) -> Result<(), Fail> {
     for (fault, number, message) in &FAULTS {
         let shown = format!(in rt.alloc(); "{fault}")?;
-        assert!(rt;
+        ensure(
             *fault as u8 == *number && shown.as_str() == *message,
-            "{message}"
-        );
+            message,
+        )?;
     }
     Ok(())
 }

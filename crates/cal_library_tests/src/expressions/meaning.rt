@@ -1,13 +1,13 @@
 //! The accessors of a parsed expression.
 
-use crate::shared::expr;
+use crate::shared::{ensure, expr};
 use cal_spec::{Expr, Field, Part};
-use std::process::Abort;
+use std::alloc::Global;
 use std::test::Fail;
 
 /// What the accessors return: the weekdays from Monday on, the components from year to second, whether days are counted
 /// from the end of the month, and the zone's name.
-#[derive(Clone, Copy, PartialEq, Eq, Debug)]
+#[derive(Clone, Copy, PartialEq, Eq)]
 struct Shown<'a> {
     weekdays: [bool; 7],
     components: [Option<&'a [Part]>; 6],
@@ -42,14 +42,9 @@ fn fields_of(expr: &Expr) -> Shown<'_> {
 }
 
 /// Expects the accessors of an expression to return these values.
-fn expect_shown(
-    rt: &(impl Abort + AllocGlobal),
-    text: &str,
-    expected: Shown<'_>,
-) -> Result<(), Fail> {
-    let expr = expr(rt.alloc(), text)?;
-    assert!(rt; fields_of(&expr) == expected, "at {text:?}");
-    Ok(())
+fn expect_shown(alloc: Global, text: &str, expected: &Shown<'_>) -> Result<(), Fail> {
+    let expr = expr(alloc, text)?;
+    ensure(fields_of(&expr) == *expected, text)
 }
 
 #[test]
@@ -67,7 +62,7 @@ fn mondays_and_fridays(rt: HostRuntime) -> Result<(), Fail> {
         from_end: false,
         zone_name: None,
     };
-    expect_shown(&rt, "mon,fri 12-1/2-3,1 *:30:45", expected)
+    expect_shown(rt.alloc(), "mon,fri 12-1/2-3,1 *:30:45", &expected)
 }
 
 /// Parts are sorted, two-digit years are expanded, and `UTC` is in capitals.
@@ -86,5 +81,9 @@ fn each_kind_of_part(rt: HostRuntime) -> Result<(), Fail> {
         from_end: true,
         zone_name: Some("UTC"),
     };
-    expect_shown(&rt, "Sat-Mon 93..00-4~7/2,3 *:4:20..39/5,07 uTc", expected)
+    expect_shown(
+        rt.alloc(),
+        "Sat-Mon 93..00-4~7/2,3 *:4:20..39/5,07 uTc",
+        &expected,
+    )
 }

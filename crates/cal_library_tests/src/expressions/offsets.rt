@@ -3,8 +3,9 @@
 
 use super::normal_texts::expect_normal_texts;
 use super::refusals::{Refused, expect_refusals};
-use crate::shared::expr;
+use crate::shared::{ensure, expr};
 use cal_spec::SpecFault::*;
+use std::alloc::Global;
 use std::test::Fail;
 
 /// An offset after each kind of word that it can follow.
@@ -79,25 +80,36 @@ static ZONES: [(&str, Option<i32>, Option<&str>); 9] = [
 ];
 
 #[test]
-fn accepted(rt: HostRuntime) {
-    for lines in [PLACES, BOUNDS] {
-        expect_normal_texts(&rt, rt.alloc(), lines);
-    }
+fn accepted(rt: HostRuntime) -> Result<(), Fail> {
+    expect_normal_texts(rt.alloc(), PLACES)?;
+    expect_normal_texts(rt.alloc(), BOUNDS)
 }
 
 #[test]
-fn refused(rt: HostRuntime) {
-    for table in [&NO_OFFSETS[..], &FIRST_WORDS, &ORDER] {
-        expect_refusals(&rt, rt.alloc(), table);
-    }
+fn refused(rt: HostRuntime) -> Result<(), Fail> {
+    expect_refusals(rt.alloc(), &NO_OFFSETS)?;
+    expect_refusals(rt.alloc(), &FIRST_WORDS)?;
+    expect_refusals(rt.alloc(), &ORDER)
+}
+
+/// Expects the zone of an expression to have this offset or this name.
+fn expect_zone(
+    alloc: Global,
+    text: &str,
+    offset: Option<i32>,
+    name: Option<&str>,
+) -> Result<(), Fail> {
+    let expr = expr(alloc, text)?;
+    ensure(
+        expr.zone_offset() == offset && expr.zone_name() == name,
+        text,
+    )
 }
 
 #[test]
 fn zones(rt: HostRuntime) -> Result<(), Fail> {
     for (text, offset, name) in &ZONES {
-        let expr = expr(rt.alloc(), text)?;
-        let holds = expr.zone_offset() == *offset && expr.zone_name() == *name;
-        assert!(rt; holds, "at {text:?}");
+        expect_zone(rt.alloc(), text, *offset, *name)?;
     }
     Ok(())
 }

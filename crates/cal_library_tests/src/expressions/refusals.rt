@@ -3,7 +3,7 @@
 use super::expect_fault;
 use cal_spec::SpecFault::{self, *};
 use std::alloc::Global;
-use std::process::Abort;
+use std::test::Fail;
 
 /// An error, and expressions that are rejected with it, separated by `|`.
 pub(super) type Refused = (SpecFault, &'static str);
@@ -136,22 +136,24 @@ static ORDER: [Refused; 11] = [
     (BadWeekday, "Mon,, 13-1|Mon,, daily 5|Foo1 25:0"),
 ];
 
-/// Expects each expression to be rejected with this error. The expressions are separated by `|`.
-fn expect_faults(rt: &impl Abort, alloc: Global, fault: SpecFault, lines: &str) {
+/// Expects each expression to be rejected with this error. They are separated by `|`.
+fn expect_faults(alloc: Global, fault: SpecFault, lines: &str) -> Result<(), Fail> {
     for text in lines.split('|') {
-        expect_fault(rt, alloc, text, fault);
+        expect_fault(alloc, text, fault)?;
     }
+    Ok(())
 }
 
-pub(super) fn expect_refusals(rt: &impl Abort, alloc: Global, table: &[Refused]) {
+pub(super) fn expect_refusals(alloc: Global, table: &[Refused]) -> Result<(), Fail> {
     for (fault, lines) in table {
-        expect_faults(rt, alloc, *fault, lines);
+        expect_faults(alloc, *fault, lines)?;
     }
+    Ok(())
 }
 
 #[test]
-fn refused_texts(rt: HostRuntime) {
-    for table in [
+fn refused_texts(rt: HostRuntime) -> Result<(), Fail> {
+    for table in &[
         &REFUSED_TEXTS[..],
         &BLANKS,
         &WORDS,
@@ -161,6 +163,7 @@ fn refused_texts(rt: HostRuntime) {
         &NUMBERS,
         &ORDER,
     ] {
-        expect_refusals(&rt, rt.alloc(), table);
+        expect_refusals(rt.alloc(), table)?;
     }
+    Ok(())
 }

@@ -1,10 +1,10 @@
 //! Sections, keys, values and resets in timer files.
 
-use super::{Lines, Row, expect_file, expect_files};
+use super::{Lines, Row, expect_files, is_read};
+use crate::shared::ensure;
 use cal_read::TimerFault;
 use cal_spec::SpecFault;
 use std::alloc::Global;
-use std::process::Abort;
 use std::test::Fail;
 
 static SECTIONS: [Row; 9] = [
@@ -115,33 +115,28 @@ fn file_with_key(alloc: Global, file: &str, key: &str) -> Result<String, Fail> {
 }
 
 /// Expects each file, with this key, to have the expressions next to it.
-fn expect_with_key(
-    rt: &impl Abort,
-    alloc: Global,
-    key: &str,
-    rows: &[RowOfKey],
-) -> Result<(), Fail> {
+fn expect_with_key(alloc: Global, key: &str, rows: &[RowOfKey]) -> Result<(), Fail> {
     for (file, lines) in rows {
-        let file = file_with_key(alloc, file, key)?;
-        expect_file(rt, alloc, &file, &Ok(*lines));
+        let with_key = file_with_key(alloc, file, key)?;
+        ensure(is_read(alloc, with_key.as_bytes(), &Ok(*lines)), file)?;
     }
     Ok(())
 }
 
 #[test]
-fn sections(rt: HostRuntime) {
-    expect_files(&rt, rt.alloc(), &SECTIONS);
+fn sections(rt: HostRuntime) -> Result<(), Fail> {
+    expect_files(rt.alloc(), &SECTIONS)
 }
 
 #[test]
-fn keys_and_values(rt: HostRuntime) {
-    expect_files(&rt, rt.alloc(), &KEYS_AND_VALUES);
+fn keys_and_values(rt: HostRuntime) -> Result<(), Fail> {
+    expect_files(rt.alloc(), &KEYS_AND_VALUES)
 }
 
 #[test]
 fn resets(rt: HostRuntime) -> Result<(), Fail> {
     for key in &KEYS {
-        expect_with_key(&rt, rt.alloc(), key, &RESETS)?;
+        expect_with_key(rt.alloc(), key, &RESETS)?;
     }
     Ok(())
 }

@@ -1,9 +1,8 @@
 //! Timer files that are not valid UTF-8. The error has the number of the line that contains the first invalid byte.
 
-use super::read;
+use super::fault_of;
 use cal_read::TimerFault;
-use std::alloc::Global;
-use std::process::Abort;
+use std::test::Fail;
 
 /// Files that are not valid UTF-8, each with the number of the line that contains the first invalid byte.
 static WRONG_BYTES: [(&[u8], u32); 13] = [
@@ -33,15 +32,12 @@ static WRONG_BYTES: [(&[u8], u32); 13] = [
     (b"[Unit]\\\n\\\n\xFF", 3),
 ];
 
-/// Expects the file to be rejected because this line is not valid UTF-8.
-fn expect_broken(rt: &impl Abort, alloc: Global, file: &[u8], line: u32) {
-    let fault = read(alloc, file).err();
-    assert!(rt; fault == Some(TimerFault::NotUtf8(line)), "in {file:?}");
-}
-
 #[test]
-fn lines_of_wrong_bytes(rt: HostRuntime) {
+fn lines_of_wrong_bytes(rt: HostRuntime) -> Result<(), Fail> {
     for (file, line) in &WRONG_BYTES {
-        expect_broken(&rt, rt.alloc(), file, *line);
+        if fault_of(rt.alloc(), file) != Some(TimerFault::NotUtf8(*line)) {
+            return Err((*file).into());
+        }
     }
+    Ok(())
 }

@@ -1,11 +1,9 @@
 //! Timer files with exceptions: the two lists, and why a file is rejected.
 
-use super::{EXCEPT_EXCEPTIONS, EXCEPT_LINES, Lines, expect_list, read};
-use crate::shared::EXCEPT_FILE;
+use super::{EXCEPT_EXCEPTIONS, EXCEPT_LINES, Lines, expect_lists, fault_of};
+use crate::shared::{EXCEPT_FILE, ensure};
 use cal_read::TimerFault;
 use cal_spec::SpecFault;
-use std::alloc::Global;
-use std::process::Abort;
 use std::test::Fail;
 
 /// Files, each with its expressions and its exceptions.
@@ -49,35 +47,18 @@ static REFUSED: [(&str, TimerFault); 4] = [
     ),
 ];
 
-/// Expects the file to have these expressions and exceptions.
-fn expect_lists(
-    rt: &(impl Abort + AllocGlobal),
-    file: &[u8],
-    expressions: Lines,
-    exceptions: Lines,
-) -> Result<(), Fail> {
-    let timer = read(rt.alloc(), file)?;
-    expect_list(rt, timer.lines(), expressions, file);
-    expect_list(rt, timer.exceptions(), exceptions, file);
-    Ok(())
-}
-
 #[test]
 fn lists(rt: HostRuntime) -> Result<(), Fail> {
     for (file, expressions, exceptions) in &READ {
-        expect_lists(&rt, file, expressions, exceptions)?;
+        expect_lists(rt.alloc(), file, expressions, exceptions)?;
     }
     Ok(())
 }
 
-/// Returns the error that a file is rejected with, if any.
-fn fault_of(alloc: Global, file: &str) -> Option<TimerFault> {
-    read(alloc, file.as_bytes()).err()
-}
-
 #[test]
-fn refused(rt: HostRuntime) {
+fn refused(rt: HostRuntime) -> Result<(), Fail> {
     for (file, fault) in &REFUSED {
-        assert!(rt; fault_of(rt.alloc(), file) == Some(*fault), "in {file:?}");
+        ensure(fault_of(rt.alloc(), file.as_bytes()) == Some(*fault), file)?;
     }
+    Ok(())
 }

@@ -2,9 +2,10 @@
 
 use super::counts::{DAILY, EXCEPTION, RESET, counted_file};
 use super::texts::unit_texts;
+use crate::shared::ensure;
 use cal_read::{FileFault, TimerFault, find_faults};
 use cal_spec::SpecFault;
-use std::process::Abort;
+use std::alloc::Global;
 use std::test::Fail;
 
 /// Texts, and all their errors, each after the index of its text and the number of its line.
@@ -50,14 +51,14 @@ static BAD_LINES: [Row; 5] = [
 
 /// Expects these texts to have exactly these errors.
 fn expect_faults(
-    rt: &(impl Abort + AllocGlobal),
+    alloc: Global,
     texts: &[&str],
     expected: &[FileFault],
+    about: &str,
 ) -> Result<(), Fail> {
-    let files = unit_texts(rt.alloc(), texts)?;
-    let found = find_faults(rt.alloc(), &files)?;
-    assert_eq!(rt; found.as_slice(), expected, "in {texts:?}");
-    Ok(())
+    let files = unit_texts(alloc, texts)?;
+    let found = find_faults(alloc, &files)?;
+    ensure(found.as_slice() == expected, about)
 }
 
 /// Returns the error of an invalid expression or exception.
@@ -77,18 +78,19 @@ fn too_many(file: usize, line: u32) -> FileFault {
 }
 
 /// Expects these texts to have exactly these invalid lines.
-fn expect_bad_lines(rt: &(impl Abort + AllocGlobal), (texts, lines): &Row) -> Result<(), Fail> {
-    let mut expected = Vec::new(rt.alloc());
+fn expect_bad_lines(alloc: Global, (texts, lines): &Row) -> Result<(), Fail> {
+    let mut expected = Vec::new(alloc);
     for line in *lines {
         expected.push(bad_line(*line))?;
     }
-    expect_faults(rt, texts, &expected)
+    let about = texts.first().copied().unwrap_or("no text");
+    expect_faults(alloc, texts, &expected, about)
 }
 
 #[test]
 fn bad_lines(rt: HostRuntime) -> Result<(), Fail> {
     for row in &BAD_LINES {
-        expect_bad_lines(&rt, row)?;
+        expect_bad_lines(rt.alloc(), row)?;
     }
     Ok(())
 }
@@ -118,5 +120,5 @@ fn several_too_many(rt: HostRuntime) -> Result<(), Fail> {
         too_many(1, 263),
         too_many(1, 264),
     ];
-    expect_faults(&rt, &[&unit, &drop_in], &expected)
+    expect_faults(rt.alloc(), &[&unit, &drop_in], &expected, "too many")
 }

@@ -3,6 +3,7 @@
 use super::{Row, expect_files};
 use cal_read::TimerFault;
 use cal_spec::SpecFault;
+use std::test::Fail;
 
 static ENDS_OF_LINES_AND_MARKS: [Row; 7] = [
     ("[Timer]\r\nOnCalendar=daily\r\n", Ok(&[(2, "daily")])),
@@ -91,16 +92,16 @@ static CONTINUED_LINES: [Row; 10] = [
 ];
 
 #[test]
-fn ends_of_lines_and_marks(rt: HostRuntime) {
-    expect_files(&rt, rt.alloc(), &ENDS_OF_LINES_AND_MARKS);
+fn ends_of_lines_and_marks(rt: HostRuntime) -> Result<(), Fail> {
+    expect_files(rt.alloc(), &ENDS_OF_LINES_AND_MARKS)
 }
 
 #[test]
-fn comments(rt: HostRuntime) {
-    expect_files(&rt, rt.alloc(), &COMMENTS);
+fn comments(rt: HostRuntime) -> Result<(), Fail> {
+    expect_files(rt.alloc(), &COMMENTS)
 }
 
 #[test]
-fn continued_lines(rt: HostRuntime) {
-    expect_files(&rt, rt.alloc(), &CONTINUED_LINES);
+fn continued_lines(rt: HostRuntime) -> Result<(), Fail> {
+    expect_files(rt.alloc(), &CONTINUED_LINES)
 }

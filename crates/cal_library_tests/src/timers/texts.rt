@@ -3,11 +3,11 @@
 ghost use Rattle.std.specs.Prelude.{◌+◌, ◌<◌, ◌^◌, All, IfOk, length};
 
 use super::counts::{DAILY, EXCEPTION, counted_file};
-use super::{Lines, expect_list};
+use super::{Lines, expect_timer};
+use crate::shared::ensure;
 use cal_read::{FileFault, Timer, TimerFault, UnitText, read_texts};
 use cal_spec::SpecFault;
 use std::alloc::Global;
-use std::process::Abort;
 use std::test::Fail;
 
 /// Texts, with the expressions and the exceptions that they have together.
@@ -145,40 +145,33 @@ pub(super) fn unit_texts<'t>(alloc: Global, texts: &[&'t str]) -> Result<Vec<Uni
 }
 
 /// Expects these texts to have these expressions and exceptions.
-fn expect_read(
-    rt: &(impl Abort + AllocGlobal),
-    (texts, expressions, exceptions): &Row,
-) -> Result<(), Fail> {
-    let files = unit_texts(rt.alloc(), texts)?;
-    match read_texts(rt.alloc(), &files) {
-        Ok(timer) => {
-            expect_list(rt, timer.lines(), expressions, b"several texts");
-            expect_list(rt, timer.exceptions(), exceptions, b"several texts");
-        }
-        Err(found) => panic!(rt; "{found:?} in {texts:?}"),
+fn expect_read(alloc: Global, (texts, expressions, exceptions): &Row) -> Result<(), Fail> {
+    let files = unit_texts(alloc, texts)?;
+    match read_texts(alloc, &files) {
+        Ok(timer) => expect_timer(
+            &timer,
+            expressions,
+            exceptions,
+            texts.first().ok_or("no text")?,
+        ),
+        Err(found) => Err(found.into()),
     }
-    Ok(())
 }
 
 /// Expects these texts to be rejected with this error.
-fn expect_refused(
-    rt: &(impl Abort + AllocGlobal),
-    texts: &[&str],
-    fault: FileFault,
-) -> Result<(), Fail> {
-    let files = unit_texts(rt.alloc(), texts)?;
-    assert_eq!(rt;
-        read_texts(rt.alloc(), &files).err(),
-        Some(fault),
-        "in {texts:?}"
-    );
-    Ok(())
+fn expect_refused(alloc: Global, texts: &[&str], fault: FileFault) -> Result<(), Fail> {
+    let files = unit_texts(alloc, texts)?;
+    if read_texts(alloc, &files).err() == Some(fault) {
+        Ok(())
+    } else {
+        Err(fault.into())
+    }
 }
 
 #[test]
 fn read(rt: HostRuntime) -> Result<(), Fail> {
     for row in &READ {
-        expect_read(&rt, row)?;
+        expect_read(rt.alloc(), row)?;
     }
     Ok(())
 }
@@ -186,14 +179,8 @@ fn read(rt: HostRuntime) -> Result<(), Fail> {
 #[test]
 fn refused(rt: HostRuntime) -> Result<(), Fail> {
     for (texts, file, fault) in &REFUSED {
-        expect_refused(
-            &rt,
-            texts,
-            FileFault {
-                file: *file,
-                fault: *fault,
-            },
-        )?;
+        let (file, fault) = (*file, *fault);
+        expect_refused(rt.alloc(), texts, FileFault { file, fault })?;
     }
     Ok(())
 }
@@ -207,12 +194,12 @@ fn one_too_many(rt: HostRuntime) -> Result<(), Fail> {
         file: Some(1),
         fault: TimerFault::TooMany(58),
     };
-    expect_refused(&rt, &[&unit, &drop_in], fault)
+    expect_refused(rt.alloc(), &[&unit, &drop_in], fault)
 }
 
 /// The lines of a text are numbered from `first` on.
 #[test]
-fn numbered_lines(rt: HostRuntime) {
+fn numbered_lines(rt: HostRuntime) -> Result<(), Fail> {
     let files = [
         UnitText {
             first: 1,
@@ -227,5 +214,6 @@ fn numbered_lines(rt: HostRuntime) {
         file: Some(1),
         fault: TimerFault::BadLine(4, SpecFault::BadDate),
     };
-    assert_eq!(rt; read_texts(rt.alloc(), &files).err(), Some(fault));
+    let found = read_texts(rt.alloc(), &files).err();
+    ensure(found == Some(fault), "another line")
 }

@@ -111,7 +111,7 @@ static WORDS_AFTER: Table = Table {
 
 #[test]
 fn dates_and_times(rt: HostRuntime) -> Result<(), Fail> {
-    for table in [
+    for table in &[
         &DATES,
         &SHAPES_OF_DATES,
         &TIMES,
@@ -119,7 +119,7 @@ fn dates_and_times(rt: HostRuntime) -> Result<(), Fail> {
         &WEEKDAYS,
         &WORDS_AFTER,
     ] {
-        expect_in_utc(&rt, rt.alloc(), table)?;
+        expect_in_utc(rt.alloc(), table)?;
     }
     Ok(())
 }

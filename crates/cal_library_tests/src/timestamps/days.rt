@@ -119,12 +119,12 @@ today -> 7258125599000000|yesterday -> 7258039199000000|23:59:59.999999 -> 72582
 
 #[test]
 fn relative_days(rt: HostRuntime) -> Result<(), Fail> {
-    expect_settings(&rt, rt.alloc(), &RELATIVE_DAYS)
+    expect_settings(rt.alloc(), &RELATIVE_DAYS)
 }
 
 #[test]
 fn refused_days(rt: HostRuntime) -> Result<(), Fail> {
-    expect_in_utc(&rt, rt.alloc(), &REFUSED_DAYS)
+    expect_in_utc(rt.alloc(), &REFUSED_DAYS)
 }
 
 #[test]
@@ -132,12 +132,12 @@ fn days_of_a_change(rt: HostRuntime) -> Result<(), Fail> {
     let zones = ZoneTable::new(rt.alloc());
     let rules = posix(rt.alloc(), "CST5CDT,M3.2.0/0,M11.1.0/1")?;
     for (now, table) in &DAYS_OF_A_CHANGE {
-        expect_moments(&rt, *now, Zone::rules(&rules), &zones, table)?;
+        expect_moments(*now, Zone::rules(&rules), &zones, table)?;
     }
     Ok(())
 }
 
 #[test]
 fn first_and_last_days(rt: HostRuntime) -> Result<(), Fail> {
-    expect_settings(&rt, rt.alloc(), &FIRST_AND_LAST_DAYS)
+    expect_settings(rt.alloc(), &FIRST_AND_LAST_DAYS)
 }

@@ -89,15 +89,15 @@ Wed 2200-01-01 09:59:59 UTC|Wed 2200-01-01 01:58:59 +00:00|Wed 1969-12-31 23:59:
 
 #[test]
 fn offsets(rt: HostRuntime) -> Result<(), Fail> {
-    expect_in_utc(&rt, rt.alloc(), &OFFSETS)
+    expect_in_utc(rt.alloc(), &OFFSETS)
 }
 
 #[test]
 fn range_ends(rt: HostRuntime) -> Result<(), Fail> {
-    expect_settings(&rt, rt.alloc(), &RANGE_ENDS)
+    expect_settings(rt.alloc(), &RANGE_ENDS)
 }
 
 #[test]
 fn lines_of_reports(rt: HostRuntime) -> Result<(), Fail> {
-    expect_settings(&rt, rt.alloc(), &LINES_OF_REPORTS)
+    expect_settings(rt.alloc(), &LINES_OF_REPORTS)
 }

@@ -76,7 +76,7 @@ static RANGE_LAST: [Setting; 2] = [
 
 #[test]
 fn order(rt: HostRuntime) -> Result<(), Fail> {
-    expect_in_utc(&rt, rt.alloc(), &EARLIER_WORDS_FIRST)?;
-    expect_in_utc(&rt, rt.alloc(), &WEEKDAYS_AFTER_WORDS)?;
-    expect_settings(&rt, rt.alloc(), &RANGE_LAST)
+    expect_in_utc(rt.alloc(), &EARLIER_WORDS_FIRST)?;
+    expect_in_utc(rt.alloc(), &WEEKDAYS_AFTER_WORDS)?;
+    expect_settings(rt.alloc(), &RANGE_LAST)
 }

@@ -80,7 +80,7 @@ static WORDS_AT_THE_END: Table = Table {
 
 #[test]
 fn present_and_spans(rt: HostRuntime) -> Result<(), Fail> {
-    for table in [
+    for table in &[
         &BLANKS_ALONE,
         &THE_PRESENT,
         &AFTER_AND_BEFORE,
@@ -88,7 +88,7 @@ fn present_and_spans(rt: HostRuntime) -> Result<(), Fail> {
         &BAD_SPANS,
         &WORDS_AT_THE_END,
     ] {
-        expect_in_utc(&rt, rt.alloc(), table)?;
+        expect_in_utc(rt.alloc(), table)?;
     }
     Ok(())
 }

@@ -1,11 +1,10 @@
 //! Zone names as the last word of a timestamp.
 
 use super::{PRESENT, Table, expect_moments, zone_east};
-use crate::shared::{SUMMER_TIME, posix};
+use crate::shared::{SUMMER_TIME, ensure, posix};
 use cal_base::{Zone, ZoneTable};
 use cal_read::StampFault::*;
 use std::alloc::Global;
-use std::process::Abort;
 use std::test::Fail;
 
 /// Zone names have to match exactly, except that `UTC` may be in upper or lower case.
@@ -44,37 +43,31 @@ static CHANGES_OF_A_CLOCK: Table = Table {
     refusals: &[],
 };
 
-/// Makes a table of two zones from names and POSIX rules.
-fn table_of(rt: &impl Abort, alloc: Global, zones: [(&str, &str); 2]) -> Result<ZoneTable, Fail> {
+/// Makes a table of zones from names and POSIX rules.
+fn table_of(alloc: Global, zones: &[(&str, &str)]) -> Result<ZoneTable, Fail> {
     let mut table = ZoneTable::new(alloc);
     for (name, rule) in zones {
-        assert!(rt; table.add(name, posix(alloc, rule)?).is_ok());
+        ensure(table.add(name, posix(alloc, rule)?).is_ok(), name)?;
     }
     Ok(table)
 }
 
 #[test]
 fn names(rt: HostRuntime) -> Result<(), Fail> {
-    let table = table_of(&rt, rt.alloc(), [("Test/Fixed", "CET-1"), ("A", "EST5")])?;
-    expect_moments(&rt, PRESENT, Zone::utc(), &table, &NAMES)
+    let table = table_of(rt.alloc(), &[("Test/Fixed", "CET-1"), ("A", "EST5")])?;
+    expect_moments(PRESENT, Zone::utc(), &table, &NAMES)
 }
 
 #[test]
 fn days_of_the_zone_named(rt: HostRuntime) -> Result<(), Fail> {
-    let table = table_of(&rt, rt.alloc(), [("East", "EAST-14"), ("West", "WEST11")])?;
-    let local = zone_east(&rt, 50_400);
-    expect_moments(&rt, PRESENT, local, &table, &DAYS_OF_THE_ZONE_NAMED)
+    let table = table_of(rt.alloc(), &[("East", "EAST-14"), ("West", "WEST11")])?;
+    let local = zone_east(50_400)?;
+    expect_moments(PRESENT, local, &table, &DAYS_OF_THE_ZONE_NAMED)
 }
 
 #[test]
 fn changes_of_a_clock(rt: HostRuntime) -> Result<(), Fail> {
     let table = ZoneTable::new(rt.alloc());
     let rules = posix(rt.alloc(), SUMMER_TIME)?;
-    expect_moments(
-        &rt,
-        PRESENT,
-        Zone::rules(&rules),
-        &table,
-        &CHANGES_OF_A_CLOCK,
-    )
+    expect_moments(PRESENT, Zone::rules(&rules), &table, &CHANGES_OF_A_CLOCK)
 }

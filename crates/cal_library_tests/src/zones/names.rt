@@ -1,10 +1,9 @@
 //! The form of zone names (a letter, then letters, digits, `/`, `_`, `+` or `-`, at most 255 bytes in all) and finding
 //! zones by name.
 
-use crate::shared::{NEW_YEAR, posix};
+use crate::shared::{NEW_YEAR, ensure, posix};
 use cal_base::{Zone, ZoneFault, ZoneTable, is_zone_name, place};
 use std::alloc::Global;
-use std::process::Abort;
 use std::test::Fail;
 
 const NAMES: &str = "\
@@ -13,25 +12,26 @@ A|z|UTC|Europe/Berlin|Etc/GMT+12|America/Port-au-Prince|America/Argentina/Rio_Ga
 const NO_NAMES: &str = "\
 | |1x|/a|_a|+a|-a|a b| a|a |a.b|a:b|a,b|a\0|é|aé|Zürich";
 
-/// Expects all texts to be valid names, or all to be invalid. The texts are separated by `|`.
-fn expect_names(rt: &impl Abort, texts: &str, are_names: bool) {
+/// Expects each text to be a valid name, or each to be invalid. They are separated by `|`.
+fn expect_names(texts: &str, are_names: bool) -> Result<(), Fail> {
     for text in texts.split('|') {
-        assert_eq!(rt; is_zone_name(text.as_bytes()), are_names, "{text}");
+        ensure(is_zone_name(text.as_bytes()) == are_names, text)?;
     }
+    Ok(())
 }
 
 #[test]
-fn names(rt: HostRuntime) {
-    expect_names(&rt, NAMES, true);
-    expect_names(&rt, NO_NAMES, false);
+fn names() -> Result<(), Fail> {
+    expect_names(NAMES, true)?;
+    expect_names(NO_NAMES, false)
 }
 
 /// The longest name is valid, and one byte more is not.
 #[test]
-fn lengths(rt: HostRuntime) {
+fn lengths() -> Result<(), Fail> {
     let letters = [b'a'; 256];
-    let answers = (is_zone_name(&letters[..255]), is_zone_name(&letters));
-    assert_eq!(rt; answers, (true, false));
+    ensure(is_zone_name(&letters[..255]), "255 letters")?;
+    ensure(!is_zone_name(&letters), "256 letters")
 }
 
 /// Adds the zone of a POSIX rule to the table. If the table rejects it, returns the error and, to show which rules were
@@ -53,11 +53,12 @@ fn midnight(table: &ZoneTable, name: &str) -> Option<i64> {
     place(table.find(name)?, NEW_YEAR)
 }
 
-/// Expects each name to find a zone in which New Year 2024 begins at this instant, or no zone.
-fn expect_found(rt: &impl Abort, table: &ZoneTable, rows: &[(&str, Option<i64>)]) {
+/// Expects to find a zone under each name with this midnight, or no zone.
+fn expect_found(table: &ZoneTable, rows: &[(&str, Option<i64>)]) -> Result<(), Fail> {
     for (name, instant) in rows {
-        assert_eq!(rt; midnight(table, name), *instant, "{name}");
+        ensure(midnight(table, name) == *instant, name)?;
     }
+    Ok(())
 }
 
 /// Names that can't be added to a table that has `Test/Fixed`. `UTC` is in every table.
@@ -74,14 +75,14 @@ static REFUSED: [(&str, ZoneFault); 7] = [
 /// Expects each name to be rejected with its error, the rules to be handed back, and the table to stay unchanged. The
 /// rules are two hours ahead of UTC, so that their 02:00 is the instant 0.
 fn expect_refused(
-    rt: &(impl Abort + AllocGlobal),
+    alloc: Global,
     table: &mut ZoneTable,
     rows: &[(&str, ZoneFault)],
 ) -> Result<(), Fail> {
     for (name, fault) in rows {
-        let refused = add(rt.alloc(), table, name, "EET-2")?;
-        assert_eq!(rt; refused, Some((*fault, Some(0))), "{name}");
-        expect_found(rt, table, &FOUND);
+        let refused = add(alloc, table, name, "EET-2")?;
+        ensure(refused == Some((*fault, Some(0))), name)?;
+        expect_found(table, &FOUND)?;
     }
     Ok(())
 }
@@ -100,6 +101,7 @@ static FOUND: [(&str, Option<i64>); 6] = [
 #[test]
 fn refusals_change_nothing(rt: HostRuntime) -> Result<(), Fail> {
     let mut table = ZoneTable::new(rt.alloc());
-    assert_eq!(rt; add(rt.alloc(), &mut table, "Test/Fixed", "CET-1")?, None);
-    expect_refused(&rt, &mut table, &REFUSED)
+    let refused = add(rt.alloc(), &mut table, "Test/Fixed", "CET-1")?;
+    ensure(refused.is_none(), "the first zone")?;
+    expect_refused(rt.alloc(), &mut table, &REFUSED)
 }

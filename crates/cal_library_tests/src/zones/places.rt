@@ -2,31 +2,34 @@
 
 use crate::shared::{SUMMER_TIME, posix};
 use cal_base::{PlaceCache, Zone, place, settle};
-use std::process::Abort;
 use std::test::Fail;
 
-/// Expects `place`, and one `PlaceCache` for all rows, to convert each local second to this instant, or to none.
-fn expect_places(rt: &impl Abort, zone: Zone, rows: &[(i64, Option<i64>)]) {
+/// Expects each local second to have this instant, or none, both from `place` and from one `PlaceCache` for all.
+fn expect_places(zone: Zone, rows: &[(i64, Option<i64>)]) -> Result<(), Fail> {
     let mut place_cache = PlaceCache::new(zone);
     for (local, instant) in rows {
-        assert!(rt; *local >= 0 && *local <= 7_258_118_399);
-        assert_eq!(rt; place(zone, *local), *instant, "at {local}");
-        assert_eq!(rt;
-            place_cache.place(*local),
-            *instant,
-            "by the cache at {local}"
-        );
-        // The second conversion may use a constant-offset range that the cache has kept from the first one.
-        assert_eq!(rt; place_cache.place(*local), *instant, "once more at {local}");
+        if *local < 0 || *local > 7_258_118_399 {
+            return Err((*local).into());
+        }
+        let found = place(zone, *local);
+        let by_the_cache = place_cache.place(*local);
+        // The cache may now know a range with a constant offset, and then answers from that range.
+        let once_more = place_cache.place(*local);
+        if found != *instant || by_the_cache != *instant || once_more != *instant {
+            return Err((*local).into());
+        }
     }
+    Ok(())
 }
 
 /// Expects each local second to settle to this Unix second.
-fn expect_settled(rt: &impl Abort, zone: Zone, rows: &[(i64, i64)]) {
+fn expect_settled(zone: Zone, rows: &[(i64, i64)]) -> Result<(), Fail> {
     for (local, second) in rows {
-        assert!(rt; *local >= -300_000 && *local <= 7_258_500_000);
-        assert_eq!(rt; settle(zone, *local), *second, "at {local}");
+        if *local < -300_000 || *local > 7_258_500_000 || settle(zone, *local) != *second {
+            return Err((*local).into());
+        }
     }
+    Ok(())
 }
 
 /// In the gap from 02:00 to 03:00 on 2024-03-31 a local second has no instant, and settling moves it forward by the
@@ -35,7 +38,6 @@ fn expect_settled(rt: &impl Abort, zone: Zone, rows: &[(i64, i64)]) {
 fn gap_and_fold(rt: HostRuntime) -> Result<(), Fail> {
     let rules = posix(rt.alloc(), SUMMER_TIME)?;
     expect_places(
-        &rt,
         Zone::rules(&rules),
         &[
             (1_711_850_399, Some(1_711_846_799)),
@@ -48,9 +50,8 @@ fn gap_and_fold(rt: HostRuntime) -> Result<(), Fail> {
             (1_729_997_999, Some(1_729_990_799)),
             (1_729_998_000, Some(1_729_994_400)),
         ],
-    );
+    )?;
     expect_settled(
-        &rt,
         Zone::rules(&rules),
         &[
             (1_711_850_399, 1_711_846_799),
@@ -63,8 +64,7 @@ fn gap_and_fold(rt: HostRuntime) -> Result<(), Fail> {
             (-300_000, -303_600),
             (7_258_500_000, 7_258_496_400),
         ],
-    );
-    Ok(())
+    )
 }
 
 /// UTC offsets in seconds, each with a local second and its Unix second.
@@ -77,17 +77,15 @@ static AT_OFFSETS: [(i32, i64, i64); 4] = [
 ];
 
 #[test]
-fn fixed_offsets(rt: HostRuntime) {
+fn fixed_offsets() -> Result<(), Fail> {
     for (offset, local, second) in &AT_OFFSETS {
-        assert!(rt; *offset >= -93_599 && *offset <= 93_599);
+        if *offset < -93_599 || *offset > 93_599 {
+            return Err((*offset).into());
+        }
         let zone = Zone::offset(*offset);
-        expect_places(&rt, zone, &[(*local, Some(*second))]);
-        expect_settled(&rt, zone, &[(*local, *second)]);
+        expect_places(zone, &[(*local, Some(*second))])?;
+        expect_settled(zone, &[(*local, *second)])?;
     }
-    expect_settled(&rt, Zone::offset(93_599), &[(-300_000, -393_599)]);
-    expect_settled(
-        &rt,
-        Zone::offset(-93_599),
-        &[(7_258_500_000, 7_258_593_599)],
-    );
+    expect_settled(Zone::offset(93_599), &[(-300_000, -393_599)])?;
+    expect_settled(Zone::offset(-93_599), &[(7_258_500_000, 7_258_593_599)])
 }

@@ -1,10 +1,9 @@
 //! Valid and invalid POSIX rules and zone files. The rules follow POSIX (Environment Variables, `TZ`), with the longer
 //! rule times of RFC 8536 and names of at most 15 bytes.
 
-use crate::shared::{NEW_YEAR, zone_file};
+use crate::shared::{NEW_YEAR, ensure, zone_file};
 use cal_base::{Rules, Zone, ZoneFault, place};
 use std::alloc::Global;
-use std::process::Abort;
 use std::test::Fail;
 
 const READ: &str = "\
@@ -26,16 +25,17 @@ EST5EDT M3.2.0 M11.1.0|ÉST5|EST5EDT,M3.2,M11.1.0";
 
 /// Expects each rule to be rejected with this error, or to be parsed if `fault` is `None`. The rules are separated by
 /// `|`.
-fn expect_faults(rt: &(impl Abort + AllocGlobal), rules: &str, fault: Option<ZoneFault>) {
+fn expect_faults(alloc: Global, rules: &str, fault: Option<ZoneFault>) -> Result<(), Fail> {
     for rule in rules.split('|') {
-        assert_eq!(rt; Rules::posix(rt.alloc(), rule).err(), fault, "{rule}");
+        ensure(Rules::posix(alloc, rule).err() == fault, rule)?;
     }
+    Ok(())
 }
 
 #[test]
-fn posix_rules(rt: HostRuntime) {
-    expect_faults(&rt, READ, None);
-    expect_faults(&rt, REFUSED, Some(ZoneFault::BadRule));
+fn posix_rules(rt: HostRuntime) -> Result<(), Fail> {
+    expect_faults(rt.alloc(), READ, None)?;
+    expect_faults(rt.alloc(), REFUSED, Some(ZoneFault::BadRule))
 }
 
 /// Returns the error that a zone file with this name and these bytes is rejected with, if any.
@@ -47,39 +47,39 @@ fn file_fault(alloc: Global, name: &str, bytes: &[u8]) -> Option<ZoneFault> {
 #[test]
 fn reads_a_zone_file(rt: HostRuntime) -> Result<(), Fail> {
     let bytes = zone_file(rt.alloc())?;
-    assert_eq!(rt; bytes.len(), 115);
+    ensure(bytes.len() == 115, "the length")?;
     let Ok(rules) = Rules::file(rt.alloc(), "Test/Fixed", &bytes) else {
         return Err("the zone file is refused".into());
     };
-    assert_eq!(rt; place(Zone::rules(&rules), NEW_YEAR), Some(1_704_063_600));
-    Ok(())
+    let midnight = place(Zone::rules(&rules), NEW_YEAR);
+    ensure(midnight == Some(1_704_063_600), "another midnight")
 }
 
-/// Expects a zone file of these bytes to be rejected under each name, with the error next to the name.
-fn expect_refused(rt: &(impl Abort + AllocGlobal), bytes: &[u8], rows: &[(&str, ZoneFault)]) {
+/// Expects the bytes to be rejected as the zone file with each name, with its error.
+fn expect_refused(alloc: Global, bytes: &[u8], rows: &[(&str, ZoneFault)]) -> Result<(), Fail> {
     for (name, fault) in rows {
-        assert_eq!(rt; file_fault(rt.alloc(), name, bytes), Some(*fault), "{name}");
+        ensure(file_fault(alloc, name, bytes) == Some(*fault), name)?;
     }
+    Ok(())
 }
 
 /// The name is checked first, then the size, then the contents.
 #[test]
 fn refuses_zone_files(rt: HostRuntime) -> Result<(), Fail> {
     let bad_names = [("1x", ZoneFault::BadName), ("", ZoneFault::BadName)];
-    expect_refused(&rt, &zone_file(rt.alloc())?, &bad_names);
+    expect_refused(rt.alloc(), &zone_file(rt.alloc())?, &bad_names)?;
     let bad_file = [("Test/Fixed", ZoneFault::BadFile)];
-    expect_refused(&rt, b"hello", &bad_file);
-    expect_refused(&rt, b"", &bad_file);
+    expect_refused(rt.alloc(), b"hello", &bad_file)?;
+    expect_refused(rt.alloc(), b"", &bad_file)?;
     let too_large = vec![in rt.alloc(); 0u8; 1_048_577]?;
     expect_refused(
-        &rt,
+        rt.alloc(),
         &too_large,
         &[
             ("1x", ZoneFault::BadName),
             ("Test/Fixed", ZoneFault::TooLarge),
         ],
-    );
+    )?;
     // The largest size that a zone file may have.
-    expect_refused(&rt, &too_large[1..], &bad_file);
-    Ok(())
+    expect_refused(rt.alloc(), &too_large[1..], &bad_file)
 }

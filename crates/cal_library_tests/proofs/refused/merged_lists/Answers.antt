@@ -2,10 +2,10 @@ use Rattle.std.proofs.Common.{rules}
 use Rattle.std.specs.List.Sorted.{IsStrictlySortedBy}
 use Rattle.cal_library_tests.proofs.refused.merged_lists.Goals as goal
 
-pub listed-requires : goal.listed-requires
+pub add-requires-clause-sorted : goal.add-requires-clause-sorted
 unfolding IsStrictlySortedBy
-listed-requires g c = search rules
+add-requires-clause-sorted c = search rules
 
-pub listed-requires-2 : goal.listed-requires-2
+pub add-requires-2-clause-sorted : goal.add-requires-2-clause-sorted
 unfolding IsStrictlySortedBy
-listed-requires-2 g c = search rules
+add-requires-2-clause-sorted c = search rules
