@@ -1,9 +1,9 @@
 //! Command lines: what valid arguments ask for, and the errors of invalid ones.
 
 use cal_command::{Ask, CommandFault, LocalZone, ZoneItem};
+use cal_library_tests::shared::ensure;
 use cal_request::Verb;
 use std::alloc::Global;
-use std::process::Abort;
 use std::test::Fail;
 
 /// Parses the arguments in `line`, which are separated by `|`.
@@ -12,26 +12,33 @@ fn read(alloc: Global, line: &str) -> Result<Result<Ask, CommandFault>, Fail> {
     Ok(Ask::of(alloc, arguments.as_slice()))
 }
 
-/// Returns one line that says what the arguments in `line` ask for, or the message of their error.
-fn format_answer(alloc: Global, line: &str) -> Result<String, Fail> {
-    match read(alloc, line)? {
-        Ok(ask) => format_ask(alloc, &ask),
-        Err(CommandFault::Usage(_)) => Ok(String::from_str(alloc, "usage")?),
-        Err(CommandFault::Help(_)) => Ok(String::from_str(alloc, "help")?),
-        Err(fault) => Ok(String::from_str(alloc, fault.words())?),
+/// Returns the message of an error; in place of a whole text of usage or help, one word.
+fn message(fault: &CommandFault) -> &str {
+    match fault {
+        CommandFault::Usage(_) => "usage",
+        CommandFault::Help(_) => "help",
+        fault => fault.words(),
     }
 }
 
-/// Returns one line with the verb, the iterations, the options that were given, and the texts.
-fn format_ask(alloc: Global, ask: &Ask) -> Result<String, Fail> {
-    let verb = match ask.request.verb {
+/// Appends what the arguments in `line` ask for, or the message of their error.
+fn push_answer(alloc: Global, shown: &mut String, line: &str) -> Result<(), Fail> {
+    match read(alloc, line)? {
+        Ok(ask) => push_ask(alloc, shown, &ask),
+        Err(fault) => Ok(shown.push_str(message(&fault))?),
+    }
+}
+
+/// Appends the verb, the iterations, the options that were given, and the texts.
+fn push_ask(alloc: Global, line: &mut String, ask: &Ask) -> Result<(), Fail> {
+    line.push_str(match ask.request.verb {
         Verb::Calendar => "calendar",
         Verb::Timer => "timer",
         Verb::Timestamp => "timestamp",
         Verb::Timespan => "timespan",
-    };
+    })?;
     let count = ask.request.iterations;
-    let mut line = format!(in alloc; "{verb} {count}")?;
+    line.push_str(format!(in alloc; " {count}")?.as_str())?;
     if let Some(base) = &ask.request.base {
         line.push_str(" after ")?;
         line.push_str(base.as_str())?;
@@ -40,13 +47,18 @@ fn format_ask(alloc: Global, ask: &Ask) -> Result<String, Fail> {
         let seconds = now.secs();
         line.push_str(format!(in alloc; " now {seconds}")?.as_str())?;
     }
-    push_local(alloc, &mut line, &ask.local)?;
-    push_zones(&mut line, ask.zones.as_slice())?;
-    for text in &ask.request.texts {
+    push_local(alloc, line, &ask.local)?;
+    push_zones(line, ask.zones.as_slice())?;
+    push_texts(line, ask.request.texts.as_slice())
+}
+
+/// Appends each text after a `|`.
+fn push_texts(line: &mut String, texts: &[String]) -> Result<(), Fail> {
+    for text in texts {
         line.push('|')?;
         line.push_str(text.as_str())?;
     }
-    Ok(line)
+    Ok(())
 }
 
 /// Appends the local zone, unless it is UTC.
@@ -79,17 +91,17 @@ fn push_zones(line: &mut String, zones: &[ZoneItem]) -> Result<(), Fail> {
 }
 
 /// Expects the arguments in `line` to be shown as `want`.
-fn expect_shown(rt: &(impl Abort + AllocGlobal), line: &str, want: &str) -> Result<(), Fail> {
-    let found = format_answer(rt.alloc(), line)?;
-    assert!(rt; found.as_str() == want, "{found} at {line}");
-    Ok(())
+fn expect_shown(alloc: Global, line: &str, want: &str) -> Result<(), Fail> {
+    let mut shown = String::new(alloc);
+    push_answer(alloc, &mut shown, line)?;
+    ensure(shown.as_str() == want, line)
 }
 
 /// Expects the arguments on each line to be shown as the text after the arrow.
-fn check(rt: &(impl Abort + AllocGlobal), lines: &str) -> Result<(), Fail> {
+fn check(alloc: Global, lines: &str) -> Result<(), Fail> {
     for line in lines.lines() {
         let (arguments, want) = line.split_once(" -> ").ok_or("no arrow")?;
-        expect_shown(rt, arguments, want)?;
+        expect_shown(alloc, arguments, want)?;
     }
     Ok(())
 }
@@ -138,7 +150,7 @@ timestamp|--zones=A==|a -> timestamp 1 with A of =|a
 
 #[test]
 fn commands(rt: HostRuntime) -> Result<(), Fail> {
-    check(&rt, COMMANDS)
+    check(rt.alloc(), COMMANDS)
 }
 
 /// Several bad values at once, of which the first in the order `--iterations`, `--now`, `--zones`, `--local` is
@@ -166,7 +178,7 @@ calendar|--|--help -> calendar 1|--help
 
 #[test]
 fn other_lines(rt: HostRuntime) -> Result<(), Fail> {
-    check(&rt, OTHERS)
+    check(rt.alloc(), OTHERS)
 }
 
 /// Arguments that are not a valid command.
@@ -192,27 +204,23 @@ Calendar|a
 #[test]
 fn arguments_that_are_no_command(rt: HostRuntime) -> Result<(), Fail> {
     for line in NO_COMMANDS.lines() {
-        expect_shown(&rt, line, "usage")?;
+        expect_shown(rt.alloc(), line, "usage")?;
     }
     Ok(())
 }
 
 /// No arguments at all, which is not the same as a single empty argument.
 #[test]
-fn no_word(rt: HostRuntime) {
-    assert!(rt; matches!(Ask::of(rt.alloc(), &[]), Err(CommandFault::Usage(_))));
+fn no_word(rt: HostRuntime) -> Result<(), Fail> {
+    let is_usage = matches!(Ask::of(rt.alloc(), &[]), Err(CommandFault::Usage(_)));
+    ensure(is_usage, "no arguments")
 }
 
 /// Expects each value of the option to be rejected with the message `want`. The values are separated by `|`.
-fn check_values(
-    rt: &(impl Abort + AllocGlobal),
-    option: &str,
-    values: &str,
-    want: &str,
-) -> Result<(), Fail> {
+fn check_values(alloc: Global, option: &str, values: &str, want: &str) -> Result<(), Fail> {
     for value in values.split('|') {
-        let line = format!(in rt.alloc(); "calendar|--{option}={value}|daily")?;
-        expect_shown(rt, &line, want)?;
+        let line = format!(in alloc; "calendar|--{option}={value}|daily")?;
+        expect_shown(alloc, &line, want)?;
     }
     Ok(())
 }
@@ -244,7 +252,7 @@ static BAD_VALUES: [(&str, &str, &str); 4] = [
 #[test]
 fn bad_values(rt: HostRuntime) -> Result<(), Fail> {
     for (option, values, want) in &BAD_VALUES {
-        check_values(&rt, option, values, want)?;
+        check_values(rt.alloc(), option, values, want)?;
     }
     Ok(())
 }
@@ -265,9 +273,9 @@ fn at_most_sixty_four_zone_files(rt: HostRuntime) -> Result<(), Fail> {
     let Ok(ask) = read(rt.alloc(), most.as_str())? else {
         return Err("64 zone files are refused".into());
     };
-    assert_eq!(rt; ask.zones.len(), 64);
+    ensure(ask.zones.len() == 64, "64 zone files")?;
     let more = with_zones(rt.alloc(), 65)?;
-    expect_shown(&rt, &more, "bad zones")
+    expect_shown(rt.alloc(), &more, "bad zones")
 }
 
 /// Arguments for which the program prints a help text or a usage text.
@@ -301,8 +309,7 @@ fn texts_fit_a_terminal(rt: HostRuntime) -> Result<(), Fail> {
     for line in HELP_OR_USAGE.lines() {
         let fault = read(rt.alloc(), line)?.err().ok_or("no fault")?;
         let text = fault.words();
-        let fits = ends_once(text) && is_narrow(text);
-        assert!(rt; fits, "{text}");
+        ensure(ends_once(text) && is_narrow(text), line)?;
     }
     Ok(())
 }

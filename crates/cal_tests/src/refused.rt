@@ -5,7 +5,7 @@
 //! if and only if an allocation has failed.
 
 use cal_command::Ask;
-use cal_library_tests::shared::zone_file;
+use cal_library_tests::shared::{ensure, zone_file};
 use cal_streams::Port;
 use cal_work::load_zone;
 use cal_zone::ZoneTable;
@@ -21,8 +21,7 @@ static ARGUMENTS: [&str; 4] = [
 #[test]
 fn a_command_line(rt: HostRuntime) -> Result<(), Fail> {
     let ask = Ask::of(rt.alloc(), &ARGUMENTS)?;
-    assert_eq!(rt; ask.request.iterations, 2);
-    Ok(())
+    ensure(ask.request.iterations == 2, "iterations")
 }
 
 /// If allocation fails, the table is unchanged.
@@ -32,6 +31,7 @@ fn a_loaded_zone(rt: HostRuntime) -> Result<(), Fail> {
     let mut table = ZoneTable::new(rt.alloc());
     let mut from = Port::new(bytes.as_slice());
     let loaded = load_zone(rt.alloc(), &mut table, "Test/Fixed", &mut from);
-    assert!(rt; loaded.is_ok() == table.find("Test/Fixed").is_some());
+    let is_there = table.find("Test/Fixed").is_some();
+    ensure(loaded.is_ok() == is_there, "the table")?;
     Ok(loaded?)
 }

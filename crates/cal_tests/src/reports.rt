@@ -10,13 +10,12 @@ mod writers;
 mod zones;
 
 use cal_bytes::{Sink, Source};
-use cal_library_tests::shared::{NEW_YEAR, SUMMER_TIME, instant, posix, zone_file};
+use cal_library_tests::shared::{NEW_YEAR, SUMMER_TIME, ensure, instant, posix, zone_file};
 use cal_report::{file_name, run};
 use cal_request::{Request, RunFault, Status, Verb};
 use cal_streams::Port;
 use cal_zone::{Instant, Rules, Zone, ZoneTable};
-use std::alloc::{AllocError, Global};
-use std::process::Abort;
+use std::alloc::Global;
 use std::test::Fail;
 
 /// A request with its present, local zone and timer file, and everything that its run should write. The run succeeds.
@@ -85,61 +84,57 @@ struct KnownZones {
 }
 
 fn known_zones(alloc: Global) -> Result<KnownZones, Fail> {
-    let file = zone_file(alloc)?;
-    let Ok(fixed) = Rules::file(alloc, "Test/Fixed", file.as_slice()) else {
-        return Err("a zone file is refused".into());
-    };
     let mut table = ZoneTable::new(alloc);
-    let added = table.add("Test/Fixed", fixed).is_ok();
-    if added && table.add("Test/Summer", posix(alloc, SUMMER_TIME)?).is_ok() {
-        let summer = posix(alloc, SUMMER_TIME)?;
-        Ok(KnownZones { summer, table })
-    } else {
-        Err("a name is refused".into())
-    }
+    add_zones(alloc, &mut table)?;
+    let summer = posix(alloc, SUMMER_TIME)?;
+    Ok(KnownZones { summer, table })
 }
 
-/// Runs each row, and expects it to write its texts.
-fn check(rt: &(impl Abort + AllocGlobal), rows: &[Row<'_>]) -> Result<(), Fail> {
-    let zones = known_zones(rt.alloc())?;
+/// Adds `Test/Fixed` and `Test/Summer`.
+fn add_zones(alloc: Global, table: &mut ZoneTable) -> Result<(), Fail> {
+    let fixed = Rules::file(alloc, "Test/Fixed", &zone_file(alloc)?)?;
+    ensure(table.add("Test/Fixed", fixed).is_ok(), "Test/Fixed")?;
+    let summer = posix(alloc, SUMMER_TIME)?;
+    ensure(table.add("Test/Summer", summer).is_ok(), "Test/Summer")
+}
+
+/// Expects each row to write its texts.
+fn check(alloc: Global, rows: &[Row<'_>]) -> Result<(), Fail> {
+    let zones = known_zones(alloc)?;
     for row in rows {
-        check_input(rt, *row, &zones, &mut Port::new(row.input))?;
+        check_input(alloc, row, &zones, &mut Port::new(row.input))?;
     }
     Ok(())
 }
 
 /// Like `check`, for one row and with the timer file read from `input`.
 fn check_input<R: Source>(
-    rt: &(impl Abort + AllocGlobal),
-    row: Row<'_>,
+    alloc: Global,
+    row: &Row<'_>,
     zones: &KnownZones,
     input: &mut R,
 ) -> Result<(), Fail>
     requires { R.is_failed input.old ≡ false }
 {
-    let mut out = Port::new(Vec::new(rt.alloc()));
-    let mut err = Port::new(Vec::new(rt.alloc()));
-    let ended = run_row(rt, row, zones, input, &mut out, &mut err)?;
+    let mut out = Port::new(Vec::new(alloc));
+    let mut err = Port::new(Vec::new(alloc));
+    let ended = run_row(alloc, row, zones, input, &mut out, &mut err)?;
     let (out, err) = (out.into_inner(), err.into_inner());
-    expect_texts(rt, row, (out.as_slice(), err.as_slice(), ended));
-    Ok(())
+    expect_texts(row, (out.as_slice(), err.as_slice(), ended))
 }
 
 /// What a run wrote to both outputs, and its result.
 type RunOutput<'a> = (&'a [u8], &'a [u8], Result<Status, RunFault>);
 
 /// Expects a run to have written the texts of the row, and to have succeeded.
-fn expect_texts(rt: &impl Abort, row: Row<'_>, written: RunOutput<'_>) {
-    let wanted = (row.out.as_bytes(), row.err.as_bytes(), Ok(status(row)));
-    expect_written(rt, row.about, written, wanted);
-}
-
-fn expect_written(rt: &impl Abort, about: &str, written: RunOutput<'_>, wanted: RunOutput<'_>) {
-    assert_eq!(rt; written, wanted, "at {about}");
+fn expect_texts(row: &Row<'_>, (out, err, ended): RunOutput<'_>) -> Result<(), Fail> {
+    ensure(out == row.out.as_bytes(), row.about)?;
+    ensure(err == row.err.as_bytes(), row.about)?;
+    ensure(ended == Ok(status(row)), row.about)
 }
 
 /// Returns the status that the row's run should have.
-fn status(row: Row<'_>) -> Status {
+fn status(row: &Row<'_>) -> Status {
     if row.err.is_empty() {
         Status::Fine
     } else {
@@ -149,8 +144,8 @@ fn status(row: Row<'_>) -> Status {
 
 /// Runs the request of a row.
 fn run_row<R: Source, O: Sink, E: Sink>(
-    rt: &(impl Abort + AllocGlobal),
-    row: Row<'_>,
+    alloc: Global,
+    row: &Row<'_>,
     zones: &KnownZones,
     input: &mut R,
     out: &mut O,
@@ -160,72 +155,66 @@ fn run_row<R: Source, O: Sink, E: Sink>(
     requires out { O.is_failed out.old ≡ false }
     requires err { E.is_failed err.old ≡ false }
 {
-    let request = request(rt, row)?;
     let now = instant(row.now)?;
-    Ok(run_request(rt, row, &request, now, zones, input, out, err))
-}
-
-/// Runs a request that was made from a row.
-fn run_request<R: Source, O: Sink, E: Sink>(
-    rt: &(impl Abort + AllocGlobal),
-    row: Row<'_>,
-    request: &Request,
-    now: Instant,
-    zones: &KnownZones,
-    input: &mut R,
-    out: &mut O,
-    err: &mut E,
-) -> Result<Status, RunFault>
-    requires input { R.is_failed input.old ≡ false }
-    requires out { O.is_failed out.old ≡ false }
-    requires err { E.is_failed err.old ≡ false }
-{
-    let local = local_zone(rt, row.local, zones);
+    let local = local_zone(row.local, zones)?;
+    let request = request(alloc, row)?;
     let table = &zones.table;
-    run(rt.alloc(), request, input, now, local, table, out, err)
+    Ok(run(alloc, &request, input, now, local, table, out, err))
 }
 
-fn local_zone<'z>(rt: &impl Abort, local: Local, zones: &'z KnownZones) -> Zone<'z> {
+fn local_zone<'z>(local: Local, zones: &'z KnownZones) -> Result<Zone<'z>, Fail> {
     match local {
-        Local::Utc => Zone::utc(),
+        Local::Utc => Ok(Zone::utc()),
         Local::Offset(seconds) => {
-            assert!(rt; seconds >= -93_599 && seconds <= 93_599);
-            Zone::offset(seconds)
+            if seconds < -93_599 || seconds > 93_599 {
+                return Err(seconds.into());
+            }
+            Ok(Zone::offset(seconds))
         }
-        Local::Summer => Zone::rules(&zones.summer),
+        Local::Summer => Ok(Zone::rules(&zones.summer)),
     }
+}
+
+/// Copies texts.
+fn copies(alloc: Global, texts: &[&str]) -> Result<Vec<String>, Fail> {
+    let mut all = Vec::new(alloc);
+    for text in texts {
+        all.push(String::from_str(alloc, text)?)?;
+    }
+    Ok(all)
 }
 
 /// Makes the request of a row.
-fn request(rt: &(impl Abort + AllocGlobal), row: Row<'_>) -> Result<Request, AllocError> {
-    let mut texts = Vec::new(rt.alloc());
-    for text in row.texts {
-        texts.push(String::from_str(rt.alloc(), text)?)?;
+fn request(alloc: Global, row: &Row<'_>) -> Result<Request, Fail> {
+    let (verb, iterations) = (row.verb, row.iterations);
+    if iterations < 1 || iterations > 1_000_000 {
+        return Err(iterations.into());
     }
     let base = match row.base {
-        Some(text) => Some(String::from_str(rt.alloc(), text)?),
+        Some(text) if verb.seeks_elapses() => Some(String::from_str(alloc, text)?),
+        Some(_) => return Err("a base".into()),
         None => None,
     };
-    let iterations = row.iterations;
-    assert!(rt; iterations >= 1 && iterations <= 1_000_000);
-    assert!(rt; row.verb.seeks_elapses() || base.is_none());
-    assert!(rt; !row.verb.is_timer() || texts.len() == 1);
+    let texts = copies(alloc, row.texts)?;
+    if verb.is_timer() && texts.len() != 1 {
+        return Err("not one file".into());
+    }
     Ok(Request {
-        verb: row.verb,
+        verb,
         texts,
         iterations,
         base,
     })
 }
 
-/// The texts of requests, each with what `file_name` returns: the first text, or an empty name if there are no texts.
-const NAMES: [(&[&str], &str); 3] = [(&["t"], "t"), (&["a/b", "c"], "a/b"), (&[], "")];
+/// The texts of requests, and the name of the timer file in each: the first text, or the empty name.
+static NAMES: [(&[&str], &str); 3] = [(&["t"], "t"), (&["a/b", "c"], "a/b"), (&[], "")];
 
 #[test]
 fn names_of_files(rt: HostRuntime) -> Result<(), Fail> {
-    for (texts, name) in NAMES {
-        let request = request(&rt, Row { texts, ..CALENDAR })?;
-        assert_eq!(rt; file_name(&request), name);
+    for (texts, name) in &NAMES {
+        let request = request(rt.alloc(), &Row { texts, ..CALENDAR })?;
+        ensure(file_name(&request) == *name, name)?;
     }
     Ok(())
 }

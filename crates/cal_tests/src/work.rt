@@ -4,11 +4,11 @@
 mod disk;
 mod memory;
 
+use cal_library_tests::shared::ensure;
 use cal_streams::Port;
 use cal_work::{System, work};
 use std::alloc::Global;
 use std::io::BufWriter;
-use std::process::Abort;
 use std::test::Fail;
 
 /// What the program did: the bytes on standard output and on standard error, and the exit status.
@@ -47,34 +47,31 @@ fn perform_arguments<S: System>(
 /// Arguments, separated by `|`, with the expected texts on standard output and standard error and the expected status.
 type Row<'a> = (&'a str, &'a str, &'a str, u8);
 
-/// Runs the program with the row's arguments, and expects the row's outputs and status.
-fn check<S: System>(rt: &(impl Abort + AllocGlobal), system: &S, row: Row<'_>) -> Result<(), Fail> {
-    let done = perform(rt.alloc(), system, row.0)?;
-    expect_done(rt, &done, row);
-    Ok(())
+/// Expects the program to do what the row says.
+fn check<S: System>(alloc: Global, system: &S, row: Row<'_>) -> Result<(), Fail> {
+    let done = perform(alloc, system, row.0)?;
+    expect_done(&done, row)
 }
 
 /// Expects the arguments on each line to be rejected with this status, and with the error line after the arrow.
 fn check_refused<S: System>(
-    rt: &(impl Abort + AllocGlobal),
+    alloc: Global,
     system: &S,
     lines: &str,
     status: u8,
 ) -> Result<(), Fail> {
     for line in lines.lines() {
         let (arguments, told) = line.split_once(" -> ").ok_or("no arrow")?;
-        let err = format!(in rt.alloc(); "{told}\n")?;
-        check(rt, system, (arguments, "", &err, status))?;
+        let err = format!(in alloc; "{told}\n")?;
+        check(alloc, system, (arguments, "", &err, status))?;
     }
     Ok(())
 }
 
 /// Expects the outputs and the status to be those of the row.
-fn expect_done(rt: &impl Abort, done: &Done, row: Row<'_>) {
+fn expect_done(done: &Done, row: Row<'_>) -> Result<(), Fail> {
     let (line, out, err, status) = row;
-    assert_eq!(rt;
-        (done.out.as_slice(), done.err.as_slice(), done.status),
-        (out.as_bytes(), err.as_bytes(), status),
-        "at {line}"
-    );
+    ensure(done.out.as_slice() == out.as_bytes(), line)?;
+    ensure(done.err.as_slice() == err.as_bytes(), line)?;
+    ensure(done.status == status, line)
 }

@@ -1,14 +1,13 @@
 //! Loading zone files into the table of zones, and rejecting invalid ones.
 
 use cal_faulty::{Faulty, Then};
-use cal_library_tests::shared::zone_file;
+use cal_library_tests::shared::{ensure, zone_file};
 use cal_streams::Port;
 use cal_work::LoadFault::{self, Zone};
 use cal_work::load_zone;
 use cal_zone::ZoneFault::{self, BadFile, BadName, NameTaken, TooLarge};
 use cal_zone::{ZoneTable, place};
 use std::alloc::Global;
-use std::process::Abort;
 use std::test::Fail;
 
 /// Returns the instant of local midnight on 2024-01-01 in the zone with this name, if there is one.
@@ -45,11 +44,12 @@ struct Row<'a> {
 }
 
 /// Loads the file of each row, in order, into one table, and expects the results of the rows.
-fn check(rt: &(impl Abort + AllocGlobal), rows: &[Row<'_>]) -> Result<(), Fail> {
-    let mut table = ZoneTable::new(rt.alloc());
+fn check(alloc: Global, rows: &[Row<'_>]) -> Result<(), Fail> {
+    let mut table = ZoneTable::new(alloc);
     for row in rows {
-        let loaded = load(rt.alloc(), &mut table, *row)?;
-        expect_loaded(rt, *row, (loaded, midnights(&table)));
+        let loaded = load(alloc, &mut table, row)?;
+        expect_loaded(row, loaded)?;
+        ensure(midnights(&table) == row.midnights, row.name)?;
     }
     Ok(())
 }
@@ -58,18 +58,17 @@ fn check(rt: &(impl Abort + AllocGlobal), rows: &[Row<'_>]) -> Result<(), Fail> 
 type Loaded = (Result<(), LoadFault>, bool);
 
 /// Loads the file of a row into the table.
-fn load(alloc: Global, table: &mut ZoneTable, row: Row<'_>) -> Result<Loaded, Fail> {
+fn load(alloc: Global, table: &mut ZoneTable, row: &Row<'_>) -> Result<Loaded, Fail> {
     let bytes = row.bytes.to_vec(alloc)?;
     let mut from = Port::new(Faulty::new(bytes, 50, row.limit, row.then));
     let loaded = load_zone(alloc, table, row.name, &mut from);
     Ok((loaded, from.failed()))
 }
 
-/// Expects the result of loading the file, and what [`midnights`] returned afterwards, to be as in the row.
-fn expect_loaded(rt: &impl Abort, row: Row<'_>, found: (Loaded, [Option<i64>; 4])) {
-    let failed = row.want == Err(LoadFault::ReadFailed);
-    let wanted = ((row.want, failed), row.midnights);
-    assert_eq!(rt; found, wanted, "at {} {:?}", row.name, row.want);
+/// Expects the result of loading the file to be that of the row.
+fn expect_loaded(row: &Row<'_>, (loaded, failed): Loaded) -> Result<(), Fail> {
+    ensure(loaded == row.want, row.name)?;
+    ensure(failed == (row.want == Err(LoadFault::ReadFailed)), row.name)
 }
 
 /// Returns the row for a zone file that is loaded under the name `Test/Fixed`.
@@ -93,7 +92,7 @@ fn one_name_more(rt: HostRuntime) -> Result<(), Fail> {
         midnights: [IN_UTC, HOUR_AHEAD, HOUR_AHEAD, None],
         ..first
     };
-    check(&rt, &[first, second])
+    check(rt.alloc(), &[first, second])
 }
 
 /// A limit that lets a source return only a part of the zone file.
@@ -133,17 +132,13 @@ fn refusals_in_order(rt: HostRuntime) -> Result<(), Fail> {
             want: Err(*fault),
             ..first
         };
-        check(&rt, &[first, second])?;
+        check(rt.alloc(), &[first, second])?;
     }
     Ok(())
 }
 
 /// Expects bytes that are not a zone file to be rejected with this error.
-fn check_bytes(
-    rt: &(impl Abort + AllocGlobal),
-    bytes: &[u8],
-    fault: ZoneFault,
-) -> Result<(), Fail> {
+fn check_bytes(alloc: Global, bytes: &[u8], fault: ZoneFault) -> Result<(), Fail> {
     let row = Row {
         name: "Test/A",
         bytes,
@@ -152,14 +147,14 @@ fn check_bytes(
         want: Err(Zone(fault)),
         midnights: [IN_UTC, None, None, None],
     };
-    check(rt, &[row])
+    check(alloc, &[row])
 }
 
 /// The last two files have the largest size that a zone file may have, and one byte more.
 #[test]
 fn bytes_that_are_no_zone_file(rt: HostRuntime) -> Result<(), Fail> {
-    check_bytes(&rt, b"hello", BadFile)?;
+    check_bytes(rt.alloc(), b"hello", BadFile)?;
     let zeros: Vec<u8> = vec![in rt.alloc(); 0; 1_048_577]?;
-    check_bytes(&rt, &zeros[1..], BadFile)?;
-    check_bytes(&rt, &zeros, TooLarge)
+    check_bytes(rt.alloc(), &zeros[1..], BadFile)?;
+    check_bytes(rt.alloc(), &zeros, TooLarge)
 }

@@ -52,7 +52,7 @@ static TIMES_OF_DAY: [Row<'static>; 4] = [
 
 #[test]
 fn times_of_day(rt: HostRuntime) -> Result<(), Fail> {
-    check(&rt, &TIMES_OF_DAY)
+    check(rt.alloc(), &TIMES_OF_DAY)
 }
 
 /// Five leap days.
@@ -127,5 +127,5 @@ static EXPRESSIONS: [Row<'static>; 4] = [
 
 #[test]
 fn expressions(rt: HostRuntime) -> Result<(), Fail> {
-    check(&rt, &EXPRESSIONS)
+    check(rt.alloc(), &EXPRESSIONS)
 }

@@ -6,7 +6,6 @@ use cal_library_tests::shared::{EXCEPT_FILE, NEW_YEAR, TIMER_FILE};
 use cal_request::Verb;
 use cal_streams::Port;
 use std::alloc::{AllocError, Global};
-use std::process::Abort;
 use std::test::Fail;
 
 /// A request for the next elapse of the timer file `t`.
@@ -68,7 +67,7 @@ static ELAPSES_OF_ALL_EXPRESSIONS: [Row<'static>; 2] = [
 
 #[test]
 fn elapses_of_all_expressions(rt: HostRuntime) -> Result<(), Fail> {
-    check(&rt, &ELAPSES_OF_ALL_EXPRESSIONS)
+    check(rt.alloc(), &ELAPSES_OF_ALL_EXPRESSIONS)
 }
 
 const EXCEPT: &str = "  Original form: 12:00
@@ -139,7 +138,7 @@ static EXCEPTIONS: [Row<'static>; 5] = [
 
 #[test]
 fn exceptions(rt: HostRuntime) -> Result<(), Fail> {
-    check(&rt, &EXCEPTIONS)
+    check(rt.alloc(), &EXCEPTIONS)
 }
 
 /// An invalid file is rejected as a whole, with one error line.
@@ -172,7 +171,7 @@ static REFUSED_TIMERS: [Row<'static>; 4] = [
 
 #[test]
 fn refused_timers(rt: HostRuntime) -> Result<(), Fail> {
-    check(&rt, &REFUSED_TIMERS)
+    check(rt.alloc(), &REFUSED_TIMERS)
 }
 
 /// Returns a file with `count` lines `OnCalendar=daily`, followed by `last`.
@@ -230,7 +229,7 @@ fn as_many_expressions_as_there_may_be(rt: HostRuntime) -> Result<(), Fail> {
         let file = many(rt.alloc(), *count, lines)?;
         let out = headings(rt.alloc(), *given, last)?;
         let row = timer_row(file.as_bytes(), &out, err);
-        check(&rt, &[row])?;
+        check(rt.alloc(), &[row])?;
     }
     Ok(())
 }
@@ -240,26 +239,23 @@ type Reader = (usize, usize, Then);
 
 /// Runs the row with its file read from this source, and expects the row's texts.
 fn check_reader(
-    rt: &(impl Abort + AllocGlobal),
+    alloc: Global,
     zones: &KnownZones,
-    row: Row<'_>,
-    reader: Reader,
+    row: &Row<'_>,
+    (step, limit, then): Reader,
 ) -> Result<(), Fail> {
-    let (step, limit, then) = reader;
-    assert!(rt; step > 0);
-    let bytes = Vec::from_slice(rt.alloc(), row.input)?;
+    if step == 0 {
+        return Err("no step".into());
+    }
+    let bytes = Vec::from_slice(alloc, row.input)?;
     let mut input = Port::new(Faulty::new(bytes, step, limit, then));
-    check_input(rt, row, zones, &mut input)
+    check_input(alloc, row, zones, &mut input)
 }
 
-fn check_readers(
-    rt: &(impl Abort + AllocGlobal),
-    row: Row<'_>,
-    readers: &[Reader],
-) -> Result<(), Fail> {
-    let zones = known_zones(rt.alloc())?;
+fn check_readers(alloc: Global, row: &Row<'_>, readers: &[Reader]) -> Result<(), Fail> {
+    let zones = known_zones(alloc)?;
     for reader in readers {
-        check_reader(rt, &zones, row, *reader)?;
+        check_reader(alloc, &zones, row, *reader)?;
     }
     Ok(())
 }
@@ -270,17 +266,17 @@ static READ: [Row<'static>; 2] = [CONTINUED_TIMER, EXCEPT_TIMER];
 #[test]
 fn slow_readers(rt: HostRuntime) -> Result<(), Fail> {
     for row in &READ {
-        check_readers(&rt, *row, &[(1, 9_999, Then::Error)])?;
+        check_readers(rt.alloc(), row, &[(1, 9_999, Then::Error)])?;
     }
     Ok(())
 }
 
-/// Returns the row for a file that can't be read, with this error line as the only output.
-fn unread<'a>(row: Row<'a>, err: &'a str) -> Row<'a> {
+/// Returns the row for a file that can't be read; its only output is this error line.
+fn unread<'a>(row: &Row<'a>, err: &'a str) -> Row<'a> {
     Row {
         out: "",
         err,
-        ..row
+        ..*row
     }
 }
 
@@ -288,10 +284,10 @@ fn unread<'a>(row: Row<'a>, err: &'a str) -> Row<'a> {
 #[test]
 fn failing_readers(rt: HostRuntime) -> Result<(), Fail> {
     for row in &READ {
-        let row = unread(*row, "t: cannot be read\n");
+        let row = unread(row, "t: cannot be read\n");
         for limit in 0..=row.input.len() {
             let readers = [(64, limit, Then::Error), (1, limit, Then::Interrupted)];
-            check_readers(&rt, row, &readers)?;
+            check_readers(rt.alloc(), &row, &readers)?;
         }
     }
     Ok(())
@@ -301,8 +297,9 @@ fn failing_readers(rt: HostRuntime) -> Result<(), Fail> {
 #[test]
 fn endless_readers(rt: HostRuntime) -> Result<(), Fail> {
     for row in &READ {
-        let row = unread(*row, "t: larger than 1048576 bytes\n");
-        check_readers(&rt, row, &[(1_024, row.input.len(), Then::Endless)])?;
+        let row = unread(row, "t: larger than 1048576 bytes\n");
+        let reader = (1_024, row.input.len(), Then::Endless);
+        check_readers(rt.alloc(), &row, &[reader])?;
     }
     Ok(())
 }

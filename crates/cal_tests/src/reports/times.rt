@@ -131,5 +131,5 @@ static LISTS: [Row<'static>; 4] = [
 
 #[test]
 fn lists(rt: HostRuntime) -> Result<(), Fail> {
-    check(&rt, &LISTS)
+    check(rt.alloc(), &LISTS)
 }

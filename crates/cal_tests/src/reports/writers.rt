@@ -7,10 +7,10 @@ use super::{
     CALENDAR, KnownZones, NOON_THIRTY, Row, check, expect_texts, known_zones, run_row, status,
 };
 use cal_faulty::{Faulty, Then};
+use cal_library_tests::shared::ensure;
 use cal_request::{RunFault, Status};
 use cal_streams::Port;
-use std::alloc::AllocError;
-use std::process::Abort;
+use std::alloc::{AllocError, Global};
 use std::test::Fail;
 
 /// A valid expression and an invalid one: a report and an error line.
@@ -31,26 +31,21 @@ static ROWS: [Row<'static>; 6] = [
     STAMP_LIST,
 ];
 
-/// Runs the row with writers that take one byte in each call, and expects them to get all bytes.
-fn check_slow(
-    rt: &(impl Abort + AllocGlobal),
-    row: Row<'_>,
-    zones: &KnownZones,
-) -> Result<(), Fail> {
-    let mut out = Port::new(Faulty::new(Vec::new(rt.alloc()), 1, 9_999, Then::Error));
-    let mut err = Port::new(Faulty::new(Vec::new(rt.alloc()), 1, 9_999, Then::Error));
+/// Writers that take one byte a call get the same bytes.
+fn check_slow(alloc: Global, row: &Row<'_>, zones: &KnownZones) -> Result<(), Fail> {
+    let mut out = Port::new(Faulty::new(Vec::new(alloc), 1, 9_999, Then::Error));
+    let mut err = Port::new(Faulty::new(Vec::new(alloc), 1, 9_999, Then::Error));
     let mut input = Port::new(row.input);
-    let ended = run_row(rt, row, zones, &mut input, &mut out, &mut err)?;
+    let ended = run_row(alloc, row, zones, &mut input, &mut out, &mut err)?;
     let (out, err) = (out.into_inner(), err.into_inner());
-    expect_texts(rt, row, (out.bytes(), err.bytes(), ended));
-    Ok(())
+    expect_texts(row, (out.bytes(), err.bytes(), ended))
 }
 
 #[test]
 fn slow_writers(rt: HostRuntime) -> Result<(), Fail> {
     let zones = known_zones(rt.alloc())?;
     for row in &ROWS {
-        check_slow(&rt, *row, &zones)?;
+        check_slow(rt.alloc(), row, &zones)?;
     }
     Ok(())
 }
@@ -59,54 +54,58 @@ fn slow_writers(rt: HostRuntime) -> Result<(), Fail> {
 /// error lines failed.
 type Cut<'a> = (&'a [u8], Result<Status, RunFault>, (bool, bool));
 
-/// Expects the row's run to have ended like this.
-fn expect_cut(rt: &impl Abort, row: Row<'_>, cut: Cut<'_>, wanted: Cut<'_>) {
-    assert_eq!(rt; cut, wanted, "at {}", row.about);
+/// How a run ends whose writer fails once it has all that it takes: well, if that is the whole text.
+fn end_of_cut(row: &Row<'_>, is_cut: bool, fault: RunFault) -> Result<Status, RunFault> {
+    if is_cut { Err(fault) } else { Ok(status(row)) }
 }
 
-/// Returns the expected result of a run: `fault` if an output was cut off, and otherwise the row's status.
-fn end_of_cut(row: Row<'_>, is_cut: bool, fault: RunFault) -> Result<Status, RunFault> {
-    if is_cut { Err(fault) } else { Ok(status(row)) }
+/// Expects the run of the row to have been cut so.
+fn expect_cut(row: &Row<'_>, cut: Cut<'_>, wanted: Cut<'_>) -> Result<(), Fail> {
+    ensure(cut.0 == wanted.0, row.about)?;
+    ensure(cut.1 == wanted.1, row.about)?;
+    ensure(cut.2 == wanted.2, row.about)
 }
 
 /// Checks a run whose writer of reports fails after `front`, a prefix of the reports: the writer has exactly that
 /// prefix, and the run reports the failure unless nothing is missing.
 fn check_cut_out(
-    rt: &(impl Abort + AllocGlobal),
-    row: Row<'_>,
+    alloc: Global,
+    row: &Row<'_>,
     zones: &KnownZones,
     front: &[u8],
     then: Then,
 ) -> Result<(), Fail> {
-    let mut out = Port::new(Faulty::new(Vec::new(rt.alloc()), 3, front.len(), then));
-    let mut err = Port::new(Vec::new(rt.alloc()));
+    let mut out = Port::new(Faulty::new(Vec::new(alloc), 3, front.len(), then));
+    let mut err = Port::new(Vec::new(alloc));
     let mut input = Port::new(row.input);
-    let ended = run_row(rt, row, zones, &mut input, &mut out, &mut err)?;
+    let ended = run_row(alloc, row, zones, &mut input, &mut out, &mut err)?;
     let failed = (out.failed(), err.failed());
     let out = out.into_inner();
     let is_cut = front.len() < row.out.len();
     let ends = end_of_cut(row, is_cut, RunFault::OutFailed);
     let wanted = (front, ends, (is_cut, false));
-    expect_cut(rt, row, (out.bytes(), ended, failed), wanted);
-    Ok(())
+    expect_cut(row, (out.bytes(), ended, failed), wanted)
 }
 
-/// Checks the row with its reports cut off at every length, from no bytes to all of them.
-fn check_cuts_out(rt: &(impl Abort + AllocGlobal), row: Row<'_>, then: Then) -> Result<(), Fail> {
+/// How a writer fails.
+static FAILURES: [Then; 3] = [Then::Error, Then::Interrupted, Then::Zero];
+
+/// The reports of a row, cut in each way after each of their bytes, and at last after none.
+fn check_cuts_out(alloc: Global, row: &Row<'_>, zones: &KnownZones) -> Result<(), Fail> {
     let text = row.out.as_bytes();
-    let zones = known_zones(rt.alloc())?;
     for limit in 0..=text.len() {
-        check_cut_out(rt, row, &zones, &text[..limit], then)?;
+        for then in &FAILURES {
+            check_cut_out(alloc, row, zones, &text[..limit], *then)?;
+        }
     }
     Ok(())
 }
 
 #[test]
 fn reports_that_are_cut(rt: HostRuntime) -> Result<(), Fail> {
+    let zones = known_zones(rt.alloc())?;
     for row in &ROWS {
-        check_cuts_out(&rt, *row, Then::Error)?;
-        check_cuts_out(&rt, *row, Then::Interrupted)?;
-        check_cuts_out(&rt, *row, Then::Zero)?;
+        check_cuts_out(rt.alloc(), row, &zones)?;
     }
     Ok(())
 }
@@ -154,8 +153,8 @@ static EXCEPT_TIMER_RESUMED: [Row<'static>; 2] = [
 
 #[test]
 fn second_runs(rt: HostRuntime) -> Result<(), Fail> {
-    check(&rt, &EVERY_SECOND_RESUMED)?;
-    check(&rt, &EXCEPT_TIMER_RESUMED)
+    check(rt.alloc(), &EVERY_SECOND_RESUMED)?;
+    check(rt.alloc(), &EXCEPT_TIMER_RESUMED)
 }
 
 /// Appends to `instants` the instants of those elapses whose first line is complete in `text`.
@@ -185,68 +184,59 @@ fn push_resumed(
     Ok(())
 }
 
-/// Cuts the report `text` off at every length. Expects the elapses whose first line is then complete, and the elapses
-/// of the run that continues after them, to be all elapses of the report.
-fn expect_resumed(
-    rt: &(impl Abort + AllocGlobal),
-    text: &'static str,
-    runs: &[Row<'static>],
-) -> Result<(), Fail> {
-    let mut all = Vec::new(rt.alloc());
+/// What is complete in the first run's report, cut after each of its bytes, and what a second run gives is together
+/// the whole.
+fn expect_resumed(alloc: Global, text: &'static str, runs: &[Row<'static>]) -> Result<(), Fail> {
+    let mut all = Vec::new(alloc);
     push_instants(&mut all, text)?;
     for limit in 0..=text.len() {
-        let mut instants = Vec::new(rt.alloc());
+        let mut instants = Vec::new(alloc);
         push_resumed(&mut instants, text.get(..limit).unwrap_or(""), runs)?;
-        assert!(rt; instants.as_slice() == all.as_slice(), "after {limit}");
+        if instants.as_slice() != all.as_slice() {
+            return Err(limit.into());
+        }
     }
     Ok(())
 }
 
 #[test]
 fn each_cut_is_resumed(rt: HostRuntime) -> Result<(), Fail> {
-    expect_resumed(&rt, EVERY_SECOND.out, &EVERY_SECOND_RESUMED)?;
-    expect_resumed(&rt, EXCEPT_TIMER.out, &EXCEPT_TIMER_RESUMED)
+    expect_resumed(rt.alloc(), EVERY_SECOND.out, &EVERY_SECOND_RESUMED)?;
+    expect_resumed(rt.alloc(), EXCEPT_TIMER.out, &EXCEPT_TIMER_RESUMED)
 }
 
 /// Checks a run whose writer of error lines fails after `front`, a prefix of the error lines: the writer has exactly
 /// that prefix, the run reports the failure unless nothing is missing, and the row's reports are written.
 fn check_cut_err(
-    rt: &(impl Abort + AllocGlobal),
-    row: Row<'_>,
+    alloc: Global,
+    row: &Row<'_>,
     zones: &KnownZones,
     front: &[u8],
     then: Then,
 ) -> Result<(), Fail> {
-    let mut out = Port::new(Vec::new(rt.alloc()));
-    let mut err = Port::new(Faulty::new(Vec::new(rt.alloc()), 1, front.len(), then));
+    let mut out = Port::new(Vec::new(alloc));
+    let mut err = Port::new(Faulty::new(Vec::new(alloc), 1, front.len(), then));
     let mut input = Port::new(row.input);
-    let ended = run_row(rt, row, zones, &mut input, &mut out, &mut err)?;
+    let ended = run_row(alloc, row, zones, &mut input, &mut out, &mut err)?;
     let failed = (out.failed(), err.failed());
     let (out, err) = (out.into_inner(), err.into_inner());
     let is_cut = front.len() < row.err.len();
     let ends = end_of_cut(row, is_cut, RunFault::ErrFailed);
-    expect_cut(
-        rt,
-        row,
-        (err.bytes(), ended, failed),
-        (front, ends, (false, is_cut)),
-    );
-    // Nothing was offered to the writer after it had failed.
+    let wanted = (front, ends, (false, is_cut));
+    expect_cut(row, (err.bytes(), ended, failed), wanted)?;
+    // Nothing was offered after the failure.
     let is_last = err.calls() == front.len() as u64 + u64::from(is_cut);
-    assert!(rt;
-        is_last && out.as_slice() == row.out.as_bytes(),
-        "at {}",
-        row.about
-    );
-    Ok(())
+    ensure(is_last, row.about)?;
+    ensure(out.as_slice() == row.out.as_bytes(), row.about)
 }
 
-/// Checks the row with its error lines cut off at every length, from no bytes to all of them.
-fn check_cuts_err(rt: &(impl Abort + AllocGlobal), row: Row<'_>, then: Then) -> Result<(), Fail> {
+/// The refusals of a row, cut in each way after each of their bytes, and at last after none.
+fn check_cuts_err(alloc: Global, row: &Row<'_>, zones: &KnownZones) -> Result<(), Fail> {
     let text = row.err.as_bytes();
-    let zones = known_zones(rt.alloc())?;
     for limit in 0..=text.len() {
-        check_cut_err(rt, row, &zones, &text[..limit], then)?;
+        for then in &FAILURES {
+            check_cut_err(alloc, row, zones, &text[..limit], *then)?;
+        }
     }
     Ok(())
 }
@@ -266,10 +256,9 @@ static CUT_REFUSALS: [Row<'static>; 3] = [ONE_REFUSED, SPAN_LIST, REFUSED_BASE];
 
 #[test]
 fn refusals_that_are_cut(rt: HostRuntime) -> Result<(), Fail> {
+    let zones = known_zones(rt.alloc())?;
     for row in &CUT_REFUSALS {
-        check_cuts_err(&rt, *row, Then::Error)?;
-        check_cuts_err(&rt, *row, Then::Interrupted)?;
-        check_cuts_err(&rt, *row, Then::Zero)?;
+        check_cuts_err(rt.alloc(), row, &zones)?;
     }
     Ok(())
 }
@@ -280,9 +269,9 @@ fn before<'t>(text: &'t str, part: &str) -> Result<&'t str, Fail> {
     Ok(text.get(..end).unwrap_or(""))
 }
 
-/// Returns the reports of [`STAMP_LIST`] that are written if its error lines are cut off after `limit` bytes. The first
-/// report precedes all error lines, the second one comes after three error lines, and the third one after all of them.
-fn reports_until(stamps: Row<'static>, limit: usize) -> Result<&'static str, Fail> {
+/// The reports of the stamp list that are written before this byte of its refusals: one before the first of them, and
+/// another before the fourth. After the last byte all are written.
+fn reports_until(stamps: &Row<'static>, limit: usize) -> Result<&'static str, Fail> {
     if limit == stamps.err.len() {
         return Ok(stamps.out);
     }
@@ -295,26 +284,27 @@ fn reports_until(stamps: Row<'static>, limit: usize) -> Result<&'static str, Fai
     before(stamps.out, next)
 }
 
-/// Checks [`STAMP_LIST`] with its error lines cut off at every length, from no bytes to all of them.
+/// The refusals of the stamp list, cut in each way after each of their bytes, and at last after none.
 fn check_cuts_of_stamps(
-    rt: &(impl Abort + AllocGlobal),
-    stamps: Row<'static>,
-    then: Then,
+    alloc: Global,
+    stamps: &Row<'static>,
+    zones: &KnownZones,
 ) -> Result<(), Fail> {
-    let zones = known_zones(rt.alloc())?;
     let text = stamps.err.as_bytes();
     for limit in 0..=text.len() {
         let out = reports_until(stamps, limit)?;
-        let row = Row { out, ..stamps };
-        check_cut_err(rt, row, &zones, &text[..limit], then)?;
+        let row = Row { out, ..*stamps };
+        for then in &FAILURES {
+            check_cut_err(alloc, &row, zones, &text[..limit], *then)?;
+        }
     }
     Ok(())
 }
 
+static STAMPS: Row<'static> = STAMP_LIST;
+
 #[test]
 fn refusals_of_stamps_that_are_cut(rt: HostRuntime) -> Result<(), Fail> {
-    for then in [Then::Error, Then::Interrupted, Then::Zero] {
-        check_cuts_of_stamps(&rt, STAMP_LIST, then)?;
-    }
-    Ok(())
+    let zones = known_zones(rt.alloc())?;
+    check_cuts_of_stamps(rt.alloc(), &STAMPS, &zones)
 }

@@ -61,7 +61,7 @@ static CHANGES_OF_THE_OFFSET: [Row<'static>; 3] = [
 
 #[test]
 fn changes_of_the_offset(rt: HostRuntime) -> Result<(), Fail> {
-    check(&rt, &CHANGES_OF_THE_OFFSET)
+    check(rt.alloc(), &CHANGES_OF_THE_OFFSET)
 }
 
 const LAST_SECOND_WEST: &str = "  Original form: *-*-* 23:59:59
@@ -141,7 +141,7 @@ static OFFSETS: [Row<'static>; 4] = [
 
 #[test]
 fn offsets(rt: HostRuntime) -> Result<(), Fail> {
-    check(&rt, &OFFSETS)
+    check(rt.alloc(), &OFFSETS)
 }
 
 const IN_ITS_ZONE: &str = "  Original form: daily Test/Fixed
@@ -192,7 +192,7 @@ static ZONES_OF_EXPRESSIONS: [Row<'static>; 3] = [
 
 #[test]
 fn zones_of_expressions(rt: HostRuntime) -> Result<(), Fail> {
-    check(&rt, &ZONES_OF_EXPRESSIONS)
+    check(rt.alloc(), &ZONES_OF_EXPRESSIONS)
 }
 
 const AFTER_THE_SECOND: &str = "  Original form: *:*:*
@@ -256,5 +256,5 @@ Normalized form: *-*-* 23:59:59
 
 #[test]
 fn bases(rt: HostRuntime) -> Result<(), Fail> {
-    check(&rt, &BASES)
+    check(rt.alloc(), &BASES)
 }

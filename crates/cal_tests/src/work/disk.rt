@@ -3,13 +3,12 @@
 
 use super::{check, perform};
 use cal_faulty::{Faulty, Then};
-use cal_library_tests::shared::{NEW_YEAR, zone_file};
+use cal_library_tests::shared::{NEW_YEAR, ensure, zone_file};
 use cal_request::RunFault;
 use cal_streams::Port;
 use cal_work::{Ended, System, work};
 use std::alloc::Global;
 use std::io::BufWriter;
-use std::process::Abort;
 use std::test::Fail;
 
 /// A system with one file, `f`, which does what `then` says after `limit` bytes.
@@ -54,7 +53,7 @@ static TIMER_FILES: [Failing; 3] = [
 
 /// Expects each file to be reported with an error line that begins with `about`, and with this status.
 fn check_failing(
-    rt: &(impl Abort + AllocGlobal),
+    alloc: Global,
     bytes: &[u8],
     line: &str,
     files: &[Failing],
@@ -62,13 +61,13 @@ fn check_failing(
 ) -> Result<(), Fail> {
     for (limit, then, told) in files {
         let disk = Disk {
-            alloc: rt.alloc(),
+            alloc,
             bytes,
             limit: *limit,
             then: *then,
         };
-        let err = format!(in rt.alloc(); "{about}{told}")?;
-        check(rt, &disk, (line, "", &err, status))?;
+        let err = format!(in alloc; "{about}{told}")?;
+        check(alloc, &disk, (line, "", &err, status))?;
     }
     Ok(())
 }
@@ -78,9 +77,9 @@ fn files_that_fail(rt: HostRuntime) -> Result<(), Fail> {
     let zone = zone_file(rt.alloc())?;
     let line = "calendar|--zones=A=f|daily";
     let about = ("calendar-analyze: --zones: A: ", 2);
-    check_failing(&rt, &zone, line, &ZONE_FILES, about)?;
+    check_failing(rt.alloc(), &zone, line, &ZONE_FILES, about)?;
     let timer = b"[Timer]\nOnCalendar=hourly\n";
-    check_failing(&rt, timer, "timer|f", &TIMER_FILES, ("f: ", 1))
+    check_failing(rt.alloc(), timer, "timer|f", &TIMER_FILES, ("f: ", 1))
 }
 
 /// Returns a system whose file is empty.
@@ -93,32 +92,26 @@ fn empty_disk(alloc: Global) -> Disk<'static> {
     }
 }
 
-/// Expects a run to have this result, and the failing output to have these bytes.
-fn expect_cut(rt: &impl Abort, args: &[&str], cut: (Ended, &[u8]), wanted: (Ended, &[u8])) {
-    assert_eq!(rt; cut, wanted, "at {args:?}");
-}
-
-/// Runs the program with a standard output that fails after 3 bytes. Expects standard output to have the first 3 bytes
-/// of `whole`, and standard error to report the failure.
-fn check_cut_out(rt: &(impl Abort + AllocGlobal), args: &[&str], whole: &[u8]) -> Result<(), Fail> {
-    let disk = empty_disk(rt.alloc());
-    let writer = Faulty::new(Vec::new(rt.alloc()), 7, 3, Then::Error);
-    let mut out = Port::new(BufWriter::new(rt.alloc(), writer)?);
-    let mut err = Port::new(Vec::new(rt.alloc()));
-    let ended = work(rt.alloc(), &disk, args, &mut out, &mut err);
+/// Runs the program with a standard output that fails after 3 bytes. Expects it to have the first 3 bytes of `whole`,
+/// and standard error to report the failure.
+fn check_cut_out(alloc: Global, args: &[&str], whole: &[u8]) -> Result<(), Fail> {
+    let disk = empty_disk(alloc);
+    let writer = Faulty::new(Vec::new(alloc), 7, 3, Then::Error);
+    let mut out = Port::new(BufWriter::new(alloc, writer)?);
+    let mut err = Port::new(Vec::new(alloc));
+    let ended = work(alloc, &disk, args, &mut out, &mut err);
     let want = Ended {
         status: 1,
         written: Err(RunFault::OutFailed),
     };
-    let front = whole.get(..3).ok_or("no three bytes")?;
     let (writer, _left) = out.into_inner().into_parts();
-    expect_cut(rt, args, (ended, writer.bytes()), (want, front));
+    ensure(ended == want, "how it ended")?;
+    ensure(Some(writer.bytes()) == whole.get(..3), "standard output")?;
     let line = "calendar-analyze: output failed\n";
-    assert!(rt;
+    ensure(
         err.into_inner().as_slice() == line.as_bytes(),
-        "at {args:?}"
-    );
-    Ok(())
+        "standard error",
+    )
 }
 
 const HOUR: &str = "Original: 1h
@@ -130,33 +123,27 @@ const HOUR: &str = "Original: 1h
 fn outputs_that_fail(rt: HostRuntime) -> Result<(), Fail> {
     let disk = empty_disk(rt.alloc());
     let help = perform(rt.alloc(), &disk, "--help")?;
-    check_cut_out(&rt, &["timespan", "1h"], HOUR.as_bytes())?;
-    check_cut_out(&rt, &["--help"], help.out.as_slice())
+    check_cut_out(rt.alloc(), &["timespan", "1h"], HOUR.as_bytes())?;
+    check_cut_out(rt.alloc(), &["--help"], help.out.as_slice())
 }
 
-/// Runs the program with a standard error that fails after 3 bytes. Expects standard error to have `front`, and the
-/// status to be the one that the run would have without the failure.
-fn check_cut_err(
-    rt: &(impl Abort + AllocGlobal),
-    args: &[&str],
-    front: &str,
-    status: u8,
-) -> Result<(), Fail> {
-    let disk = empty_disk(rt.alloc());
-    let mut out = Port::new(BufWriter::new(rt.alloc(), Vec::new(rt.alloc()))?);
-    let mut err = Port::new(Faulty::new(Vec::new(rt.alloc()), 7, 3, Then::Zero));
-    let ended = work(rt.alloc(), &disk, args, &mut out, &mut err);
+/// Runs the program with a standard error that fails after 3 bytes. Expects it to have `front`, and the status to be
+/// the one that the run would have without the failure.
+fn check_cut_err(alloc: Global, args: &[&str], front: &str, status: u8) -> Result<(), Fail> {
+    let disk = empty_disk(alloc);
+    let mut out = Port::new(BufWriter::new(alloc, Vec::new(alloc))?);
+    let mut err = Port::new(Faulty::new(Vec::new(alloc), 7, 3, Then::Zero));
+    let ended = work(alloc, &disk, args, &mut out, &mut err);
     let want = Ended {
         status,
         written: Err(RunFault::ErrFailed),
     };
-    let err = err.into_inner();
-    expect_cut(rt, args, (ended, err.bytes()), (want, front.as_bytes()));
-    Ok(())
+    ensure(ended == want, front)?;
+    ensure(err.into_inner().bytes() == front.as_bytes(), front)
 }
 
 #[test]
 fn standard_error_that_fails(rt: HostRuntime) -> Result<(), Fail> {
-    check_cut_err(&rt, &["timespan", "5x"], "5x:", 1)?;
-    check_cut_err(&rt, &["calendar", "--now=5", "daily"], "cal", 2)
+    check_cut_err(rt.alloc(), &["timespan", "5x"], "5x:", 1)?;
+    check_cut_err(rt.alloc(), &["calendar", "--now=5", "daily"], "cal", 2)
 }
