@@ -92,8 +92,8 @@ fn in_part(part: Part, first: u16, count: u32) -> u64
     }
 }
 
-/// Returns an upper bound of the values that the part matches: its end, its start if it is a single number, or 65,535 if
-/// it is an open-ended repetition.
+/// Returns an upper bound of the values that the part matches: its end, its start if it is a single number, or 65,535
+/// if it is an open-ended repetition.
 fn last_of(part: Part) -> u16
     ensures { result ≡ last_number part.start part.end part.step }
 {

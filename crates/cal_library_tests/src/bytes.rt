@@ -125,7 +125,7 @@ fn write(writer: Faulty) -> (Option<WriteFault>, Faulty) {
     (fault, port.into_inner())
 }
 
-/// Expects the sink to get all of `abc` or, if it fails, a prefix.
+/// Expects the sink to get all of `abc`, or a prefix if it fails.
 fn expect_written(alloc: Global, writer: &Writer) -> Result<(), Fail> {
     let (step, limit, then, written, calls) = *writer;
     if step == 0 {

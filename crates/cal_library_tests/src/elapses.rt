@@ -41,7 +41,8 @@ pub(crate) fn elapses_of<'z>(
     elapses_from(alloc, &expr, zone, base)
 }
 
-/// Expects the elapses to be these, in this order. Before each one, `has` must not deny it.
+/// Expects the elapses to be these, in this order. Just before `next` returns a number, `has` must not return
+/// `Some(false)` for this number.
 fn expect_answers(
     elapses: &mut Elapses<'_>,
     answers: &[Option<i64>],

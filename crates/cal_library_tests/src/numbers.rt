@@ -74,7 +74,8 @@ pub fn merge_two(alloc: Global, one: &[i64], two: &[i64]) -> Result<Merge<Listed
     Ok(merge)
 }
 
-/// Checks that the source returns these numbers and, if it can tell, that it has each of them until it is returned.
+/// Checks that the source returns these numbers. If `has` can tell, it must say that the source has each number just
+/// before the number is returned, and that the source doesn't have the number right afterwards.
 pub fn expect_first<S: Rising>(source: &mut S, numbers: &[i64]) -> Result<(), Fail> {
     for number in numbers {
         ensure(source.has(*number) != Some(false), "a number is denied")?;
@@ -87,7 +88,7 @@ pub fn expect_first<S: Rising>(source: &mut S, numbers: &[i64]) -> Result<(), Fa
     Ok(())
 }
 
-/// The source gives these numbers, and then nothing.
+/// Checks that the source returns these numbers, and then `None` twice.
 pub fn expect_numbers<S: Rising>(source: &mut S, numbers: &[i64]) -> Result<(), Fail> {
     expect_first(source, numbers)?;
     ensure(source.next().is_none(), "a number too many")?;

@@ -26,7 +26,7 @@ fn a_whole_reader(rt: HostRuntime) -> Result<(), Fail> {
     ensure(bytes.as_slice() == TIMER_FILE, "other bytes")
 }
 
-/// Returns whether the clock is an hour ahead of UTC at the turn of the year.
+/// Returns whether the zone's clock is an hour ahead of UTC at local midnight on 2024-01-01.
 fn is_hour_ahead(zone: Zone<'_>) -> bool {
     place(zone, 1_704_067_200) == Some(1_704_063_600)
 }
@@ -97,7 +97,7 @@ fn elapses(rt: HostRuntime) -> Result<(), Fail> {
     )
 }
 
-/// Adds a source of these numbers. If that fails, the source is handed back unchanged, and the error is returned.
+/// Adds a source of these numbers to a merge. If that fails, expects the source to be returned unchanged.
 fn add(
     alloc: Global,
     merge: &mut Merge<Listed>,

@@ -51,7 +51,7 @@ fn finds_the_next(rt: HostRuntime) -> Result<(), Fail> {
     Ok(())
 }
 
-/// Puts two instants into an empty set, and then the first one again. They may be at most 187,199 seconds apart.
+/// Puts two instants into an empty set, and then the first one again. The two may be at most 187,199 seconds apart.
 pub(crate) fn put_three(pending: &mut Pending, one: i64, other: i64) -> Result<(), Fail>
     requires { pending.old ≡ [] }
 {

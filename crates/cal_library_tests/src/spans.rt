@@ -103,7 +103,7 @@ fn expect_values(rows: &str) -> Result<(), Fail> {
     Ok(())
 }
 
-/// Expects each span to be rejected with this error. They are separated by `|`.
+/// Expects each span to be rejected with this error. The spans are separated by `|`.
 fn expect_fault(fault: SpanFault, texts: &str) -> Result<(), Fail> {
     for text in texts.split('|') {
         ensure(micros(text) == Err(fault), text)?;

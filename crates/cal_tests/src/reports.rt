@@ -98,7 +98,7 @@ fn add_zones(alloc: Global, table: &mut ZoneTable) -> Result<(), Fail> {
     ensure(table.add("Test/Summer", summer).is_ok(), "Test/Summer")
 }
 
-/// Expects each row to write its texts.
+/// Runs each row, and expects it to write its texts.
 fn check(alloc: Global, rows: &[Row<'_>]) -> Result<(), Fail> {
     let zones = known_zones(alloc)?;
     for row in rows {
@@ -207,7 +207,7 @@ fn request(alloc: Global, row: &Row<'_>) -> Result<Request, Fail> {
     })
 }
 
-/// The texts of requests, and the name of the timer file in each: the first text, or the empty name.
+/// The texts of requests, each with what `file_name` returns: the first text, or an empty name if there are no texts.
 static NAMES: [(&[&str], &str); 3] = [(&["t"], "t"), (&["a/b", "c"], "a/b"), (&[], "")];
 
 #[test]

@@ -47,7 +47,7 @@ fn perform_arguments<S: System>(
 /// Arguments, separated by `|`, with the expected texts on standard output and standard error and the expected status.
 type Row<'a> = (&'a str, &'a str, &'a str, u8);
 
-/// Expects the program to do what the row says.
+/// Runs the program with the row's arguments, and expects the row's outputs and status.
 fn check<S: System>(alloc: Global, system: &S, row: Row<'_>) -> Result<(), Fail> {
     let done = perform(alloc, system, row.0)?;
     expect_done(&done, row)

@@ -76,7 +76,7 @@ fn silent_exceptions(rt: HostRuntime) -> Result<(), Fail> {
     expect_numbers(&mut merge, &[1, 7, 9])
 }
 
-/// Adds the elapses of an expression to a merge that was not asked for a number yet.
+/// Adds the elapses of an expression to a merge that hasn't been started.
 fn add_elapses<'z>(
     alloc: Global,
     merge: &mut Merge<Elapses<'z>>,
@@ -116,7 +116,8 @@ static IN_GAP_AND_FOLD: [(i64, &[i64]); 2] = [
     (1_729_987_200, &[1_729_992_600]),
 ];
 
-/// Adds those elapses after that base to a merge that was not asked for a number yet.
+/// Adds the elapses of `0,1:30` in UTC after `base`, and as an exception those of `02:30` in the local zone, to a merge
+/// that hasn't been started.
 fn add_without_half_past_two<'z>(
     alloc: Global,
     merge: &mut Merge<Elapses<'z>>,

@@ -136,7 +136,7 @@ static ORDER: [Refused; 11] = [
     (BadWeekday, "Mon,, 13-1|Mon,, daily 5|Foo1 25:0"),
 ];
 
-/// Expects each expression to be rejected with this error. They are separated by `|`.
+/// Expects each expression to be rejected with this error. The expressions are separated by `|`.
 fn expect_faults(alloc: Global, fault: SpecFault, lines: &str) -> Result<(), Fail> {
     for text in lines.split('|') {
         expect_fault(alloc, text, fault)?;

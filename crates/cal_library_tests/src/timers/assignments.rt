@@ -100,7 +100,7 @@ static RESETS: [RowOfKey; 4] = [
     ),
     ("[Timer]\nOnCalendar=daily\nX-KEY=\n", &[(2, "daily")]),
     (
-        "[Timer]\nOnCalendar=daily\n#KEY=\n[Unit]\nKEY=\n[Timer]\n",
+        "[Timer]\nOnCalendar=daily\n#OnCalendar=\n[Unit]\nKEY=\n[Timer]\n",
         &[(2, "daily")],
     ),
 ];

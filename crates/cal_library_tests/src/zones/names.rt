@@ -12,7 +12,7 @@ A|z|UTC|Europe/Berlin|Etc/GMT+12|America/Port-au-Prince|America/Argentina/Rio_Ga
 const NO_NAMES: &str = "\
 | |1x|/a|_a|+a|-a|a b| a|a |a.b|a:b|a,b|a\0|é|aé|Zürich";
 
-/// Expects each text to be a valid name, or each to be invalid. They are separated by `|`.
+/// Expects all texts to be valid names, or all to be invalid. The texts are separated by `|`.
 fn expect_names(texts: &str, are_names: bool) -> Result<(), Fail> {
     for text in texts.split('|') {
         ensure(is_zone_name(text.as_bytes()) == are_names, text)?;
@@ -53,7 +53,7 @@ fn midnight(table: &ZoneTable, name: &str) -> Option<i64> {
     place(table.find(name)?, NEW_YEAR)
 }
 
-/// Expects to find a zone under each name with this midnight, or no zone.
+/// Expects each name to find a zone in which New Year 2024 begins at this instant, or no zone.
 fn expect_found(table: &ZoneTable, rows: &[(&str, Option<i64>)]) -> Result<(), Fail> {
     for (name, instant) in rows {
         ensure(midnight(table, name) == *instant, name)?;

@@ -4,7 +4,7 @@ use crate::shared::{SUMMER_TIME, posix};
 use cal_base::{PlaceCache, Zone, place, settle};
 use std::test::Fail;
 
-/// Expects each local second to have this instant, or none, both from `place` and from one `PlaceCache` for all.
+/// Expects `place`, and one `PlaceCache` for all rows, to convert each local second to this instant, or to none.
 fn expect_places(zone: Zone, rows: &[(i64, Option<i64>)]) -> Result<(), Fail> {
     let mut place_cache = PlaceCache::new(zone);
     for (local, instant) in rows {
@@ -13,7 +13,7 @@ fn expect_places(zone: Zone, rows: &[(i64, Option<i64>)]) -> Result<(), Fail> {
         }
         let found = place(zone, *local);
         let by_the_cache = place_cache.place(*local);
-        // The cache may now know a range with a constant offset, and then answers from that range.
+        // The second conversion may use a constant-offset range that the cache has kept from the first one.
         let once_more = place_cache.place(*local);
         if found != *instant || by_the_cache != *instant || once_more != *instant {
             return Err((*local).into());

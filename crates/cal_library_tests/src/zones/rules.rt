@@ -55,7 +55,7 @@ fn reads_a_zone_file(rt: HostRuntime) -> Result<(), Fail> {
     ensure(midnight == Some(1_704_063_600), "another midnight")
 }
 
-/// Expects the bytes to be rejected as the zone file with each name, with its error.
+/// Expects a zone file of these bytes to be rejected under each name, with the error next to the name.
 fn expect_refused(alloc: Global, bytes: &[u8], rows: &[(&str, ZoneFault)]) -> Result<(), Fail> {
     for (name, fault) in rows {
         ensure(file_fault(alloc, name, bytes) == Some(*fault), name)?;

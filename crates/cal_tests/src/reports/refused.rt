@@ -12,7 +12,7 @@ use cal_zone::{Rules, ZoneTable};
 use std::alloc::Global;
 use std::test::Fail;
 
-/// Runs the row over writers that have their room beforehand.
+/// Runs the row with writers whose memory is allocated before the run.
 fn check_refused(alloc: Global, row: &Row<'_>) -> Result<(), Fail> {
     let summer = Rules::posix(alloc, SUMMER_TIME)?;
     let table = ZoneTable::new(alloc);
@@ -25,7 +25,8 @@ fn check_refused(alloc: Global, row: &Row<'_>) -> Result<(), Fail> {
     expect_texts_or_none(row, (out.as_slice(), err.as_slice(), ended))
 }
 
-/// The row's texts were written; or a verb that allocates ran out of memory, and nothing was written.
+/// Expects the row's texts to have been written. If a verb that allocates ran out of memory, expects that nothing was
+/// written instead.
 fn expect_texts_or_none(row: &Row<'_>, written: RunOutput<'_>) -> Result<(), Fail> {
     let (out, err, ended) = written;
     if ended == Err(RunFault::NoMemory) && row.verb.seeks_elapses() {

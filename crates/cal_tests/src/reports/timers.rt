@@ -271,7 +271,7 @@ fn slow_readers(rt: HostRuntime) -> Result<(), Fail> {
     Ok(())
 }
 
-/// Returns the row for a file that can't be read; its only output is this error line.
+/// Returns the row for a file that can't be read, with this error line as the only output.
 fn unread<'a>(row: &Row<'a>, err: &'a str) -> Row<'a> {
     Row {
         out: "",

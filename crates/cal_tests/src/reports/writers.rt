@@ -31,7 +31,7 @@ static ROWS: [Row<'static>; 6] = [
     STAMP_LIST,
 ];
 
-/// Writers that take one byte a call get the same bytes.
+/// Runs the row with writers that take one byte in each call, and expects them to get all bytes.
 fn check_slow(alloc: Global, row: &Row<'_>, zones: &KnownZones) -> Result<(), Fail> {
     let mut out = Port::new(Faulty::new(Vec::new(alloc), 1, 9_999, Then::Error));
     let mut err = Port::new(Faulty::new(Vec::new(alloc), 1, 9_999, Then::Error));
@@ -54,12 +54,12 @@ fn slow_writers(rt: HostRuntime) -> Result<(), Fail> {
 /// error lines failed.
 type Cut<'a> = (&'a [u8], Result<Status, RunFault>, (bool, bool));
 
-/// How a run ends whose writer fails once it has all that it takes: well, if that is the whole text.
+/// Returns the expected result of a run: `fault` if an output was cut off, and otherwise the row's status.
 fn end_of_cut(row: &Row<'_>, is_cut: bool, fault: RunFault) -> Result<Status, RunFault> {
     if is_cut { Err(fault) } else { Ok(status(row)) }
 }
 
-/// Expects the run of the row to have been cut so.
+/// Expects the row's run to have ended like this.
 fn expect_cut(row: &Row<'_>, cut: Cut<'_>, wanted: Cut<'_>) -> Result<(), Fail> {
     ensure(cut.0 == wanted.0, row.about)?;
     ensure(cut.1 == wanted.1, row.about)?;
@@ -90,7 +90,7 @@ fn check_cut_out(
 /// How a writer fails.
 static FAILURES: [Then; 3] = [Then::Error, Then::Interrupted, Then::Zero];
 
-/// The reports of a row, cut in each way after each of their bytes, and at last after none.
+/// Checks the row with its reports cut off at every length, from no bytes to all of them.
 fn check_cuts_out(alloc: Global, row: &Row<'_>, zones: &KnownZones) -> Result<(), Fail> {
     let text = row.out.as_bytes();
     for limit in 0..=text.len() {
@@ -184,8 +184,8 @@ fn push_resumed(
     Ok(())
 }
 
-/// What is complete in the first run's report, cut after each of its bytes, and what a second run gives is together
-/// the whole.
+/// Cuts the report off at every length. Expects the elapses whose first line is then complete, and the elapses of the
+/// run that continues after them, to be all elapses of the report.
 fn expect_resumed(alloc: Global, text: &'static str, runs: &[Row<'static>]) -> Result<(), Fail> {
     let mut all = Vec::new(alloc);
     push_instants(&mut all, text)?;
@@ -224,13 +224,13 @@ fn check_cut_err(
     let ends = end_of_cut(row, is_cut, RunFault::ErrFailed);
     let wanted = (front, ends, (false, is_cut));
     expect_cut(row, (err.bytes(), ended, failed), wanted)?;
-    // Nothing was offered after the failure.
+    // Nothing was offered to the writer after it had failed.
     let is_last = err.calls() == front.len() as u64 + u64::from(is_cut);
     ensure(is_last, row.about)?;
     ensure(out.as_slice() == row.out.as_bytes(), row.about)
 }
 
-/// The refusals of a row, cut in each way after each of their bytes, and at last after none.
+/// Checks the row with its error lines cut off at every length, from no bytes to all of them.
 fn check_cuts_err(alloc: Global, row: &Row<'_>, zones: &KnownZones) -> Result<(), Fail> {
     let text = row.err.as_bytes();
     for limit in 0..=text.len() {
@@ -269,8 +269,8 @@ fn before<'t>(text: &'t str, part: &str) -> Result<&'t str, Fail> {
     Ok(text.get(..end).unwrap_or(""))
 }
 
-/// The reports of the stamp list that are written before this byte of its refusals: one before the first of them, and
-/// another before the fourth. After the last byte all are written.
+/// Returns the reports of [`STAMP_LIST`] that are written if its error lines are cut off after `limit` bytes. The first
+/// report precedes all error lines, the second one comes after three error lines, and the third one after all of them.
 fn reports_until(stamps: &Row<'static>, limit: usize) -> Result<&'static str, Fail> {
     if limit == stamps.err.len() {
         return Ok(stamps.out);
@@ -284,7 +284,7 @@ fn reports_until(stamps: &Row<'static>, limit: usize) -> Result<&'static str, Fa
     before(stamps.out, next)
 }
 
-/// The refusals of the stamp list, cut in each way after each of their bytes, and at last after none.
+/// Checks [`STAMP_LIST`] with its error lines cut off at every length, from no bytes to all of them.
 fn check_cuts_of_stamps(
     alloc: Global,
     stamps: &Row<'static>,
