@@ -105,7 +105,7 @@ static RESETS: [RowOfKey; 4] = [
     ),
 ];
 
-/// Replaces the first `KEY` in a file by this key.
+/// Replaces `KEY` in a file by this key.
 fn file_with_key(alloc: Global, file: &str, key: &str) -> Result<String, Fail> {
     let (before, after) = file.split_once("KEY").ok_or("no key")?;
     let mut whole = String::from_str(alloc, before)?;
