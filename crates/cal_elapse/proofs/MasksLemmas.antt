@@ -95,8 +95,8 @@ pub weeks_repeat : (mask : ℕ) (days : List Bool) → ((i : ℕ) → is_bit mas
 weeks_repeat mask days filled i low = grind (arith, lt-ltb)
 
 -- If a word of years, which begins with the year `first`, was filled with those of its years that satisfy the test
--- `holds`, then its bit for the year 1970 + `i` is set if and only if that year satisfies the test. `years_filled` says
--- the same of the four words together.
+-- `holds`, then its bit for the year 1970 + `i` is set if and only if that year satisfies the test. `years_filled` does
+-- so for the four words together.
 year_word : (word first n i j : ℕ) (holds : ℕ → Bool) → ((p : ℕ) → is_bit word p ≡ (nat_lt p n && holds (first + p)))
     → first + j ≡ 1_970 + i → j < n → i < 230 → is_bit word j ≡ (nat_lt i 230 && holds (1_970 + i))
 year_word word first n i j holds filled same low inside = grind (arith, lt-ltb)
