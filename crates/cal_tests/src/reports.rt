@@ -15,7 +15,7 @@ use cal_report::{file_name, run};
 use cal_request::{Request, RunFault, Status, Verb};
 use cal_streams::Port;
 use cal_zone::{Instant, Rules, Zone, ZoneTable};
-use std::alloc::Global;
+use std::alloc::{AllocError, Global};
 use std::test::Fail;
 
 /// A request with its present, local zone and timer file, and everything that its run should write. The run succeeds.
@@ -176,7 +176,7 @@ fn local_zone<'z>(local: Local, zones: &'z KnownZones) -> Result<Zone<'z>, Fail>
 }
 
 /// Copies texts.
-fn copies(alloc: Global, texts: &[&str]) -> Result<Vec<String>, Fail> {
+fn copies(alloc: Global, texts: &[&str]) -> Result<Vec<String>, AllocError> {
     let mut all = Vec::new(alloc);
     for text in texts {
         all.push(String::from_str(alloc, text)?)?;
