@@ -16,7 +16,7 @@ two_digits greatest tens ones =
     let number = digits_value 10 (tens ∷ ones ∷ []) in
     if is_ascii_digit tens && is_ascii_digit ones && nat_le number greatest then Some number else None
 
--- hours and minutes as a number of seconds, or `None` if one of them is missing
+-- hours and minutes as a number of seconds, or `None` if either of them is missing
 abbrev pub hour_minute_seconds : Option ℕ → Option ℕ → Option ℕ
 hour_minute_seconds (Some hours) (Some minutes) = Some (hours * 3_600 + minutes * 60)
 hour_minute_seconds hours minutes = None

@@ -7,7 +7,7 @@ ghost use Rattle.cal_civil.specs.headline.OffsetText.{offset_text, sign_text};
 use cal_bytes::{Fill, ShortText, padding, push_all};
 use itoa::Buffer;
 
-/// Appends a UTC offset in seconds as `+02:00`, or as `+00:53:28` if it isn't a whole number of minutes.
+/// Appends a UTC offset, given in seconds, in the form `+02:00`, or `+00:53:28` if it isn't a whole number of minutes.
 #[tactic(auto, unfolding(crate::specs::headline::OffsetText::offset_text))]
 pub fn push_offset(text: &mut ShortText, offset: i32)
     requires room { length text.old.items + 40 ≤ SHORT_TEXT_ROOM }

@@ -18,7 +18,7 @@ use Rattle.cal_rising.specs.headline.Elements.{Has}
 use Rattle.cal_text.proofs.General.{lt_from_less, rises-drop}
 use Rattle.cal_rising.proofs.RisingLemmas.{above_first, later_members, same_rising, Has-union, rises-union}
 
--- the lesser of a number and a missing one is the number
+-- the lesser of `a` and a missing number is `a`
 lesser-none : (a : Option ℤ) → lesser a None ≡ a
 lesser-none None = refl
 lesser-none (Some x) = refl

@@ -38,7 +38,7 @@ abbrev pub advanced : ℤ → List ℤ → List ℤ
 advanced x [] = []
 advanced x (y ∷ ys) = cond (int_lt x y) (y ∷ ys) ys
 
--- the smaller of two numbers, or the only one if the other is missing
+-- the smaller of two numbers, or the only one if the other is missing; `None` if both are missing
 abbrev pub lesser : Option ℤ → Option ℤ → Option ℤ
 lesser None b = b
 lesser (Some x) None = Some x

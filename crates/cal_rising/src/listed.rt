@@ -37,7 +37,7 @@ impl Rising for Listed {
         number
     }
 
-    /// Returns whether `number` is in the list and has not been returned yet. This is never `None`.
+    /// Returns whether `number` is in the list and has not been returned yet. The result is never `None`.
     fn has(&mut self, number: i64) -> Option<bool>
         ensures has { IfSome result (λ has. has ≡ is_member int_eq (drop self.old.given self.old.numbers.items) number) }
         ensures says { IsSome result }

@@ -28,7 +28,7 @@ impl<S: Rising> Model for Merge<S> {
 }
 
 impl<S: Rising> Merge<S> {
-    /// Creates a merge without sources and exceptions, which returns no numbers.
+    /// Creates a merge without sources or exceptions, which returns no numbers.
     pub fn new(alloc: Global) -> Self
         ensures { result ≡ record { started = false; lists = []; exceptions = [] } }
     {
@@ -52,8 +52,8 @@ impl<S: Rising> Merge<S> {
         self.sources.add(source)
     }
 
-    /// Adds an exception: a source whose numbers the merge does not return, even if other sources have them. This must
-    /// happen before the first call of `next`.
+    /// Adds an exception: a source whose numbers the merge does not return, even if sources that were added by
+    /// [`Merge::add`] have them. This must happen before the first call of `next`.
     ///
     /// If allocation fails, the merge is unchanged and the exception is returned to the caller.
     pub fn add_except(&mut self, exception: S) -> Result<(), (S, NoMemory)>
@@ -71,7 +71,7 @@ impl<S: Rising> Rising for Merge<S> {
     ghost rest = { merged };
 
     /// Removes and returns the smallest remaining number of the sources that no exception has. The sources' smaller
-    /// numbers are dropped, since exceptions have them. Returns `None` if no number is left.
+    /// numbers are dropped, since exceptions have them. Returns `None` if there is no such number.
     fn next(&mut self) -> Option<i64>
         ensures given { result ≡ slice_get (merged self.old) 0 }
         ensures left { merged self.new ≡ drop 1 (merged self.old) }

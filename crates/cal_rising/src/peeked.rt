@@ -121,7 +121,7 @@ impl<S: Rising> Peeked<S> {
     }
 
     /// Does nothing if the number read ahead is at least `number`. Otherwise counts the call or, after
-    /// [`MISSES_BEFORE_STEP`] counted calls, reads the next number from the source in place of the number read ahead
+    /// [`MISSES_BEFORE_STEP`] counted calls, drops the number read ahead, if any, reads the next one from the source,
     /// and starts counting again.
     fn step_toward(&mut self, number: i64)
         ensures { IsSameFrom number (numbers self.new) (numbers self.old) }

@@ -26,6 +26,6 @@ pub trait Rising {
         None
     }
 
-    /// The rest of every value is strictly increasing.
+    /// The rest of every source is strictly increasing.
     ghost rises: { (s : Self) → IsStrictlySortedBy int_cmp (rest s) };
 }

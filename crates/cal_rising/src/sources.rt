@@ -64,7 +64,9 @@ impl<S: Rising> Sources<S> {
 impl<S: Rising> Rising for Sources<S> {
     ghost rest = { union };
 
-    /// Removes and returns the smallest remaining number, after reading one number ahead from every source.
+    /// Returns the smallest remaining number of the sources and removes it from each source that has it. To find it,
+    /// reads one number ahead from each source from which none has been read ahead. Returns `None` if no source has a
+    /// number left.
     fn next(&mut self) -> Option<i64>
         ensures given { result ≡ slice_get (union self.old) 0 }
         ensures left { union self.new ≡ drop 1 (union self.old) }
@@ -92,7 +94,7 @@ fn peek_all<S: Rising>(sources: &mut Vec<Peeked<S>>)
     }
 }
 
-/// Returns the smallest of the numbers that were read ahead.
+/// Returns the smallest of the numbers that were read ahead, or `None` if there are none.
 #[tactic(auto, unfolding(crate::specs::RisingList::union))]
 fn least_head<S: Rising>(sources: &Vec<Peeked<S>>) -> Option<i64>
     requires { All HasHead sources.now.items }
@@ -130,7 +132,7 @@ fn has_onward_in_any<S: Rising>(sources: &mut Vec<Peeked<S>>, number: i64) -> bo
     false
 }
 
-/// Returns the smaller of two numbers, or the only one if the other is `None`.
+/// Returns the smaller of two numbers, or the only one if the other is `None`. Returns `None` if both are `None`.
 fn lesser(one: Option<i64>, other: Option<i64>) -> Option<i64>
     ensures { result ≡ lesser one other }
 {

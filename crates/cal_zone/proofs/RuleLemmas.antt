@@ -56,8 +56,9 @@ beside low high by far moment at other (inr h) more a b c d = record {
   lt = lt_test at moment (omega (arith, signed_arith)) ∙ sym (lt_test other moment (omega (arith, signed_arith)));
 }
 
--- if `moment` is at most `by` inside the range from `low` to `high`, and `near` differs from `moment` by at most
--- `more`, then `near` is at most `by` plus `more` inside this range
+-- if `moment` is outside the range from `low` to `high`, or at most `by` away from one of its ends, and `near` differs
+-- from `moment` by at most `more`, then `near` is outside this range, or at most `by` plus `more` away from one of its
+-- ends
 apart_near : (low high by more moment near : ℤ) → IsApart low high by moment → near ≤ℤ (moment +ℤ more) → moment ≤ℤ (near +ℤ more) → IsApart low high (by +ℤ more) near
 apart_near low high by more moment near (inl h) a b = inl (omega (arith, signed_arith))
 apart_near low high by more moment near (inr h) a b = inr (omega (arith, signed_arith))
@@ -117,7 +118,7 @@ apart_kept low high by more moment moved from to some also a b (inr h) = grind (
 
 -- The nanosecond at which daylight saving time starts or ends in the year from `low` to `high`, or `high` if there is
 -- no `day`. It is in UTC if `seconds` is the UTC offset until then, and in local time if `seconds` is 0. By the lemma
--- below, the two differ by at most 93,599 seconds, the largest UTC offset.
+-- below, `moment_on` changes by at most 93,599 seconds, the largest UTC offset, if `seconds` is replaced by 0.
 abbrev pub moment_on : Option ℤ → ℤ → ℤ → ℤ → ℤ → ℤ
 moment_on day low high time seconds = match_some day high (λ d. clamp_to low high (d *ℤ nanos_per_day +ℤ nanos_of_seconds (time -ℤ seconds)))
 
@@ -190,8 +191,8 @@ window_apart rule d y low high next e h =
     ordered_apart low high (utc_window d y rule.std_offset) ends.0 ends.1
 
 -- If daylight saving time starts with the year, and its end, in standard time, is outside the year, then `utc_window`
--- has the last nanosecond of the year instead of the end. The two lemmas below show that the end is then at most 93,599
--- seconds (the largest UTC offset) inside the range from `low` to `high`.
+-- has the last nanosecond of the year instead of the end. The two lemmas below show that the end is then outside the
+-- range from `low` to `high`, or at most 93,599 seconds (the largest UTC offset) away from one of its ends.
 end_passed : (low high first last end std : ℤ) → first ≤ℤ low → low ≤ℤ civil_max → IsOffsetSeconds std → clamp_to civil_min civil_max (end +ℤ nanos_of_seconds std) <ℤ first
     → ((end +ℤ nanos_of_seconds std) ≤ℤ clamp_to civil_min civil_max (end +ℤ nanos_of_seconds std)) ⊎ (civil_max ≤ℤ clamp_to civil_min civil_max (end +ℤ nanos_of_seconds std))
     → IsApart low high (pos 93_599_000_000_000) end

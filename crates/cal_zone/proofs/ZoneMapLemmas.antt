@@ -29,7 +29,7 @@ find-lookup q (e ∷ es) = ap (cond (is_eq (slice_cmp nat_cmp q (string_bytes e.
 pub get-zone_map_in : (zones : BTreeMap (String Global) TimeZone) (q : List ℕ) → get (zone_map_in zones) q ≡ get_by_text zones q
 get-zone_map_in zones q = get-from_entries nat_list_cmp_total _ q ∙ find-lookup q zones.entries
 
--- a name other than `UTC` is looked up in the `BTreeMap`
+-- a name other than `UTC` (ignoring case) is looked up in the `BTreeMap`
 pub zone_named-zone_map_in : (zones : BTreeMap (String Global) TimeZone) (table : ZoneMap) (name : List ℕ) → zone_map_in zones ≡ table → is_utc_name name ≡ false
     → zone_named table name ≡ get_by_text zones name
 unfolding zone_named

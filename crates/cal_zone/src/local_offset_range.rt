@@ -83,9 +83,9 @@ pub(crate) fn local_range_in_table(table: &Tzif, local: i64) -> Option<LocalOffs
     })
 }
 
-/// Returns the end of a range of local seconds that starts at `local` and has a constant UTC offset, if the last
-/// transition of the table is at least [`TRANSITION_MARGIN`] seconds before `local`. Otherwise returns `local`, which
-/// makes the range empty.
+/// Returns the end of a range of local seconds that starts at `local` and has a constant UTC offset, if all transitions
+/// of the table are at least [`TRANSITION_MARGIN`] seconds before `local`. Otherwise returns `local`, which makes the
+/// range empty.
 ///
 /// After the last transition, the table's POSIX rule decides. If there is no such rule, or if it has no daylight saving
 /// time, the range extends to [`LOCAL_END`]. The caller guarantees that the UTC offset is constant from

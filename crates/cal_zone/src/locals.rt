@@ -28,7 +28,7 @@ pub(crate) fn local_at(zone: Zone, instant: Instant) -> Option<i64>
     }
 }
 
-/// Returns the local second that the zone's clock shows at `instant`, even if this is its second occurrence.
+/// Returns the local second that the zone's clock shows at `instant`, whether for the first or for the second time.
 fn local_shown_at(zone: Zone, instant: Instant) -> i64
     ensures { result ≡ local_shown_at (zone_of zone.entry) instant.secs }
 {

@@ -115,8 +115,9 @@ impl<'z> PlaceCache<'z> {
         self.local_outside(instant)
     }
 
-    /// Computes [`PlaceCache::local_at`] by the zone's rules, for an instant outside the cached range. Then caches a
-    /// range that contains the result, if such a range is found, for the calls that follow.
+    /// Computes [`PlaceCache::local_at`] by the zone's rules, for an instant that isn't the place of a local second of
+    /// the cached range. If there is a result, also caches a range that contains it, if such a range is found, for the
+    /// calls that follow.
     #[cold]
     #[inline(never)]
     fn local_outside(&mut self, instant: Instant) -> Option<i64>

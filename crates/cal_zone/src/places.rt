@@ -29,7 +29,7 @@ pub fn place(zone: Zone, local: i64) -> Option<i64>
     }
 }
 
-/// Converts a local second from -300,000 to 7,258,500,000 to Unix time, resolving gaps and folds as `jiff`'s compatible
+/// Converts a local second (-300,000 to 7,258,500,000) to Unix time, resolving gaps and folds as `jiff`'s compatible
 /// conversion does: a local second that the clock skips is moved forward by the length of the gap, and one that the
 /// clock shows twice resolves to its first occurrence. (systemd.time(7), Parsing Timestamps.)
 pub fn settle(zone: Zone, local: i64) -> i64
