@@ -13,8 +13,8 @@ pub trait Sink {
     /// Whether a call has failed.
     ghost is_failed: { Self → Bool };
 
-    /// Writes a prefix of `piece` and returns its length, which is at least 1 unless `piece` is empty. Returns `None`
-    /// if the call fails; then it has written nothing.
+    /// Writes a prefix of `piece` and returns the length of this prefix, which is at least 1 unless `piece` is empty.
+    /// Returns `None` if the call fails; then it has written nothing.
     fn offer(&mut self, piece: &[u8]) -> Option<usize>
         requires { is_failed self.old ≡ false }
         ensures failed { is_failed self.new ≡ is_none result }

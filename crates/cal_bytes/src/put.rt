@@ -9,7 +9,7 @@ use crate::bytes::Sink;
 /// Why a text was not written completely.
 #[derive(Clone, Copy, PartialEq, Eq, Debug)]
 pub enum WriteFault {
-    /// The sink failed after it had accepted a prefix of the text, which may be empty.
+    /// The sink failed. Until then it had accepted a prefix of the text, possibly an empty one.
     Failed = 1,
 }
 

@@ -42,8 +42,8 @@ pub fn push(text: &mut ShortText, piece: &[u8])
     }
 }
 
-/// Returns the padding that goes in front of `digits` to fill `width`, which is at most 8. It is empty if there are at
-/// least `width` digits.
+/// Returns the padding that goes in front of `digits` to fill `width`, which is at most 8. The padding is empty if
+/// there are at least `width` digits.
 #[tactic(auto, using(crate::proofs::ShortText::taken))]
 pub fn padding<'a>(digits: &'a str, width: usize, fill: Fill) -> &'a [u8]
     requires { width ≤ 8 }

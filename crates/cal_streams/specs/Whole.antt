@@ -5,7 +5,8 @@ use Rattle.std.specs.Io.KnownBytes.{Consumes, IsAtEnd}
 use Rattle.cal_streams.specs.declared.whole.WholeFault.{WholeFault}
 use Rattle.cal_streams.specs.declared.whole.WholeFault.TheVariants.{ReadFailed, TooLarge, NoMemory}
 
--- `bytes` are all bytes that the source still had, at most `limit` of them, and the source is now at its end.
+-- `bytes` are all the bytes that the source still had. There are at most `limit` of them, and the source is now at its
+-- end.
 pub record GivesAll (old new : Option (List ℕ)) (limit : ℕ) (bytes : List ℕ) : Type 0 where
   pub taken : Consumes old new bytes
   pub at_end : IsAtEnd new

@@ -7,9 +7,9 @@ use std::io::{Read, Write};
 
 /// A [`Sink`] over any std `Write`, and a [`Source`] over any std `Read`, which remembers whether a call has failed.
 ///
-/// Each call makes one `write` or one `read`. Every error counts as a failure, even `Interrupted`, and so does a
-/// `write` that accepts 0 bytes of a piece that isn't empty. If the inner reader or writer fails to allocate, it
-/// reports an error too.
+/// Each call of [`Sink::offer`] makes one `write`, and each call of [`Source::fetch`] makes one `read`. Every error
+/// counts as a failure, even `Interrupted`, and so does a `write` that accepts 0 bytes of a piece that isn't empty. If
+/// the inner reader or writer fails to allocate, it reports an error too.
 #[derive(Debug, Drop)]
 pub struct Port<T> {
     pub(crate) inner: T,

@@ -20,7 +20,7 @@ pub enum WholeFault {
 /// The number of bytes that one read asks for.
 const CHUNK: usize = 4_096;
 
-/// Reads a source to its end and returns its bytes, at most `limit` of them.
+/// Reads a source, which may have at most `limit` bytes, to its end and returns its bytes.
 ///
 /// The errors are:
 ///

@@ -307,7 +307,8 @@ pair_some o x y h k = grind arith
 pub unwrap_or_kept : {A : Type 0} (next : Option A) (local last : A) → IsSome next → IfSome next (λ l. l ≡ last) → unwrap_or next local ≡ last
 unwrap_or_kept next local last some kept = grind arith
 
--- if the test `b` selects between `None` and `Some x`, and the result is `None`, the test is `true`
+-- if a choice returns `None` when the test `b` is `true`, and `Some x` when it is `false`, then the result `None` means
+-- that `b` is `true`
 pub none_chosen : {A : Type 0} (b : Bool) (x : A) → ◌≡◌ {A = Option A} (cond b None (Some x)) None → b ≡ true
 none_chosen b x h = grind arith
 
@@ -481,7 +482,7 @@ take_front text n h =
 
 -- Splitting a text at separators
 
--- `onto_first` prepends `x` to the first piece, or makes `x` a piece of its own if there are no pieces. So it always
+-- `onto_first` makes `x` the first byte of the first piece, or a piece of its own if there are no pieces. So it always
 -- returns at least one piece, and so does `slice_split` (`some_piece`).
 some_onto : (x : ℕ) (pieces : List (List ℕ)) → (first : List ℕ) × (more : List (List ℕ)) × (onto_first x pieces ≡ first ∷ more)
 some_onto x [] = (x ∷ [], [], refl)
@@ -613,8 +614,8 @@ pub none_above : (p : ℕ → Bool) (xs : List ℕ) → length xs ≤ position_o
 none_above p [] past = refl
 none_above p (x ∷ xs) past = grind (arith, none_above p xs)
 
--- if other parts follow `part`, the first line is `part` without a carriage return at its end, and the other lines are
--- those of the other parts
+-- if other parts follow `part`, the first line is `part`, without its last byte if this is a carriage return, and the
+-- other lines are those of the other parts
 lines_of_more : (part : List ℕ) (parts : List (List ℕ)) → 0 < length parts → lines_of_parts (part ∷ parts) ≡ strip_carriage_return part ∷ lines_of_parts parts
 lines_of_more part [] h = absurd (omega arith)
 lines_of_more part (next ∷ parts) h = refl
