@@ -1,4 +1,4 @@
--- The pieces of a text between separators, for loops that take one piece at a time.
+-- The pieces into which separators divide a text, for loops that take one piece at a time.
 use Rattle.std.specs.Prelude.{ℕ, ◌+◌, Bool, List, [], length, Option, None, Some}
 use Rattle.std.specs.List.{slice_split}
 

@@ -126,8 +126,8 @@ instant_year from begun bound =
     let long = days_in_year_bounds (date_of (day_of from)).year in
     (omega (arith, signed_arith), omega (arith, signed_arith), omega (arith, signed_arith))
 
--- a rule with daylight saving time has the same UTC offset at `second` as at `from`, if `second` is before the next
--- transition and in the year of `from`
+-- a rule with daylight saving time has the same UTC offset at `second` as at `from`, if `second` isn't before `from`,
+-- but before the next transition after `from`, and in the year of `from`
 constant_in_summer : (rule : Posix) (d : Dst) (from second : ℤ) → rule.dst ≡ Some d → pos 0 ≤ℤ from → from ≤ℤ pos 7_258_500_000 → from ≤ℤ second
     → IsBeforeTransition (next_by rule d (year_of_nanos (nanos_of_seconds from)) (nanos_of_seconds from)) from second
     → ByPosix.offset_at rule (nanos_of_seconds second) ≡ ByPosix.offset_at rule (nanos_of_seconds from)
@@ -163,7 +163,8 @@ constant_by_rule rule from second begun bound later same = elim (no_dst rule.dst
 ]
 
 -- After the last transition of a table, its POSIX rule decides, if it has one. With or without a rule, the UTC offset
--- at `second` is the same as at `from`, if `second` is before the next transition and in the year of `from`.
+-- at `second` is the same as at `from`, if `second` isn't before `from`, but before the next transition after `from`,
+-- and in the year of `from`.
 constant_by : (rule : Option Posix) (type : Offset) (from second : ℤ) → pos 0 ≤ℤ from → from ≤ℤ pos 7_258_500_000 → from ≤ℤ second
     → IsBeforeTransition (match_some rule None (λ tz. ByPosix.next_at tz (nanos_of_seconds from))) from second
     → match_some rule type (λ tz. ByPosix.offset_at tz (nanos_of_seconds second)) ≡ match_some rule type (λ tz. ByPosix.offset_at tz (nanos_of_seconds from))

@@ -229,8 +229,9 @@ offset_after_table z from second all begun = grind (arith, signed_arith, floor_s
 pub rule_after_table : (z : Table) → rule_after z (vec_len z.transitions) ≡ z.posix_tz
 rule_after_table z = grind (arith, signed_arith, vec_len)
 
--- Suppose that all transitions are at least 93,599 seconds before `other`. If the clock behaves the same around `local`
--- and `other` under the POSIX rule of the table, then it also does so in the zone of the table.
+-- Suppose that all transitions are at least 93,599 seconds before `other`, and that `local` isn't before `other`. If
+-- the clock behaves the same around `local` and `other` under the POSIX rule of the table, then it also does so in the
+-- zone of the table.
 pub same_offsets_after_table : (z : Table) (local other : ℤ) → IsLocalSecond local → IsLocalSecond other → vec_len z.transitions ≤ count_at z (other -ℤ pos 93_599) → other ≤ℤ local
     → HaveSameOffsetsBy z.posix_tz local other → HaveSameOffsets (zone_of_table z) local other
 unfolding offset_at ambiguous_at

@@ -95,9 +95,10 @@ near_by low high a b kept other more p q some h (inr x) y = omega (arith, signed
 clamped_near : (low high a b more : ℤ) → low ≤ℤ high → pos 0 ≤ℤ more → a ≤ℤ (b +ℤ more) → clamp_to low high a ≤ℤ (clamp_to low high b +ℤ more)
 clamped_near low high a b more order some h = grind (arith, signed_arith, clamped, near_by)
 
--- The lemmas `kept_low` and `kept_high` are the two cases of `apart_kept`: if `moment` is outside the range from `low`
--- to `high`, or at most `by` away from one of its ends (`IsApart`), and `moved` differs from `moment` by at most
--- `more`, then the same holds for `moved`, clamped to the civil times of `jiff`, with `by` + `more` in place of `by`.
+-- The lemmas `kept_low` and `kept_high` are the two cases of `apart_kept`, for a range from `low` to `high` within the
+-- civil times of `jiff`. If `moment` is outside this range, or at most `by` away from one of its ends (`IsApart`), and
+-- `moved` differs from `moment` by at most `more`, then the same holds for `moved`, clamped to the civil times of
+-- `jiff`, with `by` + `more` in place of `by`.
 kept_low : (low high by more moment moved kept : ℤ) → moment ≤ℤ (low +ℤ by) → civil_min ≤ℤ low → pos 0 ≤ℤ by → pos 0 ≤ℤ more → moved ≤ℤ (moment +ℤ more)
     → (kept ≤ℤ moved) ⊎ (kept ≤ℤ civil_min) → IsApart low high (by +ℤ more) kept
 kept_low low high by more moment moved kept h from some also a (inl k) = inl (omega (arith, signed_arith))

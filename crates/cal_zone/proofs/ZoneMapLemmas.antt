@@ -40,7 +40,7 @@ zone_named-zone_map_in zones table name view other =
 same_test : (name q : List ℕ) → bytes_eq name q ≡ eq_by_cmp (slice_cmp nat_cmp) q name
 same_test name q = sym (is_eq-slice_cmp name q) ∙ (eq_by_cmp_equiv nat_list_cmp_total).symm name q
 
--- if the `BTreeMap` is updated at one name, so is the finite map
+-- if a zone is inserted into the `BTreeMap` under a name, it is also inserted into the finite map under this name
 pub zone_map_in-insert : (old new : BTreeMap (String Global) TimeZone) (name : List ℕ) (zone : TimeZone)
     → UpdatesBy string_cmp (λ key. slice_cmp nat_cmp name (string_bytes key)) old new (Some zone)
     → zone_map_in new ≡ insert (zone_map_in old) name zone

@@ -1,5 +1,5 @@
-//! Conversion of many local seconds of one zone to instants, with a cached range in which a conversion is one
-//! subtraction.
+//! Conversion of many local seconds of one zone to their places and back, with a cached range in which a conversion is
+//! one subtraction or addition.
 
 ghost use Rattle.std.specs.Prelude.{◌≡◌, IfSome};
 ghost use Rattle.cal_civil.specs.Local.{IsLocalSecond};
@@ -18,7 +18,7 @@ use std::marker::Model;
 /// seconds are converted one by one, since a search costs more than a conversion.
 const SEEK_RETRY_DISTANCE: i64 = 1_000;
 
-/// A converter from local seconds of one zone to their places, fast for ascending local seconds.
+/// A converter from local seconds of one zone to their places and back, fast for ascending local seconds.
 ///
 /// It caches a range of local seconds with a constant UTC offset and asks `jiff` only outside it. The cached range
 /// never changes a result, so contracts see only the zone.

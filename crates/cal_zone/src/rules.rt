@@ -140,8 +140,9 @@ impl Rules {
         self.local_range_by_rule(local)
     }
 
-    /// Returns a range with a constant UTC offset that starts at `local`, if a POSIX rule decides the offset there. In
-    /// a zone file, this is the rule that applies after the last transition of the table.
+    /// Returns a range with a constant UTC offset that starts at `local`, if one is found by the POSIX rule. In a zone
+    /// file, the rule applies after the last transition of the table; without a rule, the offset is constant from then
+    /// on.
     fn local_range_by_rule(&self, local: i64) -> Option<LocalOffsetRange>
         requires { IsLocalSecond local }
         ensures { IfSome result (IsLocalOffsetRangeAt self.now local) }

@@ -38,7 +38,7 @@ epoch_day-next_of : (d : Date) (before : d.day < month_length d) → epoch_day (
 unfolding next_of
 epoch_day-next_of d before = omega (arith, signed_arith, days_from_civil-day d.year d.month (d.day + 1) d.day (omega arith) d.day_in.0)
 
--- if a date is the last day of a month before December, the day after it is the first day of the next month
+-- if a date is the last day of a month other than December, the day after it is the first day of the next month
 next_month_in : (d : Date) → d.month < 12 → IsInRange 1 12 (d.month + 1)
 next_month_in d before = (omega arith, omega arith)
 
