@@ -16,7 +16,7 @@ use Rattle.cal_elapse.specs.headline.Elapses.{IsElapse, IsPlace, Timed}
 use Rattle.cal_elapse.specs.headline.Timed.{timed}
 use Rattle.cal_elapse.proofs.ElapsesLemmas.{AreAbove-elapses_after, AreElapses-elapses_except, AreElapses-only, first-none}
 
--- if `others` has every value that `sets` has, a local second that matches `sets` also matches `others`
+-- if `others` has every value that `sets` has (`AreAmong`), a local second that matches `sets` also matches `others`
 pub matches_among : (sets others : Sets) → AreAmong sets others → (local : ℕ) → matches sets local ≡ true → matches others local ≡ true
 unfolding matches date_in time_in
 matches_among sets others h local =
@@ -25,8 +25,8 @@ matches_among sets others h local =
     (both_follow _ _ _ _ (λ m. grind (arith, h.weekday)) (both_follow _ _ _ _ (h.year _) (both_follow _ _ _ _ (h.month _) (rw h.from_end (h.day _)))))
     (both_follow _ _ _ _ (h.hour _) (both_follow _ _ _ _ (h.minute _) (h.second _))))
 
--- if `others` matches all values that `fields` matches, field by field, then in the same zone the expression `fields`
--- is covered by the expression `others`
+-- if `others` matches all values that `fields` matches, field by field, and both count days from the same end of the
+-- month, then in the same zone the expression `fields` is covered by the expression `others`
 pub place_among : (fields others : Fields) (zone : TimeZone) → AreAmong (sets_of fields) (sets_of others) → IsCovered (timed fields zone) (timed others zone ∷ [])
 unfolding timed
 place_among fields others zone among i p = grind (arith, matches_among)

@@ -24,7 +24,7 @@ use Rattle.cal_elapse.specs.declared.window.Window.{Window}
 use Rattle.cal_elapse.proofs.ElapsesLemmas.{AreAbove-elapses_after}
 use Rattle.cal_civil.proofs.LocalLemmas.{local_inside}
 
--- an instant is an elapse if and only if the only local second that can resolve to it matches
+-- if `local` resolves to `instant`, then `instant` is an elapse of the expression if and only if `local` matches
 pub has-local : (masks : Masks) (zone : Zone) (instant local : ℤ) (b : Bool) → IsLocalSecond local → place_of (zone_of zone) local ≡ Some instant
     → b ≡ matches (sets_in masks) (unsigned_abs local) → (b ≡ true) ↔ IsPlace (timed_by masks zone) instant
 unfolding timed_by

@@ -183,7 +183,8 @@ pub elapses_except-later : (es exceptions : List Timed) (b e : ℤ) (k : ℕ) �
 elapses_except-later es exceptions b e k at =
     later_above b e (elapses_except es exceptions b) (elapses_except es exceptions e) k (AreElapses-elapses_except es exceptions b) (AreElapses-elapses_except es exceptions e) at
 
--- the first k + 1 elapses, followed by the first m elapses after the last of these, are the first k + 1 + m elapses
+-- if `e` is the elapse with the index k, the first k + 1 elapses, followed by the first m elapses after `e`, are the
+-- first k + 1 + m elapses
 pub elapses_except-parts : (es exceptions : List Timed) (b e : ℤ) (k m : ℕ) → slice_get (elapses_except es exceptions b) k ≡ Some e
     → take (suc k) (elapses_except es exceptions b) ++ take m (elapses_except es exceptions e) ≡ take (suc k + m) (elapses_except es exceptions b)
 elapses_except-parts es exceptions b e k m at = grind (arith, elapses_except-later, take-add)

@@ -78,7 +78,7 @@ pub numbers_are : (bit : ℕ → Bool) (first n : ℕ) (holds : ℕ → Bool) �
 numbers_are bit first n holds filled within v = grind (arith, nat_le, nat_tests, false_from_ne_true)
 
 -- if the mask of days was filled with the days, or with the counts from the end of the month, that satisfy the test
--- `holds`, then it contains exactly those
+-- `holds`, and only numbers from 1 to 31 satisfy it, then the mask contains exactly the numbers that satisfy it
 pub days_are : (mask : ℕ) (from_end : Bool) (holds : ℕ → Bool)
     → ((i : ℕ) → is_bit mask i ≡ (nat_lt i 31 && holds (if from_end then 31 - i else i + 1)))
     → ((v : ℕ) → holds v ≡ true → (1 ≤ v) × (v < 1 + 31)) → (v : ℕ)
@@ -95,8 +95,8 @@ pub weeks_repeat : (mask : ℕ) (days : List Bool) → ((i : ℕ) → is_bit mas
 weeks_repeat mask days filled i low = grind (arith, lt-ltb)
 
 -- If a word of years, which begins with the year `first`, was filled with those of its years that satisfy the test
--- `holds`, then its bit for the year 1970 + `i` is set if and only if that year satisfies the test. `years_filled` does
--- so for the four words together.
+-- `holds`, then its bit for the year 1970 + `i` is set if and only if that year satisfies the test. `years_filled` says
+-- this of the four words together.
 year_word : (word first n i j : ℕ) (holds : ℕ → Bool) → ((p : ℕ) → is_bit word p ≡ (nat_lt p n && holds (first + p)))
     → first + j ≡ 1_970 + i → j < n → i < 230 → is_bit word j ≡ (nat_lt i 230 && holds (1_970 + i))
 year_word word first n i j holds filled same low inside = grind (arith, lt-ltb)

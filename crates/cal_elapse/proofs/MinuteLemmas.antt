@@ -100,8 +100,8 @@ next_in_minute : (passes : ℕ → Bool) (found from left bit end : ℕ) → Are
     → IsFirstPassing passes (found + 1) end (Some (from + bit))
 next_in_minute passes found from left bit end h lowest inside = grind (arith, bit_passes)
 
--- after `bit`, the lowest set bit of `left`, is removed, the bits that remain stand for the numbers after `from` +
--- `bit` that pass
+-- after `bit`, the lowest set bit of `left`, is removed, the bits that remain stand for the numbers in the same unit of
+-- 60 that are after `from` + `bit` and pass
 pub left_behind : (passes : ℕ → Bool) (found from left bit more : ℕ) → AreRemaining passes found from left → IsFirstPassing (is_bit left) 0 64 (Some bit) → is_bit more bit ≡ false
     → ((i : ℕ) → i ≢ bit → is_bit more i ≡ is_bit left i) → AreRemaining passes (from + bit) from more
 left_behind passes found from left bit more h lowest cleared others = grind arith

@@ -32,8 +32,8 @@ abbrev pub is_stepped : Option ℕ → ℕ → Bool
 is_stepped None distance = true
 is_stepped (Some r) distance = distance % r == 0
 
--- if a slot doesn't count from the end of the month, a part without a repetition matches all values from its start to
--- its last value, and a part with a repetition matches those of them that the repetition contains
+-- if a slot doesn't count from the end of the month, a part without a repetition matches all values of the slot from
+-- its start to its `last_number`, and a part with a repetition matches those of them that the repetition contains
 values_up : (slot : Slot) (a : ℕ) (end step : Option ℕ) (v : ℕ) → is_from_end slot ≡ false → v ≤ greatest slot
     → values slot a end step v ≡ (is_between a (last_number a end step) v && is_stepped step (v - a))
 values_up slot a end step v up small = grind (arith, and_true)

@@ -89,16 +89,16 @@ run_of tz local end from to offset order inside fits from_is to_is ahead =
       start = rw place (to_z-of_z w64 ((pos local -ℤ offset) +ℤ pos 1) (omega (arith, signed_arith)));
     }
 
--- if `IsPlacedTo` holds for the match converted last, it also holds for the same match as a natural number, and as a
--- 64-bit integer
+-- if `IsPlacedTo` holds for the match converted last, it also holds for the same match as a natural number, and for the
+-- same match as a 64-bit integer (`placed_last`)
 pub placed_at : (v : Window) (local : ℤ) → IsPlacedTo v local → IsPlacedTo v (pos (unsigned_abs local))
 placed_at v local h = subst (IsPlacedTo v) (sym (pos_unsigned_abs local _ h.found.0.0 refl)) h
 
 pub placed_last : (v : Window) (last : ℤ) → IsLocalSecond last → FitsSigned w64 last → IsPlacedTo v (pos (unsigned_abs last)) → IsPlacedTo v (to_z w64 (of_z w64 last))
 placed_last v last inside fits h = subst (IsPlacedTo v) (pos_unsigned_abs last _ inside.0 refl ∙ sym (to_z-of_z w64 last fits)) h
 
--- if the UTC offset is constant from `local` to `end`, the instant of each local second `t` in between is `t` minus
--- `offset`
+-- if the zone has the constant UTC offset `offset` from `local` to `end`, the instant of each of these local seconds
+-- `t` is `t` minus `offset`
 place_there : (v : Window) (local t end : ℕ) (offset : ℤ) → IsPlacedTo v (pos local) → AreAtOffset (zone_of v.zone) (pos local) (pos end) offset → local ≤ t → t ≤ end → end < seconds_in_all
     → (timed_of v).place t ≡ Some (pos t -ℤ offset)
 unfolding timed_by

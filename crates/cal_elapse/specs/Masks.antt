@@ -46,8 +46,8 @@ pub record AreSlotValues (slot : Slot) (first count : ℕ) : Type 0 where
   pub from : least slot ≤ first
   pub upto : first + count ≤ greatest slot + 1
 
--- the largest value that a part can match; for an open-ended repetition, which has no limit of its own, it is 65,535,
--- the greatest 16-bit number
+-- an upper bound of the values that a part matches: its end, or its start if it is a single number; for an open-ended
+-- repetition, which has no limit of its own, it is 65,535, the greatest 16-bit number
 abbrev pub last_number : ℕ → Option ℕ → Option ℕ → ℕ
 last_number a (Some b) step = b
 last_number a None None = a

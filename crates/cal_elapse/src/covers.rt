@@ -26,14 +26,15 @@ impl Masks {
     }
 }
 
-/// Returns whether `mask` has all bits of `others`.
+/// Returns whether all bits that are set in `others` are set in `mask`.
 fn has_all(mask: u64, others: u64) -> bool
     ensures { result ≡ true → HasAll (is_bit mask) (is_bit others) }
 {
     mask | others == mask
 }
 
-/// Returns whether each of the four masks has all bits of the mask of `others` with the same index.
+/// Returns whether all bits that are set in one of the four masks of `others` are set in the mask with the same index
+/// in `masks`.
 fn have_all(masks: &[u64; 4], others: &[u64; 4]) -> bool
     ensures { result ≡ true → HasAll (is_bit_in masks.now) (is_bit_in others.now) }
 {

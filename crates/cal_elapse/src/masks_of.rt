@@ -117,7 +117,8 @@ fn bits_between(low: u32, high: u32) -> u64
 }
 
 /// Returns a word in which bit i stands for the value `first` + i. A bit with an index from `low` up to but not
-/// including `high` is set if its value exceeds `start` by a multiple of `step`. No other bits are set.
+/// including `high` is set if its value is below `start`, or if it exceeds `start` by a multiple of `step`. No other
+/// bits are set. The caller chooses `low` so that no value is below `start`.
 fn steps(low: u32, high: u32, first: u16, start: u16, step: u16) -> u64
     requires few { high ≤ 64 }
     requires within { first ≤ 2_200 }
@@ -131,8 +132,8 @@ fn steps(low: u32, high: u32, first: u16, start: u16, step: u16) -> u64
     mask
 }
 
-/// Returns the mask of the matching days, with day 1 at bit 0. If days are counted from the end of the month, returns
-/// the mask of the matching counts, with count 31 at bit 0.
+/// Returns the mask of the matching days, with day 1 at bit 0, or, if days are counted from the end of the month, the
+/// mask of the matching counts, with count 31 at bit 0.
 fn days(expr: &Expr, from_end: bool) -> u64
     requires { from_end ≡ expr.now.from_end }
     ensures { (i : ℕ) → is_bit result i

@@ -38,7 +38,8 @@ impl MonthDays {
         }
     }
 
-    /// Returns the zero-based index of the first matching day at or after the index `from`, which is at most 31.
+    /// Returns the zero-based index of the first matching day at or after the index `from`, or `None` if there is none.
+    /// `from` must be at most 31.
     pub(crate) fn next(self, from: u32) -> Option<u32>
         requires { from ≤ 31 }
         ensures { IsFirstPassing (is_bit self.bits) from 64 result }

@@ -25,7 +25,7 @@ pub struct Pending {
     /// One bit for each cell.
     cells: Box<[u64; CELL_WORDS]>,
     /// The smallest element, at whose cell the ring starts, or `NO_SECOND` if the set is empty. It is stored so that
-    /// `least` doesn't have to scan the ring; only removals scan it.
+    /// the function `least` doesn't have to scan the ring; only `take_least` does.
     least: u64,
 }
 
@@ -106,7 +106,7 @@ impl Pending {
     }
 }
 
-/// Returns the second of an instant, which isn't negative.
+/// Returns an instant as an unsigned number of seconds. Instants are never negative.
 fn second_of(instant: i64) -> u64
     requires { IsInstant instant }
     ensures { pos result ≡ instant }

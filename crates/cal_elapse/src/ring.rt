@@ -35,7 +35,8 @@ pub fn first_held(cells: &[u64], low: u64) -> Option<u64>
     }
 }
 
-/// Returns the first cell at or after `from` that is set. Does not wrap around at the end of the ring.
+/// Returns the first cell at or after `from` that is set, or `None` if there is none. Does not wrap around at the end
+/// of the ring.
 fn next_cell(cells: &[u64], from: u64) -> Option<u64>
     requires whole { length cells.now ≡ cell_words }
     requires inside { from < cell_count }

@@ -13,8 +13,8 @@ use crate::month::{Month, month_at};
 use crate::month_days::MonthDays;
 use crate::search::month::{has_month, next_month};
 
-/// Returns the first matching day at or after `from`, which is a day of `month` or the first day after it. Returns
-/// `None` if no such day is left. Sets `examined`, which must be 0, to the number of months examined.
+/// Returns the first matching day at or after `from`, or `None` if no such day is left. `from` must be a day of `month`
+/// or the first day after `month`. Sets `examined`, which must be 0, to the number of months examined.
 #[tactic(auto, using(crate::proofs::ExaminedMonthLemmas::examined_here, crate::proofs::ExaminedMonthLemmas::examined_on))]
 pub(crate) fn next_day(masks: &Masks, month: Month, from: u32, examined: &mut u32) -> Option<u32>
     requires low { month.first ≤ from }
@@ -29,8 +29,8 @@ pub(crate) fn next_day(masks: &Masks, month: Month, from: u32, examined: &mut u3
     }
 }
 
-/// Returns the first matching day of `month` at or after `from`. Sets `examined`, which must be 0, to 1 if the
-/// expression matches the year and the number of the month.
+/// Returns the first matching day of `month` at or after `from`, or `None` if there is none. Sets `examined`, which
+/// must be 0, to 1 if the expression matches the year and the number of the month.
 #[tactic(auto, using(crate::proofs::MonthLemmas::month_bounds))]
 fn next_in_month(masks: &Masks, month: Month, from: u32, examined: &mut u32) -> Option<u32>
     requires low { month.first ≤ from }
@@ -48,8 +48,8 @@ fn next_in_month(masks: &Masks, month: Month, from: u32, examined: &mut u32) -> 
     }
 }
 
-/// Returns the first matching day at or after the first day of the month with index `from`. Adds the number of months
-/// examined to `examined`.
+/// Returns the first matching day at or after the first day of the month with index `from`, or `None` if there is none.
+/// Adds the number of months examined to `examined`.
 #[tactic(auto, using(crate::proofs::MonthLemmas::month_bounds, crate::proofs::CountLemmas::count_bounds))]
 fn next_from_month(masks: &Masks, from: u32, examined: &mut u32) -> Option<u32>
     requires from_in { from ≤ months_in_all }

@@ -38,7 +38,7 @@ pub struct Found {
 }
 
 /// Returns the first matching local second of the years 1970 to 2199 at or after `from` (systemd.time(7), Calendar
-/// Events), with the number of months examined. `from` must be between 0 and 7,258,118,400.
+/// Events), with the number of months examined. `from` must be at least 0 and at most 7,258,118,400.
 #[tactic(auto, using(cal_civil::proofs::LocalLemmas::local_arith, crate::proofs::ExaminedMonthLemmas::examined_most))]
 pub fn next_local(masks: &Masks, from: i64) -> Found
     requires low { pos 0 ≤ℤ from }
@@ -127,8 +127,9 @@ fn day_to_start(day: u32, today: Option<u32>) -> u32
     }
 }
 
-/// Returns the time of day of a search's result, which is on the day `found`. If the search started on that day, this
-/// is `today`, the first matching time left on it. Otherwise it is `first`, the first matching time of a whole day.
+/// Returns the time of day of a search's result, which is on the day `found`. If the search started on that day, that
+/// is, if `found` is `day`, and a matching time was left on it, the result is this matching time, `today`. Otherwise
+/// the result is `first`, the first matching time of a whole day.
 fn second_on(found: u32, day: u32, today: Option<u32>, first: u32) -> u32
     ensures { result ≡ second_on found day today first }
 {

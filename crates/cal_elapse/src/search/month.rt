@@ -11,8 +11,8 @@ use crate::Masks;
 use crate::bits::{has_bit, lowest_bit, next_bit};
 use crate::month::MONTHS;
 
-/// Returns the first matching month at or after `from`, an index of at most 2,760. Returns `None` if no such month is
-/// left.
+/// Returns the index of the first matching month at or after the index `from`, or `None` if no such month is left.
+/// `from` must be at most 2,760.
 pub(crate) fn next_month(masks: &Masks, from: u32) -> Option<u32>
     requires { from ≤ months_in_all }
     ensures { IsFirstPassing (month_in (sets_in masks.now)) from months_in_all result }
@@ -26,7 +26,7 @@ pub(crate) fn next_month(masks: &Masks, from: u32) -> Option<u32>
     }
 }
 
-/// Returns whether the expression matches the year and the number of a month.
+/// Returns whether the expression matches the year and the number of the month with this index.
 pub(crate) fn has_month(masks: &Masks, index: u32) -> bool
     requires { index < months_in_all }
     ensures { result ≡ month_in (sets_in masks.now) index }
@@ -34,7 +34,7 @@ pub(crate) fn has_month(masks: &Masks, index: u32) -> bool
     has_year(&masks.years, index / 12) && has_bit(masks.months, index % 12)
 }
 
-/// Returns the first matching month at or after `from` and in the same year.
+/// Returns the first matching month at or after `from` and in the same year, or `None` if there is none.
 fn month_here(masks: &Masks, from: u32) -> Option<u32>
     requires { from < months_in_all }
     ensures { IsFirstPassing (month_in (sets_in masks.now)) from ((from / 12 + 1) * 12) result }
@@ -48,7 +48,7 @@ fn month_here(masks: &Masks, from: u32) -> Option<u32>
     }
 }
 
-/// Returns the first matching month in `year` or a later year. The year is counted from 1970.
+/// Returns the first matching month in `year` or a later year, or `None` if there is none. `year` is counted from 1970.
 fn month_later(masks: &Masks, year: u32) -> Option<u32>
     requires { year ≤ 230 }
     ensures { IsFirstPassing (month_in (sets_in masks.now)) (year * 12) months_in_all result }
@@ -62,7 +62,7 @@ fn month_later(masks: &Masks, year: u32) -> Option<u32>
     }
 }
 
-/// Returns whether `years` contains a year, which is counted from 1970.
+/// Returns whether the set `years` contains `year`, which is counted from 1970.
 #[tactic(auto, unfolding(crate::specs::Bits::is_bit_in))]
 fn has_year(years: &[u64; 4], year: u32) -> bool
     requires { year < 256 }
@@ -71,7 +71,8 @@ fn has_year(years: &[u64; 4], year: u32) -> bool
     has_bit(years[year as usize / 64], year % 64)
 }
 
-/// Returns the first year of `years` at or after `from`.
+/// Returns the first year of the set `years` at or after `from`, or `None` if there is none. Years are counted from
+/// 1970.
 fn next_year(years: &[u64; 4], from: u32) -> Option<u32>
     requires { from < 256 }
     ensures { IsFirstPassing (is_bit_in years.now) from 256 result }
@@ -82,7 +83,8 @@ fn next_year(years: &[u64; 4], from: u32) -> Option<u32>
     }
 }
 
-/// Returns the first year of `years` at or after `from` whose bit is in the same word as the bit of `from`.
+/// Returns the first year of `years` at or after `from` whose bit is in the same word as the bit of `from`, or `None`
+/// if there is none.
 fn year_here(years: &[u64; 4], from: u32) -> Option<u32>
     requires { from < 256 }
     ensures { IsFirstPassing (is_bit_in years.now) from ((from / 64 + 1) * 64) result }
@@ -93,7 +95,8 @@ fn year_here(years: &[u64; 4], from: u32) -> Option<u32>
     }
 }
 
-/// Returns the first year of `years` whose bit is in the word with index `first` or a later word.
+/// Returns the first year of `years` whose bit is in the word with index `first` or a later word, or `None` if there is
+/// none.
 fn year_later(years: &[u64; 4], first: u32) -> Option<u32>
     requires { first ≤ 4 }
     ensures { IsFirstPassing (is_bit_in years.now) (first * 64) 256 result }

@@ -24,7 +24,7 @@ use cal_spec::Expr;
 /// The starting point of a search.
 #[derive(Drop)]
 pub enum SearchStart {
-    /// At a local second, from 0 to 7,258,118,400.
+    /// At a local second, or at 7,258,118,400, the end of the local seconds.
     At(i64),
     /// After a match. Its day is known to match, so if the next match is on the same day, no search for a day is
     /// needed.
@@ -34,8 +34,7 @@ pub enum SearchStart {
 /// The matches that `search_minute` found: those after a given match in the same minute.
 #[derive(Drop)]
 pub struct RestOfMinute {
-    /// One bit for each match found. Bit i stands for the local second that comes i + 1 seconds after
-    /// the given match.
+    /// One bit for each match found. Bit i stands for the local second that comes i + 1 seconds after the given match.
     pub bits: u64,
     /// The last match found, or the given match if none was found.
     pub last: i64,
@@ -45,8 +44,9 @@ pub struct RestOfMinute {
 /// The masks of an expression, the number of searches made with them, and the largest number of months that a single
 /// search examined. The fields are private, so that every search is counted.
 ///
-/// Most searches start after a match and end in the same minute or hour. Two words of bits are therefore stored: the
-/// remaining matches in the minute of the match found last, and the remaining minutes with matches in its hour.
+/// If an expression matches often, most searches start after a match and end in the same minute or hour. Two words of
+/// bits are therefore stored: the remaining matches in the minute of the match found last, and the remaining minutes
+/// with matches in its hour.
 #[derive(Drop)]
 pub struct Searcher {
     masks: Masks,
@@ -103,8 +103,8 @@ impl Searcher {
         self.most_months
     }
 
-    /// Returns the first matching local second from `start` on, with the number of months examined, as `next_local`
-    /// would. Each call counts as one search.
+    /// Returns the first match from the local second `start` on, or after the match `start`, with the number of months
+    /// examined, as `next_local` would. Each call counts as one search.
     #[inline(always)]
     pub fn search(&mut self, start: SearchStart) -> Found
         requires start { CanStart (matches (sets_in self.old.masks)) start }

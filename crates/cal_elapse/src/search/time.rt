@@ -11,8 +11,8 @@ ghost use Rattle.cal_civil.specs.headline.Local.{seconds_per_day};
 use crate::Masks;
 use crate::bits::{has_bit, lowest_bit, next_bit};
 
-/// Returns the first matching time of day at or after `from`, in seconds since midnight, below 86,400. Returns `None`
-/// if no such time is left.
+/// Returns the first matching time of day at or after `from`, or `None` if no such time is left. Times are in seconds
+/// since midnight, and `from` must be below 86,400.
 pub(crate) fn next_second(masks: &Masks, from: u32) -> Option<u32>
     requires { from < seconds_per_day }
     ensures { IsFirstPassing (time_in (sets_in masks.now)) from seconds_per_day result }
@@ -31,7 +31,7 @@ pub(crate) fn first_second(masks: &Masks) -> u32
     minute * 60 + lowest_bit(masks.seconds)
 }
 
-/// Returns the first matching time of day at or after `from` and in the same minute.
+/// Returns the first matching time of day at or after `from` and in the same minute, or `None` if there is none.
 fn second_here(masks: &Masks, from: u32) -> Option<u32>
     requires { from < seconds_per_day }
     ensures { IsFirstPassing (time_in (sets_in masks.now)) from ((from / 60 + 1) * 60) result }
@@ -45,7 +45,8 @@ fn second_here(masks: &Masks, from: u32) -> Option<u32>
     }
 }
 
-/// Returns the first matching time of day in `minute` or later. The minute is counted from midnight.
+/// Returns the first matching time of day in `minute` or a later minute, or `None` if there is none. `minute` is
+/// counted from midnight.
 fn second_later(masks: &Masks, minute: u32) -> Option<u32>
     requires { minute ≤ minutes_per_day }
     ensures { IsFirstPassing (time_in (sets_in masks.now)) (minute * 60) seconds_per_day result }
@@ -56,7 +57,8 @@ fn second_later(masks: &Masks, minute: u32) -> Option<u32>
     }
 }
 
-/// Returns the first minute of the day at or after `from` whose hour and minute the expression matches.
+/// Returns the first minute of the day at or after `from` whose hour and minute the expression matches, or `None` if
+/// there is none.
 fn next_minute(masks: &Masks, from: u32) -> Option<u32>
     requires { from ≤ minutes_per_day }
     ensures { IsFirstPassing (minute_in (sets_in masks.now)) from minutes_per_day result }
@@ -79,7 +81,7 @@ pub(crate) fn has_minute(masks: &Masks, minute: u32) -> bool
     has_bit(masks.hours, minute / 60) && has_bit(masks.minutes, minute % 60)
 }
 
-/// Returns the first matching minute of the day at or after `from` and in the same hour.
+/// Returns the first matching minute of the day at or after `from` and in the same hour, or `None` if there is none.
 fn minute_here(masks: &Masks, from: u32) -> Option<u32>
     requires { from < minutes_per_day }
     ensures { IsFirstPassing (minute_in (sets_in masks.now)) from ((from / 60 + 1) * 60) result }
@@ -93,7 +95,7 @@ fn minute_here(masks: &Masks, from: u32) -> Option<u32>
     }
 }
 
-/// Returns the first matching minute of the day at or after the start of an hour.
+/// Returns the first matching minute of the day at or after the start of `hour`, or `None` if there is none.
 fn minute_later(masks: &Masks, hour: u32) -> Option<u32>
     requires { hour ≤ 24 }
     ensures { IsFirstPassing (minute_in (sets_in masks.now)) (hour * 60) minutes_per_day result }

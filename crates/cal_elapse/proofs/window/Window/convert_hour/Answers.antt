@@ -23,7 +23,8 @@ use Rattle.cal_elapse.proofs.window.Window.convert_hour.Goals.{After-search}
 use Rattle.cal_elapse.proofs.window.Window.convert_hour.Goals as goal
 
 -- A search found the match `next` in a range with a constant UTC offset. `next` is at most 93,599 seconds after the
--- instant returned last. `next`, the offset, the instant of `next` and the instant returned last fit 64-bit integers.
+-- instant returned last. `next`, the offset, the instant of `next` and the instant returned last fit into 64-bit
+-- integers.
 record IsStep (v : Window) (searcher : Searcher) (next offset : ℤ) : Type 0 where
   ready : IsReady (record v { searcher = searcher; ahead = Some next })
   place : place_of (zone_of v.zone) next ≡ Some (next -ℤ offset)
@@ -44,23 +45,23 @@ module _ (v : Window) (searcher : Searcher) (next offset : ℤ) (s : IsStep v se
   step_near : (i : ℤ) → Has v.pending i → IsNear i (next -ℤ offset)
   step_near i has = put_near (zone_of v.zone) next (next -ℤ offset) i s.place (step_reach i has) (placed_before (record v { searcher = searcher; ahead = Some next }) next s.ready refl i has)
 
-  -- with the instant of `next` added, all matches up to `next` were converted
+  -- once the instant of `next` is added, all matches up to and including `next` have been converted
   step_placed : (pending : List ℤ) → pending ≡ with_place (Some (next -ℤ offset)) v.last v.pending → IsPlacedTo (record v { searcher = searcher; pending = pending }) next
   step_placed pending put = placed_to (record v { searcher = searcher; ahead = Some next }) next v.ahead pending s.ready refl step_reach
       (put ∙ ap (λ place. with_place place v.last v.pending) (sym s.place))
 
--- the instant of a local second fits a 64-bit integer
+-- the instant of a local second fits into a 64-bit integer
 fits_instant : (tz : TimeZone) (next instant : ℤ) → IsLocalSecond next → place_of tz next ≡ Some instant → FitsSigned w64 instant
 fits_instant tz next instant inside at = let near = within tz next instant at in omega (arith, signed_arith, near, inside)
 
--- a later local second of the hour of `local` is at most 3,599 seconds after it
+-- a later local second in the hour of `local` is at most 3,599 seconds after `local`
 in_hour : (local next : ℤ) → pos 0 ≤ℤ local → pos 0 ≤ℤ next → unsigned_abs next / 3_600 ≡ unsigned_abs local / 3_600 → unsigned_abs local ≤ unsigned_abs next
     → (local ≤ℤ next) × (next ≤ℤ (local +ℤ pos 3_599))
 in_hour (pos a) (pos b) low next_low same on = (omega (arith, ints), omega (arith, ints))
 in_hour (negsuc a) next low next_low same on = absurd (omega (arith, ints, low))
 in_hour (pos a) (negsuc b) low next_low same on = absurd (omega (arith, ints, next_low))
 
--- if the last second of an hour is at most 93,599 seconds after `last`, so is every second of that hour
+-- if the local second `local` + 3,599 is at most 93,599 seconds after `last`, so is every local second up to that one
 not_late : (last local next : ℤ) → int_lt last ((local +ℤ pos 3_599) -ℤ pos 93_599) ≡ false → next ≤ℤ (local +ℤ pos 3_599) → next ≤ℤ (last +ℤ pos 93_599)
 not_late last local next test near = grind (arith, ints)
 
