@@ -23,8 +23,8 @@ plain_none n text e = rw e refl
 abbrev pub parts_of : List Line → List ℕ
 parts_of = flat_map (λ line. part_of_line line.text)
 
--- the logical lines of these groups, except that the first one has the number `n` and begins with `front`; if there are
--- no groups, `front` is a logical line of its own
+-- the logical lines of these groups, except that the first one has the number `n`, and `front` stands before its text;
+-- if there are no groups, the only logical line has the number `n` and the text `front`
 abbrev pub after : ℕ → List ℕ → List Group → List Line
 after n front [] = record { number = n; text = front } ∷ []
 after n front (group ∷ rest) = record { number = n; text = front ++ parts_of (group.first ∷ group.more) } ∷ map joined_line rest

@@ -3,7 +3,8 @@ use Rattle.std.proofs.Common.{arith, ◌≡◌, true, false, List, [], ◌∷◌
 use Rattle.cal_lines.specs.LineRule.{AreGroups, IsClosed, IsOpen, lines_of}
 use Rattle.cal_lines.specs.headline.Lines.{Group, Line, continued_by, groups, is_continued}
 
--- `continued_by` keeps the lines and their order, and so does `groups` (`lines_of_groups`)
+-- the lines of `continued_by line all` are `line` and then the lines of `all`; so `groups` keeps all lines in their
+-- order (`lines_of_groups`)
 lines_of_continued : (line : Line) (all : List Group) → lines_of (continued_by line all) ≡ line ∷ lines_of all
 lines_of_continued line [] = refl
 lines_of_continued line (group ∷ rest) = refl

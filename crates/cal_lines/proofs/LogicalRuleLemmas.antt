@@ -44,7 +44,7 @@ last_byte text h =
     sym (take-length text) ∙ (ap (λ n. take n text) (sym whole) ∙ (take_more text (length text - 1) 0 (omega arith)
     ∙ ap (λ b. take (length text - 1) text ++ b ∷ []) byte))
 
--- `part_of_line` returns what a line contributes to its logical line
+-- what `part_of_line` returns is what `IsLinePart` says that a line contributes to its logical line
 part_as : (continued : Bool) (text : List ℕ) → is_continued text ≡ continued → IsLinePart text (part_of_line text)
 unfolding part_of_line
 part_as true text e = rw e (inr (record { continued = e; front = take (length text - 1) text; line = last_byte text e; said = refl }))
@@ -63,7 +63,7 @@ unfolding part_of_line
 part_only text said (inl h) = rw h.0 h.1
 part_only text said (inr h) = rw h.continued (h.said ∙ ap (λ front. front ++ 32 ∷ []) (sym (ap (λ t. take (length t - 1) t) h.line ∙ front_of h.front)))
 
--- `parts_of` joins what the lines contribute to their logical line
+-- `parts_of` returns the joined text that `AreJoined` describes
 pub joined : (all : List Line) → AreJoined all (parts_of all)
 joined [] = refl
 joined (line ∷ all) = (part_of_line line.text, parts_of all, part line.text, joined all, refl)
@@ -73,7 +73,7 @@ joined_only [] text h = h
 joined_only (line ∷ all) text h =
     h.4 ∙ (ap (λ p. p ++ h.1) (part_only line.text h.0 h.2) ∙ ap (λ rest. part_of_line line.text ++ rest) (joined_only all h.1 h.3))
 
--- `joined_line` returns the logical line of each group
+-- `joined_line`, applied to each group, returns the logical lines that `EachIsLogical` describes
 pub each_logical : (all : List Group) → EachIsLogical all (map joined_line all)
 each_logical [] = tt
 each_logical (group ∷ all) = (record { number = refl; text = joined (group.first ∷ group.more) }, each_logical all)

@@ -12,7 +12,8 @@ abbrev pub IsClosed : Line → List Line → Type 0
 IsClosed line [] = is_continued line.text ≡ false
 IsClosed line (next ∷ more) = (is_continued line.text ≡ true) × IsClosed next more
 
--- a group that the end of the file may cut off: all its lines but the last are continued, and the last may be, too
+-- a group that the end of the file may cut off: all its lines but the last are continued, and the last may be
+-- continued, too
 abbrev pub IsOpen : Line → List Line → Type 0
 IsOpen line [] = Unit {0}
 IsOpen line (next ∷ more) = (is_continued line.text ≡ true) × IsOpen next more

@@ -1,4 +1,4 @@
--- How contracts see lines of a unit file: as values, without their addresses in memory.
+-- How contracts see a line of a unit file: as its number and the list of its bytes.
 use Rattle.std.specs.Prelude.{ℕ, List, string_bytes}
 use Rattle.cal_lines.specs.headline.Lines.{Line}
 use Rattle.cal_lines.specs.declared.lines.LogicalLine.{LogicalLine}

@@ -16,9 +16,9 @@ pub fn one_grouping()
     ensures only { (all : List Group) → AreGroups all → groups (lines_of all) ≡ all }
 {}
 
-/// `AreLogical` describes exactly one list of logical lines for each text, and `logical_lines` returns it: the physical
-/// lines lose their leading blanks, comments are dropped, and each group of continued lines is joined, with a space in
-/// place of each backslash that continues a line.
+/// For each text and each number of its first line, `AreLogical` describes exactly one list of logical lines, and
+/// `logical_lines` returns this list. The physical lines lose their leading blanks, comments are dropped, and each
+/// group of continued lines is joined, with a space in place of each backslash that continues a line.
 pub fn logical_lines_are_those_of_the_rule()
     ensures these { (number : ℕ) (text : List ℕ) → AreLogical number text (logical_lines number text) }
     ensures only { (number : ℕ) (text : List ℕ) (all : List Line) → AreLogical number text all

@@ -1,8 +1,8 @@
 //! Splitting a unit file into physical lines, dropping comments, and joining continued lines (systemd.syntax(7)).
 //!
 //! Blanks in this module are spaces, tabs and carriage returns. A physical line that ends in an odd number of
-//! backslashes is continued by the next one that isn't a comment, and the lines joined in this way are one logical
-//! line.
+//! backslashes is continued by the next physical line that isn't a comment, and the lines joined in this way are one
+//! logical line.
 
 ghost use Rattle.std.specs.Prelude.{◌≡◌, ◌==◌, ◌∷◌, [], ◌+◌, ◌++◌, ◌<◌, ◌≤◌, ◌^◌, ◌-◌, MatchOption, MatchResult, IfOk, IfSome, OnOk, length, string_bytes, take, true};
 ghost use Rattle.std.specs.List.{prefix_len, suffix_len};
@@ -58,7 +58,8 @@ pub fn trim(text: &str) -> &str
     trim_end(trim_start(text))
 }
 
-/// Removes at most one carriage return from the end of the line.
+/// Returns the line without the carriage return at its end, if it has one. Of several carriage returns, only the last
+/// is removed.
 fn without_return(line: &str) -> &str
     ensures { result.now ≡ strip_carriage_return line.now }
 {
@@ -97,7 +98,8 @@ struct PlainLine<'t> {
     rest: &'t str,
 }
 
-/// Returns the first line of `text` that is not a comment. `number` is the number of the first physical line of `text`.
+/// Returns the first line of `text` that is not a comment, or `None` if `text` has only comments or is empty. `number`
+/// is the number of the first physical line of `text`.
 #[tactic(auto, using(crate::proofs::GroupLemmas::plain_here, crate::proofs::GroupLemmas::plain_skipped, crate::proofs::GroupLemmas::plain_none))]
 fn first_plain(number: u32, text: &str) -> Option<PlainLine<'_>>
     requires { number + length text.now < 2 ^ 32 }
@@ -151,7 +153,7 @@ fn without_backslash(line: &str) -> &str
 }
 
 /// Appends a physical line to a logical line. If the physical line is continued, a space takes the place of its last
-/// backslash. Returns whether it is continued. Fails only if allocation fails.
+/// backslash. Returns whether the physical line is continued. Fails only if allocation fails.
 #[tactic(auto, unfolding(crate::specs::headline::Lines::part_of_line))]
 fn push_part(joined: &mut String, line: &str) -> Result<bool, AllocError>
     ensures text { OnOk result (string_bytes joined.new ≡ string_bytes joined.old ++ part_of_line line.now) }
@@ -172,7 +174,7 @@ fn push_part(joined: &mut String, line: &str) -> Result<bool, AllocError>
 pub struct LogicalLine<'t> {
     /// The number of its first physical line.
     pub number: u32,
-    /// The joined text. Trailing blanks are kept.
+    /// The joined text. The leading blanks of each physical line are dropped, and the trailing blanks are kept.
     pub text: String,
     /// The number of the next physical line.
     pub next: u32,

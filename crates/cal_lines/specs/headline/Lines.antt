@@ -21,8 +21,8 @@ abbrev pub numbered_lines : ℕ → List (List ℕ) → List Line
 numbered_lines number [] = []
 numbered_lines number (text ∷ texts) = record { number = number; text = text } ∷ numbered_lines (number + 1) texts
 
--- The physical lines of a text, numbered from `number` on. They end at a line feed, and one carriage return before the
--- line feed is dropped. Leading blanks are dropped too, since no rule depends on them.
+-- The physical lines of a text, numbered from `number` on. Each ends at a line feed or at the end of the text, and one
+-- carriage return before a line feed is dropped. Leading blanks are dropped too, since no rule depends on them.
 unfoldable pub physical_lines : ℕ → List ℕ → List Line
 physical_lines number text = numbered_lines number (map (trim_start_matches is_blank_or_return) (lines text))
 
