@@ -20,7 +20,8 @@ impl Verb {
     ghost use Rattle.std.specs.Prelude.{◌≡◌};
     ghost use Rattle.cal_request.specs.Request.{has_zones, is_timer, seeks_elapses};
 
-    /// Returns whether the verb computes elapses. Only verbs that do so have a base time and allocate.
+    /// Returns whether the verb computes elapses. Only verbs that do so have a base time, and only writing their
+    /// reports can fail because memory runs out.
     pub fn seeks_elapses(self) -> bool
         ensures { result ≡ seeks_elapses self }
     {
@@ -52,8 +53,8 @@ pub struct Request {
     pub texts: Vec<String>,
     /// The maximum number of elapses to report, 1 to 1,000,000.
     pub iterations: u32,
-    /// The base time, a timestamp that hasn't been parsed yet. Only elapses after the base time are reported. `None`
-    /// stands for the present. Verbs that don't compute elapses have no base time.
+    /// The base time, a timestamp that hasn't been parsed yet. Only elapses after the base time are reported. If this
+    /// is `None`, the base time is the present. It is always `None` for verbs that don't compute elapses.
     pub base: Option<String>,
     ghost count: { IsCount iterations },
     ghost file: { is_timer verb ≡ true → vec_len texts ≡ 1 },
