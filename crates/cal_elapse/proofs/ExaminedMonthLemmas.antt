@@ -10,7 +10,7 @@ use Rattle.cal_elapse.proofs.CountLemmas.{count_from-most, count_from-none, coun
 use Rattle.cal_elapse.proofs.MonthLemmas.{first_day-end, length_bounds, located, month_low, month_of-is, months_none, no_day}
 use Rattle.cal_spec.specs.headline.Match.{Sets}
 
--- no day matches in a month whose year or number the expression doesn't match
+-- unless the expression matches both the year and the number of month `n`, no day of that month matches
 pub none_of_month : (sets : Sets) (n first length from : ℕ) → n < 2_760 → first ≡ first_day n → length ≡ length_of n → first ≤ from → month_in sets n ≡ false
     → NonePasses (day_in sets) from (first + length)
 none_of_month sets n first length from within begins long low fails = λ t above below.
@@ -70,8 +70,8 @@ examined_on sets n (Some day) within found =
     let next : n + 1 ≡ suc n = omega arith in
     rw (ends, next) (sym (rw next at (count_front (month_in sets) n (suc m - (n + 1)))))
 
--- a search that starts and ends in month `n` examines one month, or none if the expression doesn't match the year or
--- the number of month `n`
+-- a search that starts and ends in month `n` examines one month if the expression matches both the year and the number
+-- of that month, and no month otherwise
 pub examined_here : (sets : Sets) (n first length day : ℕ) → n < 2_760 → first ≡ first_day n → length ≡ length_of n → first ≤ day → day < first + length
     → cond (month_in sets n) 1 0 ≡ examined_from sets n (Some day)
 unfolding count_from

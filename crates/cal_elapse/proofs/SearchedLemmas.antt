@@ -63,8 +63,8 @@ searched_some v i h full at =
 
 -- The largest number of months that a single search examined
 
--- if `i` is pending and can be returned, exactly the matches before `top`, which is 93,600 seconds after `i`, have been
--- converted
+-- Suppose that `i` is pending and can be returned. Of the matches from the start of the first search on, exactly those
+-- before `top`, which is 93,600 seconds after `i`, have then been converted.
 same_below : (v : Window) (i : ℤ) (top : ℕ) → IsReady v → Has v.pending i → to_place v.ahead (Some i) ≡ None → (pos top) ≡ (i +ℤ pos 93_600) → start_of v.base ≤ top
     → (t : ℕ) → start_of v.base ≤ t → matches (sets_in v.searcher.masks) t ≡ true → (t < bound_of v.ahead → t < top) × (t < top → t < bound_of v.ahead)
 unfolding timed_by

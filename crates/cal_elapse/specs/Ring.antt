@@ -26,7 +26,7 @@ cell_words = 2_925
 unfoldable pub is_held : List ℕ → ℕ → Bool
 is_held cells second = is_bit_in cells (second % cell_count)
 
--- how many cells `i` is after `cell`, if the cells are counted past the end of the ring to its start
+-- how many steps lead from the cell `cell` forward to the cell `i`, if cell 0 follows the last cell
 abbrev pub cells_behind : ℕ → ℕ → ℕ
 cells_behind cell i = (i + cell_count - cell) % cell_count
 

@@ -1,5 +1,5 @@
-//! Tests whether one calendar expression matches everything that another one matches (systemd.time(7), Calendar
-//! Events).
+//! A comparison of two calendar expressions, field by field: whether one matches all values that the other one matches
+//! (systemd.time(7), Calendar Events).
 
 ghost use Rattle.std.specs.Prelude.{◌≡◌, true};
 ghost use Rattle.cal_elapse.specs.Bits.{is_bit, is_bit_in};

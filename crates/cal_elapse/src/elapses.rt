@@ -10,8 +10,8 @@ use cal_zone::{Instant, Zone};
 use std::alloc::Global;
 use std::marker::Model;
 
-/// The elapses of an expression in a zone after a base: the instants to which the matching local seconds of the years
-/// 1970 to 2199 resolve, each once, in increasing order.
+/// The elapses of an expression in a zone after a base: the instants after the base to which the matching local seconds
+/// of the years 1970 to 2199 resolve, each once, in increasing order.
 ///
 /// Matches are found in the order of local time. If the clock is turned back, a later match can resolve to an earlier
 /// instant. An instant is therefore returned only when no later match can resolve to the same instant or an earlier
@@ -67,9 +67,9 @@ impl<'z> Elapses<'z> {
         })
     }
 
-    /// Returns how many searches have been made: one by `new`, and one after each match that `next` has resolved to an
-    /// instant or passed over. One search is the work of one call of [`next_local`](crate::next_local): finding the
-    /// first match at or after a local second.
+    /// Returns how many searches have been made: one by `new`, and one after each match that `next` has converted to an
+    /// instant or passed over because it is in a gap. One search is the work of one call of
+    /// [`next_local`](crate::next_local): finding the first match at or after a local second.
     pub fn searches(&self) -> u64
         ensures { result ≡ self.now.searcher.searches }
     {

@@ -52,8 +52,8 @@ pub fn elapses_go_on()
         → elapses_except es exceptions e ≡ drop (suc k) (elapses_except es exceptions base) }
 {}
 
-/// If there are at least k + 1 elapses, the first k + 1 of them, followed by the first m elapses after the one with the
-/// index k, are the first k + 1 + m elapses.
+/// If there are at least k + 1 elapses, the first k + 1 of them, followed by the first m elapses after the last of
+/// these k + 1, are the first k + 1 + m elapses.
 pub fn elapses_in_parts()
     ensures { (es exceptions : List Timed) (base e : ℤ) (k m : ℕ) → slice_get (elapses_except es exceptions base) k ≡ Some e
         → take (suc k) (elapses_except es exceptions base) ++ take m (elapses_except es exceptions e)

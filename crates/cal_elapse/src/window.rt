@@ -102,11 +102,12 @@ impl<'z> Window<'z> {
         self.ahead = ahead;
     }
 
-    /// Searches for all remaining matches in the minute of `local` and converts them together. `local` is a match that
-    /// has already been converted. Returns the last match that was converted, which can be `local`.
+    /// If no later match in the minute of `local` is known, calls `convert_hour`. Otherwise, searches for all remaining
+    /// matches in this minute and converts them together, but only if three conditions are met. If they aren't, nothing
+    /// changes. `local` is a match that has already been converted. Returns the last match that has been converted,
+    /// which can be `local`.
     ///
-    /// If no later match in the minute is known, calls `convert_hour` instead. Otherwise, nothing changes unless three
-    /// conditions are met:
+    /// The conditions are:
     ///
     /// - All matches in the minute have to be converted before the smallest pending instant can be returned.
     /// - The UTC offset is constant from `local` to the end of the minute.
@@ -149,14 +150,14 @@ impl<'z> Window<'z> {
         }
     }
 
-    /// Searches for all remaining matches in the hour of `local` and converts them. `local` is a match that has already
-    /// been converted. Returns the last match that was converted, which can be `local`.
+    /// If a later match in the hour of `local` is known, searches for all remaining matches in this hour and converts
+    /// them, but only if two conditions are met. Otherwise, nothing changes. `local` is a match that has already been
+    /// converted. Returns the last match that has been converted, which can be `local`.
     ///
-    /// If no later match in the hour is known, nothing changes. Otherwise, nothing changes unless two conditions are
-    /// met by the 3,600 local seconds from `local` on:
+    /// The conditions for the 3,600 local seconds from `local` on are:
     ///
-    /// - None of them is more than `MAX_OFFSET` after the instant returned last, so that each match among them has to
-    ///   be converted now.
+    /// - None of them is more than `MAX_OFFSET` seconds after the instant returned last, so that each match among them
+    ///   has to be converted now.
     /// - Their UTC offset is constant.
     #[tactic(auto, using(cal_civil::proofs::LocalLemmas::local_arith, crate::proofs::ReadyLemmas::few_searches, crate::proofs::ReadyLemmas::placed_is_match))]
     fn convert_hour(&mut self, local: i64) -> i64
@@ -240,8 +241,8 @@ fn minute_end(local: i64) -> i64
     local / 60 * 60 + 59
 }
 
-/// Returns whether the match `local` could yield an instant at or before `least`, the smallest pending instant, and so
-/// has to be converted first. If nothing is pending, every match has to be converted.
+/// Returns whether the match `local` could resolve to an instant at or before `least`, the smallest pending instant,
+/// and so has to be converted first. If nothing is pending, every match has to be converted.
 fn is_to_place(local: i64, least: Option<i64>) -> bool
     requires { IsLocalSecond local }
     ensures { to_place (Some local) least ≡ cond result (Some local) None }
