@@ -48,7 +48,8 @@ pub record Group : Type 0 where
   pub first : Line
   pub more : List Line
 
--- adds a continued line to the group that follows it; at the end of the file, the line forms a group of its own
+-- adds a continued line to the front of the first group; if there are no groups, because the line is the last one, it
+-- forms a group of its own
 abbrev pub continued_by : Line → List Group → List Group
 continued_by line [] = record { first = line; more = [] } ∷ []
 continued_by line (group ∷ groups) = record { first = line; more = group.first ∷ group.more } ∷ groups
