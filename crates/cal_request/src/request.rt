@@ -1,4 +1,4 @@
-//! The types of requests and of the ways in which a run ends, as plain data.
+//! The types that describe a request, and how a run ends, as plain data.
 
 ghost use Rattle.std.specs.Prelude.{◌≡◌, None, false, true, vec_len};
 ghost use Rattle.cal_request.specs.Request.{IsCount, is_timer, seeks_elapses};
