@@ -216,7 +216,7 @@ minutes_later m found start minutes bit first more later lowest second cleared o
     let same : ((start + bit) * 60 + first) / 60 ≡ start + bit = omega arith in
     rw same (left_behind _ (found / 60) start minutes bit more later lowest cleared others)
 
--- Searching an hour to its end.
+-- Finding later matches in the same hour.
 
 -- if bits of the hour are left after the match `found`, there is another match in the hour, at the same second of the
 -- next minute with matches
@@ -249,7 +249,7 @@ pub hour_found : (m : Masks) (local : ℕ) (next : Option ℤ) → HasMoreInHour
     → IfSome next (λ next. IsNextInHour (matches (sets_in m)) local (unsigned_abs next)) × IsSome next
 hour_found m local next more first = grind (arith, hour_known, match_inside, first_passing)
 
--- Searching a minute to its end
+-- Finding all later matches in the same minute.
 
 -- if bits are left after the match found last, there is another match in its minute
 pub more_left : (m : Masks) (found from left local : ℕ) → AreRemaining (matches (sets_in m)) found from left → left < 2 ^ 64 → 0 < left → found ≡ local → HasMoreInMinute (matches (sets_in m)) local

@@ -110,7 +110,7 @@ impl<'z> Window<'z> {
     /// The conditions are:
     ///
     /// - All matches in the minute have to be converted before the smallest pending instant can be returned.
-    /// - The UTC offset is constant from `local` to the end of the minute.
+    /// - The UTC offset is known to be constant from `local` to the end of the minute.
     /// - Either the smallest pending instant is at or before the instant of `local`, or nothing is pending and the end
     ///   of the minute doesn't resolve to an instant after the one returned last.
     #[tactic(auto, using(cal_civil::proofs::LocalLemmas::local_arith, crate::proofs::ReadyLemmas::few_searches, crate::proofs::ReadyLemmas::placed_is_match))]
@@ -150,15 +150,16 @@ impl<'z> Window<'z> {
         }
     }
 
-    /// If a later match in the hour of `local` is known, searches for all remaining matches in this hour and converts
-    /// them, but only if two conditions are met. Otherwise, nothing changes. `local` is a match that has already been
-    /// converted. Returns the last match that has been converted, which can be `local`.
+    /// If a later minute with matches in the hour of `local` is known, searches for the remaining matches in this hour,
+    /// up to the first match of the last such minute, and converts them, but only if two conditions are met. Otherwise,
+    /// nothing changes. `local` is a match that has already been converted. Returns the last match that has been
+    /// converted, which can be `local`.
     ///
     /// The conditions for the 3,600 local seconds from `local` on are:
     ///
     /// - None of them is more than `MAX_OFFSET` seconds after the instant returned last, so that each match among them
     ///   has to be converted now.
-    /// - Their UTC offset is constant.
+    /// - Their UTC offset is known to be constant.
     #[tactic(auto, using(cal_civil::proofs::LocalLemmas::local_arith, crate::proofs::ReadyLemmas::few_searches, crate::proofs::ReadyLemmas::placed_is_match))]
     fn convert_hour(&mut self, local: i64) -> i64
         requires { IsPlacedTo self.old local }
@@ -254,7 +255,7 @@ fn is_to_place(local: i64, least: Option<i64>) -> bool
 }
 
 /// If `local` resolves to an instant after `last`, the instant returned last, adds this instant to `pending`.
-/// Otherwise, nothing changes.
+/// Otherwise, `pending` is unchanged.
 fn put_place(pending: &mut Pending, place_cache: &mut PlaceCache<'_>, local: i64, last: i64)
     requires local_in { IsLocalSecond local }
     requires last_in { pos 0 ≤ℤ last }
