@@ -6,7 +6,7 @@ use Rattle.cal_text.specs.TrimRule.{IsUnindented}
 use Rattle.cal_lines.specs.LineRule.{AreGroups, lines_of}
 use Rattle.cal_lines.specs.headline.Lines.{Group, Line, is_blank_or_return, is_comment, is_continued}
 
--- `lines` are the physical lines with consecutive numbers from `number` on, without leading blanks
+-- `lines` are the physical lines with these texts, numbered consecutively from `number` on, without leading blanks
 abbrev pub ArePhysical : ℕ → List (List ℕ) → List Line → Type 0
 ArePhysical number [] [] = Unit {0}
 ArePhysical number (text ∷ texts) (line ∷ lines) = (line.number ≡ number) × IsUnindented is_blank_or_return text line.text × ArePhysical (number + 1) texts lines
