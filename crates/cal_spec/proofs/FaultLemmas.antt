@@ -60,7 +60,8 @@ unfolding part_due
 part_due_fault slot room number text sum =
     due_fault slot text (part_of slot text) (eqb room 0) ∙ ap (λ full. cond full (Some TooManyParts) (result_err (part_of slot text))) (full_is room number sum)
 
--- if `part_due` parses a part, `room` isn't 0 and the syntax of the part is correct
+-- if `part_due` parses a part, `room` isn't 0, and the part is the one that `part_of` returns, with two-digit years
+-- expanded
 pub part_due_is : (slot : Slot) (room : ℕ) (text : List ℕ) (p : Part) → part_due slot room text ≡ Ok p → (0 < room) × Follows (part_of slot text) (λ raw. Ok (with_values slot raw)) p
 unfolding part_due
 part_due_is slot room text p at =

@@ -60,7 +60,7 @@ only_blanks text from start e none inside i after within =
           absurd (cc)
     ]
 
--- the next word after `from` ends at `end`, and no other word ends between `from` and `end`
+-- if `start..end` is the next word after `from`, no word ends after `from` but before `end`
 pub earlier_word : (text : List ℕ) (from start end s e : ℕ) → end ≤ length text
     → ((i : ℕ) → from ≤ i → i < start → is_blank (get_or text i 0) ≡ true)
     → ((i : ℕ) → start ≤ i → i < end → is_blank (get_or text i 0) ≡ false)
@@ -119,8 +119,8 @@ accepted_up_to P text from start end inside gap solid so_far here s e w before =
       | inr same ↦ subst (λ (k : ℕ). P k) (sym same) here
     ]
 
--- if only blanks follow `from`, and the text up to `from` is valid, then the text without its trailing blanks is empty
--- or valid
+-- if only blanks follow `from`, and `from` is 0 or the end of a word up to which the text is valid, then the text
+-- without its trailing blanks is empty or valid
 pub trimmed_valid : (valid : List ℕ → Bool) (text : List ℕ) (from : ℕ) → from ≤ length text → ((i : ℕ) → from ≤ i → i < length text → is_blank (get_or text i 0) ≡ true)
     → (0 < from → is_blank (get_or text (from - 1) 0) ≡ false) → (0 < from → valid (take from text) ≡ true)
     → true ≡ (length (trim_end_matches is_blank text) == 0) || valid (trim_end_matches is_blank text)

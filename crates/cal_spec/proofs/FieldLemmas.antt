@@ -268,7 +268,7 @@ text_found text f at =
     let read = cond_ok (ltb max_text_bytes (length text)) TextTooLong (fields_due (roles_of (words text))) f at in
     text_found_by text (roles_of (words text)) f (ltb-false max_text_bytes (length text) read.0) refl read.1
 
--- All parts of a year, month or day are counted, and all but the first part of an hour, minute or second
+-- All parts of a year, month or day are counted; of an hour, minute or second, all parts but the first are counted
 
 pub counted_date : (slot : Slot) (c : Option (List Part)) → is_time slot ≡ false → counted slot c ≡ parts_in c
 counted_date slot None test = refl

@@ -182,7 +182,7 @@ zone_length : (suffix : Option ZoneSuffix) → IsSuffixOption suffix → length 
 zone_length None h = omega arith
 zone_length (Some suffix) h = let word = suffix_word suffix h in omega (arith, word.short, length-append (suffix_text suffix) [])
 
--- if all parts are small, the printed expression has fewer than 4,096 bytes
+-- if fields are valid and all their parts are small, the printed expression has fewer than 4,096 bytes
 pub expr_length : (f : Fields) → IsValidFields f → AreSmall f.year → AreSmall f.month → AreSmall f.day → AreSmall f.hour → AreSmall f.minute → AreSmall f.second
     → length (expr_text f) < 4_096
 unfolding expr_text

@@ -211,7 +211,8 @@ unfolding after_start
 start_only slot a back None none = rw none refl
 start_only slot a back (Some r) next = rw (next.1, slash_symbols next.0) (step_only slot a None next.0 r next.2)
 
--- the next four lemmas: what follows a number in a part begins neither with a digit nor with a single point
+-- What follows a number in a part begins neither with a digit nor with a single point
+
 back_no_digit : (back : List ℕ) (step : Option ℕ) → IsNext (codes "/") back step → begins_with is_ascii_digit back ≡ false
 back_no_digit back None none = rw none refl
 back_no_digit back (Some r) next = rw next.1 refl

@@ -1,4 +1,5 @@
--- Computing the runs of a set of weekdays day by day returns the only list of runs that the set has.
+-- Computing the runs of a set of weekdays day by day returns the only list of runs that the set has. The loop that
+-- prints the runs finds them one after another, which gives the same text.
 use Rattle.std.proofs.Common.{◌≡◌, ℕ, zero, suc, ◌+◌, ◌-◌, ◌<◌, ◌≤◌, cond, Bool, true, false, ◌||◌, nat_eq, nat_le, get_or, List, [], ◌∷◌, ◌++◌, codes, length, drop, refl, sym, ap, ◌∙◌, inl, inr, arith}
 use Rattle.std.specs.List.{flat_map, list_all, prefix_len}
 use Rattle.std.proofs.lemmas.List.{drop-drop}
@@ -59,7 +60,8 @@ runs_skip day [] h = refl
 runs_skip day (true ∷ bs) h = absurd (omega arith)
 runs_skip day (false ∷ bs) h = refl
 
--- if the number of leading days that match is `n + 1`, these days are the first run
+-- if the number of leading days that match is `n + 1`, these days are the first run, and the other runs are those of
+-- the days from `day + n + 2` on
 pub runs_front : (n day : ℕ) (bs : List Bool) → front bs ≡ suc n
     → runs_from day bs ≡ record { first = day; last = day + n } ∷ runs_from (day + n + 2) (drop (suc (suc n)) bs)
 runs_front n day [] h = absurd (omega arith)

@@ -14,7 +14,7 @@ use Rattle.cal_spec.specs.declared.spec_fault.SpecFault.{SpecFault}
 use Rattle.cal_spec.specs.declared.spec_fault.SpecFault.TheVariants.{TooManyParts}
 use Rattle.cal_text.specs.headline.Separators.{is_comma}
 
--- whether a component is `*`, which matches all values
+-- whether the text of a component is `*`, which matches all values
 abbrev pub is_star : List ℕ → Bool
 is_star text = bytes_eq text (codes "*")
 

@@ -12,7 +12,7 @@ use Rattle.cal_text.specs.headline.Separators.{is_colon}
 use Rattle.cal_spec.specs.headline.DateAndTime.{DateTexts, TimeTexts}
 use Rattle.cal_spec.specs.headline.Fields.{max_counted_parts}
 
--- the parsed components of a date
+-- the parsed components of a date, and whether the day is counted from the month's end
 pub record DateFields : Type 0 where
   pub year : Option (List Part)
   pub month : Option (List Part)

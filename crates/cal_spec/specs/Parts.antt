@@ -104,7 +104,7 @@ after_end slot a b [] = Ok (record { start = a; end = Some b; step = None })
 after_end slot a b (slash ∷ ss) = with_step slot a (Some b) ss
 after_end slot a b ss = Err (bad slot)
 
--- parses what follows the first number
+-- parses what follows the first number of a part
 unfoldable pub after_start : Slot → ℕ → List Symbol → Result Part SpecFault
 after_start slot a [] = Ok (record { start = a; end = None; step = None })
 after_start slot a (dots ∷ ss) = number_due slot ss >>= λ b. after_end slot a b.number b.after

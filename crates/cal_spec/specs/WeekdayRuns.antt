@@ -9,7 +9,8 @@ abbrev pub is_in : ℕ → List Run → Bool
 is_in day [] = false
 is_in day (r ∷ rs) = is_between r.first r.last day || is_in day rs
 
--- the runs are in ascending order, begin at `low` or later, and are separated by at least one day
+-- each run has at least one day; the runs are in ascending order, begin at `low` or later, and are separated by at
+-- least one day that is in none of them
 abbrev pub AreApartFrom : ℕ → List Run → Type 0
 AreApartFrom low [] = Unit {0}
 AreApartFrom low (r ∷ rs) = (low ≤ r.first) × (r.first ≤ r.last) × AreApartFrom (r.last + 2) rs

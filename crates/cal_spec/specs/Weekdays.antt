@@ -21,14 +21,15 @@ day_named word =
 abbrev pub is_no_letter : ℕ → Bool
 is_no_letter b = not (is_ascii_alphabetic b)
 
--- the leading letters of a word, and the text after them
+-- the leading letters of a word
 abbrev pub leading_letters : List ℕ → List ℕ
 leading_letters word = take (position_or_len is_no_letter word) word
 
+-- the text after the leading letters of a word
 abbrev pub after_letters : List ℕ → List ℕ
 after_letters word = drop (position_or_len is_no_letter word) word
 
--- the text after a leading `-` or `..`
+-- the text after a leading `-` or `..`, or None if the text begins with neither
 abbrev pub after_joint : List ℕ → Option (List ℕ)
 after_joint [] = None
 after_joint (b ∷ []) = if b == 45 then Some [] else None
@@ -49,7 +50,7 @@ abbrev pub days_by : Option Weekday → List ℕ → Option WeekdayRange
 days_by None after = None
 days_by (Some first) after = days_from first after
 
--- parses an item: the name of a weekday, or two names joined by `..` or `-`
+-- parses an item: the name of a weekday, or two names joined by `..` or `-`; None if it is anything else
 unfoldable pub days_of : List ℕ → Option WeekdayRange
 days_of item = days_by (day_named (leading_letters item)) (after_letters item)
 

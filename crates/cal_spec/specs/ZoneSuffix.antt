@@ -14,7 +14,7 @@ abbrev pub suffix_due : Option ZoneSuffix → Result (Option ZoneSuffix) SpecFau
 suffix_due None = Err StrayWord
 suffix_due (Some suffix) = Ok (Some suffix)
 
--- parses the words after the time: no words, or one word that is a zone
+-- parses the words after the weekdays, date and time: no words, or one word that is a zone
 abbrev pub suffix_in : List (List ℕ) → Result (Option ZoneSuffix) SpecFault
 suffix_in [] = Ok None
 suffix_in (word ∷ []) = suffix_due (suffix_of word)

@@ -60,7 +60,7 @@ pub(crate) fn room_after(date: &DateFields) -> usize
         .saturating_sub(count_parts(day_slot(date.from_end), &date.day))
 }
 
-/// The components of a date, not yet parsed.
+/// The components of a date, not yet parsed, and whether the day is counted from the month's end.
 #[derive(Clone, Copy)]
 struct DateTexts<'a> {
     year: &'a [u8],

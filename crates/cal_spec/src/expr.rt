@@ -142,8 +142,8 @@ impl Expr {
         }
     }
 
-    /// Returns the UTC offset of the expression in seconds: whole minutes, from -93,540 to 93,540. Returns `None` if
-    /// the expression has no zone or its zone is a name.
+    /// Returns the UTC offset of the expression's zone in seconds, from -93,540 to 93,540. It is a multiple of 60.
+    /// Returns `None` if the expression has no zone or its zone is a name.
     pub fn zone_offset(&self) -> Option<i32>
         ensures offset { result ≡ offset_said self.now.zone }
         ensures range { IfSome result IsOffsetSeconds }

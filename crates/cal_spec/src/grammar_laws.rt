@@ -1,5 +1,5 @@
-//! Laws which say that the parser accepts exactly the expressions of the grammar. Each law is a function with an empty
-//! body, whose contract states the law.
+//! Laws which say that the parser accepts exactly the expressions of the grammar, and what the words of a text are.
+//! Each law is a function with an empty body, whose contract states the law.
 
 ghost use Rattle.std.specs.Prelude.{◌≡◌, ℕ, List, Ok};
 ghost use Rattle.std.specs.Result.{result_err};

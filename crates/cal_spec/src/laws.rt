@@ -23,7 +23,7 @@ ghost use Rattle.cal_spec.specs.declared.slot.Slot.{Slot};
 ghost use Rattle.cal_spec.specs.declared.slot.Slot.TheVariants.{Second};
 
 /// A list of parts has exactly one normal form if no range runs backwards and no step is zero; `normal_parts` returns
-/// it. A list that is already in normal form is unchanged.
+/// it. A list that is already in normal form is its own normal form.
 pub fn one_normal_form()
     ensures some { (raw : List Part) → AllByRecursion IsPart raw → AreNormalOf raw (normal_parts raw) }
     ensures only { (raw ps : List Part) → AllByRecursion IsPart raw → AreNormalOf raw ps → ps ≡ normal_parts raw }

@@ -26,7 +26,7 @@ const MAX_TEXT_BYTES: usize = 4096;
 ///
 /// The first error is reported: [`SpecFault::TextTooLong`] if the text has more than 4,096 bytes, then
 /// [`SpecFault::Empty`] if it has no words, then the errors of the words from left to right. Fails with
-/// [`SpecFault::NoMemory`] only if allocation fails; that says nothing about whether the text is valid.
+/// [`SpecFault::NoMemory`] only if allocation fails; this error doesn't say whether the text is valid.
 ///
 /// The zone is a name or a UTC offset, `+hh:mm` or `-hh:mm`. Only the syntax of a name is checked, not whether a zone
 /// of that name exists.

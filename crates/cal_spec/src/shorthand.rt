@@ -14,7 +14,7 @@ pub(crate) const ANY_DATE: &[u8] = b"*-*-*";
 /// The time that is used if an expression has none.
 pub(crate) const MIDNIGHT: &[u8] = b"00:00:00";
 
-/// A word that stands for a whole expression (systemd.time(7), Calendar Events).
+/// A word that stands for the weekdays, date and time of an expression (systemd.time(7), Calendar Events).
 #[derive(Clone, Copy, PartialEq, Eq, Debug)]
 pub(crate) enum Shorthand {
     Minutely,

@@ -24,7 +24,7 @@ pub enum SpecFault {
     /// The time doesn't have two or three components, or one of them is malformed.
     #[error("bad time")]
     BadTime = 5,
-    /// A number of seconds has a fraction.
+    /// A number in the seconds has a fraction.
     #[error("fractions of a second are not supported")]
     FractionalSecond = 6,
     /// A number is above 9,999.
@@ -48,7 +48,8 @@ pub enum SpecFault {
     /// There is an unexpected word: it comes after the zone, or it stands where a zone is expected but is not a zone.
     #[error("stray word")]
     StrayWord = 13,
-    /// The first word looks like a shorthand but is not a known shorthand.
+    /// The first word begins with a letter and consists only of letters and `-`, but it is not a shorthand, and its
+    /// leading letters don't name a weekday.
     #[error("unknown shorthand")]
     UnknownShorthand = 14,
     /// Out of memory.

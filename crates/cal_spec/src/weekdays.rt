@@ -61,7 +61,8 @@ fn read_items(alloc: Global, list: &[u8]) -> Result<Vec<WeekdayRange>, SpecFault
     Ok(items)
 }
 
-/// Parses an item of a weekday list: the name of a weekday, or two names joined by `..` or `-`.
+/// Parses an item of a weekday list: the name of a weekday, or two names joined by `..` or `-`. Returns `None` if the
+/// item is anything else.
 #[tactic(auto, unfolding(crate::specs::Weekdays::days_of))]
 fn read_days(item: &[u8]) -> Option<WeekdayRange>
     ensures { result ≡ days_of item.now }

@@ -1,5 +1,5 @@
 //! Recognition of the weekdays, the date, the time and the zone among the words of an expression. What a word is
-//! depends on its position, on its first character, and on whether it contains a colon.
+//! depends on its position, on its first character, on whether it contains a colon, and on whether it is a shorthand.
 
 ghost use Rattle.std.specs.Prelude.{◌≡◌};
 ghost use Rattle.std.specs.Option.{option_copied, option_map};

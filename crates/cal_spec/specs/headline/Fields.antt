@@ -21,7 +21,8 @@ abbrev pub parts_in : Option (List Part) → ℕ
 parts_in None = 0
 parts_in (Some ps) = length ps
 
--- the number of parts that count towards the limit: all but the first of the hour, of the minute and of the second
+-- the number of parts that count towards the limit: all parts except the first part of the hour, of the minute and of
+-- the second
 unfoldable pub counted_parts : Fields → ℕ
 counted_parts f =
     parts_in f.year + parts_in f.month + parts_in f.day

@@ -48,11 +48,11 @@ pub record IsPartText (text : List ℕ) (p : Part) : Type 0 where
   pub end : IsNext (codes "..") middle p.end
   pub step : IsNext (codes "/") back p.step
 
--- the text spells the part `p` once two-digit years have been expanded
+-- the text spells a part that becomes `p` when two-digit years are expanded
 abbrev pub IsPartOf : Slot → List ℕ → Part → Type 0
 IsPartOf slot text p = (raw : Part) × IsPartText text raw × (p ≡ with_values slot raw)
 
--- parts joined by commas, all with valid values
+-- one or more parts joined by commas, all with valid values
 pub record AreListed (slot : Slot) (text : List ℕ) (ps : List Part) : Type 0 where
   pub texts : List (List ℕ)
   pub some : 0 < length texts

@@ -22,7 +22,7 @@ abbrev pub repeats : Slot → ℕ → ℕ → ℕ → Bool
 repeats DayFromEnd a r v = is_step_between 1 a r (a - v) v
 repeats slot a r v = is_step_between a (greatest slot) r (v - a) v
 
--- whether a part matches v: `a`, `a/r`, `a..b` or `a..b/r`
+-- whether a part, which is `a`, `a/r`, `a..b` or `a..b/r`, matches v
 abbrev pub values : Slot → ℕ → Option ℕ → Option ℕ → ℕ → Bool
 values slot a None None v = v == a
 values slot a None (Some r) v = repeats slot a r v

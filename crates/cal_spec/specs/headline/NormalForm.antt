@@ -29,7 +29,7 @@ range_step (Some r) = if r == 1 then None else Some r
 abbrev pub point : ℕ → Part
 point a = record { start = a; end = None; step = None }
 
--- the range from a to e, or the single number a if e is a
+-- the range from a to e with its step in normal form, or the single number a if e is a
 abbrev pub range_to : ℕ → ℕ → Option ℕ → Part
 range_to a e step = if e == a then point a else record { start = a; end = Some e; step = range_step step }
 

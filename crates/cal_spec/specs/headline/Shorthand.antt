@@ -5,10 +5,11 @@ use Rattle.std.specs.Str.{str_eq_ignore_ascii_case}
 use Rattle.cal_spec.specs.declared.shorthand.Shorthand.{Shorthand}
 use Rattle.cal_spec.specs.declared.shorthand.Shorthand.TheVariants.{Minutely, Hourly, Daily, Weekly, Monthly, Quarterly, Semiannually, Yearly}
 
--- the date of an expression that has no date, and the time of an expression that has no time
+-- the date that is used if an expression has none
 abbrev pub any_date : List ℕ
 any_date = codes "*-*-*"
 
+-- the time that is used if an expression has none
 abbrev pub midnight : List ℕ
 midnight = codes "00:00:00"
 

@@ -13,12 +13,12 @@ abbrev pub IsEndWithin : Slot → Option ℕ → Type 0
 IsEndWithin slot None = Unit {0}
 IsEndWithin slot (Some b) = IsWithin slot b
 
--- if the part has an end, it isn't below the start
+-- the end of a part, if it has one, isn't below the start
 abbrev pub EndsAfter : ℕ → Option ℕ → Type 0
 EndsAfter a None = Unit {0}
 EndsAfter a (Some b) = a ≤ b
 
--- the step of a repetition is not zero
+-- the step of a part, if it has one, is not zero
 abbrev pub IsStep : Option ℕ → Type 0
 IsStep None = Unit {0}
 IsStep (Some r) = 0 < r

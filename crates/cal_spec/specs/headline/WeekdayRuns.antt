@@ -10,7 +10,7 @@ pub record Run : Type 0 where
   pub first : ℕ
   pub last : ℕ
 
--- adds a day before the runs; if the first run begins on the next day, it is extended to begin on `day`
+-- adds `day` before the runs; if the first run begins on `day + 1`, this run is extended to begin on `day`
 abbrev pub with_day : ℕ → List Run → List Run
 with_day day [] = record { first = day; last = day } ∷ []
 with_day day (r ∷ rs) =

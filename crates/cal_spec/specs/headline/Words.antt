@@ -3,7 +3,7 @@
 use Rattle.std.specs.Prelude.{ℕ, List, Option}
 
 -- the weekdays, date and time, not yet parsed, and the words after them; a missing date is `*-*-*`, and a missing time
--- `00:00:00`
+-- is `00:00:00`
 pub record WordRoles : Type 0 where
   pub weekdays : Option (List ℕ)
   pub date : List ℕ

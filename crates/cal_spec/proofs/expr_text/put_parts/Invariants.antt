@@ -1,5 +1,5 @@
--- The writer hasn't failed, and what is still to be written is, for each part from the index on, a comma and the text
--- of the part.
+-- The writer hasn't failed, and what is still to be written is, for each part of `rest` from the index on, a comma and
+-- the text of the part.
 use Rattle.std.proofs.Common.{[], ◌++◌, drop, codes}
 use Rattle.std.specs.List.{flat_map}
 use Rattle.cal_bytes.proofs.PutLemmas.{PutsUpTo}
