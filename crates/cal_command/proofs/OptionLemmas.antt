@@ -37,7 +37,7 @@ within least most (Ok n) = cond (nat_le least n && nat_le n most) (Some n) None
 within least most (Err e) = None
 
 -- if `text` doesn't begin with `+`, and `most` fits in 64 bits, then `number_between` returns the number that `parse`
--- returns, provided that this number is from `least` to `most`
+-- returns, or None if `parse` fails or if the number isn't from `least` to `most`
 pub number_between-parsed : (E : Type 0) (least most : ℕ) (text : List ℕ) (r : Result ℕ E) → ParsesUnsigned 64 10 text r → get_or text 0 0 ≢ 43
     → most < 2 ^ 64 → number_between least most text ≡ within least most r
 unfolding number_between

@@ -1,4 +1,4 @@
--- The messages for errors of the command line, in this project's own words.
+-- The messages for errors of the command line: the texts of `clap`, and this project's own messages.
 use Rattle.std.specs.Prelude.{ℕ, List, [], codes}
 use Rattle.std.specs.String.{string_bytes}
 use Rattle.cal_command.specs.declared.command_fault.CommandFault.{CommandFault}

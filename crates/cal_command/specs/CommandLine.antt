@@ -56,7 +56,7 @@ command_app = record {
 unfoldable pub takes_arguments : List Text → Bool
 takes_arguments arguments = takes command_app arguments
 
--- the kinds of errors that `clap` may report for the arguments; none if it parses them
+-- the kinds of errors, other than `OutOfMemory`, that `clap` may report for the arguments; none if it parses them
 unfoldable pub faults_in : List Text → Kinds
 faults_in arguments = fault_of command_app arguments
 

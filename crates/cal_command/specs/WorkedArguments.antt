@@ -1,4 +1,4 @@
--- Examples of arguments, with what `clap` finds in them and what they ask for: systemd-analyze(1).
+-- Examples of arguments, and for some of them also what `clap` finds in them or what they ask for: systemd-analyze(1).
 use Rattle.std.specs.Prelude.{ℕ, List, [], ◌∷◌, None, Some, codes, pos}
 use Rattle.cal_command.specs.Ask.{Ask, in_utc, of_name}
 use Rattle.cal_command.specs.CommandLine.{OptionTexts}

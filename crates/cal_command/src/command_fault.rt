@@ -39,8 +39,8 @@ pub enum CommandFault {
 impl CommandFault {
     ghost use Rattle.cal_command.specs.CommandFault.{message_of};
 
-    /// Returns the message for users. For usage and help it is the text of `clap`, up to and including its last line
-    /// feed. For [`CommandFault::NoMemory`] it is empty.
+    /// Returns the message for users. For usage and help it is the text of `clap`, including the line feed at its end.
+    /// For [`CommandFault::NoMemory`] it is empty.
     pub fn words(&self) -> &str
         ensures { result.now ≡ message_of self.now }
     {

@@ -28,6 +28,7 @@ impl Ask {
     ///   `timestamp TEXT..` has `--now`, `--zones` and `--local`, and `timespan TEXT..` has none.
     /// - `--iterations=N`: a number from 1 to 1,000,000, in digits only; 1 by default. Anything else is
     ///   [`CommandFault::BadIterations`].
+    /// - `--base-time=STAMP`: any text, since it isn't parsed here.
     /// - `--now=@N`: `@` and a number from 0 to 7,258,211,998, in digits only. Anything else is
     ///   [`CommandFault::BadNow`].
     /// - `--zones=NAME=FILE,..`: 1 to 64 items, each with a name that has the form of a zone's name and a path that
@@ -127,8 +128,8 @@ fn texts_for<'b, 'a>(verb: Verb, values: &'b ArgMatches<'a>) -> Option<&'b [&'a 
     Some(texts_kept(verb, texts))
 }
 
-/// Drops all texts of `timer` but the first. `clap` never finds more than one, but dropping the others is easier than
-/// proving that there are none.
+/// Returns the texts that are used: only the first for `timer`, and all for other verbs. `clap` never finds more than
+/// one text for `timer`, but dropping the others is easier than proving that there are none.
 fn texts_kept<'b, 'a>(verb: Verb, texts: &'b [&'a str]) -> &'b [&'a str]
     ensures file { is_timer verb ≡ true → length result.now ≤ 1 }
     ensures value { texts_of result.now ≡ texts_kept verb (texts_of texts.entry.now) }

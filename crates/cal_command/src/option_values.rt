@@ -1,8 +1,8 @@
 //! The parsing of option values (systemd-analyze(1)).
 //!
 //! A function whose name ends in `_of` takes the value of an option, or `None` if the option wasn't given; in that case
-//! it returns the default. A function whose name ends in `_in` parses a value. Functions of
-//! both kinds that check a value return `None` if it is invalid.
+//! it returns the default. A function whose name ends in `_in` parses a value. Functions of both kinds that check a
+//! value return `None` if it is invalid.
 
 ghost use Rattle.std.specs.Prelude.{◌≡◌, ◌≤◌, ◌<◌, ◌==◌, ◌∷◌, [], true, None, Some, length, map, option_map, IfSome, IfOk, string_bytes, vec_len};
 ghost use Rattle.std.specs.List.{slice_split};
