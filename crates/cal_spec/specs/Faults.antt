@@ -80,7 +80,7 @@ time_faults before (Some t) =
     ++ (component_faults Minute (before + numbered Hour t.hour) t.minute
     ++ component_faults Second (before + numbered Hour t.hour + numbered Minute t.minute) t.second)
 
--- all checks of the words, from left to right
+-- all checks of the words, from left to right; if there are no words, only the error `Empty`
 abbrev pub faults_at : Option WordRoles → List (Option SpecFault)
 faults_at None = Some Empty ∷ []
 faults_at (Some p) =

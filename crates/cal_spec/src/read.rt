@@ -21,8 +21,8 @@ use std::alloc::Global;
 /// The maximum length of an expression in bytes.
 const MAX_TEXT_BYTES: usize = 4096;
 
-/// Parses a calendar expression, `[weekdays] [date] [time] [zone]` or `shorthand [zone]` (systemd.time(7), Calendar
-/// Events), and returns it in its normal form.
+/// Parses a calendar expression (systemd.time(7), Calendar Events), and returns it in its normal form. An expression is
+/// `[weekdays] [date] [time] [zone]`, with at least one of the first three, or `shorthand [zone]`.
 ///
 /// The first error is reported: [`SpecFault::TextTooLong`] if the text has more than 4,096 bytes, then
 /// [`SpecFault::Empty`] if it has no words, then the errors of the words from left to right. Fails with

@@ -38,7 +38,7 @@ abbrev pub in_field : Slot → ℕ → Bool
 in_field DayFromEnd v = is_between (least Day) (greatest Day) v
 in_field slot v = is_between (least slot) (greatest slot) v
 
--- a component matches the values that its parts match
+-- whether a component matches v: `*` by the rule of `in_field`, and parts if at least one of them matches v
 abbrev pub component_has : Slot → Option (List Part) → ℕ → Bool
 component_has slot None v = in_field slot v
 component_has slot (Some ps) v = list_any (λ p. part_has slot p v) ps
