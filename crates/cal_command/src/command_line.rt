@@ -29,8 +29,8 @@ impl Ask {
     /// - `--iterations=N`: a number from 1 to 1,000,000, in digits only; 1 by default. Anything else is
     ///   [`CommandFault::BadIterations`].
     /// - `--base-time=STAMP`: any text, which isn't parsed here; the present by default.
-    /// - `--now=@N`: `@` and a number from 0 to 7,258,211,998, in digits only; the time of the system's clock by default.
-    ///   Anything else is [`CommandFault::BadNow`].
+    /// - `--now=@N`: `@` and a number from 0 to 7,258,211,998, in digits only; the system's clock by default. Anything
+    ///   else is [`CommandFault::BadNow`].
     /// - `--zones=NAME=FILE,..`: 1 to 64 items, each with a name that has the form of a zone's name and a path that
     ///   isn't empty; no items by default. Anything else is [`CommandFault::BadZones`].
     /// - `--local=Z`: `UTC`, ignoring case; `+hh:mm` or `-hh:mm` up to 25:59; `posix:` and a rule; or a name that has

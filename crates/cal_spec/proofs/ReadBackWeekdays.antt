@@ -1,4 +1,5 @@
--- Parsing printed weekdays returns the same weekdays. This is checked by computation for all sets of weekdays.
+-- Parsing printed weekdays returns the same weekdays. This is checked by computation for all sets of weekdays but the
+-- empty one.
 use Rattle.std.proofs.Common.{◌≡◌, ℕ, Bool, true, false, not, ◌&&◌, ◌||◌, if◌then◌else◌, List, length, map, Option, None, Some, is_none, Result, Ok, Err, refl, sym, ap, ◌∙◌}
 use Rattle.std.specs.List.{list_all, list_any}
 use Rattle.std.proofs.lemmas.Bool.{and_parts, cond-false, cond-true, false≢true, not-true}
