@@ -20,7 +20,7 @@ abbrev pub assignments_of : List UnitText → List Assignment
 assignments_of = flat_map assignments_at
 
 -- The first error of several texts is `fault`, in the text with this index: the texts before it have no error. If there
--- is no index, no assignment has an error, but there is no expression (`NothingToDo`).
+-- is no index, no assignment has an error, and `fault` is `NothingToDo`.
 abbrev pub IsFirstOf : {E : Type 0} → (List ℕ → Result E SpecFault) → List UnitText → Option ℕ → TimerFault → Type 0
 IsFirstOf read files None fault = (first_fault read [] (assignments_of files) ≡ None) × (fault ≡ NothingToDo)
 IsFirstOf read files (Some k) fault =

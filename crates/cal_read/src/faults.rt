@@ -141,7 +141,8 @@ fn take_faults(
 ///
 /// An expression or an exception has an error if it is invalid, or if its list already has 256 elements. Invalid
 /// expressions and exceptions, too, count as elements until the list is cleared. [`TimerFault::NothingToDo`] is not
-/// among these errors. If this function returns any errors, [`crate::read_texts`] fails with the first one.
+/// among these errors. If this function returns any errors, [`crate::read_texts`] fails with the first one, unless
+/// allocation fails.
 pub fn find_faults(alloc: Global, files: &[UnitText<'_>]) -> Result<Vec<FileFault>, AllocError>
     requires { All (λ file. file.first + length file.text.now < 2 ^ 32) files.now }
     ensures { IfOk result (λ found. found.items ≡ faults_of expr_in [] 0 files.now) }

@@ -26,7 +26,7 @@ pub fn settings_of_the_section_timer()
 
 /// The first element of the list of all errors is the error that `first_fault` returns, and the errors of several texts
 /// are the errors of all their assignments, in order. So if [`crate::find_faults`] returns any errors,
-/// [`crate::read_texts`] fails with the first one.
+/// [`crate::read_texts`] fails with the first one, unless allocation fails.
 pub fn first_of_all_faults()
     ensures first { (read : List ℕ → Result Fields SpecFault) (before after : List Assignment)
         → first_fault read before after ≡ slice_get (all_faults read before after) 0 }

@@ -39,7 +39,7 @@ impl Setting {
 #[derive(Debug, Drop)]
 pub struct Settings<'t> {
     section: &'t str,
-    /// Whether the next line belongs to the section.
+    /// Whether a section called `section` is open before the next line.
     inside: bool,
     /// The number of the next line.
     number: u32,
@@ -141,7 +141,7 @@ fn setting_of(alloc: Global, assignment: Assignment<'_>) -> Result<Setting, Allo
 }
 
 /// Returns the settings in all sections with this name. The first line of the text has the number `first`. Lines before
-/// the first section header belong to no section.
+/// the first section header belong to no section. A byte order mark is not removed.
 pub fn read_settings(
     alloc: Global,
     section: &str,

@@ -22,9 +22,9 @@ pub struct UnitText<'t> {
 #[derive(Clone, Copy, PartialEq, Eq, Debug)]
 pub struct FileFault {
     /// The index of the text that contains the invalid line, or `None` if all lines are valid, but the list of
-    /// expressions is empty.
+    /// expressions is empty. If allocation fails, this is the index of the text that was being read, if any.
     pub file: Option<usize>,
-    /// The error, with the number of its line.
+    /// The error, with the number of its line if it belongs to a line.
     pub fault: TimerFault,
 }
 

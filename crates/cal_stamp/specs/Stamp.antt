@@ -55,8 +55,8 @@ before_second second (Err fault) = Err (BadSpan fault)
 unfoldable pub today : ℤ → TimeZone → ℤ
 today now zone = day_of (local_shown_at zone now)
 
--- the moment that is `micros` microseconds after midnight of the day on the zone's clock; a local time in a gap is
--- moved forward by the length of the gap, and for a local time in a fold the first occurrence is used
+-- the moment that is `micros` microseconds after midnight of the day on the zone's clock, or `OutOfRange`; a local time
+-- in a gap is moved forward by the length of the gap, and for a local time in a fold the first occurrence is used
 unfoldable pub settle_on : TimeZone → ℤ → ℕ → Result ℤ StampFault
 settle_on zone day micros =
     in_moments (micros_of (settle_of zone (day *ℤ pos seconds_per_day +ℤ pos (micros / micros_per_second))) +ℤ pos (micros % micros_per_second))
@@ -83,8 +83,8 @@ abbrev pub zone_alone : TimeZone → List (List ℕ) → Result TimeZone StampFa
 zone_alone zone [] = Ok zone
 zone_alone zone (w ∷ ws) = Err StrayWord
 
--- the zone that the remaining words stand for: the local zone if there are none, and otherwise the zone of the only
--- word
+-- the zone that the remaining words stand for, or the error: no words stand for the local zone, one word is parsed as a
+-- zone, and more than one word is an error
 abbrev pub zone_by_words : Setting → List (List ℕ) → Result TimeZone StampFault
 zone_by_words at [] = Ok at.local
 zone_by_words at (w ∷ ws) = zone_of_word at.find w >>= λ zone. zone_alone zone ws
@@ -106,7 +106,7 @@ begins_with_digit [] = false
 begins_with_digit (b ∷ bs) = is_ascii_digit b
 
 -- the civil time, given its weekday, its day and the words after its date: if the first of these words begins with a
--- digit, it is the time
+-- digit, it is the time, otherwise the time is midnight
 abbrev pub after_date : Setting → Option Weekday → ℤ → List (List ℕ) → Result CivilStamp StampFault
 after_date at weekday day [] = civil_stamp_in at weekday (Some day) 0 []
 after_date at weekday day (w ∷ ws) =
@@ -136,7 +136,7 @@ abbrev pub fits_weekday : Option Weekday → ℤ → Bool
 fits_weekday None day = true
 fits_weekday (Some weekday) day = weekday_number day == monday_zero weekday
 
--- the moment of a civil time; if it has no date, it is on the present day in its zone
+-- the moment of a civil time, or the error; a civil time without a date is on the present day in its zone
 unfoldable pub moment_of_civil_stamp : ℤ → CivilStamp → Result ℤ StampFault
 moment_of_civil_stamp now c =
     let day = unwrap_or c.day (today now c.zone) in

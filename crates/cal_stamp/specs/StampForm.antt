@@ -38,13 +38,14 @@ abbrev pub form_of_words : List (List ℕ) → Form
 form_of_words [] = civil []
 form_of_words (w ∷ ws) = form_by_day (day_shift w) w ws
 
--- the form of a text that doesn't end with the word `left`; if the text ends with the word `ago`, the first argument is
--- the part before this word
+-- the form of a text that doesn't end with the word `left`; the first argument is the part before the word `ago` if the
+-- text ends with this word, and `None` otherwise
 abbrev pub form_by_ago : Option (List ℕ) → List ℕ → Form
 form_by_ago None text = form_of_words (words text)
 form_by_ago (Some span) text = earlier span
 
--- the form of a text; if the text ends with the word `left`, the first argument is the part before this word
+-- the form of a text; the first argument is the part before the word `left` if the text ends with this word, and `None`
+-- otherwise
 abbrev pub form_by_left : Option (List ℕ) → List ℕ → Form
 form_by_left None text = form_by_ago (before_word (codes "ago") text) text
 form_by_left (Some span) text = later span

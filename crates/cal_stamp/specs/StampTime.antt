@@ -9,7 +9,7 @@ use Rattle.cal_stamp.specs.declared.fault.StampFault.{StampFault}
 use Rattle.cal_stamp.specs.declared.fault.StampFault.TheVariants.{BadTime}
 use Rattle.cal_zone.specs.headline.Moment.{micros_per_second}
 
--- the number if it is at most `greatest`, and `None` if it is greater
+-- the number if it is at most `greatest`, and `None` if it is greater or there is no number
 abbrev pub up_to : ℕ → Option ℕ → Option ℕ
 up_to greatest None = None
 up_to greatest (Some n) = if nat_le n greatest then Some n else None
@@ -29,7 +29,7 @@ fraction_in digits =
     if nat_le 1 (length digits) && list_all is_ascii_digit digits then Some (fraction_worth micros_per_second 1 (take kept_digits digits))
     else None
 
--- seconds and microseconds together, in microseconds
+-- the sum of seconds and microseconds, in microseconds, or `None` if either is `None`
 abbrev pub both : Option ℕ → Option ℕ → Option ℕ
 both (Some seconds) (Some micros) = Some (seconds * micros_per_second + micros)
 both seconds micros = None
@@ -39,7 +39,7 @@ second_of_pieces (whole ∷ []) = both (clock_number 59 whole) (Some 0)
 second_of_pieces (whole ∷ digits ∷ []) = both (clock_number 59 whole) (fraction_in digits)
 second_of_pieces pieces = None
 
--- the seconds of a time, `S` or `S.` followed by digits, in microseconds
+-- the seconds of a time, either `S` alone or `S.` and one or more digits, in microseconds; `None` for any other word
 unfoldable pub second_written : List ℕ → Option ℕ
 second_written word = second_of_pieces (slice_split is_point word)
 

@@ -1,4 +1,4 @@
--- How contracts see the results of the functions that parse timestamps.
+-- How contracts see the arguments and the results of the functions that parse timestamps.
 use Rattle.std.specs.Prelude.{ℕ, ℤ, pos, neg_ℤ, List, Option, Result}
 use Rattle.std.specs.Result.{result_map_both}
 use Rattle.jiff.specs.Types.{TimeZone}
@@ -45,7 +45,7 @@ form_seen (Counted span) = forms.counted span.now
 form_seen (Midnight day after) = forms.from_today (shift_of day) (words after.now)
 form_seen (Civil text) = forms.civil (words text.now)
 
--- the zones that a timestamp can refer to
+-- the zones that a timestamp can refer to, given the local zone and the function that finds a zone by its name
 abbrev pub setting : TimeZone → (List ℕ → Option TimeZone) → meaning.Setting
 setting local find = record { local = local; find = find }
 

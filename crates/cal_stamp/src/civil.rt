@@ -111,8 +111,8 @@ fn begins_with_digit(word: &[u8]) -> bool
 }
 
 /// Converts a civil time to a moment. If the civil time has no date, it is on the present day in its zone. Fails with
-/// `WrongWeekday` if the day isn't the weekday that was named, and otherwise with `OutOfRange` if the time is before
-/// the first moment or after the last.
+/// `WrongWeekday` if a weekday is named and the day isn't this weekday, and otherwise with `OutOfRange` if the time is
+/// before the first moment or after the last.
 #[tactic(auto, unfolding(crate::specs::Stamp::moment_of_civil_stamp))]
 pub(crate) fn moment_of_civil_stamp(now: Instant, stamp: CivilStamp) -> Result<Moment, StampFault>
     ensures { micros_or_fault result ≡ moment_of_civil_stamp now.secs (civil_stamp_seen stamp.entry) }

@@ -30,7 +30,7 @@ pub enum StampFault {
     Empty,
     /// The first word begins with a letter, but is not the name of a weekday.
     BadWeekday,
-    /// A date is expected, but the word is not a date, or there are no more words.
+    /// A date is expected, but the word doesn't have the form of a date, or there are no more words.
     BadDate,
     /// A time is expected, but the word is not a time.
     BadTime,

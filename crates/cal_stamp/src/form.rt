@@ -53,7 +53,8 @@ pub(crate) fn form_of(text: &str) -> Form<'_>
     }
 }
 
-/// Returns the form of a timestamp that has no leading or trailing blanks and doesn't begin with `+`, `-` or `@`.
+/// Returns the form of a timestamp that has no leading or trailing blanks, is neither empty nor `now`, and doesn't
+/// begin with `+`, `-` or `@`.
 #[tactic(auto, unfolding(crate::specs::StampForm::form_by_end))]
 fn form_by_end(text: &str) -> Form<'_>
     ensures { form_seen result ≡ form_by_end text.now }

@@ -58,8 +58,8 @@ pub fn spans_count_from_the_present()
 {}
 
 /// `today`, `yesterday` and `tomorrow` resolve to the midnight at which the named day begins. Today is the day that the
-/// clock of the zone shows at present (systemd.time(7), Parsing Timestamps). A midnight that the clock skips is moved
-/// forward by the length of the gap.
+/// clock of the zone shows at present (systemd.time(7), Parsing Timestamps). A midnight in a gap is moved forward by
+/// the length of the gap, and for a midnight in a fold the first occurrence is used.
 pub fn relative_days_begin_at_midnight()
     ensures { (now : ℤ) (at : Setting) (text : List ℕ) (shift : ℤ) (words : List (List ℕ)) (time : ℤ)
         → HasForm text (from_today shift words)
@@ -96,10 +96,10 @@ pub fn moments_are_in_range()
         → MeansTime now at form time → (IsMoment time → ⊥) → moment_in now at text ≡ Err OutOfRange }
 {}
 
-/// Parsing a printed instant gives the same instant, whatever the present, the local zone and the table are. This holds
-/// if, at the instant, the clock of the zone in which it is printed shows a year from 1970 to 2199, and the UTC offset
-/// is a whole number of minutes (systemd.time(7), Parsing Timestamps). In UTC, it holds for every instant of the years
-/// 1970 to 2199.
+/// If, at an instant, the clock of a zone shows a year from 1970 to 2199 and its UTC offset is a whole number of
+/// minutes, then parsing the instant as it is printed in this zone gives the same instant, whatever the present, the
+/// local zone and the table are (systemd.time(7), Parsing Timestamps). In UTC, this holds for every instant of the
+/// years 1970 to 2199.
 ///
 /// An offset that isn't a whole number of minutes is printed with seconds, and the parser rejects offsets with seconds
 /// (`StrayWord`). At the first instants, clocks west of UTC show 1969, and at the last instants most clocks show 2200;

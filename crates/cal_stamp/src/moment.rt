@@ -1,4 +1,5 @@
-//! Computing moments: from a time span before or after a second, and from a day and a time on a zone's clock.
+//! Computing moments: from a second and a time span that is added to it or subtracted from it, and from a day and a
+//! time of day on a zone's clock.
 
 ghost use Rattle.std.specs.Prelude.{◌≡◌, ◌≤◌, ◌<◌, ◌+ℤ◌, ◌-ℤ◌, ◌*ℤ◌, pos, neg_ℤ, Ok};
 ghost use Rattle.jiff.specs.Words.{IsBetween};
@@ -24,7 +25,7 @@ pub(crate) fn moment_of(micros: i64) -> Result<Moment, StampFault>
     Moment::new(micros).ok_or(StampFault::OutOfRange)
 }
 
-/// Converts a Unix second to microseconds. The second must be within a few days of the supported range.
+/// Converts a Unix second to microseconds. The second must be in the supported range, or a few days before or after it.
 pub(crate) fn micros_of(second: i64) -> i64
     requires { IsBetween (neg_ℤ (pos 400_000)) (pos 7_259_000_000) second }
     ensures { result ≡ micros_of second }
@@ -91,8 +92,8 @@ fn local_time(day: i64, seconds: u64) -> i64
     day * DAY + seconds as i64
 }
 
-/// Adds `micros` to a Unix second and returns microseconds. The second must be within a few days of the supported
-/// range.
+/// Converts a Unix second to microseconds and adds `micros`, which is less than a second. The Unix second must be in
+/// the supported range, or a few days before or after it.
 fn with_micros(second: i64, micros: u64) -> i64
     requires second { IsBetween (neg_ℤ (pos 400_000)) (pos 7_259_000_000) second }
     requires micros { micros < micros_per_second }

@@ -19,13 +19,13 @@ use cal_zone::{Instant, Moment, Zone, ZoneTable};
 
 /// Parses a timestamp and returns the moment that it stands for (systemd.time(7), Parsing Timestamps).
 ///
-/// The first of these forms that matches `text` decides:
+/// Leading and trailing blanks are ignored. `text` is parsed in the first of these forms that matches:
 ///
 /// - nothing, or only blanks, which is the error `Empty`;
 /// - `now`;
 /// - a time span after `+`, `-` or `@`, or before `left` or `ago`;
-/// - `today`, `yesterday` or `tomorrow`, and a zone if one is given;
-/// - `[weekday] [date] [time] [zone]`, with at least a date or a time.
+/// - `today`, `yesterday` or `tomorrow` as the first word, and a zone if one is given;
+/// - `[weekday] [date] [time] [zone]`, with at least a date or a time, for any other text.
 ///
 /// A zone is a name in `table`, or an offset, `+hh:mm` or `-hh:mm`, with hh from 00 to 25 and mm from 00 to 59. If none
 /// is given, the zone is `local`.

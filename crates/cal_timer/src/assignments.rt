@@ -22,8 +22,8 @@ const TIMER_KEYS: [&[u8]; 6] = [
     b"OnCalendar",
 ];
 
-/// The key of exceptions, which systemd itself ignores. An assignment with an empty value clears the list of
-/// exceptions.
+/// The key of exceptions, which systemd itself ignores. An assignment with this key and an empty value clears the list
+/// of exceptions.
 const EXCEPTION_KEY: &str = "X-ExceptOnCalendar";
 
 /// An assignment of a unit file: a key and its value, both without leading and trailing blanks and carriage returns.

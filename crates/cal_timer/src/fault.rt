@@ -8,8 +8,9 @@ use std::alloc::{AllocError, AllocFailed};
 
 /// Why a timer file is invalid.
 ///
-/// The first error is reported: errors in reading the input come first, then invalid UTF-8, and then the lines in
-/// order. Lines are numbered from 1, and a logical line has the number of its first physical line.
+/// The first error is reported: errors in reading the input come first, then invalid UTF-8, then the errors of the
+/// lines in order, and last `NothingToDo`. Lines are numbered from 1, and a logical line has the number of its first
+/// physical line.
 ///
 /// Each error has a number, which never changes:
 ///
@@ -32,8 +33,7 @@ pub enum TimerFault {
     NotUtf8(u32),
     /// The expression or the exception in this line is invalid, for this reason.
     BadLine(u32, SpecFault),
-    /// There are more than 256 expressions, or more than 256 exceptions. The first expression or exception over the
-    /// limit is in this line.
+    /// The expression or the exception in this line would be added to a list that already has 256 entries.
     TooMany(u32),
     /// The list of expressions is empty after the last line, even if there are exceptions.
     NothingToDo,

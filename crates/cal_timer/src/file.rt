@@ -21,8 +21,8 @@ use std::alloc::Global;
 /// - [`TimerFault::ReadFailed`] if and only if a read fails, or [`TimerFault::TooLarge`] if the input has more than
 ///   1,048,576 bytes;
 /// - [`TimerFault::NotUtf8`] if the bytes are not valid UTF-8;
-/// - for each logical line in order, [`TimerFault::TooMany`] if its expression or exception is one over the limit, or
-///   else [`TimerFault::BadLine`] if its expression or exception is invalid;
+/// - for each logical line in order, [`TimerFault::TooMany`] if it adds to a list that already has 256 entries, or else
+///   [`TimerFault::BadLine`] if its expression or exception is invalid;
 /// - [`TimerFault::NothingToDo`] if there is no expression.
 ///
 /// Fails with [`TimerFault::NoMemory`] only if allocation fails.

@@ -53,9 +53,9 @@ impl TimerLists {
         }
     }
 
-    /// Applies the assignments in the section `Timer` of a text to the lists, in order, up to the first one that has an
-    /// error. The first line of the text has the number `first`. Lines before the first section header belong to no
-    /// section. A byte order mark is not removed. An empty list of expressions is not an error here.
+    /// Applies the assignments in the section `Timer` of a text to the lists, in order. Stops at the first error and
+    /// returns it. The first line of the text has the number `first`. Lines before the first section header belong to
+    /// no section. A byte order mark is not removed. An empty list of expressions is not an error here.
     pub fn take_text(&mut self, alloc: Global, first: u32, text: &str) -> Result<(), TimerFault>
         requires { first + length text.now < 2 ^ 32 }
         ensures { MatchResult result

@@ -17,7 +17,7 @@ pub enum SpanFault {
     /// point.
     #[error("bad number")]
     BadNumber = 2,
-    /// The word after the number is not a unit.
+    /// The word of letters after the number is not a unit.
     #[error("unknown unit")]
     UnknownUnit = 3,
     /// The sum of the pairs up to this one is more than 9,223,372,036,854,775,807 microseconds.

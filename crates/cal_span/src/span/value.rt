@@ -18,8 +18,9 @@ use cal_bytes::is_among;
 /// A number without a unit counts seconds. The values of the pairs are added up. The value of each digit after a
 /// decimal point is rounded down to microseconds separately.
 ///
-/// If several pairs are invalid, the leftmost error is reported. Of the errors of one pair, `BadNumber` is reported
-/// before `UnknownUnit`, and `UnknownUnit` before `TooLarge`. If `text` is empty or blank, the error is `Empty`.
+/// If several pairs are invalid, the leftmost error is reported. In each pair, the number is checked first
+/// (`BadNumber`), then the unit (`UnknownUnit`), and then the sum of the pairs up to this one (`TooLarge`). If `text`
+/// is empty or blank, the error is `Empty`.
 #[tactic(auto, unfolding(crate::specs::SpanValue::span_of))]
 pub fn read_span(text: &str) -> Result<Span, SpanFault>
     ensures { MatchResult result
@@ -44,8 +45,8 @@ struct Pair<'a> {
     unit: Option<&'a [u8]>,
 }
 
-/// Returns the first pair in `bytes` and the bytes after it, or `None` if there are only blanks. If the first word is
-/// not a number, the pair has an empty number, which [`add_pair`] rejects.
+/// Returns the first pair in `bytes` and the bytes after it, or `None` if there are only blanks. If the first word
+/// doesn't consist of digits and decimal points, the pair has an empty number, which [`add_pair`] rejects.
 fn first_pair(bytes: &[u8]) -> Option<(Pair<'_>, &[u8])>
     ensures { MatchOption result (pairs_in bytes.now ≡ []) (λ found.
         (pairs_in bytes.now
