@@ -52,7 +52,7 @@ remainder-all_units n = omega arith
 pub are_counts_of : (n : ℕ) → AreCounts n (counts_of all_units n)
 are_counts_of n = grind (arith, nat_tests, weight-counts_of-remainder, remainder-all_units, reduced-counts_of)
 
--- counts that satisfy `AreReduced` are those that division finds
+-- counts that satisfy `AreReduced` are the counts that division finds for their sum
 pub counts_of-weight : (units : List TimeUnit) (cs : List Count) → AreReduced units cs → cs ≡ counts_of units (weight cs)
 counts_of-weight [] [] h = refl
 counts_of-weight [] (c ∷ cs) h = absurd h

@@ -1,4 +1,5 @@
--- The pairs that `pairs_of` forms from words follow the rule of `SpanRule`, and no other pairs do.
+-- The pairs that `pairs_of` forms from words follow the rule `ArePairs`, and no other pairs do. Here a number is any
+-- word of digits and decimal points, and a unit is any word of letters.
 use Rattle.std.proofs.Common.{◌≡◌, ◌⊎◌, ◌&&◌, Bool, true, false, cond, List, [], ◌∷◌, Some, None, refl, sym, ap, ◌∙◌, inl, inr}
 use Rattle.std.proofs.lemmas.Bool.{false≢true}
 use Rattle.cal_span.specs.declared.span.word.CharKind.{CharKind}

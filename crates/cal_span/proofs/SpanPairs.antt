@@ -1,4 +1,5 @@
--- Lemmas on the first pair of a time span, and on adding it to the sum.
+-- Lemmas on the first pair of a time span, and on adding it to the sum. Here a number is any word of digits and decimal
+-- points.
 use Rattle.std.proofs.Common.{ℕ, ◌+◌, ◌<◌, ◌≤◌, ◌≡◌, true, false, min, List, [], ◌∷◌, Option, Some, None, Result, Ok, Err, MatchOption, MatchResult, refl, sym, ap, ◌∙◌, arith}
 use Rattle.std.specs.Option.{ok_or}
 use Rattle.std.proofs.lemmas.Bool.{false_from_ne_true, le-leb, lt-leb}
@@ -27,7 +28,8 @@ pub stray_is : (bytes text rest : List ℕ) (kind : CharKind) → words_in bytes
 unfolding pairs_in
 stray_is bytes text rest kind words other = grind (arith, nat_tests, stray_first, no_kind)
 
--- if the last word is a number, it forms a pair without a unit
+-- the next two lemmas: if the first word is a number, and either no word follows or the next word doesn't consist of
+-- letters, the number forms a pair without a unit
 pub last_is : (bytes text rest : List ℕ) → words_in bytes ≡ record { kind = Numeric; text = text } ∷ words_in rest → words_in rest ≡ [] → pairs_in bytes ≡ record { number = text; unit = None } ∷ pairs_in rest
 unfolding pairs_in
 last_is bytes text rest words none = ap pairs_of words ∙ rw none refl

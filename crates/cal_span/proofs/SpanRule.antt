@@ -37,7 +37,7 @@ fault_after sum p BadNumber e = e
 fault_after sum p UnknownUnit e = e
 fault_after sum p TooLarge e = grind (arith, nat_tests, ⊎_elim, worth_fault)
 
--- if the rule gives `r` for `ps` after the sum `sum + m`, it gives `r` for `p ∷ ps` after `sum`, with `m` as the value
+-- if the rule gives `r` for `ps` after the sum `sum + m`, it gives `r` for `p ∷ ps` after `sum`, where `m` is the value
 -- of `p`
 one_before : (sum : ℕ) (p : Pair) (ps : List Pair) (m : ℕ) (r : Result ℕ SpanFault) → worth_of p ≡ Ok m → JudgesFrom (sum + m) ps r → JudgesFrom sum (p ∷ ps) r
 one_before sum p ps m (Ok n) e (k, are, is, small) =
@@ -77,7 +77,7 @@ pub judges_span : (text : List ℕ) → Judges (pairs_in text) (span_of text)
 unfolding span_of
 judges_span text = judges_value (pairs_in text)
 
--- if the sum with a pair's value is within the limit, `sum_with` returns it
+-- if the sum plus the value of a pair is at most the limit, `sum_with` returns this new sum
 sum_with-fits : (sum m : ℕ) → sum + m ≤ limit → sum_with sum (Ok m) ≡ Ok (sum + m)
 sum_with-fits sum m fits = rw (le-leb (sum + m) limit fits) refl
 

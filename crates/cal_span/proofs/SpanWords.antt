@@ -41,13 +41,14 @@ runs_second : (s t : Piece) (ss : List Piece) (same : Bool) → is_kind s.kind t
 runs_second s t ss true test by_rest = grind (arith, nat_tests, same_from_is_kind)
 runs_second s t ss false test by_rest = rw append-nil (ap (λ ws. s ∷ ws) (sym by_rest))
 
--- the first run is the longest prefix of characters of the first character's kind
+-- the first run is the longest prefix of characters of the first character's kind, and the other runs are those of the
+-- characters after this prefix
 pub runs_first : (s : Piece) (ss : List Piece) → runs (s ∷ ss) ≡ record { kind = s.kind; text = s.text ++ front_of s.kind ss } ∷ runs (after_front s.kind ss)
 runs_first s [] = rw append-nil refl
 runs_first s (t ∷ ss) = grind (arith, nat_tests, runs_second, runs_first t ss)
 
--- if the next character is of this kind, the longest prefix of this kind is that character and the longest prefix after
--- it
+-- if the next character is of this kind, the longest prefix of this kind consists of that character and the longest
+-- prefix after it, and both prefixes end at the same place
 pub front_more : (kind : CharKind) (bytes : List ℕ) (len width : ℕ) (rest : List ℕ) → rest ≡ drop len bytes → characters rest ≡ record { kind = kind; text = take width rest } ∷ characters (drop width rest) → front_of kind (characters (drop len bytes)) ≡ take width (drop len bytes) ++ front_of kind (characters (drop (len + width) bytes))
 front_more kind bytes len width rest at first = grind (arith, nat_tests, is_kind-same, drop-drop)
 
@@ -73,7 +74,7 @@ after_blanks [] s rest at = cc
 after_blanks (t ∷ ts) s rest at = grind (arith, nat_tests, after_blanks_step, after_blanks ts s rest)
 
 -- if `s` is the first character that is not a blank, the first word is `s` and all characters of the same kind that
--- follow it directly
+-- follow it directly, and the other words are those of the characters after this word
 word_first : (ss : List Piece) (s : Piece) (rest : List Piece) → after_front Blank ss ≡ s ∷ rest → without_blanks (runs ss) ≡ record { kind = s.kind; text = front_of s.kind (s ∷ rest) } ∷ without_blanks (runs (after_front s.kind (s ∷ rest)))
 word_first ss s rest at = grind (arith, nat_tests, after_blanks, without_blanks_after, runs_first, is_kind-same)
 

@@ -28,7 +28,7 @@ AreApart [] = ⊤
 AreApart (w ∷ []) = ⊤
 AreApart (w ∷ v ∷ ws) = (is_kind w.kind v.kind ≡ false) × AreApart (v ∷ ws)
 
--- Pairs
+-- Pairs (here a number is any word of digits and decimal points, and a unit is any word of letters)
 
 -- the words don't begin with a unit, that is, with a word of letters
 abbrev pub BeginsWithNoUnit : List Piece → Type 0

@@ -73,7 +73,7 @@ words_in bytes = filter (λ w. not (is_kind Blank w.kind)) (runs (characters byt
 
 -- Pairs (systemd.time(7), Parsing Time Spans)
 
--- a number, and its unit if it has one; `number` is empty if another word stands where a number is expected
+-- a number, and its unit if it has one; `number` is empty if a word of another kind stands where a number is expected
 pub record Pair : Type 0 where
   pub number : List ℕ
   pub unit : Option (List ℕ)
@@ -87,8 +87,8 @@ numeral_in w = if is_kind Numeric w.kind then w.text else []
 abbrev pub is_unit_of : Piece → Piece → Bool
 is_unit_of w v = is_kind Numeric w.kind && is_kind Letter v.kind
 
--- A number and the unit after it, if any, form a pair. If another word stands where a number is expected, this word
--- forms a pair with an empty number.
+-- A number and the unit after it, if any, form a pair. If a word of another kind stands where a number is expected,
+-- this word forms a pair with an empty number.
 abbrev pub pairs_of : List Piece → List Pair
 pairs_of [] = []
 pairs_of (w ∷ []) = record { number = numeral_in w; unit = None } ∷ []

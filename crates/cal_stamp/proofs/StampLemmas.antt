@@ -20,7 +20,7 @@ use Rattle.cal_stamp.specs.declared.fault.StampFault.TheVariants.{OutOfRange}
 
 -- Fractions of a second
 
--- each digit of a fraction adds at most nine times the unit `size` to the value of the fraction
+-- the value of a fraction is at most nine times `size` for each of its digits
 pub fraction_bound : (size place : ℕ) (ds : List ℕ) → list_all is_ascii_digit ds ≡ true → fraction_worth size place ds ≤ length ds * (9 * size)
 fraction_bound size place [] h = omega arith
 fraction_bound size place (d ∷ ds) h =
@@ -33,8 +33,8 @@ fraction_bound size place (d ∷ ds) h =
 
 -- Dates and times with too many pieces
 
--- a date with more than three pieces between hyphens is invalid; so are a time with more than three pieces between
--- colons, and seconds with more than two pieces between points
+-- a date that hyphens split into more than three pieces is invalid; so are a time that colons split into more than
+-- three pieces, and seconds that points split into more than two
 pub no_date : (word year month day b1 b2 b3 : List ℕ) → slice_split is_hyphen word ≡ year ∷ slice_split is_hyphen b1 → slice_split is_hyphen b1 ≡ month ∷ slice_split is_hyphen b2 → slice_split is_hyphen b2 ≡ day ∷ slice_split is_hyphen b3 → None ≡ date_numbers word
 unfolding date_numbers
 no_date word year month day b1 b2 b3 first next last =

@@ -24,8 +24,8 @@ abbrev pub date_by : Option ℕ → Option ℕ → Option ℕ → Option DateNum
 date_by (Some year) (Some month) (Some day) = Some (record { year = year; month = month; day = day })
 date_by year month day = None
 
--- the date that the pieces of a word between hyphens stand for: the year has one to four digits, the month and the day
--- one or two
+-- the date in a word that hyphens split into these pieces: the year has one to four digits, the month and the day one
+-- or two; `None` for any other pieces
 abbrev pub date_of_pieces : List (List ℕ) → Option DateNumbers
 date_of_pieces (year ∷ month ∷ day ∷ []) = date_by (digits_number 4 year) (digits_number 2 month) (digits_number 2 day)
 date_of_pieces pieces = None

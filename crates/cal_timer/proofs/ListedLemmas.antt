@@ -40,7 +40,7 @@ kept_more adds resets before a e f =
     ∙ filter-append adds (after_last resets before) (a ∷ [])
     ∙ rw f refl
 
--- an assignment that neither adds to one of the lists nor clears it doesn't change that list
+-- if an assignment neither adds to a list nor clears it, this list stays the same
 listed_other : (before : List Assignment) (a : Assignment) → is_reset a ≡ false → is_expression a ≡ false → listed (before ++ a ∷ []) ≡ listed before
 unfolding listed
 listed_other before a e f = kept_other is_expression is_reset before a e f
@@ -240,8 +240,8 @@ resumes_from read before (a ∷ after) all =
     (changes read is_exception is_exception_reset before a (is_exception a) (is_exception_reset a) refl refl (exception_is_no_exception_reset a) all.1)
     (either_fault read before a (is_expression a) refl) (resumes_from read (before ++ a ∷ []) after)
 
--- In the next four lemmas, `o` is the first error of a file, if it has one, and `all` are its lists. The premise is the
--- result of `entries_or_fault`; the conclusion is the result of `lists_of`, or what `o` is.
+-- In the next four lemmas, `o` is the first error of a file, if it has one, and `all` are its lists. The premise says
+-- what `entries_or_fault` returns; the conclusion says what `lists_of` returns, or what `o` is.
 lists_by : {E : Type 0} (o : Option TimerFault) (all lists : Timer E) → unless_fault o (Ok all) ≡ Ok lists → unless_fault o (some_entries all) ≡ some_entries lists
 lists_by None all lists h = let same : all ≡ lists = cc in ap some_entries same
 lists_by (Some fault) all lists h = cc
@@ -258,7 +258,7 @@ some_by : {E : Type 0} (o : Option TimerFault) (all : Timer E) (fault : TimerFau
 some_by None all fault h = cc
 some_by (Some f) all fault h = cc
 
--- applying one assignment after another gives the entries of all assignments, or the first error
+-- applying assignments one after another to empty lists gives the entries of all assignments, or the first error
 pub resumed_is_entries : {E : Type 0} (read : List ℕ → Result E SpecFault) (assignments : List Assignment) → resumed read (record { expressions = []; exceptions = [] }) assignments ≡ entries_or_fault read assignments
 unfolding entries_or_fault entries listed excepted
 resumed_is_entries read assignments = resumes_from read [] assignments (refl, refl)

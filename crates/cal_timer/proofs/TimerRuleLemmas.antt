@@ -80,7 +80,7 @@ pub excepted_without_reset : (all : List Assignment) → list_any is_exception_r
 unfolding excepted
 excepted_without_reset = kept_without_reset is_exception is_exception_reset
 
--- none of the assignments in `all` has an error, if they come after the assignments in `first`
+-- none of the assignments in `all`, which come after those in `first`, has an error
 abbrev AreFineBehind : {E : Type 0} → (List ℕ → Result E SpecFault) → List Assignment → List Assignment → Type 0
 AreFineBehind read first all = (before : List Assignment) (a : Assignment) (after : List Assignment) → all ≡ before ++ (a ∷ after) → fault_following read (first ++ before) a ≡ None
 

@@ -1,5 +1,5 @@
 -- No setting has been found yet: the settings in the remaining lines are all settings that remained when `next` was
--- called.
+-- called. The iterator itself has not been changed.
 use Rattle.std.proofs.Common.{◌≡◌, ◌+◌, ◌<◌, ◌^◌, length}
 use denote.Shadow.{shadow}
 use denote.Text.{Utf8}
