@@ -31,7 +31,8 @@ faults_of read before k (file ∷ files) =
 -- The rest of this file follows the loops of the code, which count the entries of each list but don't keep the lists.
 -- Only private contracts use it.
 
--- the length of a list after an assignment, capped at the limit
+-- the length of a list after an assignment, capped at the limit, given the length before it, whether the assignment
+-- adds to the list, and whether it clears the list
 abbrev pub count_with : ℕ → Bool → Bool → ℕ
 count_with n true empties = min (n + 1) max_expressions
 count_with n false true = 0

@@ -32,11 +32,11 @@ pub struct FileFault {
 /// and its exceptions.
 ///
 /// The settings of each text follow those of the texts before it, so a drop-in can clear a list that the unit file
-/// filled. A section ends with its text.
+/// filled. A section ends at the end of its text.
 ///
-/// The error of the first invalid line is returned, or [`TimerFault::NothingToDo`] if all lines are valid and there is
-/// no expression. Fails with [`TimerFault::NoMemory`] only if allocation fails; `file` is then the index of the text
-/// that was being read, if any.
+/// The error of the first invalid line is returned, or [`TimerFault::NothingToDo`] if all lines are valid and the list
+/// of expressions is empty after the last line. Fails with [`TimerFault::NoMemory`] only if allocation fails; `file` is
+/// then the index of the text that was being read, if any.
 pub fn read_texts(alloc: Global, files: &[UnitText<'_>]) -> Result<Timer, FileFault>
     requires { All (λ file. file.first + length file.text.now < 2 ^ 32) files.now }
     ensures lists { MatchResult result

@@ -1,4 +1,4 @@
-//! Parsing timestamps that are written as a date and time of day, and converting them to moments.
+//! Parsing timestamps that are civil times, `[weekday] [date] [time] [zone]`, and converting civil times to moments.
 
 ghost use Rattle.std.specs.Prelude.{◌≡◌, ◌≤◌, pos, neg_ℤ, IfOk, IfSome};
 ghost use Rattle.std.specs.List.{list_any};

@@ -31,7 +31,7 @@ pub(crate) enum Form<'a> {
     Counted(&'a str),
     /// The midnight at which this day begins, and the text after the name of the day, which is parsed as a zone.
     Midnight(RelativeDay, &'a str),
-    /// Any other text, which is parsed as a date and a time of day.
+    /// Any other text, which is parsed as a civil time: `[weekday] [date] [time] [zone]`.
     Civil(&'a str),
 }
 

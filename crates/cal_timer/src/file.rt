@@ -13,8 +13,8 @@ use cal_bytes::Source;
 use cal_streams::{WholeFault, read_whole};
 use std::alloc::Global;
 
-/// Reads a timer file to its end, and returns its calendar expressions (systemd.timer(5), OnCalendar=) and its
-/// exceptions (`X-ExceptOnCalendar=`).
+/// Reads a timer file to its end, and returns its list of calendar expressions (systemd.timer(5), OnCalendar=) and its
+/// list of exceptions (`X-ExceptOnCalendar=`).
 ///
 /// The errors are, in the order in which they are checked:
 ///
@@ -23,7 +23,7 @@ use std::alloc::Global;
 /// - [`TimerFault::NotUtf8`] if the bytes are not valid UTF-8;
 /// - for each logical line in order, [`TimerFault::TooMany`] if it adds to a list that already has 256 entries, or else
 ///   [`TimerFault::BadLine`] if its expression or exception is invalid;
-/// - [`TimerFault::NothingToDo`] if there is no expression.
+/// - [`TimerFault::NothingToDo`] if the list of expressions is empty after the last line.
 ///
 /// Fails with [`TimerFault::NoMemory`] only if allocation fails.
 pub fn read_timer<R: Source>(alloc: Global, input: &mut R) -> Result<Timer, TimerFault>

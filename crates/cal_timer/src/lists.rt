@@ -128,7 +128,7 @@ impl TimerLists {
         )
     }
 
-    /// Returns the timer with these lists. Fails with [`TimerFault::NothingToDo`] if there is no expression.
+    /// Returns the timer with these lists. Fails with [`TimerFault::NothingToDo`] if the list of expressions is empty.
     pub fn into_timer(self) -> Result<Timer, TimerFault>
         ensures lists { MatchResult result
             (λ timer. some_entries self ≡ Ok timer)
