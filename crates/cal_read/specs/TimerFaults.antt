@@ -22,7 +22,7 @@ all_faults read before (a ∷ after) = option_to_list (fault_following read befo
 abbrev pub in_file : ℕ → TimerFault → FileFault
 in_file k fault = record { file = Some k; fault = fault }
 
--- all errors of several texts that come after the assignments in `before`; the first text has the index `k`
+-- all errors of several texts, which come after the assignments in `before`; the first of the texts has the index `k`
 unfoldable pub faults_of : {E : Type 0} → (List ℕ → Result E SpecFault) → List Assignment → ℕ → List UnitText → List FileFault
 faults_of read before k [] = []
 faults_of read before k (file ∷ files) =

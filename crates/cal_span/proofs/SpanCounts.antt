@@ -73,7 +73,7 @@ span_text_only n text h =
 positive_taken : (unit : TimeUnit) (units : List TimeUnit) (n : ℕ) → size_of unit ≤ n → positive (counts_of (unit ∷ units) n) ≡ record { number = n / size_of unit; unit = unit } ∷ positive (counts_of units (n % size_of unit))
 positive_taken unit units n fits = grind (arith, nat_tests, lt-ltb, le-div, size_of_positive)
 
--- if a unit doesn't fit into `n`, the counts that aren't zero are those of the units after it
+-- if a unit doesn't fit into `n`, its count is zero, so only units after it can have counts that aren't zero
 positive_skipped : (unit : TimeUnit) (units : List TimeUnit) (n : ℕ) → n < size_of unit → positive (counts_of (unit ∷ units) n) ≡ positive (counts_of units (n % size_of unit))
 positive_skipped unit units n below = grind (arith, nat_tests, le-ltb, div-eq_of_lt)
 

@@ -24,7 +24,7 @@ use Rattle.cal_text.specs.AndThen.{◌>>=◌}
 abbrev pub is_micro : ℕ → ℕ → Bool
 is_micro b c = ((b == 194) && (c == 181)) || ((b == 206) && (c == 188))
 
--- the kind of a byte that isn't the first of a micro sign or mu
+-- the kind of a byte that is a character of its own
 abbrev pub kind_of : ℕ → CharKind
 kind_of b =
     if is_blank b then Blank

@@ -14,8 +14,8 @@ use cal_zone::MICROS_PER_SECOND;
 const KEPT_DIGITS: usize = 6;
 
 /// Parses a time of day and returns the microseconds after midnight. A time of day is `H:M`, `H:M:S`, or `H:M:S.`
-/// followed by one or more digits, of which the first six are used (systemd.time(7), Parsing Timestamps). H is 0 to 23,
-/// M and S are 0 to 59, each with one or two digits. Fails with `BadTime` for anything else.
+/// followed by one or more digits, of which the first six are used (systemd.time(7), Parsing Timestamps). H is from 0
+/// to 23, M and S are from 0 to 59, and each has one or two digits. Fails with `BadTime` for anything else.
 #[tactic(auto, unfolding(crate::specs::StampTime::time_written))]
 pub(crate) fn read_time(word: &[u8]) -> Result<u64, StampFault>
     ensures value { result ≡ time_written word.now }

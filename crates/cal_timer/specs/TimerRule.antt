@@ -20,8 +20,8 @@ pub record IsFirstTimerFault {E : Type 0} (read : List ℕ → Result E SpecFaul
   pub is_fault : fault_following read before at ≡ Some fault
   pub fine : AreFine read before
 
--- if no assignment has an error, the result is the lists of expressions and exceptions, or `NothingToDo` if there is no
--- expression; otherwise the result is the first error
+-- if no assignment has an error, the result is the lists of expressions and exceptions, or `NothingToDo` if the list of
+-- expressions is empty; otherwise the result is the first error
 abbrev pub JudgesTimer : {E : Type 0} → (List ℕ → Result E SpecFault) → List Assignment → Result (Timer E) TimerFault → Type 0
 JudgesTimer read all (Ok lists) = AreFine read all × (entries read all ≡ lists) × (0 < length lists.expressions)
 JudgesTimer read all (Err NothingToDo) = AreFine read all × ((entries read all).expressions ≡ [])

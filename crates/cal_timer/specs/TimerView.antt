@@ -49,6 +49,7 @@ resumed read lists (a ∷ after) =
     (λ es. with_list (changed read (is_exception a) (is_exception_reset a) lists.exceptions a)
     (λ xs. resumed read (record { expressions = es; exceptions = xs }) after))
 
--- the entries of both lists, or the first error; unlike in `lists_of`, it is not an error if there is no expression
+-- the entries of both lists, or the first error; unlike in `lists_of`, it is not an error if the list of expressions is
+-- empty
 unfoldable pub entries_or_fault : {E : Type 0} → (List ℕ → Result E SpecFault) → List Assignment → Result (Timer E) TimerFault
 entries_or_fault read assignments = unless_fault (first_fault read [] assignments) (Ok (entries read assignments))
