@@ -1,4 +1,4 @@
-//! Reading and writing through sources and sinks that end, fail or never end.
+//! Reading from sources and writing to sinks that end, fail or never end.
 
 use crate::shared::ensure;
 use cal_base::{
@@ -8,9 +8,9 @@ use std::alloc::Global;
 use std::io::BufWriter;
 use std::test::Fail;
 
-/// A test of `read_whole`: the bytes of the source, how many of them each call returns, what the source does after its
-/// last byte, the limit, the expected error, and the expected number of calls. Unless the source exceeds the limit, one
-/// more call after the last byte finds the end or the failure.
+/// A test of `read_whole`: the bytes of the source, how many of them a call returns at most, what the source does after
+/// its last byte, the limit, the expected error, and the expected number of calls. Unless the source exceeds the limit,
+/// one more call after the last byte finds the end or the failure.
 type Reading = (&'static str, usize, Then, usize, Option<WholeFault>, u64);
 
 static READINGS: [Reading; 8] = [
@@ -36,7 +36,8 @@ fn read(alloc: Global, reader: Faulty, limit: usize) -> (Result<Vec<u8>, WholeFa
     (whole, port.into_inner().calls())
 }
 
-/// Reads the source, and expects its bytes or the error of the test, after the expected number of calls.
+/// Reads the source, and expects the error of the test or, if the test has none, all bytes of the source. Also expects
+/// the number of calls that the test gives.
 fn expect_reading(alloc: Global, reading: &Reading) -> Result<(), Fail> {
     let (text, step, then, limit, wanted, calls) = *reading;
     if step == 0 {
@@ -48,7 +49,7 @@ fn expect_reading(alloc: Global, reading: &Reading) -> Result<(), Fail> {
     ensure(made == calls && is_wanted(text, wanted, &whole), text)
 }
 
-/// Returns whether the result is `text`, or the error `wanted`.
+/// Returns whether `whole` is the error `wanted` or, if `wanted` is `None`, all bytes of `text`.
 fn is_wanted(text: &str, wanted: Option<WholeFault>, whole: &Result<Vec<u8>, WholeFault>) -> bool {
     match whole {
         Ok(whole) => wanted.is_none() && whole.as_slice() == text.as_bytes(),
@@ -102,8 +103,8 @@ fn readers_end_or_go_on(rt: HostRuntime) -> Result<(), Fail> {
     Ok(())
 }
 
-/// A sink that `abc` is written to: how many bytes it takes in each call and in total, what it does after that, the
-/// bytes that it has in the end, and the expected number of calls.
+/// A sink that `abc` is written to: how many bytes it takes at most in each call and in total, what it does after that,
+/// the bytes that it should have in the end, and the expected number of calls.
 type Writer = (usize, usize, Then, &'static str, u64);
 
 static WRITERS: [Writer; 8] = [
@@ -125,7 +126,8 @@ fn write(writer: Faulty) -> (Option<WriteFault>, Faulty) {
     (fault, port.into_inner())
 }
 
-/// Expects the sink to get all of `abc`, or a prefix if it fails.
+/// Writes `abc` to the sink. Expects the bytes and the number of calls that the test gives, and an error if and only if
+/// the sink didn't get all of `abc`.
 fn expect_written(alloc: Global, writer: &Writer) -> Result<(), Fail> {
     let (step, limit, then, written, calls) = *writer;
     if step == 0 {

@@ -13,7 +13,7 @@ use cal_spec::Expr;
 use std::alloc::Global;
 use std::test::Fail;
 
-/// Returns whether the expression matches a local second.
+/// Returns whether the expression matches the local second `local`.
 fn has_local(expr: &Expr, local: i64) -> bool
     requires { IsLocalSecond local }
 {
@@ -41,8 +41,8 @@ pub(crate) fn elapses_of<'z>(
     elapses_from(alloc, &expr, zone, base)
 }
 
-/// Expects the elapses to be these, in this order. Just before `next` returns a number, `has` must not return
-/// `Some(false)` for this number.
+/// Expects the next calls of `next` to return these answers, in this order. Just before `next` returns a number, `has`
+/// must not return `Some(false)` for this number.
 fn expect_answers(
     elapses: &mut Elapses<'_>,
     answers: &[Option<i64>],

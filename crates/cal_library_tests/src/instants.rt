@@ -12,8 +12,8 @@ fn is_printed(alloc: Global, zone: Zone, instant: Instant, text: &str) -> bool {
     written.is_ok() && out.into_inner().as_slice() == text.as_bytes()
 }
 
-/// Expects each instant to be printed with the text next to it, by `write_instant` and by one `InstantFormatter` that
-/// prints them all one after another.
+/// Expects each instant to be printed as the text next to it, both by `write_instant` and by one `InstantFormatter`
+/// that prints all of them in order. Also expects the formatter to return the same civil time as `civil`.
 fn expect_texts(alloc: Global, zone: Zone, rows: &[(i64, &str)]) -> Result<(), Fail> {
     let mut formatter = InstantFormatter::new(zone);
     for (secs, text) in rows {
@@ -67,7 +67,7 @@ fn at_offsets(rt: HostRuntime) -> Result<(), Fail> {
     Ok(())
 }
 
-/// Instants around the two transitions of 2024, and the two instants that show the same local time.
+/// Instants around the two transitions of 2024, among them two at which the clock shows the same local time.
 static IN_2024: [(i64, &str); 6] = [
     (1_711_762_200, "Sat 2024-03-30 02:30:00 +01:00"),
     (1_711_846_799, "Sun 2024-03-31 01:59:59 +01:00"),

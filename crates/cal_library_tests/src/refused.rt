@@ -1,8 +1,8 @@
 //! Calls that allocate. `tests/refused` makes each of their allocations fail in turn.
 //!
-//! A test succeeds if every allocation succeeds. Otherwise it fails with the call's `NoMemory` or `AllocError`, after
-//! it has checked that the call left its arguments unchanged. `tests/refused` checks that a test fails if and only if
-//! an allocation has failed.
+//! A test succeeds if every allocation succeeds. Otherwise it fails with the call's `NoMemory` or `AllocError`; if the
+//! call promises to leave an argument unchanged, or to return it, the test first checks that. `tests/refused` checks
+//! that a test fails if and only if an allocation has failed.
 
 ghost use Rattle.std.specs.Prelude.{◌≡◌, false};
 ghost use Rattle.std.specs.List.Sorted.{IsStrictlySortedBy};
@@ -97,7 +97,8 @@ fn elapses(rt: HostRuntime) -> Result<(), Fail> {
     )
 }
 
-/// Adds a source of these numbers to a merge. If that fails, expects the source to be returned unchanged.
+/// Adds a source of these numbers to a merge. If the merge can't add the source, expects it to be handed back
+/// unchanged, and returns the error.
 fn add(
     alloc: Global,
     merge: &mut Merge<Listed>,
@@ -186,7 +187,7 @@ fn all_faults(rt: HostRuntime) -> Result<(), Fail> {
 
 const SETTINGS: &str = "[Timer]\nOnCalendar=Mon \\\n12:00\nPersistent=yes\n";
 
-/// Expects the first setting of [`SETTINGS`].
+/// Expects a setting with the value of the first setting in [`SETTINGS`].
 fn expect_first(setting: &Option<Setting>) -> Result<(), Fail> {
     match setting {
         Some(setting) => ensure(setting.value.as_str() == "Mon  12:00", "another setting"),
@@ -194,7 +195,7 @@ fn expect_first(setting: &Option<Setting>) -> Result<(), Fail> {
     }
 }
 
-/// If allocation fails, the setting is not skipped.
+/// If allocation fails, the setting is not skipped: the next call that succeeds returns it.
 #[test]
 fn the_next_setting(rt: HostRuntime) -> Result<(), Fail> {
     let mut settings = Settings::new("Timer", 1, SETTINGS);

@@ -1,5 +1,5 @@
-//! The search for the next matching local second, the set of pending instants, and the search for a word that is not 0.
-//! Expected results are worked out by hand.
+//! The search for the next matching local second, the set of pending instants, and the search for the first 64-bit word
+//! that is not 0. Expected results are worked out by hand.
 
 ghost use Rattle.std.specs.Prelude.{◌≡◌, []};
 

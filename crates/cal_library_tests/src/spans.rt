@@ -6,7 +6,7 @@ use cal_base::{Port, Span, SpanFault, read_span, write_span};
 use std::alloc::Global;
 use std::test::Fail;
 
-/// Spans, their length in microseconds, and how that length is printed.
+/// Spans, each with its length in microseconds and how this length is printed.
 static READ_AND_WRITTEN: [(&str, u64, &str); 11] = [
     // A fraction down to the microsecond, parts without blanks between them, a number without a unit, zero, and seconds
     // that make up whole minutes.
@@ -30,7 +30,8 @@ static READ_AND_WRITTEN: [(&str, u64, &str); 11] = [
     ),
 ];
 
-/// Pairs of a number and a unit are added up.
+/// Numbers are added up, each in its own unit. A number without a unit counts seconds, and may begin or end with its
+/// point.
 const SUMS: &str = "\
 5 5 -> 10000000|5\t5 -> 10000000| \t5 \t s\t  -> 5000000|1y2months3w4d5h6min7s8ms9us -> 38995567008009|\
 1. -> 1000000|.5 -> 500000|1.h -> 3600000000";

@@ -22,7 +22,7 @@ pub(crate) const EXCEPT_LINES: Lines = &[(5, "12:00")];
 
 pub(crate) const EXCEPT_EXCEPTIONS: Lines = &[(3, "Sat,Sun 12:00")];
 
-/// Expressions of a file, each with the number of its line.
+/// Expressions or exceptions of a file, each with the number of its first line.
 pub type Lines = &'static [(u32, &'static str)];
 
 /// A file, and its expressions or the error it is rejected with.
@@ -33,7 +33,7 @@ pub fn read(alloc: Global, file: &[u8]) -> Result<Timer, TimerFault> {
     read_timer(alloc, &mut Port::new(file))
 }
 
-/// Returns whether the list has these expressions.
+/// Returns whether the list has exactly these expressions, in this order.
 fn has_lines(list: &[TimerLine], expected: Lines) -> bool {
     if list.len() != expected.len() {
         return false;
@@ -73,7 +73,7 @@ fn fault_of(alloc: Global, file: &[u8]) -> Option<TimerFault> {
     read(alloc, file).err()
 }
 
-/// Returns whether the file has these expressions, or is rejected with this error.
+/// Returns whether parsing the file has the result `expected`: these expressions or, if it is an error, this error.
 fn is_read(alloc: Global, file: &[u8], expected: &Result<Lines, TimerFault>) -> bool {
     match (read(alloc, file), expected) {
         (Ok(timer), Ok(lines)) => has_lines(timer.lines(), lines),
@@ -82,7 +82,7 @@ fn is_read(alloc: Global, file: &[u8], expected: &Result<Lines, TimerFault>) -> 
     }
 }
 
-/// Expects each file to have the expressions of its row, or to be rejected with that error.
+/// Expects each file to have the expressions of its row or, if the row has an error instead, to be rejected with it.
 fn expect_files(alloc: Global, rows: &[Row]) -> Result<(), Fail> {
     for (file, expected) in rows {
         ensure(is_read(alloc, file.as_bytes(), expected), file)?;

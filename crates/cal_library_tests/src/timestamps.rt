@@ -41,7 +41,8 @@ struct Place<'a> {
     table: &'a ZoneTable,
 }
 
-/// A timestamp of each form, in three settings: at +08:00, in UTC, and in UTC one minute after the start of 1970.
+/// Valid and invalid timestamps of many forms, in three settings: at +08:00, in UTC, and in UTC one minute after the
+/// start of 1970.
 static EACH_FORM: [Setting; 3] = [
     Setting {
         now: PRESENT,
@@ -115,7 +116,8 @@ fn expect_fault(place: Place<'_>, fault: StampFault, texts: &str) -> Result<(), 
     Ok(())
 }
 
-/// Expects the timestamps of the table to resolve to their moments, or to be rejected with their errors.
+/// Expects the valid timestamps of the table to resolve to their moments, and the invalid ones to be rejected with
+/// their errors.
 fn expect_moments(now: i64, local: Zone<'_>, zones: &ZoneTable, table: &Table) -> Result<(), Fail> {
     let place = Place {
         now: instant(now)?,

@@ -10,8 +10,8 @@ use cal_spec::Expr;
 use std::alloc::Global;
 use std::test::Fail;
 
-/// The range of instants in which elapses are compared, after `base` and up to `limit`, and the largest UTC offset of
-/// the zone in seconds.
+/// The range of instants in which elapses are compared, after `base` and up to `limit`, and a number of seconds that no
+/// UTC offset of the zone exceeds, neither east nor west.
 #[derive(Clone, Copy)]
 struct TestedRange {
     base: i64,

@@ -1,4 +1,4 @@
-//! Merges of lists of numbers, and of the elapses of expressions, without the numbers of exceptions.
+//! Merges of lists of numbers, and of the elapses of expressions, with and without exceptions.
 
 ghost use Rattle.std.specs.Prelude.{◌≡◌, false};
 ghost use Rattle.std.specs.List.Sorted.{IsStrictlySortedBy};
@@ -58,7 +58,7 @@ fn exceptions(rt: HostRuntime) -> Result<(), Fail> {
     expect_without(rt.alloc(), &[], &[], &[5, 8], &[])
 }
 
-/// Adds two sources and an exception that can't tell what they have.
+/// Adds two sources and an exception, none of which can tell which numbers it still has.
 fn add_silent(alloc: Global, merge: &mut Merge<Silent<Listed>>) -> Result<(), Fail>
     requires { merge.old.started ≡ false }
 {

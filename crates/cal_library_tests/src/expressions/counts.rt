@@ -8,7 +8,7 @@ use std::test::Fail;
 /// Long expressions. Each line begins with a count, and `#` in the line stands for that many copies of `piece`.
 struct Table {
     piece: &'static str,
-    /// Each line is an expression, an arrow and its normal form.
+    /// After the count, each line has an expression, an arrow and the normal form of the expression.
     accepted: &'static str,
     refused: &'static [(SpecFault, &'static str)],
 }
@@ -38,8 +38,9 @@ static BYTES: [Table; 4] = [
     },
 ];
 
-/// An expression may have up to 240 parts; the first part of the hour, of the minute and of the second is not counted.
-/// The first part over the limit is rejected before it is parsed, and before the values of its component are checked.
+/// An expression may have up to 240 counted parts: all but the first part of the hour, of the minute and of the second.
+/// The first counted part over the limit is rejected before it is parsed, and before the values of its component are
+/// checked.
 static PARTS: [Table; 1] = [Table {
     piece: ",1",
     accepted: "\

@@ -35,7 +35,7 @@ static FAULT_WORDS: [Row; 22] = [
     ("12:00 ", "\n", ""),
 ];
 
-/// Valid expressions, most of them from systemd.time(7), and texts with only blanks.
+/// Valid expressions, most of them from systemd.time(7), and texts without a word.
 static NO_FAULT: [&str; 14] = [
     "",
     " ",

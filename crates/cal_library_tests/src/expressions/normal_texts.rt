@@ -13,7 +13,8 @@ weekly utc -> Mon *-*-* 00:00:00 UTC|*-*~* -> *-*-* 00:00:00|93..00-*-* -> 1993.
 mon,fri 12-1/2-3,1 *:30:45 -> Mon,Fri 2012-01/2-01,03 *:30:45|00:00:20..40/1 -> *-*-* 00:00:20..40|\
 *:4,30:0/1 -> *-*-* *:04,30:*|12,14,13,12:20,10,30 -> *-*-* 12,13,14:10,20,30:00";
 
-/// A range with a step ends with the last value that the steps reach.
+/// In the normal form, a range with a step ends with the last value that the steps reach. If that is its first value,
+/// the range becomes a single value.
 const RANGE_ENDS: &str = "\
 *:05..10/6 -> *-*-* *:05:00|*:05..05 -> *-*-* *:05:00|*:20..39/5 -> *-*-* *:20..35/5:00|\
 *-*~3..10/3 -> *-*~03..09/3 00:00:00";
@@ -25,7 +26,7 @@ const NAMED_EXPRESSIONS: &str = "\
 23:59:59 -> *-*-* 23:59:59|*-*-* 23:59:59 -> *-*-* 23:59:59|*:*:* -> *-*-* *:*:*|\
 *-*-* 12:30:00 -> *-*-* 12:30:00|12:30 -> *-*-* 12:30:00|*-*-* 1:2:3 -> *-*-* 01:02:03";
 
-/// Shorthands, some of them in mixed case or followed by a zone.
+/// Shorthands, some of them with capitals or followed by a zone.
 const SHORTHANDS: &str = "\
 daily daily -> *-*-* 00:00:00 daily|minutely -> *-*-* *:*:00|MINUTELY -> *-*-* *:*:00|hourly -> *-*-* *:00:00|\
 daily -> *-*-* 00:00:00|DAILY -> *-*-* 00:00:00|weekly -> Mon *-*-* 00:00:00|\

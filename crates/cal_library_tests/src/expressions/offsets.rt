@@ -47,7 +47,7 @@ Mon +1:2|2024-1-1 +x|2024-1-1 -1:2|2024-1-1 +12:00:00|daily -5|daily +2:00|weekl
 Mon UTC +02:00|2024-1-1 +02:00 12:00|2024-1-1 +02:00 UTC",
 )];
 
-/// The first word of an expression is never an offset.
+/// The first word of an expression is never an offset. An offset after an invalid first word doesn't change the error.
 static FIRST_WORDS: [Refused; 3] = [
     (
         BadTime,
@@ -57,7 +57,7 @@ static FIRST_WORDS: [Refused; 3] = [
     (UnknownShorthand, "Foo +02:00|fortnightly +02:00"),
 ];
 
-/// If several parts are invalid, the leftmost error is reported.
+/// If several words are invalid, the error of the leftmost one is reported. A valid offset doesn't change that.
 static ORDER: [Refused; 5] = [
     (BadWeekday, "Mon,,Tue +02:00|Mon,,Tue +x"),
     (BadDate, "7 +02:00|7 +x|1 -1"),
@@ -66,7 +66,7 @@ static ORDER: [Refused; 5] = [
     (NoRepeat, "20/4:00 +02:00|20/4:00 +x"),
 ];
 
-/// Expressions, each with the offset in seconds or the name in its zone suffix.
+/// Expressions, each with the offset in seconds or the name in its zone suffix, if it has one.
 static ZONES: [(&str, Option<i32>, Option<&str>); 9] = [
     ("daily", None, None),
     ("daily utc", None, Some("UTC")),
@@ -92,7 +92,7 @@ fn refused(rt: HostRuntime) -> Result<(), Fail> {
     expect_refusals(rt.alloc(), &ORDER)
 }
 
-/// Expects the zone of an expression to have this offset or this name.
+/// Expects `zone_offset` and `zone_name` to return these values for the expression.
 fn expect_zone(
     alloc: Global,
     text: &str,

@@ -26,7 +26,7 @@ static REFUSED_TEXTS: [Refused; 12] = [
 
 static BLANKS: [Refused; 1] = [(Empty, " |\t| \t \t")];
 
-/// Words in places where they can't stand.
+/// Words in places where they can't stand, and first words that are not shorthands.
 static WORDS: [Refused; 2] = [
     (
         StrayWord,

@@ -75,7 +75,7 @@ static KEYS_AND_VALUES: [Row; 8] = [
     ),
 ];
 
-/// The keys that reset the list if their value is empty.
+/// The keys that reset the list of expressions if their value is empty.
 static KEYS: [&str; 6] = [
     "OnCalendar",
     "OnActiveSec",
@@ -88,7 +88,7 @@ static KEYS: [&str; 6] = [
 /// A file, in which `KEY` stands for one of [`KEYS`], and the expressions that the file has.
 type RowOfKey = (&'static str, Lines);
 
-/// A key with an empty value resets the list. Another key, a comment or a key in another section doesn't.
+/// One of [`KEYS`] with an empty value resets the list. Another key, a comment or a key in another section doesn't.
 static RESETS: [RowOfKey; 4] = [
     (
         "[Timer]\nOnCalendar=daily\nKEY=\n[Timer]\nOnCalendar=hourly",
@@ -114,7 +114,7 @@ fn file_with_key(alloc: Global, file: &str, key: &str) -> Result<String, Fail> {
     Ok(whole)
 }
 
-/// Expects each file, with this key, to have the expressions next to it.
+/// Expects each file, with this key in place of `KEY`, to have the expressions next to it.
 fn expect_with_key(alloc: Global, key: &str, rows: &[RowOfKey]) -> Result<(), Fail> {
     for (file, lines) in rows {
         let with_key = file_with_key(alloc, file, key)?;

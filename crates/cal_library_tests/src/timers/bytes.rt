@@ -9,7 +9,7 @@ static WRONG_BYTES: [(&[u8], u32); 13] = [
     // A file of one byte.
     (b"\xFF", 1),
     (b"\n\xFF", 2),
-    // An invalid byte after an invalid expression, which is not reported.
+    // An invalid byte after an invalid expression: only the byte is reported.
     (b"[Timer]\nOnCalendar=x!\n\n\xFF\n\xFF", 4),
     // An invalid byte after a valid expression.
     (b"[Timer]\nOnCalendar=daily\nx=\xFF\n", 3),

@@ -95,8 +95,8 @@ fn bad_lines(rt: HostRuntime) -> Result<(), Fail> {
     Ok(())
 }
 
-/// Until a reset, each expression and each exception over the limit is reported. Invalid expressions count toward the
-/// limit.
+/// Each expression and each exception over the limit is reported. Invalid expressions count toward the limit, and a
+/// reset starts the count of the expressions again.
 #[test]
 fn several_too_many(rt: HostRuntime) -> Result<(), Fail> {
     let unit = counted_file(rt.alloc(), &[(255, DAILY), (256, EXCEPTION)])?;

@@ -70,7 +70,8 @@ static CONTINUED_LINES: [Row; 10] = [
         "[Ti\\\nmer]\n[Timer]\nOnCalendar=daily",
         Ok(&[(4, "daily")]),
     ),
-    // An even number of backslashes doesn't continue a line. Of an odd number, the last one becomes a space.
+    // An even number of backslashes at its end doesn't continue a line, nor does a backslash before a blank. Of an odd
+    // number, the last one becomes a space.
     (
         "[Timer]\nOnCalendar=daily\\\\\nOnCalendar=daily",
         Err(TimerFault::BadLine(2, SpecFault::BadWeekday)),

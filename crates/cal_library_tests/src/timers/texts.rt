@@ -38,7 +38,7 @@ static READ: [Row; 9] = [
         &[(3, "hourly"), (2, "daily")],
         &[],
     ),
-    // A text doesn't need an expression if another one has it.
+    // A text doesn't need an expression if another text has one.
     (
         &["[Unit]\nDescription=x", "", "\n\n[Timer]\nOnCalendar=daily"],
         &[(4, "daily")],

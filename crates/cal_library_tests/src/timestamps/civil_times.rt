@@ -4,7 +4,8 @@ use super::{Table, expect_in_utc};
 use cal_read::StampFault::*;
 use std::test::Fail;
 
-/// Dates with one to four digits for the year, and the years that two digits stand for.
+/// Dates whose year has one to four digits, and dates that don't exist. A year below 100 stands for one of the years
+/// 1970 to 2069.
 static DATES: Table = Table {
     moments: "\
 2012-11-23 -> 1353628800000000|12-11-23 -> 1353628800000000|\x202012-11-23\t -> 1353628800000000|\
@@ -61,8 +62,8 @@ static FRACTIONS: Table = Table {
     )],
 };
 
-/// Weekday names may be whole or abbreviated to three letters, in upper or lower case. No comma or other character may
-/// follow them.
+/// Weekday names may be whole or abbreviated to three letters, in upper or lower case. A blank has to follow the name
+/// directly, without a comma.
 static WEEKDAYS: Table = Table {
     moments: "\
 Fri 2012-11-23 -> 1353628800000000|friday 2012-11-23 -> 1353628800000000|FRI\t2012-11-23 -> 1353628800000000|\

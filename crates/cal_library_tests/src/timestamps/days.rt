@@ -32,7 +32,7 @@ Fri 0:0 UTC -> 1353628800000000",
     },
 ];
 
-/// Misspelled words for days, and words that can't follow a word for a day.
+/// Misspelled words for days, and words that can't stand before or after a word for a day.
 static REFUSED_DAYS: Table = Table {
     moments: "",
     refusals: &[

@@ -5,7 +5,7 @@ use cal_base::SpanFault;
 use cal_read::StampFault::*;
 use std::test::Fail;
 
-/// A timestamp with only blanks is empty.
+/// Timestamps that are empty or have only blanks.
 static BLANKS_ALONE: Table = Table {
     moments: "",
     refusals: &[(Empty, "|\x20|\t|\x20\t \t")],
@@ -42,7 +42,7 @@ static COUNTED_FROM_0: Table = Table {
     refusals: &[(OutOfRange, "@7258211999|@9223372036854775807us")],
 };
 
-/// Every error of a span, after each sign and before `left` and `ago`.
+/// Errors of spans, after each sign and before `left` and `ago`.
 static BAD_SPANS: Table = Table {
     moments: "",
     refusals: &[

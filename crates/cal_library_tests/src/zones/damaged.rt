@@ -7,7 +7,7 @@ use cal_elapse::Rising;
 use std::alloc::Global;
 use std::test::Fail;
 
-/// Returns whether three more midnights follow [`NEW_YEAR`] in the zone, strictly increasing.
+/// Returns whether the elapses of `daily` after [`NEW_YEAR`] in the zone begin with three increasing instants.
 fn rises(alloc: Global, zone: Zone<'_>) -> Result<bool, Fail> {
     let mut midnights = elapses_of(alloc, "daily", zone, NEW_YEAR)?;
     let mut last = NEW_YEAR;

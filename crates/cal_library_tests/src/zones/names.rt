@@ -48,7 +48,7 @@ fn add(
     }
 }
 
-/// Returns the instant at which New Year 2024 begins in the zone with this name.
+/// Returns the instant at which New Year 2024 begins in the zone with this name, or `None` if there is no such zone.
 fn midnight(table: &ZoneTable, name: &str) -> Option<i64> {
     place(table.find(name)?, NEW_YEAR)
 }

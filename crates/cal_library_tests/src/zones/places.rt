@@ -4,7 +4,8 @@ use crate::shared::{SUMMER_TIME, posix};
 use cal_base::{PlaceCache, Zone, place, settle};
 use std::test::Fail;
 
-/// Expects `place`, and one `PlaceCache` for all rows, to convert each local second to this instant, or to none.
+/// Expects `place`, and one `PlaceCache` for all rows, to convert each local second to the instant next to it, or to
+/// none.
 fn expect_places(zone: Zone, rows: &[(i64, Option<i64>)]) -> Result<(), Fail> {
     let mut place_cache = PlaceCache::new(zone);
     for (local, instant) in rows {
@@ -22,7 +23,7 @@ fn expect_places(zone: Zone, rows: &[(i64, Option<i64>)]) -> Result<(), Fail> {
     Ok(())
 }
 
-/// Expects each local second to settle to this Unix second.
+/// Expects each local second to settle to the Unix second next to it.
 fn expect_settled(zone: Zone, rows: &[(i64, i64)]) -> Result<(), Fail> {
     for (local, second) in rows {
         if *local < -300_000 || *local > 7_258_500_000 || settle(zone, *local) != *second {
@@ -33,7 +34,8 @@ fn expect_settled(zone: Zone, rows: &[(i64, i64)]) -> Result<(), Fail> {
 }
 
 /// In the gap from 02:00 to 03:00 on 2024-03-31 a local second has no instant, and settling moves it forward by the
-/// length of the gap. In the fold from 02:00 to 03:00 on 2024-10-27 it has the instant of its first occurrence.
+/// length of the gap. In the fold from 02:00 to 03:00 on 2024-10-27 a local second has the instant of its first
+/// occurrence.
 #[test]
 fn gap_and_fold(rt: HostRuntime) -> Result<(), Fail> {
     let rules = posix(rt.alloc(), SUMMER_TIME)?;
