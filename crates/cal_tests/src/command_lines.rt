@@ -12,7 +12,7 @@ fn read(alloc: Global, line: &str) -> Result<Result<Ask, CommandFault>, Fail> {
     Ok(Ask::of(alloc, arguments.as_slice()))
 }
 
-/// Returns the message of an error; in place of a whole text of usage or help, one word.
+/// Returns the message of an error, or one word in place of a whole usage text or help text.
 fn message(fault: &CommandFault) -> &str {
     match fault {
         CommandFault::Usage(_) => "usage",
@@ -153,8 +153,8 @@ fn commands(rt: HostRuntime) -> Result<(), Fail> {
     check(rt.alloc(), COMMANDS)
 }
 
-/// Several bad values at once, of which the first in the order `--iterations`, `--now`, `--zones`, `--local` is
-/// reported; and requests for help or the version.
+/// Bad values, of which only the first one in the order `--iterations`, `--now`, `--zones`, `--local` is reported, and
+/// requests for help or the version. A missing text is reported before a bad value. After `--`, `--help` is a text.
 const OTHERS: &str = "\
 calendar|--iterations=0|--now=5|daily -> bad iterations
 calendar|--local=5x|--zones=x|--now=5|--iterations=0|daily -> bad iterations

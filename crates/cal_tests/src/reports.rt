@@ -18,8 +18,8 @@ use cal_zone::{Instant, Rules, Zone, ZoneTable};
 use std::alloc::{AllocError, Global};
 use std::test::Fail;
 
-/// A request with its present, local zone and timer file, and everything that its run should write. The run succeeds.
-/// Its status is `Refused` if something is expected on standard error, and otherwise `Fine`.
+/// A request with its present, local zone and timer file, and everything that its run should write. The run
+/// returns `Ok`: the status is `Refused` if something is expected on standard error, and otherwise `Fine`.
 #[derive(Clone, Copy)]
 struct Row<'a> {
     /// What the row tests, for failure messages.
@@ -98,7 +98,7 @@ fn add_zones(alloc: Global, table: &mut ZoneTable) -> Result<(), Fail> {
     ensure(table.add("Test/Summer", summer).is_ok(), "Test/Summer")
 }
 
-/// Runs each row, and expects it to write its texts.
+/// Runs the request of each row, and expects the texts and the status of the row.
 fn check(alloc: Global, rows: &[Row<'_>]) -> Result<(), Fail> {
     let zones = known_zones(alloc)?;
     for row in rows {
@@ -126,7 +126,7 @@ fn check_input<R: Source>(
 /// What a run wrote to both outputs, and its result.
 type RunOutput<'a> = (&'a [u8], &'a [u8], Result<Status, RunFault>);
 
-/// Expects a run to have written the texts of the row, and to have succeeded.
+/// Expects a run to have written the texts of the row, and to have returned its status.
 fn expect_texts(row: &Row<'_>, (out, err, ended): RunOutput<'_>) -> Result<(), Fail> {
     ensure(out == row.out.as_bytes(), row.about)?;
     ensure(err == row.err.as_bytes(), row.about)?;

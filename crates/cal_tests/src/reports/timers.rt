@@ -280,7 +280,8 @@ fn unread<'a>(row: &Row<'a>, err: &'a str) -> Row<'a> {
     }
 }
 
-/// If the source of a file fails, the file can't be read, even if the source has already returned all bytes.
+/// If the source of a file fails, the file is reported as unreadable, even if the source has already returned all
+/// bytes.
 #[test]
 fn failing_readers(rt: HostRuntime) -> Result<(), Fail> {
     for row in &READ {

@@ -59,7 +59,7 @@ fn end_of_cut(row: &Row<'_>, is_cut: bool, fault: RunFault) -> Result<Status, Ru
     if is_cut { Err(fault) } else { Ok(status(row)) }
 }
 
-/// Expects the row's run to have ended like this.
+/// Expects `cut`, the end of the row's run, to equal `wanted`.
 fn expect_cut(row: &Row<'_>, cut: Cut<'_>, wanted: Cut<'_>) -> Result<(), Fail> {
     ensure(cut.0 == wanted.0, row.about)?;
     ensure(cut.1 == wanted.1, row.about)?;
@@ -171,7 +171,7 @@ fn push_instants<'t>(instants: &mut Vec<&'t str>, text: &'t str) -> Result<(), A
 }
 
 /// Appends the instants of the elapses whose first line is complete in `front`, and then the instants that are printed
-/// by the run that continues after these elapses.
+/// by the run that continues after these elapses, if there is one.
 fn push_resumed(
     instants: &mut Vec<&'static str>,
     front: &'static str,
@@ -184,8 +184,8 @@ fn push_resumed(
     Ok(())
 }
 
-/// Cuts the report off at every length. Expects the elapses whose first line is then complete, and the elapses of the
-/// run that continues after them, to be all elapses of the report.
+/// Cuts the report off at every length. Expects that the elapses whose first line is then complete, followed by the
+/// elapses of the run that continues after them, are all elapses of the report.
 fn expect_resumed(alloc: Global, text: &'static str, runs: &[Row<'static>]) -> Result<(), Fail> {
     let mut all = Vec::new(alloc);
     push_instants(&mut all, text)?;
@@ -263,7 +263,7 @@ fn refusals_that_are_cut(rt: HostRuntime) -> Result<(), Fail> {
     Ok(())
 }
 
-/// Returns the beginning of `text`, up to the first `part`.
+/// Returns the beginning of `text`, up to the first occurrence of `part`.
 fn before<'t>(text: &'t str, part: &str) -> Result<&'t str, Fail> {
     let end = text.find(part).ok_or("the part is missing")?;
     Ok(text.get(..end).unwrap_or(""))

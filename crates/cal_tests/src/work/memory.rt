@@ -109,8 +109,8 @@ fn refusals(rt: HostRuntime) -> Result<(), Fail> {
     check_refused(rt.alloc(), &memory, REFUSED_TEXTS, 1)
 }
 
-/// Arguments with up to three errors at once, each line with the error line of the first. The clock has no valid time,
-/// and `f` is neither a zone file nor a timer file.
+/// Arguments, each with the line of the first error, which is the only one reported. The clock has no valid time, and
+/// `f` is neither a zone file nor a timer file.
 const WITHOUT_CLOCK: &str = "\
 calendar|--now=5|--zones=A=f|daily -> calendar-analyze: bad now
 calendar|--zones=A=f|daily -> calendar-analyze: --zones: A: bad zone file
