@@ -22,8 +22,8 @@ use Rattle.cal_report.specs.TimerPlan.{IsAdded, IsCoveredEntry, each_of, entry_s
 use Rattle.cal_report.specs.TimerReport.{elapses_of_lists, timed_entry}
 use Rattle.cal_request.specs.headline.Request.{Request}
 
--- if `f` is in the same zone as `e` and its fields match all values that the fields of `e` match, then every elapse
--- time of `e` is an elapse time of `f`
+-- if `f` has the same zone suffix as `e`, and each field of `f` matches all values that the same field of `e` matches,
+-- then every elapse time of `e` is an elapse time of `f`
 place_among : (e f : TimerLine Fields) → e.expr.zone ≡ f.expr.zone → AreAmong (entry_sets e) (entry_sets f) → (asked : Request) (i : ℤ)
     → IsPlace (timed_entry asked e) i → IsPlace (timed_entry asked f) i
 unfolding timed_entry timed

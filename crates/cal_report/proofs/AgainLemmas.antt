@@ -36,8 +36,8 @@ pub base_at : (asked : Request) (secs : ℤ) → IsInstant secs → base_in (sta
 unfolding base_in
 base_at asked secs h = counted_base (started_at asked secs) secs h
 
--- a base time resolves to the same instant in the request that `begun_again` returns, because only the present and the
--- zones matter
+-- a base time resolves to the same instant in `asked` and in the request that `begun_again` returns, because only the
+-- present and the zones matter
 same_base : (asked : Request) (shown : List ℤ) (k : ℕ) (base : Option (List ℕ)) → base_from (begun_again asked shown k) base ≡ base_from asked base
 unfolding stamp_in
 same_base asked shown k None = refl

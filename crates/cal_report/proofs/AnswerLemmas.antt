@@ -39,12 +39,14 @@ unfolding reports_left left_of
 reports_left-none true answer = refl
 reports_left-none false answer = refl
 
--- the remaining reports begin with the report of the first remaining text, if it has one
+-- the remaining reports consist of the report of the first remaining text, if it has one, and the reports of the later
+-- texts
 pub reports_left-next : (is_later : Bool) (answer : List ℕ → Answer) (text : List ℕ) (texts : List (List ℕ)) → reports_left is_later answer (text ∷ texts) ≡ later_text is_later (answer text) ++ reports_left (is_later || is_fine (status_in (answer text))) answer texts
 unfolding reports_left
 reports_left-next is_later answer text texts = left-next is_later (answer text) (flat_map (λ t. report_in (answer t)) texts)
 
--- the remaining error lines begin with the error line of the first remaining text, if it has one
+-- the remaining error lines consist of the error line of the first remaining text, if it has one, and the error lines
+-- of the later texts
 pub refusals-next : (answer : List ℕ → Answer) (text : List ℕ) (texts : List (List ℕ)) → error_lines answer (text ∷ texts) ≡ error_line_in text (answer text) ++ error_lines answer texts
 unfolding error_lines
 refusals-next answer text texts = refl

@@ -1,4 +1,4 @@
--- The elapse times of an expression in a zone are instants.
+-- The elapse times of an expression in a zone are instants if the base time isn't negative.
 use Rattle.std.proofs.Common.{[], ◌∷◌, ℤ, pos, ◌≤ℤ◌}
 use Rattle.jiff.specs.Types.{TimeZone}
 use Rattle.cal_elapse.specs.Elapses.{elapses_after}

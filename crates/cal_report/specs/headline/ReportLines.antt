@@ -15,7 +15,7 @@ original_label = codes "  Original form: "
 abbrev pub except_label : List ℕ
 except_label = codes "    Except form: "
 
--- a line with the label and the text as the user gave it, and the label of the next line
+-- a line with the label and the text as it was given, and the label of the next line
 unfoldable pub text_line : List ℕ → List ℕ → List ℕ
 text_line label text = joined (label ∷ text ∷ codes "\nNormalized form: " ∷ [])
 

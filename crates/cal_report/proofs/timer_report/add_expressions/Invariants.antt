@@ -1,4 +1,5 @@
--- The merge has the elapse times of the lines before the loop's index, except for lines that an exception covers.
+-- The elapse times of the lines before the loop's index have been added to the merge. Lines whose elapse times are all
+-- suppressed by the exceptions may be missing.
 use Rattle.std.proofs.Common.{map, take}
 use Rattle.cal_timer.specs.TimerView.{shown}
 use Rattle.cal_report.specs.Context.{asked_by}
