@@ -24,7 +24,7 @@ pub record Stop : Type 0 where
   pub err : List ℕ
   pub status : ℕ
 
--- a stop with one line on standard error
+-- a stop that writes only this line, to standard error
 abbrev pub with_line : List ℕ → ℕ → Stop
 with_line line status = record { out = []; err = line; status = status }
 
@@ -63,7 +63,7 @@ abbrev pub load_stop : List ℕ → LoadFault → Stop
 load_stop name ReadFailed = with_line (zones_line name (message_of ReadFailed)) 2
 load_stop name (Zone fault) = zone_stop name fault
 
--- the stops if the local zone or the present instant can't be determined
+-- the stops for an invalid rule and an unknown name of the local zone, and for a clock that has no supported time
 abbrev pub rule_stop : Stop
 rule_stop = with_line (own_line (codes "--local: bad rule")) 2
 

@@ -44,9 +44,9 @@ pub struct Ended {
 /// Reports and the text of help go to `out`, which is flushed at the end. Error lines go to `err`.
 ///
 /// The status is 0 for success and for help; 1 if an expression, a timestamp, a span or the timer file is rejected, if
-/// the timer file can't be opened, if `out` fails or memory runs out, or if `err` fails during a report; and 2 if the
+/// the timer file can't be opened, if `out` fails or memory runs out, or if `err` fails during the run; and 2 if the
 /// arguments, a zone file, the local zone or the clock are invalid. If an output or an allocation fails, each output
-/// has a prefix of its whole text, followed on `err` by the line that reports the failure.
+/// has a prefix of its whole text. On `err`, the line that reports the failure follows, unless `err` is what failed.
 pub fn work<S: System, T: AsStr, O: Output, E: Sink>(
     alloc: Global,
     system: &S,
@@ -313,8 +313,9 @@ fn open_file<S: System>(alloc: Global, system: &S, path: &str) -> Result<S::File
 
 // What is reported at the end
 
-/// Reports why the work stopped, if it did, and returns the exit status together with whether the report was written. A
-/// failed output and running out of memory are not reported here, but by `tell_fault` after the output is flushed.
+/// Reports why the work stopped early, if it did, and returns the exit status together with whether the report was
+/// written. A failed output and running out of memory are not reported here, but by `tell_fault` after the output is
+/// flushed.
 fn tell<O: Sink, E: Sink>(answered: &Result<Status, Stop>, out: &mut O, err: &mut E) -> Ended
     requires out { O.is_failed out.old ≡ is_out_cut answered.now }
     requires err { E.is_failed err.old ≡ is_err_cut answered.now }
@@ -358,7 +359,8 @@ fn tell_stop<O: Sink, E: Sink>(stop: &Stop, out: &mut O, err: &mut E) -> Result<
     }
 }
 
-/// Flushes the output even if something failed, so that everything written before the failure gets out.
+/// Flushes the output even if something failed, so that everything written before the failure gets out. Returns
+/// `written`, unless it is `Ok` and the flush fails: then the result is [`RunFault::OutFailed`].
 fn flush_output<O: Output>(written: Result<(), RunFault>, out: &mut O) -> Result<(), RunFault>
     requires { O.is_failed out.old ≡ is_out_failed written }
     ensures bytes { (before : Option (List ℕ)) (text : List ℕ) → Writes before (O.written out.old) written text

@@ -14,7 +14,7 @@ use cal_zone::ZoneFault;
 /// Why the program stops before everything is done.
 #[derive(Debug, Drop)]
 pub enum Stop {
-    /// The arguments are invalid, or ask only for help or the version.
+    /// The arguments are invalid, or ask only for help or the version, or memory ran out while they were parsed.
     Command(CommandFault),
     /// The zone file with this name can't be loaded.
     Zones(String, LoadFault),
