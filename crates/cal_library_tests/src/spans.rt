@@ -30,7 +30,7 @@ static READ_AND_WRITTEN: [(&str, u64, &str); 11] = [
     ),
 ];
 
-/// Numbers are added up, each in its own unit. A number without a unit counts seconds, and may begin or end with its
+/// Numbers are added up, each in its own unit, or in seconds if it has no unit. A number may begin or end with its
 /// point.
 const SUMS: &str = "\
 5 5 -> 10000000|5\t5 -> 10000000| \t5 \t s\t  -> 5000000|1y2months3w4d5h6min7s8ms9us -> 38995567008009|\

@@ -10,8 +10,8 @@ use cal_spec::Expr;
 use std::alloc::Global;
 use std::test::Fail;
 
-/// The range of instants in which elapses are compared, after `base` and up to `limit`, and a number of seconds that no
-/// UTC offset of the zone exceeds, neither east nor west.
+/// The range of instants in which elapses are compared, after `base` and up to `limit`, and an upper bound in seconds
+/// on the zone's UTC offsets, east or west.
 #[derive(Clone, Copy)]
 struct TestedRange {
     base: i64,

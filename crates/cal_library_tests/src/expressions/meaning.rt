@@ -15,7 +15,7 @@ struct Shown<'a> {
     zone_name: Option<&'a str>,
 }
 
-/// Makes a part from a value, the end of a range and the step of a repetition.
+/// Makes a part from a value and, if there are any, the end of its range and the step of its repetition.
 const fn part(start: u16, end: Option<u16>, step: Option<u16>) -> Part {
     Part { start, end, step }
 }

@@ -17,7 +17,7 @@ pub(super) const RESET: &str = "OnCalendar=";
 type Counted = (&'static [(u32, &'static str)], Result<Lines, TimerFault>);
 
 /// A file may have up to 256 expressions, not counting those that a reset has dropped. The error has the line number of
-/// the first expression over the limit.
+/// the first expression or exception over the limit.
 static COUNTED: [Counted; 4] = [
     (
         &[(256, DAILY), (1, RESET), (1, "OnCalendar=hourly")],

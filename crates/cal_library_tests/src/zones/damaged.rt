@@ -1,4 +1,5 @@
-//! Zone files that are cut short or have a wrong byte: each is rejected, or the elapses in its zone still increase.
+//! Zone files that are cut short or have a wrong byte: each is rejected, or the first midnights in its zone still
+//! increase.
 
 use crate::elapses::elapses_of;
 use crate::shared::{NEW_YEAR, ensure, zone_file};
