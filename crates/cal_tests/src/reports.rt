@@ -18,8 +18,8 @@ use cal_zone::{Instant, Rules, Zone, ZoneTable};
 use std::alloc::{AllocError, Global};
 use std::test::Fail;
 
-/// A request with its present, local zone and timer file, and everything that its run should write. The run
-/// returns `Ok`: the status is `Refused` if something is expected on standard error, and otherwise `Fine`.
+/// A request with its present, local zone and timer file, and everything that its run should write. The run has to
+/// return `Ok`, with the status `Refused` if something is expected on standard error, and otherwise `Fine`.
 #[derive(Clone, Copy)]
 struct Row<'a> {
     /// What the row tests, for failure messages.

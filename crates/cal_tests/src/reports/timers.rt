@@ -234,7 +234,7 @@ fn as_many_expressions_as_there_may_be(rt: HostRuntime) -> Result<(), Fail> {
     Ok(())
 }
 
-/// How many bytes a source returns in each call and in total, and what it does after that.
+/// How many bytes a source returns at most in each call and in total, and what it does after that.
 type Reader = (usize, usize, Then);
 
 /// Runs the row with its file read from this source, and expects the row's texts.

@@ -87,7 +87,7 @@ fn check_cut_out(
     expect_cut(row, (out.bytes(), ended, failed), wanted)
 }
 
-/// How a writer fails.
+/// The ways in which a writer can fail.
 static FAILURES: [Then; 3] = [Then::Error, Then::Interrupted, Then::Zero];
 
 /// Checks the row with its reports cut off at every length, from no bytes to all of them.
