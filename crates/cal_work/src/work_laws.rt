@@ -10,8 +10,8 @@ ghost use Rattle.cal_work.specs.WorkedSystem.{bare_system, daily_world};
 ghost use Rattle.cal_work.specs.Works.{FitsArguments};
 
 /// States that only one outcome is possible, unless memory runs out, for a system whose files and clock are known
-/// completely. No read may fail, and `clap` must accept the arguments. The outcome can be computed from the arguments,
-/// the system and the zones that `jiff` reads.
+/// completely. The law assumes that no read fails and that `clap` accepts the arguments. The outcome can be computed
+/// from the arguments, the system and the zones that `jiff` reads.
 pub fn known_systems_decide()
     ensures { (known : Known) (arguments : List (List ℕ)) (world : World) → TellsAll known → takes_arguments arguments ≡ true
         → FitsArguments known arguments world → IsOr (outcome world) (known_outcome known (asked_in arguments) world) }
