@@ -1,4 +1,5 @@
-//! The real system, with its files and its clock. Nothing is proved about what they return.
+//! The real system, with its files and its clock. Nothing is proved about the bytes of the files and the time that the
+//! clock shows.
 
 use cal_streams::Port;
 use cal_work::System;
