@@ -63,7 +63,7 @@ fn is_setting(found: &Setting, (number, key, value): (u32, &str, &str)) -> bool 
     found.number == number && found.key.as_str() == key && found.value.as_str() == value
 }
 
-/// Returns whether the settings are these.
+/// Returns whether the settings are exactly the expected ones, in this order.
 fn are_settings(all: &[Setting], expected: &[(u32, &str, &str)]) -> bool {
     if all.len() != expected.len() {
         return false;

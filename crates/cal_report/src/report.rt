@@ -220,8 +220,8 @@ pub fn file_name(request: &Request) -> &str
 }
 
 /// Writes an error line that begins with `text`: an argument, the name of the timer file, or `--base-time`. `line` is
-/// the number of the invalid line of the file, if the error concerns one line. Returns [`Status::Refused`] if
-/// the error line could be written.
+/// the number of the invalid line of the file, if the error concerns one line. Returns [`Status::Refused`] if the
+/// error line could be written.
 fn report_error<E: Sink>(
     err: &mut E,
     text: &str,

@@ -1,7 +1,7 @@
 //! Calls that allocate. `tests/refused` makes each of their allocations fail in turn.
 //!
 //! A test succeeds if every allocation succeeds. Otherwise it fails with the call's `NoMemory` or `AllocError`; if the
-//! call could have changed an argument, the test first checks that it didn't. `tests/refused` checks that a test fails
+//! call promises to leave an argument unchanged, the test first checks that. `tests/refused` checks that a test fails
 //! if and only if an allocation has failed.
 
 use cal_command::Ask;
