@@ -29,8 +29,9 @@ filled_else cells word value i other =
     in_word (set cells word value) i (i / 64) refl
     ∙ (ap (λ (w : ℕ). is_bit w (i % 64)) (get_or-set_other cells word (i / 64) value 0 other) ∙ sym (in_word cells i (i / 64) refl))
 
--- `set_cells` shifts `bits` to the left for the word of the first cell, and to the right for the next word (`down_is`).
--- A bit of the shifted word is set if and only if the bit of `bits` that stands for the same cell is set.
+-- `set_cells` shifts `bits` to the left for the word of the first cell (`up_is`), and to the right for the next word
+-- (`down_is`). A bit of the shifted `bits` is set if and only if the bit of the original `bits` that stands for the
+-- same cell is set.
 up_is : (bits cell i : ℕ) → bits < 2 ^ 64 → cell < 187_200 → i < 187_200 → i / 64 ≡ cell / 64
     → is_bit (bits * 2 ^ (cell % 64) % 2 ^ 64) (i % 64) ≡ is_bit bits (cells_behind cell i)
 up_is bits cell i fits inside there same =

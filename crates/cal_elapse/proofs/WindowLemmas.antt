@@ -157,7 +157,7 @@ windowed_later e from bound last x xs w =
 too_early : (base : ℤ) (t : ℕ) (i : ℤ) → pos 0 ≤ℤ base → t < start_of base → i ≤ℤ (pos t +ℤ pos 93_599) → base <ℤ i → ⊥
 too_early base t i low early near above = grind (arith, ints)
 
--- at the start nothing is pending, because no local second before the start of the first search has an instant after
+-- at the start nothing is pending, because no local second before the start of the first search has a place after
 -- the base
 pub windowed_start : (e : Timed) (base : ℤ) → AreNear e → pos 0 ≤ℤ base → Windowed e (start_of base) (start_of base) base []
 unfolding IsStrictlySortedBy

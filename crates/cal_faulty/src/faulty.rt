@@ -21,8 +21,8 @@ pub enum Then {
 /// A std `Write` that appends to a buffer, and a std `Read` that reads from it.
 ///
 /// It reads or writes at most `step` bytes a call and `limit` bytes in all; after that it does what its [`Then`] says.
-/// A reader that runs out of bytes before the limit is at its end. If the buffer can't grow because allocation fails,
-/// `write` returns an error.
+/// If a reader runs out of bytes before it reaches the limit, it reports the end of its input. If the buffer can't grow
+/// because allocation fails, `write` returns an error.
 #[derive(Debug, Drop)]
 pub struct Faulty {
     bytes: Vec<u8>,

@@ -111,8 +111,8 @@ led_skipped lead units i d size n within e below =
     ∙ ap (led lead) (positive_skipped (get_or units i d) (drop (i + 1) units) n small)
     ∙ ap (λ left. led lead (positive (counts_of (drop (i + 1) units) left))) (mod-eq_of_lt small)
 
--- if the counts `kept` add up to `n`, putting `c` in front of them adds the value of `c` to the sum, even if `c` is
--- left out because its number is zero
+-- if the counts `kept` add up to `n`, and `c` is put in front of them unless its number is zero, the sum is the value
+-- of `c` plus `n` in both cases
 weight-kept : (c : Count) (kept : List Count) (n : ℕ) → weight kept ≡ n → (b : Bool) → nat_lt 0 c.number ≡ b → weight (cond b (c ∷ kept) kept) ≡ c.number * size_of c.unit + n
 weight-kept c kept n e true t = ap (λ (m : ℕ). c.number * size_of c.unit + m) e
 weight-kept c kept n e false t = grind (arith, nat_tests, ltb-false)

@@ -171,7 +171,7 @@ roles_found (w ∷ ws) p last at rest colon =
     let is : roles_by (shorthand_named w) w ws ≡ p = cc in
     rw (← is) (found_by w ws last (shorthand_named w) refl (ap (λ (q : WordRoles). q.rest) is ∙ rest) (ap (λ (q : WordRoles). list_any is_colon q.time) is ∙ colon))
 
--- The parser finds the roles that the grammar gives
+-- The parser finds the roles that the grammar gives the words
 
 after_date_is : (weekdays : Option (List ℕ)) (date : List ℕ) (time last : Option (List ℕ)) → IfSome time IsTimeWord → AllByRecursion IsSignless (given time) → IfSome last (λ w. begins_zone w ≡ true) → roles_after_date weekdays date (given time ++ given last) ≡ record { weekdays = weekdays; date = date; time = unwrap_or time midnight; rest = given last }
 after_date_is weekdays date None None kind signless begins = refl

@@ -14,8 +14,8 @@ IsNothing core form = (core ≡ []) × (form ≡ nothing)
 abbrev pub IsPresent : List ℕ → Form → Type 0
 IsPresent core form = (core ≡ codes "now") × (form ≡ present)
 
--- form 3, with the sign `+` or `-`, and form 4, with `@`: a sign and a time span; so a text that begins with an offset
--- is read as a time span
+-- Form 3, with the sign `+` or `-`, and form 4, with `@`: a sign and a time span. So `+02:00` at the beginning of a
+-- text isn't a UTC offset: it is read as a sign and a time span.
 abbrev pub IsBehindSign : List ℕ → (List ℕ → Form) → List ℕ → Form → Type 0
 IsBehindSign sign means core form = (span : List ℕ) × (core ≡ sign ++ span) × (form ≡ means span)
 

@@ -42,7 +42,7 @@ impl LoadFault {
 
 /// Reads a zone file (RFC 8536) and adds its rules to the table under `name`.
 ///
-/// Fails, and leaves the table unchanged, with the first of these errors that applies:
+/// Fails with the first of these errors that applies, and then leaves the table unchanged:
 ///
 /// - [`ZoneFault::BadName`] if the name is invalid. Nothing is read then.
 /// - [`LoadFault::ReadFailed`] if reading fails, or [`ZoneFault::TooLarge`] if there are more than 1,048,576 bytes.
