@@ -1,4 +1,4 @@
--- The months of the years 1970 to 2199, compared with the dates of the calendar.
+-- The months of the years 1970 to 2199: their numbers, first days and lengths agree with the dates of the calendar.
 use Rattle.std.proofs.Common.{◌≡◌, ℕ, zero, suc, ◌+◌, ◌-◌, ◌*◌, ◌/◌, ◌%◌, ◌<◌, ◌≤◌, ◌≤ℤ◌, ◌+ℤ◌, ℤ, pos, unsigned_abs, if◌then◌else◌, Bool, false, ◌&&◌, to_z, of_z, w16, ap, sym, ◌∙◌, refl, inl, inr, arith}
 use Rattle.std.proofs.lemmas.Int.{to_z_pos}
 use Rattle.std.proofs.lemmas.Bool.{cases_lt}

@@ -28,6 +28,8 @@ ghost use Rattle.cal_request.specs.declared.request.Verb.TheVariants.{Calendar, 
 
 use cal_spec::laws::one_normal_form_of_fields;
 
+/// The headline, word for word as the pages quote it:
+///
 /// For every list of accepted expressions, base instant and zones, the elapses printed are exactly the matching
 /// instants after the base through 2199, each once, rising; a local time in a gap gives none, in a fold its first
 /// instant alone; an iteration count n gives the first n, and starting again at any printed instant gives exactly the
@@ -127,8 +129,8 @@ pub fn cut_output_resumes()
     ensures calendar { (asked : Request) (read : Result (List ℕ) WholeFault) (base : ℤ) (e : Expression)
         (front rest : List ℕ) → asked.verb ≡ Calendar → base_in asked ≡ Ok base → asked.texts ≡ e.text ∷ []
         → IsAccepted asked e → (report asked read).out ≡ front ++ rest → Resumes asked base (alone e) read front }
-    // If the request is for several texts, and at least one of them is accepted, the output can be continued after
-    // every prefix `front`. `es` are the expressions of the accepted texts. The prefix consists of some complete
+    // If at least one of the texts of a request for `calendar` is accepted, the output can be continued after every
+    // prefix `front`. `es` are the expressions of the accepted texts. The prefix consists of some complete
     // reports and of a prefix of the next report, which can be continued as if its expression had been requested alone.
     // There is only one way to divide `front` like that (`one_place`).
     ensures several { (asked : Request) (read : Result (List ℕ) WholeFault) (base : ℤ) (es : List Expression)

@@ -29,7 +29,7 @@ last_reached a b r positive forward =
       last = omega arith;
     }
 
--- a range has only one last number that it reaches, which is `last_of a b r`
+-- the last number that a range reaches is unique: it is `last_of a b r`
 pub one_last_reached : (a b r e : ℕ) → 0 < r → IsLastReached a b r e → e ≡ last_of a b r
 one_last_reached a b r e positive h =
     let whole = div-add-mod' (e - a) r in

@@ -83,8 +83,8 @@ abbrev pub zone_alone : TimeZone → List (List ℕ) → Result TimeZone StampFa
 zone_alone zone [] = Ok zone
 zone_alone zone (w ∷ ws) = Err StrayWord
 
--- the zone that the remaining words stand for, or the error: no words stand for the local zone, one word is parsed as a
--- zone, and more than one word is an error
+-- the zone that the remaining words stand for, or the error: without any words it is the local zone, a single word is
+-- parsed as a zone, and more than one word is an error
 abbrev pub zone_by_words : Setting → List (List ℕ) → Result TimeZone StampFault
 zone_by_words at [] = Ok at.local
 zone_by_words at (w ∷ ws) = zone_of_word at.find w >>= λ zone. zone_alone zone ws

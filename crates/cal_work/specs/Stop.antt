@@ -129,8 +129,8 @@ outlet_of Clock = OnErr
 outlet_of (Open path) = OnErr
 outlet_of (Run fault) = Later fault
 
--- Whether a stop stands for a failure of standard output, a failure of standard error, or running out of memory: first
--- for the outlet of the stop, then for the stop itself
+-- Whether a stop is due to a failure of standard output, a failure of standard error, or a lack of memory. The first
+-- three definitions take the outlet of the stop, the last three the stop itself.
 
 abbrev pub is_out_outlet : Outlet → Bool
 is_out_outlet (Later run.OutFailed) = true

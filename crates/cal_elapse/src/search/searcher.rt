@@ -1,5 +1,5 @@
-//! The search for an expression's matches, one after another. `window` calls it, and it calls `next_local` and
-//! `next_after` of `search` if it doesn't have the next match stored. It counts the searches.
+//! The searcher, which finds an expression's matches one after another and counts its searches. `window` calls it.
+//! Unless the next match is already stored, it calls `next_local` or `next_after` of the module `search`.
 
 ghost use Rattle.std.specs.Prelude.{◌≡◌, ◌+◌, ◌-◌, ◌*◌, ◌/◌, ◌<◌, ◌≤◌, ◌≤ℤ◌, pos, true, false, max, None, IfSome, unsigned_abs, unwrap_or};
 ghost use Rattle.std.specs.Option.{option_map};

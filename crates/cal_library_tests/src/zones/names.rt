@@ -73,7 +73,8 @@ static REFUSED: [(&str, ZoneFault); 7] = [
 ];
 
 /// Expects each name to be rejected with its error, the rules to be handed back, and the table to stay unchanged. The
-/// rules are two hours ahead of UTC, so that their 02:00 is the instant 0.
+/// rules are two hours ahead of UTC, so that 02:00 on the first day of
+/// 1970 is the instant 0 by these rules.
 fn expect_refused(
     alloc: Global,
     table: &mut ZoneTable,
