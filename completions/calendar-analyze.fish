@@ -29,7 +29,7 @@ complete -c calendar-analyze -f
 complete -c calendar-analyze -n __fish_use_subcommand -a calendar -d 'parse calendar expressions and show when they next elapse'
 complete -c calendar-analyze -n __fish_use_subcommand -a timestamp -d 'parse timestamps and show the instants they resolve to'
 complete -c calendar-analyze -n __fish_use_subcommand -a timespan -d 'parse time spans and show how long they are'
-complete -c calendar-analyze -n __fish_use_subcommand -a timer -d 'parse a timer file and show when its expressions next elapse'
+complete -c calendar-analyze -n __fish_use_subcommand -a timer -d 'parse a timer file and show when the timer next elapses'
 complete -c calendar-analyze -n __fish_use_subcommand -a help -d 'print help, or the help of a verb'
 complete -c calendar-analyze -n __fish_use_subcommand -s V -l version -d 'print the version'
 complete -c calendar-analyze -n 'not __calendar_analyze_verb_is help' -s h -l help -d 'print help'

@@ -263,7 +263,7 @@ fn build_timer<'a>(alloc: Global) -> Result<Command<'a>, AllocError>
     ensures local { IfOk result (λ command. (fields_of command).has_globals ≡ false) }
 {
     let command = Command::new(alloc, "timer")
-        .about("Parse a timer file and show when its expressions next elapse")
+        .about("Parse a timer file and show when the timer next elapses")
         .after_help(TIMER_EXAMPLE);
     let file = Arg::new(alloc, "text")
         .value_name("FILE")
@@ -345,7 +345,7 @@ const LOCAL_HELP: &str =
     "Local zone: UTC, +hh:mm, -hh:mm, posix:RULE or a{n}name from --zones [default: UTC]";
 
 const STATUSES: &str =
-    "Exit status:{n}  0  success{n}  1  an input or the base time is invalid, or the output or memory failed{n}  2  the command line, a zone file, the local zone or the clock is invalid{n}{n}See 'calendar-analyze VERB --help' for the options of a verb.";
+    "Exit status:{n}  0  success{n}  1  an input or the base time is invalid, output failed or memory ran out{n}  2  the command line, a zone file, the local zone or the clock is invalid{n}{n}See 'calendar-analyze VERB --help' for the options of a verb.";
 
 const CALENDAR_EXAMPLE: &str =
     "A TEXT may end in its zone: UTC, +hh:mm, -hh:mm or a name from --zones.{n}TZ is ignored, and the machine's zone is used only if you name its file, as in{n}the last example.{n}Put '--' before a TEXT that begins with '-'. Join a value that begins with '-'{n}to its option with '=', as in --base-time=-1d.{n}{n}Examples:{n}  calendar-analyze calendar --iterations=3 'Mon..Fri 09:00'{n}  calendar-analyze calendar --zones=here=/etc/localtime --local=here daily";
