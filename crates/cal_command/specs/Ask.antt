@@ -1,5 +1,5 @@
--- What arguments ask for, with each string as the list of its bytes: systemd-analyze(1), and this project's own options
--- for the present and for zones.
+-- What the arguments ask for, with each string as the list of its bytes. The options are `--iterations` and
+-- `--base-time` of systemd-analyze(1), and this project's own `--now`, `--zones` and `--local`.
 use Rattle.std.specs.Prelude.{ℕ, ℤ, List, Option, Result, Ok, Err, map}
 use Rattle.std.specs.Borrow.{Bor}
 use Rattle.std.specs.String.{string_bytes}
@@ -28,7 +28,7 @@ pub record ZoneItem : Type 0 where
   pub name : List ℕ
   pub path : List ℕ
 
--- what the arguments ask for; if `now` is None, the present is read from the system's clock
+-- what the arguments ask for; if `now` is None, the present instant is read from the system's clock
 pub record Ask : Type 0 where
   pub verb : Verb
   pub texts : List (List ℕ)
@@ -58,7 +58,7 @@ shown_ask ask = record {
   zones = map shown_item ask.zones.items;
 }
 
--- the errors for arguments: usage and help, with the text of `clap`; an invalid value of an option; and a failed
+-- the errors for arguments: usage or help, with the text of `clap`; an invalid value of an option; or a failed
 -- allocation
 pub data CommandFault : Type 0 where
   usage : List ℕ → CommandFault

@@ -1,4 +1,4 @@
--- The command line (systemd-analyze(1)): the command that is described to `clap`, and what arguments ask for, given
+-- The command line (systemd-analyze(1)): the command that is described to `clap`, and what the arguments ask for, given
 -- what `clap` finds in them.
 use Rattle.std.specs.Prelude.{◌≡◌, ◌≢◌, ⊤, Bool, true, false, not, List, [], ◌∷◌, ◌++◌, take, Option, None, Some, Result, Ok, Err, codes, if◌then◌else◌, option_and_then, option_map}
 use Rattle.std.specs.List.{list_any}
@@ -117,8 +117,8 @@ abbrev pub unless_bad : {A : Type 0} → CommandFault → Option A → (A → Re
 unless_bad fault None next = Err fault
 unless_bad fault (Some value) next = next value
 
--- what the values ask for, or the error for the first invalid value; the defaults are one elapse, the present of the
--- system's clock, no zone files, and UTC
+-- What the values ask for, or the error for the first invalid value, in the order below. By default, one elapse is
+-- shown, the present instant is read from the system's clock, there are no zone files, and the local zone is UTC.
 unfoldable pub read_options : OptionTexts → Result Ask CommandFault
 read_options option_texts =
     unless_bad bad_iterations (option_map_or count_in option_texts.iterations (Some 1)) (λ iterations.

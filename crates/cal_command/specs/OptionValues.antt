@@ -1,5 +1,5 @@
--- The values of options: systemd-analyze(1), `--iterations` and `--base-time`, and this project's own options for the
--- present and for zones.
+-- How the values of options are parsed: `--iterations` of systemd-analyze(1), and this project's own `--now`, `--zones`
+-- and `--local`. The value of `--base-time` is a timestamp, which isn't parsed here.
 use Rattle.std.specs.Prelude.{ℕ, ℤ, ◌&&◌, ◌==◌, Bool, pos, List, [], ◌∷◌, length, drop, Option, None, Some, codes, nat_eq, nat_lt, nat_le, if◌then◌else◌, unsigned_abs, option_and_then, option_map}
 use Rattle.std.specs.List.{after_first, before_first, list_any, slice_split, starts_with}
 use Rattle.std.specs.Str.{all_ascii_digits, str_eq_ignore_ascii_case}

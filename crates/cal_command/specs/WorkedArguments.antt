@@ -12,7 +12,8 @@ daily_arguments = codes "calendar" ∷ codes "daily" ∷ []
 abbrev pub daily_option_texts : OptionTexts
 daily_option_texts = record { verb = Calendar; texts = codes "daily" ∷ []; iterations = None; base = None; now = None; local = None; zones = None }
 
--- what `calendar daily` asks for: one elapse after the present of the system's clock, in UTC and with no zone files
+-- what `calendar daily` asks for: one elapse after the present instant, which is read from the system's clock, in UTC
+-- and with no zone files
 abbrev pub daily_ask : Ask
 daily_ask = record { verb = Calendar; texts = codes "daily" ∷ []; iterations = 1; base = None; now = None; local = in_utc; zones = [] }
 

@@ -35,8 +35,8 @@ pub struct FileFault {
 /// filled. A section ends at the end of its text.
 ///
 /// The error of the first invalid line is returned, or [`TimerFault::NothingToDo`] if all lines are valid and the list
-/// of expressions is empty after the last line. Fails with [`TimerFault::NoMemory`] only if allocation fails; `file` is
-/// then the index of the text that was being read, if any.
+/// of expressions is empty after the last line. Fails with [`TimerFault::NoMemory`] only if allocation fails.
+/// [`FileFault::file`] says which text an error belongs to.
 pub fn read_texts(alloc: Global, files: &[UnitText<'_>]) -> Result<Timer, FileFault>
     requires { All (λ file. file.first + length file.text.now < 2 ^ 32) files.now }
     ensures lists { MatchResult result

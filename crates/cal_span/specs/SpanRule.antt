@@ -78,14 +78,14 @@ abbrev pub IsFaultAfter : ℕ → Pair → SpanFault → Type 0
 IsFaultAfter sum p TooLarge = (m : ℕ) × (worth_of p ≡ Ok m) × (limit < sum + m)
 IsFaultAfter sum p fault = worth_of p ≡ Err fault
 
--- one of the pairs fails with this error, and all pairs before it are valid
+-- one of the pairs fails with this error; all pairs before it are valid, and their sum doesn't exceed the limit
 abbrev pub IsFirstFault : List Pair → SpanFault → Type 0
 IsFirstFault ps fault =
     (before : List Pair) × (p : Pair) × (after : List Pair) × (sum : ℕ) × (ps ≡ before ++ (p ∷ after)) × AreWorth before sum × (sum ≤ limit) × IsFaultAfter sum p fault
 
 -- The value or the error that the rule demands for these pairs. A value is the sum of all pairs; there is at least one
 -- pair, and the sum doesn't exceed the limit. The error is `Empty` if there are no pairs, and otherwise the error of
--- the leftmost invalid pair.
+-- the leftmost pair that is invalid or takes the sum over the limit (`TooLarge`).
 abbrev pub Judges : List Pair → Result ℕ SpanFault → Type 0
 Judges ps (Ok n) = (0 < length ps) × AreWorth ps n × (n ≤ limit)
 Judges ps (Err Empty) = ps ≡ []

@@ -1,5 +1,6 @@
 -- The value of a time span (systemd.time(7), Parsing Time Spans). The text is split into words, the words form pairs of
--- a number and a unit, and the pairs are added up from the left until one is invalid.
+-- a number and a unit, and the values of the pairs are added up from the left until a pair is invalid or takes the sum
+-- over the limit.
 use Rattle.std.specs.Prelude.{ℕ, ◌+◌, ◌*◌, ◌/◌, ◌^◌, ◌==◌, nat_le, Bool, true, false, not, ◌&&◌, ◌||◌, if◌then◌else◌, List, [], ◌∷◌, ◌++◌, filter, count_by, Option, Some, None, Result, Ok, Err}
 use Rattle.std.specs.List.{list_any, list_all, find, before_first, after_first}
 use Rattle.std.specs.Str.{bytes_eq}
@@ -149,12 +150,13 @@ worth_of p = if is_number p.number then worth_in p.number (unit_in p.unit) else 
 abbrev pub sum_with : ℕ → Result ℕ SpanFault → Result ℕ SpanFault
 sum_with sum worth = worth >>= λ m. if nat_le (sum + m) limit then Ok (sum + m) else Err TooLarge
 
--- the sum so far plus the remaining pairs, or the leftmost error
+-- the sum so far plus the values of the remaining pairs, or the error of the leftmost pair that has one
 abbrev pub judged : ℕ → List Pair → Result ℕ SpanFault
 judged sum [] = Ok sum
 judged sum (p ∷ ps) = sum_with sum (worth_of p) >>= λ more. judged more ps
 
--- the sum of the pairs, or the leftmost error; without pairs the error is `Empty`
+-- the sum of the values of the pairs, or the error of the leftmost pair that has one; without pairs, the error is
+-- `Empty`
 abbrev pub value_of_pairs : List Pair → Result ℕ SpanFault
 value_of_pairs [] = Err Empty
 value_of_pairs (p ∷ ps) = judged 0 (p ∷ ps)

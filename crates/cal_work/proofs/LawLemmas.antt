@@ -1,5 +1,5 @@
 -- Lemmas for the law `known_systems_decide`: if everything about a system is known, the program sees exactly what is
--- known.
+-- known, unless memory runs out.
 use Rattle.std.proofs.Common.{◌≡◌, ◌⊎◌, inl, inr, ℕ, ℤ, ◌<◌, ◌≤◌, Bool, true, false, List, [], ◌∷◌, length, Option, None, Some, Result, Ok, Err, IfOk, IfNone, refl, sym, arith, nat_le}
 use Rattle.std.specs.Prelude.{IsSome}
 use Rattle.std.specs.FinMap.{empty}
@@ -55,7 +55,8 @@ known_open limit None came some h = absurd (false≢true some)
 known_open limit (Some None) came some h = absurd (some_none came h)
 known_open limit (Some (Some all)) came some h = (taken_of (nat_le (length all) limit) all, refl)
 
--- Two sequences of steps agree (`IsOr`) if their first steps agree, and the steps after them do too
+-- `IsOr` says that the first result is equal to the second, or is the stop for running out of memory. It holds for two
+-- sequences of steps if it holds for their first steps and for the steps after them.
 
 and_then_or : {A B : Type 0} (next other : A → Result B Stop) (r s : Result A Stop) → IsOr r s → ((x : A) → r ≡ Ok x → IsOr (next x) (other x)) → IsOr (and_then next r) (and_then other s)
 and_then_or next other (Ok x) s (inl e) h = rw (sym e) (h x refl)
@@ -71,9 +72,10 @@ after_load : (known : Known) (items : List ZoneItem) (found : List ZoneFound) (n
 after_load known items found name later (Ok more) h = later more h
 after_load known items found name later (Err fault) h = inl refl
 
--- If memory ran out while a zone file was read, then the outcome is the known outcome or the stop for running out of
--- memory. It is the known outcome if the name of the zone is invalid, since the name is checked before the file is
--- read.
+-- Suppose that `f.seen` says that memory ran out while a zone file was read, and that `seen` says instead that reading
+-- it returned `c`. If the name of the zone is valid, the outcome with `f.seen` is the stop for running out of memory.
+-- If the name is invalid, the outcome is the same with `f.seen` and with `seen`, since the name is checked before the
+-- result of reading is used.
 zone_unread : {A : Type 0} (next other : ZoneMap → Result A Stop) (table : ZoneMap) (item : ZoneItem) (f : ZoneFound) (c : Result (List ℕ) WholeFault) (seen : Seen) (b : Bool) → is_zone_name item.name ≡ b → f.seen ≡ Some (Err whole.NoMemory) → seen ≡ Some c
     → IsOr (and_then next (or_load_stop item.name (loaded table item f))) (and_then other (or_load_stop item.name (loaded table item (record { seen = seen; zone = f.zone }))))
 unfolding loaded

@@ -1,4 +1,4 @@
--- Between two transitions, the UTC offset is constant.
+-- Between two consecutive transitions, the UTC offset is constant.
 --
 -- In these lemmas, `moment` is a nanosecond at which a POSIX rule starts or ends daylight saving time, and `w` is the
 -- pair of such a start and such an end in one year, in UTC.
@@ -32,13 +32,13 @@ use Rattle.cal_zone.proofs.LocalOffsetRangeLemmas.{floor_second-whole, offset_be
 use Rattle.cal_text.proofs.General.{lt_test, not_lt_test}
 use Rattle.cal_zone.proofs.RuleLemmas.{IsApart, IsBeside, clamped, in_its_year, moment_on, next_after_table, offset_in, ordered_apart, ordered_rises, utc_year, window_apart, window_beside, window_of}
 
--- if `moment` isn't between `low` and `high`, two times in `low..high` are on the same side of `moment`
+-- if `moment` isn't between `low` and `high`, then `at` and `other`, both in `low..high`, are on the same side of it
 beside_within : (low high moment at other : ℤ) → IsApart low high (pos 0) moment → low ≤ℤ at → at <ℤ high → low ≤ℤ other → other <ℤ high → IsBeside moment at other
 beside_within low high moment at other (inl h) a b c d = grind (arith, signed_arith, le_yes, not_lt_test)
 beside_within low high moment at other (inr h) a b c d = grind (arith, signed_arith, le_no, lt_test)
 
--- `moment` is not before `low` and not after `high`, the first and the last nanosecond of a year. The lemmas below show
--- this for the times at which a rule starts and ends daylight saving time in that year.
+-- `moment` is at or after `low` and at or before `high`, which are the first and the last nanosecond of a year. The
+-- lemmas below show this for the times at which a rule starts and ends daylight saving time in that year.
 abbrev pub IsIn : ℤ → ℤ → ℤ → Type 0
 IsIn low high moment = (low ≤ℤ moment) × (moment ≤ℤ high)
 
@@ -126,8 +126,8 @@ instant_year from begun bound =
     let long = days_in_year_bounds (date_of (day_of from)).year in
     (omega (arith, signed_arith), omega (arith, signed_arith), omega (arith, signed_arith))
 
--- a rule with daylight saving time has the same UTC offset at `second` as at `from`, if `second` isn't before `from`,
--- but before the next transition after `from`, and in the year of `from`
+-- a rule with daylight saving time has the same UTC offset at `second` as at `from`, if `second` is at or after `from`,
+-- before the next transition after `from`, and in the year of `from`
 constant_in_summer : (rule : Posix) (d : Dst) (from second : ℤ) → rule.dst ≡ Some d → pos 0 ≤ℤ from → from ≤ℤ pos 7_258_500_000 → from ≤ℤ second
     → IsBeforeTransition (next_by rule d (year_of_nanos (nanos_of_seconds from)) (nanos_of_seconds from)) from second
     → ByPosix.offset_at rule (nanos_of_seconds second) ≡ ByPosix.offset_at rule (nanos_of_seconds from)
@@ -163,8 +163,8 @@ constant_by_rule rule from second begun bound later same = elim (no_dst rule.dst
 ]
 
 -- After the last transition of a table, its POSIX rule decides, if it has one. With or without a rule, the UTC offset
--- at `second` is the same as at `from`, if `second` isn't before `from`, but before the next transition after `from`,
--- and in the year of `from`.
+-- at `second` is the same as at `from`, if `second` is at or after `from`, before the next transition after `from`, and
+-- in the year of `from`.
 constant_by : (rule : Option Posix) (type : Offset) (from second : ℤ) → pos 0 ≤ℤ from → from ≤ℤ pos 7_258_500_000 → from ≤ℤ second
     → IsBeforeTransition (match_some rule None (λ tz. ByPosix.next_at tz (nanos_of_seconds from))) from second
     → match_some rule type (λ tz. ByPosix.offset_at tz (nanos_of_seconds second)) ≡ match_some rule type (λ tz. ByPosix.offset_at tz (nanos_of_seconds from))
@@ -191,8 +191,8 @@ constant_between z from second some later same =
     offset_between z from second some later (omega (arith, signed_arith))
     ∙ sym (offset_between z from from some (omega (arith, signed_arith)) (omega (arith, signed_arith)))
 
--- in a zone of any kind, the UTC offset is constant until the next transition or the end of the year, whichever is
--- earlier
+-- in a zone of any kind, the UTC offset is constant from `from` until the next transition or the end of the year of
+-- `from`, whichever is earlier
 pub constant_until_transition : (tz : TimeZone) (from second : ℤ) → pos 0 ≤ℤ from → from ≤ℤ pos 7_258_500_000 → from ≤ℤ second
     → IsBeforeTransition (next_at tz (nanos_of_seconds from)) from second → offset_at tz (nanos_of_seconds second) ≡ offset_at tz (nanos_of_seconds from)
 unfolding offset_at next_at
@@ -210,7 +210,7 @@ max_before a b x = grind (arith, signed_arith)
 pub constant_within : (tz : TimeZone) (from to : ℤ) (range : InstantOffsetRange) → IsInstantOffsetRangeAt tz from range → to ≤ℤ range.to → HasConstantOffset tz from to
 constant_within tz from to range at within = grind (arith, signed_arith)
 
--- Two consecutive ranges with the same UTC offset: `range` contains `from`, and `next` contains `turn`, the end of
+-- There are two ranges with the same UTC offset: `range` contains `from`, and `next` contains `turn`, the end of
 -- `range`. If `next` doesn't end before `to`, the UTC offset is constant in `from..to`.
 pub constant_over : (tz : TimeZone) (from turn to : ℤ) (range next : InstantOffsetRange) → IsInstantOffsetRangeAt tz from range → turn ≡ range.to → IsInstantOffsetRangeAt tz turn next → to ≤ℤ next.to
     → next.offset.seconds ≡ range.offset.seconds → HasConstantOffset tz from to

@@ -33,7 +33,7 @@ use Rattle.jiff_tz.specs.PosixRule as ByPosix
 use Rattle.jiff_tz.proofs.TzifLemmas.{le_no, le_yes}
 use Rattle.cal_text.proofs.General.{lt_test, not_lt_test}
 
--- `at` and `other` are on the same side of `moment`
+-- `at` and `other` are on the same side of `moment`: both before it, or both at or after it
 pub record IsBeside (moment at other : ℤ) : Type 0 where
   pub le : int_le moment at ≡ int_le moment other
   pub lt : int_lt at moment ≡ int_lt other moment
@@ -248,8 +248,8 @@ unfolding utc_window
 moments_apart d y std low high part p q =
     window_parts low high (first_nanosecond y) (last_nanosecond y) (rule_nanos y d.rule.start std.seconds) (rule_nanos y d.rule.end d.offset.seconds) std.seconds _ part std.in_range refl p q
 
--- the day number of a date is at least that of the first day of its year, and less than that of the first day
--- of the next year
+-- the day number of a date is at least that of the first day of its year, and less than that of the first day of the
+-- next year
 pub in_its_year : (d : Date) → (first_day d.year ≤ℤ epoch_day d) × (epoch_day d <ℤ (first_day d.year +ℤ pos (days_in_year d.year)))
 unfolding day_count days_of_months
 in_its_year d =
@@ -263,7 +263,7 @@ in_its_year d =
 pub of_the_year : (d : Date) (y : ℤ) → IsYear y → first_day y ≤ℤ epoch_day d → epoch_day d <ℤ (first_day y +ℤ pos (days_in_year y)) → d.year ≡ y
 of_the_year d y year from to = grind (arith, signed_arith, days_from_civil-day_count, day_count-year_is, civil)
 
--- a second from `past` to the end of the year of `past` is in the same year as `past`
+-- a second at or after `past` and before the end of the year of `past` is in that year
 pub year_goes_on : (past second : ℤ) → IsEpochDay (day_of past) → IsEpochDay (day_of second) → past ≤ℤ second → second <ℤ year_end (datetime_of past).date.year
     → (datetime_of second).date.year ≡ (datetime_of past).date.year
 unfolding datetime_of
@@ -297,8 +297,8 @@ pub offset_in : (rule : Posix) (d : Dst) (y n : ℤ) → rule.dst ≡ Some d →
     → ByPosix.offset_at rule n ≡ match_some (if in_window (utc_window d y rule.std_offset) n then Some d else None) rule.std_offset (λ dst. dst.offset)
 offset_in rule d y n e f = rw (e, f) refl
 
--- how many nanoseconds a range stays away from the start and the end of daylight saving time: four times the largest
--- UTC offset, plus one second
+-- how many nanoseconds the compared local times, `at` and `other` in the lemma below, stay away from both ends of the
+-- range from `low` to `high`: four times the largest UTC offset, plus one second
 abbrev pub far : ℤ
 far = pos 374_397_000_000_000
 
@@ -331,8 +331,8 @@ pub next_found : (rule : Posix) (dst : Option Dst) (n : ℤ) (change : ℤ × Of
 next_found rule None n change e = absurd (cc)
 next_found rule (Some d) n change e = (d, refl, e)
 
--- after the last transition of a table, the next transition is the next one of its POSIX rule; without a
--- rule, there is none
+-- after the last transition of a table, the next transition is the next one of the table's POSIX rule; without a rule,
+-- there is none
 pub next_after_table : (z : Table) (past : ℤ) → vec_len z.transitions ≤ count_at z past → OfTable.next_at z (nanos_of_seconds past) ≡ match_some z.posix_tz None (λ rule. ByPosix.next_at rule (nanos_of_seconds past))
 next_after_table z past all = grind (arith, signed_arith, vec_len, floor_second-whole, count_after_table)
 

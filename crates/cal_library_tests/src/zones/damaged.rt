@@ -1,5 +1,5 @@
-//! Zone files that are cut short or have a wrong byte: each is rejected, or the first midnights in its zone still
-//! increase.
+//! Zone files that are cut short or have a wrong byte. Each must be rejected, or describe a zone in which the first
+//! three elapses of `daily` after [`NEW_YEAR`] are increasing instants.
 
 use crate::elapses::elapses_of;
 use crate::shared::{NEW_YEAR, ensure, zone_file};
@@ -21,7 +21,7 @@ fn rises(alloc: Global, zone: Zone<'_>) -> Result<bool, Fail> {
     Ok(true)
 }
 
-/// Returns whether the bytes are rejected as a bad zone file, or the midnights in their zone increase.
+/// Returns whether the bytes are rejected as a bad zone file, or describe a zone for which [`rises`] returns `true`.
 fn is_bad_or_rises(alloc: Global, bytes: &[u8]) -> Result<bool, Fail> {
     match Rules::file(alloc, "Test/Fixed", bytes) {
         Ok(rules) => rises(alloc, Zone::rules(&rules)),
@@ -29,7 +29,7 @@ fn is_bad_or_rises(alloc: Global, bytes: &[u8]) -> Result<bool, Fail> {
     }
 }
 
-/// Every prefix of the zone file, and the whole file.
+/// Tests every prefix of the zone file, including the whole file.
 #[test]
 fn cut_zone_files(rt: HostRuntime) -> Result<(), Fail> {
     let whole = zone_file(rt.alloc())?;
@@ -41,8 +41,8 @@ fn cut_zone_files(rt: HostRuntime) -> Result<(), Fail> {
     Ok(())
 }
 
-/// Replaces each byte of the zone file in turn by `changed`, and expects every such file to be rejected or to have
-/// increasing midnights.
+/// Replaces each byte of the zone file in turn by `changed`, and expects [`is_bad_or_rises`] to return `true` for every
+/// such file.
 fn expect_changed(alloc: Global, changed: u8) -> Result<(), Fail> {
     let mut bytes = zone_file(alloc)?;
     for at in 0..bytes.len() {

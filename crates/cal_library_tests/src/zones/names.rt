@@ -53,7 +53,8 @@ fn midnight(table: &ZoneTable, name: &str) -> Option<i64> {
     place(table.find(name)?, NEW_YEAR)
 }
 
-/// Expects each name to find a zone in which New Year 2024 begins at this instant, or no zone.
+/// Expects each name to find a zone in which New Year 2024 begins at the instant next to the name, or no zone if
+/// `None` is next to it.
 fn expect_found(table: &ZoneTable, rows: &[(&str, Option<i64>)]) -> Result<(), Fail> {
     for (name, instant) in rows {
         ensure(midnight(table, name) == *instant, name)?;
@@ -72,9 +73,9 @@ static REFUSED: [(&str, ZoneFault); 7] = [
     ("a b", ZoneFault::BadName),
 ];
 
-/// Expects each name to be rejected with its error, the rules to be handed back, and the table to stay unchanged. The
-/// rules are two hours ahead of UTC, so that 02:00 on the first day of
-/// 1970 is the instant 0 by these rules.
+/// Expects each name to be rejected with its error, the rules to be handed back, and the table to stay unchanged.
+///
+/// By the rules, the clock is two hours ahead of UTC, so 02:00 on the first day of 1970 is the instant 0.
 fn expect_refused(
     alloc: Global,
     table: &mut ZoneTable,

@@ -4,8 +4,8 @@ use crate::shared::{SUMMER_TIME, posix};
 use cal_base::{PlaceCache, Zone, place, settle};
 use std::test::Fail;
 
-/// Expects `place`, and one `PlaceCache` for all rows, to convert each local second to the instant next to it, or to
-/// none.
+/// Expects `place`, and one `PlaceCache` for all rows, to return what is next to each local second: its instant, or
+/// `None` if it has no instant.
 fn expect_places(zone: Zone, rows: &[(i64, Option<i64>)]) -> Result<(), Fail> {
     let mut place_cache = PlaceCache::new(zone);
     for (local, instant) in rows {

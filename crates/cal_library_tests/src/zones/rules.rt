@@ -43,7 +43,7 @@ fn file_fault(alloc: Global, name: &str, bytes: &[u8]) -> Option<ZoneFault> {
     Rules::file(alloc, name, bytes).err()
 }
 
-/// In the zone of this file, the clock is one hour ahead of UTC.
+/// The clock of the zone that the file describes is one hour ahead of UTC.
 #[test]
 fn reads_a_zone_file(rt: HostRuntime) -> Result<(), Fail> {
     let bytes = zone_file(rt.alloc())?;
