@@ -278,8 +278,9 @@ next_found m local next more first = grind (arith, next_known, match_inside, fir
 pub rest_unknown : (passes : ℕ → Bool) (local : ℕ) → passes local ≡ true → IsRestOfMinute passes local 0 local
 rest_unknown passes local holds = grind (arith, no_bit)
 
--- if `next` is the first match after `last` and in the same minute, then `bits` with the bit of `next` added is the
--- rest of the minute up to `next`
+-- if `bits` stands for the matches after `local` up to `last`, and `next` is the first match after `last` and in the
+-- same minute, then `more`, which is `bits` with the bit of `next` added, stands for the matches after `local` up to
+-- `next`
 pub rest_on : (passes : ℕ → Bool) (local bits last next more place : ℕ) → IsRestOfMinute passes local bits last → next / 60 ≡ last / 60 → IsFirstPassing passes (last + 1) seconds_in_all (Some next)
     → is_bit more place ≡ true → ((i : ℕ) → i ≢ place → is_bit more i ≡ is_bit bits i) → place ≡ next - local - 1 → IsRestOfMinute passes local more next
 rest_on passes local bits last next more place rest same first set others at = grind (arith, false_from_ne_true)

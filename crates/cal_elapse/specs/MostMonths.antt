@@ -28,7 +28,7 @@ pub record IsMostAfter (sets : Sets) (from to before most : ℕ) : Type 0 where
   pub one : (most ≡ before) ⊎ IsExaminedAfter sets from to most
 
 -- `most` is the largest number of months that one of these searches examines: the search from `start` on, and the
--- searches that start just after a match from `start` up to but not including `to`
+-- searches that start just after a match in the range `start..to`
 pub record IsMost (sets : Sets) (start to most : ℕ) : Type 0 where
   pub first : ℕ
   pub begun : IsExamined sets start first

@@ -157,7 +157,7 @@ pub fn cut_output_resumes()
         → IsInstant asked.now → base_in asked ≡ Ok base → (r : Resumes asked base s read front)
         → (report (begun_again asked r.shown r.number) read).out ≡ showing asked s (drop r.number r.shown) }
 
-    // Whatever a run returns, the bytes that it appended to its writer `out` are a prefix of the report that can be
+    // Whatever a run returns, the bytes that it appended to its writer `out` are a prefix of the report, which can be
     // continued as stated above. The premise `ByReading` is what the contract of `run` promises.
     ensures written { (asked : Request) (base : ℤ) (e : Expression) (result : Result Status RunFault)
         (old new : Option (List ℕ)) (failed : Bool) (out_old out_new err_old err_new : Option (List ℕ))

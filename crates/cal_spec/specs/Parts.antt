@@ -39,7 +39,7 @@ bad slot = if is_time slot then BadTime else BadDate
 abbrev pub is_slash : ℕ → Bool
 is_slash b = b == 47
 
--- a symbol: a maximal run of digits, two points, a slash, a single point, or any other byte
+-- a symbol: a maximal run of digits, two dots, a slash, a single dot, or any other byte
 pub data Symbol : Type 0 where
   digits : List ℕ → Symbol
   dots : Symbol
@@ -59,7 +59,7 @@ lone b = if is_point b then point else (if is_slash b then slash else other b)
 abbrev pub with_byte : ℕ → List Symbol → List Symbol
 with_byte b ss = if is_ascii_digit b then with_digit b ss else lone b ∷ ss
 
--- splits a text into symbols; two consecutive points are one symbol, and they are paired from the left, so `...` is
+-- splits a text into symbols; two consecutive dots are one symbol, and they are paired from the left, so `...` is
 -- `..` and then `.`
 abbrev pub symbols : List ℕ → List Symbol
 symbols [] = []

@@ -14,10 +14,10 @@ use cal_text::decimal_value;
 pub(crate) enum Symbol<'a> {
     /// A maximal run of digits.
     Digits(&'a [u8]),
-    /// Two points, `..`.
+    /// Two dots, `..`.
     Dots,
     Slash,
-    /// A single point.
+    /// A single dot.
     Point,
     /// Any other byte.
     Other(u8),

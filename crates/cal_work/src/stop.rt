@@ -31,8 +31,8 @@ pub enum Stop {
 }
 
 impl Stop {
-    /// Returns the exit status: 0 for help; 1 if the timer file can't be opened, the run ended early or memory ran out;
-    /// and 2 for everything else.
+    /// Returns the exit status: 0 for help or the version; 1 if the timer file can't be opened, the run ended early or
+    /// memory ran out; and 2 for everything else.
     pub fn status(&self) -> u8
         ensures { result ≡ (shown_stop self.now).status }
     {
