@@ -1,15 +1,14 @@
 -- Lemmas about the command that is described to `clap`, and about the results for what `clap` finds in arguments.
-use Rattle.std.proofs.Common.{arith, ◌≡◌, ◌≢◌, List, [], ◌∷◌, ◌++◌, append_assoc, Some, Bool, true, false, refl, sym, ap, ◌∙◌, inl, inr, ◌⊎◌, Result, Ok, Err}
+use Rattle.std.proofs.Common.{arith, ◌≡◌, List, [], ◌∷◌, ◌++◌, append_assoc, Some, Bool, true, false, refl, sym, ap, ◌∙◌, inl, inr, ◌⊎◌, Result, Ok, Err}
 use Rattle.std.specs.Prelude.{not}
 use Rattle.std.specs.List.{list_any}
-use Rattle.std.proofs.lemmas.Bool.{or_left, or_right}
 use Rattle.clap.specs.Words.{App, IsAmong, Kinds, Rule, Text, is_simple, is_simple_and_free, with_rule}
 use Rattle.clap.specs.declared.error.kind.ErrorKind.{ErrorKind}
 use Rattle.clap.specs.declared.error.kind.ErrorKind.TheVariants.{OutOfMemory}
 use Rattle.clap.proofs.OnLiterals.{clap_on_literals}
 use Rattle.cal_command.specs.Ask.{CommandFault, usage, help, bad_iterations, bad_now, bad_zones, bad_local, no_memory, Ask}
-use Rattle.cal_command.specs.OptionTextsView.{IsOrNoMemory}
-use Rattle.cal_command.specs.CommandLine.{OptionTexts, parsed_in, read_options, IsAskOf, IsFaultOf, IsReportedOf, asked_in, command_app, faults_in, is_of_help, takes_arguments, with_rules}
+use Rattle.cal_command.specs.CommandLine.{parsed_in, read_options, IsAskOf, IsFaultOf, IsOrNoMemory, IsReportedOf, asked_in, command_app, faults_in, is_of_help, takes_arguments, with_rules}
+use Rattle.cal_command.specs.VerbMatches.{VerbMatches}
 
 pub with_three : (app : App) (a b d : Rule) → with_rule (with_rule (with_rule app a) b) d ≡ with_rules app (a ∷ b ∷ d ∷ [])
 with_three app a b d = ap (λ rules. record app { top = record app.top { rules = rules } })
@@ -48,17 +47,17 @@ reported_fault arguments kind bad_local passes kinds reported = absurd reported
 
 -- if `clap` parses the arguments, then the result of checking the values that it found is right for the arguments, as
 -- `IsAskOf` defines it
-pub read_answer : (arguments : List Text) (option_texts : OptionTexts) (answer : Result Ask CommandFault) → faults_in arguments ≡ [] → Some option_texts ≡ parsed_in arguments
-    → IsOrNoMemory answer (read_options option_texts) → IsAskOf arguments answer
+pub read_answer : (arguments : List Text) (found : VerbMatches) (answer : Result Ask CommandFault) → faults_in arguments ≡ [] → Some found ≡ parsed_in arguments
+    → IsOrNoMemory answer (read_options found) → IsAskOf arguments answer
 unfolding asked_in
-read_answer arguments option_texts (Ok ask) none parsed is = (none, rw (← parsed) (sym is))
-read_answer arguments option_texts (Err (usage text)) none parsed is = absurd is
-read_answer arguments option_texts (Err (help text)) none parsed is = absurd is
-read_answer arguments option_texts (Err bad_iterations) none parsed is = (none, rw (← parsed) (sym is))
-read_answer arguments option_texts (Err bad_now) none parsed is = (none, rw (← parsed) (sym is))
-read_answer arguments option_texts (Err bad_zones) none parsed is = (none, rw (← parsed) (sym is))
-read_answer arguments option_texts (Err bad_local) none parsed is = (none, rw (← parsed) (sym is))
-read_answer arguments option_texts (Err no_memory) none parsed is = tt
+read_answer arguments found (Ok ask) none parsed is = (none, rw (← parsed) (sym is))
+read_answer arguments found (Err (usage text)) none parsed is = absurd is
+read_answer arguments found (Err (help text)) none parsed is = absurd is
+read_answer arguments found (Err bad_iterations) none parsed is = (none, rw (← parsed) (sym is))
+read_answer arguments found (Err bad_now) none parsed is = (none, rw (← parsed) (sym is))
+read_answer arguments found (Err bad_zones) none parsed is = (none, rw (← parsed) (sym is))
+read_answer arguments found (Err bad_local) none parsed is = (none, rw (← parsed) (sym is))
+read_answer arguments found (Err no_memory) none parsed is = tt
 
 -- if `clap` accepts the arguments, the result is what they ask for, unless memory ran out
 pub taken_arguments : (arguments : List Text) (answer : Result Ask CommandFault) → IsAskOf arguments answer → takes_arguments arguments ≡ true

@@ -1,18 +1,15 @@
 -- The command line (systemd-analyze(1)): the command that is described to `clap`, and what the arguments ask for, given
 -- what `clap` finds in them.
-use Rattle.std.specs.Prelude.{◌≡◌, ◌≢◌, ⊤, Bool, true, false, not, List, [], ◌∷◌, ◌++◌, take, Option, None, Some, Result, Ok, Err, codes, if◌then◌else◌, option_and_then, option_map}
+use Rattle.std.specs.Prelude.{◌≡◌, ◌≢◌, ⊤, Bool, true, false, not, List, [], ◌∷◌, ◌++◌, Option, None, Some, Result, Ok, Err, codes, option_map}
 use Rattle.std.specs.List.{list_any}
 use Rattle.std.specs.Option.{option_map_or}
-use Rattle.std.specs.Str.{bytes_eq}
-use Rattle.clap.specs.Words.{App, Kinds, Row, Rule, Shape, Text, all_of, fault_of, first_of, new_app, new_rule, subcommand_of, takes}
+use Rattle.clap.specs.Words.{App, Kinds, Rule, Shape, Text, fault_of, new_app, new_rule, subcommand_of, takes}
 use Rattle.clap.specs.declared.builder.ArgAction.TheVariants.{Append, Set}
 use Rattle.clap.specs.declared.error.kind.ErrorKind.{ErrorKind}
 use Rattle.clap.specs.declared.error.kind.ErrorKind.TheVariants.{DisplayHelp, DisplayVersion, OutOfMemory}
 use Rattle.cal_command.specs.Ask.{CommandFault, usage, help, bad_iterations, bad_now, bad_zones, bad_local, no_memory, Ask, in_utc}
 use Rattle.cal_command.specs.OptionValues.{count_in, local_zone_in, present_in, zones_in}
-use Rattle.cal_request.specs.Request.{has_zones, is_timer, seeks_elapses}
-use Rattle.cal_request.specs.declared.request.Verb.{Verb}
-use Rattle.cal_request.specs.declared.request.Verb.TheVariants.{Calendar, Timer, Timestamp, Timespan}
+use Rattle.cal_command.specs.VerbMatches.{VerbMatches, elapse_option, verb_matches_in, zone_option}
 
 -- ---- the command, as it is described to `clap`
 
@@ -62,73 +59,28 @@ faults_in arguments = fault_of command_app arguments
 
 -- ---- what the arguments ask for, if `clap` parses them
 
-abbrev pub verb_named : Text → Option Verb
-verb_named name =
-    if bytes_eq name (codes "calendar") then Some Calendar
-    else if bytes_eq name (codes "timestamp") then Some Timestamp
-    else if bytes_eq name (codes "timespan") then Some Timespan
-    else if bytes_eq name (codes "timer") then Some Timer else None
-
--- the verb with its texts, and the texts of the options that were given
-pub record OptionTexts : Type 0 where
-  pub verb : Verb
-  pub texts : List Text
-  pub iterations : Option Text
-  pub base : Option Text
-  pub now : Option Text
-  pub local : Option Text
-  pub zones : Option Text
-
--- the value of an option, if the verb has this option (`has`) and the option was given
-abbrev pub option_text : Bool → Text → List Row → Option Text
-option_text has name rows = if has then first_of name rows else None
-
--- the texts that are used: only the first for `timer`, and all for other verbs
-abbrev pub texts_kept : Verb → List Text → List Text
-texts_kept verb texts = if is_timer verb then take 1 texts else texts
-
-abbrev pub texts_for : Verb → List Row → Option (List Text)
-texts_for verb rows = option_map (texts_kept verb) (all_of (codes "text") rows)
-
-abbrev pub option_texts_with : Verb → List Row → List Text → OptionTexts
-option_texts_with verb rows texts = record {
-  verb = verb;
-  texts = texts;
-  iterations = option_text (seeks_elapses verb) (codes "iterations") rows;
-  base = option_text (seeks_elapses verb) (codes "base-time") rows;
-  now = option_text (has_zones verb) (codes "now") rows;
-  local = option_text (has_zones verb) (codes "local") rows;
-  zones = option_text (has_zones verb) (codes "zones") rows;
-}
-
-abbrev pub option_texts_for : Verb → List Row → Option OptionTexts
-option_texts_for verb rows = option_map (option_texts_with verb rows) (texts_for verb rows)
-
--- the verb whose name `clap` found, and the values that `clap` found for this verb
-unfoldable pub option_texts_in : Option (Text × List Row) → Option OptionTexts
-option_texts_in = option_and_then (λ found. option_and_then (λ verb. option_texts_for verb found.1) (verb_named found.0))
-
--- the verb and the values that `clap` finds in the arguments
-unfoldable pub parsed_in : List Text → Option OptionTexts
-parsed_in arguments = option_texts_in (subcommand_of command_app arguments)
+-- what `clap` finds in the arguments
+unfoldable pub parsed_in : List Text → Option VerbMatches
+parsed_in arguments = verb_matches_in (subcommand_of command_app arguments)
 
 -- fails with `fault` if the value is invalid, and otherwise continues with the value
 abbrev pub unless_bad : {A : Type 0} → CommandFault → Option A → (A → Result Ask CommandFault) → Result Ask CommandFault
 unless_bad fault None next = Err fault
 unless_bad fault (Some value) next = next value
 
--- What the values ask for, or the error for the first invalid value, in the order below. By default, one elapse is
--- shown, the present instant is read from the system's clock, there are no zone files, and the local zone is UTC.
-unfoldable pub read_options : OptionTexts → Result Ask CommandFault
-read_options option_texts =
-    unless_bad bad_iterations (option_map_or count_in option_texts.iterations (Some 1)) (λ iterations.
-    unless_bad bad_now (option_map_or (λ text. option_map Some (present_in text)) option_texts.now (Some None)) (λ now.
-    unless_bad bad_zones (option_map_or zones_in option_texts.zones (Some [])) (λ zones.
-    unless_bad bad_local (option_map_or local_zone_in option_texts.local (Some in_utc)) (λ local. Ok (record {
-      verb = option_texts.verb;
-      texts = option_texts.texts;
+-- What the values of the options ask for, or the error for the first invalid value, in the order below. By default,
+-- one elapse is shown, the present instant is read from the system's clock, there are no zone files, and the local zone
+-- is UTC.
+unfoldable pub read_options : VerbMatches → Result Ask CommandFault
+read_options found =
+    unless_bad bad_iterations (option_map_or count_in (elapse_option found (codes "iterations")) (Some 1)) (λ iterations.
+    unless_bad bad_now (option_map_or (λ text. option_map Some (present_in text)) (zone_option found (codes "now")) (Some None)) (λ now.
+    unless_bad bad_zones (option_map_or zones_in (zone_option found (codes "zones")) (Some [])) (λ zones.
+    unless_bad bad_local (option_map_or local_zone_in (zone_option found (codes "local")) (Some in_utc)) (λ local. Ok (record {
+      verb = found.verb;
+      texts = found.texts;
       iterations = iterations;
-      base = option_texts.base;
+      base = elapse_option found (codes "base-time");
       now = now;
       local = local;
       zones = zones;
@@ -179,3 +131,17 @@ IsReportedOf kind _ = ⊥
 -- adds options and positional arguments to the command
 abbrev pub with_rules : App → List Rule → App
 with_rules app rules = record app { top = record app.top { rules = app.top.rules ++ rules } }
+
+abbrev pub IsFaultOrNoMemory : CommandFault → Result Ask CommandFault → Type 0
+IsFaultOrNoMemory (usage text) answer = ⊥
+IsFaultOrNoMemory (help text) answer = ⊥
+IsFaultOrNoMemory bad_iterations answer = Err bad_iterations ≡ answer
+IsFaultOrNoMemory bad_now answer = Err bad_now ≡ answer
+IsFaultOrNoMemory bad_zones answer = Err bad_zones ≡ answer
+IsFaultOrNoMemory bad_local answer = Err bad_local ≡ answer
+IsFaultOrNoMemory no_memory answer = ⊤
+
+-- the first argument, which is the result of the code, is `answer`, unless memory ran out
+abbrev pub IsOrNoMemory : Result Ask CommandFault → Result Ask CommandFault → Type 0
+IsOrNoMemory (Ok ask) answer = Ok ask ≡ answer
+IsOrNoMemory (Err fault) answer = IsFaultOrNoMemory fault answer

@@ -1,7 +1,7 @@
 pub mod Ask
 pub mod CommandFault
 pub mod CommandLine
-pub mod OptionTextsView
 pub mod LocalZone
 pub mod OptionValues
 pub mod WorkedArguments
+pub mod VerbMatches

@@ -1,16 +1,18 @@
 -- Examples of arguments, and for some of them also what `clap` finds in them or what they ask for: systemd-analyze(1).
 use Rattle.std.specs.Prelude.{ℕ, List, [], ◌∷◌, None, Some, codes, pos}
 use Rattle.cal_command.specs.Ask.{Ask, in_utc, of_name}
-use Rattle.cal_command.specs.CommandLine.{OptionTexts}
+use Rattle.cal_command.specs.VerbMatches.{VerbMatches}
 use Rattle.cal_request.specs.declared.request.Verb.TheVariants.{Calendar}
+use Rattle.clap.specs.declared.builder.value_parser.Reading.TheVariants as reading
+use Rattle.clap.specs.declared.parser.matches.ValueSource.TheVariants as source
 
 -- `calendar daily`
 abbrev pub daily_arguments : List (List ℕ)
 daily_arguments = codes "calendar" ∷ codes "daily" ∷ []
 
--- what `clap` finds in `calendar daily`: the verb, one text and no options
-abbrev pub daily_option_texts : OptionTexts
-daily_option_texts = record { verb = Calendar; texts = codes "daily" ∷ []; iterations = None; base = None; now = None; local = None; zones = None }
+-- what `clap` finds in `calendar daily`: the verb, and one row, that of the texts
+abbrev pub daily_matches : VerbMatches
+daily_matches = record { verb = Calendar; texts = codes "daily" ∷ []; rows = record { id = codes "text"; values = codes "daily" ∷ []; count = None; source = Some source.CommandLine; reading = reading.AsWritten } ∷ [] }
 
 -- what `calendar daily` asks for: one elapse after the present instant, which is read from the system's clock, in UTC
 -- and with no zone files

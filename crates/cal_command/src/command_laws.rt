@@ -5,7 +5,7 @@
 ghost use Rattle.std.specs.Prelude.{◌≡◌, ◌⊎◌, ℕ, true, List, Some, Result, Ok, Err};
 ghost use Rattle.cal_command.specs.Ask.{CommandFault, Ask, bad_iterations, help, no_memory, usage};
 ghost use Rattle.cal_command.specs.CommandLine.{IsAskOf, asked_in, parsed_in, takes_arguments};
-ghost use Rattle.cal_command.specs.WorkedArguments.{daily_option_texts, daily_ask, daily_arguments, help_arguments};
+ghost use Rattle.cal_command.specs.WorkedArguments.{daily_matches, daily_ask, daily_arguments, help_arguments};
 ghost use Rattle.cal_command.specs.WorkedArguments.{none_arguments, options_ask, options_arguments, stray_arguments};
 
 /// If `clap` accepts the arguments, the result is what they ask for, or the error for the first invalid value in the
@@ -19,7 +19,7 @@ pub fn taken_arguments_are_answered()
 /// definitions `daily_ask` and `options_ask`.
 pub fn worked_arguments_are_taken()
     ensures daily_taken { takes_arguments daily_arguments ≡ true }
-    ensures daily_found { parsed_in daily_arguments ≡ Some daily_option_texts }
+    ensures daily_found { parsed_in daily_arguments ≡ Some daily_matches }
     ensures daily_asked { IsAskOf daily_arguments (Ok daily_ask) }
     ensures options_taken { takes_arguments options_arguments ≡ true }
     ensures options_asked { IsAskOf options_arguments (Ok options_ask) }

@@ -1,20 +1,19 @@
 //! The parsing of the command line: a `clap` command with a subcommand for each verb, and the checks of the values that
 //! `clap` found.
 
-ghost use Rattle.std.specs.Prelude.{◌≡◌, ◌<◌, ◌≤◌, [], IfSome, false, true, codes, length, map, IfOk, IfErr, option_map};
-ghost use Rattle.std.specs.Option.{option_copied};
-ghost use Rattle.clap.specs.Words.{app_of, found_of, kind_of, rows_of, rule_of, shape_of, subcommand_rows_of};
+ghost use Rattle.std.specs.Prelude.{◌≡◌, ◌<◌, [], false, codes, length, map, IfOk, IfErr};
+ghost use Rattle.clap.specs.Words.{app_of, kind_of, rule_of, shape_of, subcommand_rows_of};
 ghost use Rattle.clap.specs.declared.builder.command.Command.TheViews.{out-Command as fields_of};
 ghost use Rattle.cal_command.specs.Ask.{shown_answer, shown_fault, texts_of};
-ghost use Rattle.cal_command.specs.CommandLine.{IsAskOf, IsFaultOf, IsReportedOf, command_app, elapse_rules, faults_in, file_rule, option_texts_for, option_texts_in, is_of_help, option_rule, parsed_in, read_options, texts_for, texts_kept, texts_rule, option_text, verb_named, verb_shape, with_rules, zone_rules};
-ghost use Rattle.cal_command.specs.OptionTextsView.{IsOrNoMemory, shown_option_texts};
-ghost use Rattle.cal_request.specs.Request.{is_timer};
+ghost use Rattle.cal_command.specs.CommandLine.{IsAskOf, IsFaultOf, IsOrNoMemory, IsReportedOf, command_app, elapse_rules, faults_in, file_rule, is_of_help, option_rule, parsed_in, read_options, texts_rule, verb_shape, with_rules, zone_rules};
+ghost use Rattle.cal_command.specs.VerbMatches.{shown_matches, verb_matches_in};
 
 use crate::ask::Ask;
 use crate::command_fault::CommandFault;
-use crate::option_texts::OptionTexts;
 use crate::option_values::{base_of, iterations_of, local_zone_of, now_of, to_owned, zones_of};
-use cal_request::{Request, Verb};
+use crate::value_option::{BASE_TIME, ITERATIONS, LOCAL, NOW, ValueOption, ZONES};
+use crate::verb_matches::VerbMatches;
+use cal_request::Request;
 use clap::error::ErrorKind;
 use clap::{Arg, ArgAction, ArgMatches, Command, Error};
 use std::alloc::{AllocError, Global};
@@ -53,39 +52,39 @@ impl Ask {
         ensures exact { IsAskOf (map S.text arguments.now) (shown_answer result) }
     {
         let matches = parse(alloc, arguments)?;
-        let Some(option_texts) = option_texts_in(&matches) else {
+        let Some(found) = VerbMatches::of(&matches) else {
             return Err(CommandFault::NoMemory);
         };
-        if option_texts.texts.is_empty() {
+        if found.texts.is_empty() {
             return Err(CommandFault::NoMemory);
         }
-        read_options(alloc, option_texts)
+        read_options(alloc, found)
     }
 }
 
 /// Checks the values of the options and builds the request.
 #[tactic(auto, unfolding(crate::specs::CommandLine::read_options))]
-fn read_options(alloc: Global, option_texts: OptionTexts) -> Result<Ask, CommandFault>
-    requires { 0 < length option_texts.texts.now }
-    ensures { IsOrNoMemory (shown_answer result) (read_options (shown_option_texts option_texts.entry)) }
+fn read_options(alloc: Global, found: VerbMatches) -> Result<Ask, CommandFault>
+    requires { 0 < length found.texts.now }
+    ensures { IsOrNoMemory (shown_answer result) (read_options (shown_matches found.entry)) }
 {
-    let Some(iterations) = iterations_of(option_texts.iterations) else {
+    let Some(iterations) = iterations_of(found.elapse_option(ITERATIONS)) else {
         return Err(CommandFault::BadIterations);
     };
-    let Some(now) = now_of(option_texts.now) else {
+    let Some(now) = now_of(found.zone_option(NOW)) else {
         return Err(CommandFault::BadNow);
     };
-    let Some(zones) = zones_of(alloc, option_texts.zones)? else {
+    let Some(zones) = zones_of(alloc, found.zone_option(ZONES))? else {
         return Err(CommandFault::BadZones);
     };
-    let Some(local) = local_zone_of(alloc, option_texts.local)? else {
+    let Some(local) = local_zone_of(alloc, found.zone_option(LOCAL))? else {
         return Err(CommandFault::BadLocal);
     };
     let request = Request {
-        verb: option_texts.verb,
-        texts: to_owned(alloc, option_texts.texts)?,
+        verb: found.verb,
+        texts: to_owned(alloc, found.texts)?,
         iterations,
-        base: base_of(alloc, option_texts.base)?,
+        base: base_of(alloc, found.elapse_option(BASE_TIME))?,
     };
     Ok(Ask {
         request,
@@ -95,76 +94,10 @@ fn read_options(alloc: Global, option_texts: OptionTexts) -> Result<Ask, Command
     })
 }
 
-/// Returns the verb and the values that `clap` found, or `None` if it found no verb or no texts.
-fn option_texts_in<'b, 'a>(matches: &'b ArgMatches<'a>) -> Option<OptionTexts<'b, 'a>>
-    ensures { option_map shown_option_texts result ≡ option_texts_in (subcommand_rows_of matches.now) }
-{
-    let (name, values) = matches.subcommand()?;
-    option_texts_for(verb_named(name)?, values)
-}
-
-/// Returns the values that `clap` found for the verb, or `None` if it found no texts.
-fn option_texts_for<'b, 'a>(verb: Verb, values: &'b ArgMatches<'a>) -> Option<OptionTexts<'b, 'a>>
-    ensures { option_map shown_option_texts result ≡ option_texts_for verb (rows_of (found_of values.now)) }
-{
-    let texts = texts_for(verb, values)?;
-    Some(OptionTexts {
-        verb,
-        texts,
-        iterations: option_text(values, verb.seeks_elapses(), "iterations"),
-        base: option_text(values, verb.seeks_elapses(), "base-time"),
-        now: option_text(values, verb.has_zones(), "now"),
-        local: option_text(values, verb.has_zones(), "local"),
-        zones: option_text(values, verb.has_zones(), "zones"),
-    })
-}
-
-/// Returns the texts that `clap` found, at most one for `timer`, or `None` if it found no texts.
-fn texts_for<'b, 'a>(verb: Verb, values: &'b ArgMatches<'a>) -> Option<&'b [&'a str]>
-    ensures file { IfSome result (λ texts. is_timer verb ≡ true → length texts.now ≤ 1) }
-    ensures value { option_map (λ texts. texts_of texts.now) result ≡ texts_for verb (rows_of (found_of values.now)) }
-{
-    let texts = values.get_strs("text")?;
-    Some(texts_kept(verb, texts))
-}
-
-/// Returns the texts that are used: only the first for `timer`, and all for other verbs. `clap` never finds more than
-/// one text for `timer`, but dropping the others is easier than proving that there are none.
-fn texts_kept<'b, 'a>(verb: Verb, texts: &'b [&'a str]) -> &'b [&'a str]
-    ensures file { is_timer verb ≡ true → length result.now ≤ 1 }
-    ensures value { texts_of result.now ≡ texts_kept verb (texts_of texts.entry.now) }
-{
-    if verb.is_timer() && texts.len() > 1 {
-        &texts[..1]
-    } else {
-        texts
-    }
-}
-
-/// Returns the value of an option. Returns `None` if the option wasn't given, or if `has` is `false`, which means that
-/// the verb doesn't have the option.
-fn option_text<'a>(values: &ArgMatches<'a>, has: bool, name: &str) -> Option<&'a str>
-    ensures { option_copied result ≡ option_text has name.now (rows_of (found_of values.now)) }
-{
-    if has { values.get_str(name) } else { None }
-}
-
-fn verb_named(name: &str) -> Option<Verb>
-    ensures { result ≡ verb_named name.now }
-{
-    match name {
-        "calendar" => Some(Verb::Calendar),
-        "timestamp" => Some(Verb::Timestamp),
-        "timespan" => Some(Verb::Timespan),
-        "timer" => Some(Verb::Timer),
-        _ => None,
-    }
-}
-
 /// Parses the arguments with `clap`.
 fn parse<'a, S: AsStr>(alloc: Global, arguments: &'a [S]) -> Result<ArgMatches<'a>, CommandFault>
     ensures faults { IfOk result (λ _. faults_in (map S.text arguments.now) ≡ []) }
-    ensures found { IfOk result (λ matches. option_texts_in (subcommand_rows_of matches) ≡ parsed_in (map S.text arguments.now)) }
+    ensures found { IfOk result (λ matches. verb_matches_in (subcommand_rows_of matches) ≡ parsed_in (map S.text arguments.now)) }
     ensures fault { IfErr result (λ fault. IsFaultOf (map S.text arguments.now) (shown_fault fault)) }
 {
     match build_command(alloc)?.try_get_matches_from(arguments) {
@@ -280,18 +213,8 @@ fn with_elapse_options<'a>(alloc: Global, command: Command<'a>) -> Result<Comman
     ensures local { IfOk result (λ changed. (fields_of changed).has_globals ≡ false) }
 {
     let command = command
-        .arg(option_arg(
-            alloc,
-            "iterations",
-            "N",
-            "Show at most N elapses, 1 to 1000000 [default: 1]",
-        ))?
-        .arg(option_arg(
-            alloc,
-            "base-time",
-            "STAMP",
-            "Show elapses after this timestamp [default: now]",
-        ))?;
+        .arg(option_arg(alloc, ITERATIONS))?
+        .arg(option_arg(alloc, BASE_TIME))?;
     with_zone_options(alloc, command)
 }
 
@@ -302,30 +225,20 @@ fn with_zone_options<'a>(alloc: Global, command: Command<'a>) -> Result<Command<
     ensures local { IfOk result (λ changed. (fields_of changed).has_globals ≡ false) }
 {
     command
-        .arg(option_arg(alloc, "local", "ZONE", LOCAL_HELP))?
-        .arg(option_arg(
-            alloc,
-            "zones",
-            "NAME=FILE,..",
-            "Read 1 to 64 zone files [default: none]",
-        ))?
-        .arg(option_arg(
-            alloc,
-            "now",
-            "@N",
-            "Present time in Unix seconds [default: the clock]",
-        ))
+        .arg(option_arg(alloc, LOCAL))?
+        .arg(option_arg(alloc, ZONES))?
+        .arg(option_arg(alloc, NOW))
 }
 
 /// Creates an option that takes one value and may be given once.
-fn option_arg<'a>(alloc: Global, name: &'a str, value: &'a str, help: &'a str) -> Arg<'a>
-    ensures rule { rule_of result ≡ option_rule name.entry.now }
+fn option_arg<'a>(alloc: Global, option: ValueOption) -> Arg<'a>
+    ensures rule { rule_of result ≡ option_rule option.name.now }
     ensures local { result.global ≡ false }
 {
-    Arg::new(alloc, name)
-        .long(name)
-        .value_name(value)
-        .help(help)
+    Arg::new(alloc, option.name)
+        .long(option.name)
+        .value_name(option.value)
+        .help(option.help)
         .action(ArgAction::Set)
 }
 
@@ -340,9 +253,6 @@ fn texts_arg<'a>(alloc: Global, help: &'a str) -> Arg<'a>
         .action(ArgAction::Append)
         .required(true)
 }
-
-const LOCAL_HELP: &str =
-    "Local zone: UTC, +hh:mm, -hh:mm, posix:RULE or a{n}name from --zones [default: UTC]";
 
 const STATUSES: &str =
     "Exit status:{n}  0  success{n}  1  an input or the base time is invalid, output failed or memory ran out{n}  2  the command line, a zone file, the local zone or the clock is invalid{n}{n}See 'calendar-analyze VERB --help' for the options of a verb.";

@@ -5,8 +5,10 @@ mod ask;
 mod command_fault;
 pub mod command_laws;
 mod command_line;
-mod option_texts;
+mod found;
 mod option_values;
+mod value_option;
+mod verb_matches;
 
 pub use ask::{Ask, LocalZone, ZoneItem};
 pub use command_fault::CommandFault;

@@ -1,7 +1,8 @@
 use Rattle.std.proofs.Common.{◌∙◌, ap, map, sym}
 use Rattle.clap.specs.Words.{fault_of, is_simple, is_simple_and_free, kind_of, subcommand_of, takes}
 use Rattle.cal_command.specs.Ask.{shown_fault}
-use Rattle.cal_command.specs.CommandLine.{faults_in, option_texts_in, parsed_in, takes_arguments}
+use Rattle.cal_command.specs.CommandLine.{faults_in, parsed_in, takes_arguments}
+use Rattle.cal_command.specs.VerbMatches.{verb_matches_in}
 use Rattle.cal_command.proofs.CommandLineLemmas.{is_free_command, is_simple_command, reported_fault}
 use Rattle.cal_command.proofs.command_line.parse.Goals as goal
 
@@ -15,7 +16,7 @@ pub returns-in-Ok-clause-found : goal.returns-in-Ok-clause-found
 unfolding parsed_in
 returns-in-Ok-clause-found g c =
     let app = c.in_ok-build_command.ensures in
-    ap option_texts_in ((c.in-Ok.ensures.matches (ap is_simple app ∙ is_simple_command)).1 ∙ ap (λ a. subcommand_of a (map g.S.AsStr.text c.args.arguments.now)) app)
+    ap verb_matches_in ((c.in-Ok.ensures.matches (ap is_simple app ∙ is_simple_command)).1 ∙ ap (λ a. subcommand_of a (map g.S.AsStr.text c.args.arguments.now)) app)
 
 pub returns-in-Err-clause-fault : goal.returns-in-Err-clause-fault
 unfolding faults_in takes_arguments

@@ -1,6 +1,5 @@
-use Rattle.std.proofs.Common.{◌∙◌, lit<, refl, sym, arith}
+use Rattle.std.proofs.Common.{lit<, sym, arith}
 use Rattle.std.proofs.lemmas.Str.Pattern.{starts_char}
-use Rattle.std.proofs.lemmas.Bool.{le-leb}
 use Rattle.std.proofs.lemmas.Bool.Decides.{nat_tests}
 use Rattle.cal_command.proofs.OptionLemmas.{number_between-plus, number_between-parsed}
 use Rattle.cal_command.proofs.option_values.number_between.Goals as goal

@@ -1,11 +1,11 @@
 use Rattle.std.proofs.Common.{◌∙◌, map}
 use Rattle.cal_command.specs.Ask.{shown_answer}
-use Rattle.cal_command.specs.OptionTextsView.{shown_option_texts}
+use Rattle.cal_command.specs.VerbMatches.{shown_matches}
 use Rattle.cal_command.proofs.CommandLineLemmas.{read_answer}
 use Rattle.cal_command.proofs.ask.Ask.of_arguments.Goals as goal
 
 pub returns : goal.returns
 returns g c = record {
-  exact = read_answer (map g.S.AsStr.text c.args.arguments.now) (shown_option_texts c.in-Some.option_texts) (shown_answer c.read_options.result) c.in_ok-matches.ensures.faults
+  exact = read_answer (map g.S.AsStr.text c.args.arguments.now) (shown_matches c.in-Some.found) (shown_answer c.read_options.result) c.in_ok-matches.ensures.faults
       (c.in-Some.ensures ∙ c.in_ok-matches.ensures.found) c.read_options.ensures;
 }

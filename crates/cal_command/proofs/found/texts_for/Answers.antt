@@ -1,7 +1,7 @@
 use Rattle.std.proofs.Common.{◌∙◌, Some, ap, codes, rules}
 use Rattle.clap.specs.Words.{found_of}
 use Rattle.clap.proofs.WalkLemmas.{raw_values-rows}
-use Rattle.cal_command.proofs.command_line.texts_for.Goals as goal
+use Rattle.cal_command.proofs.found.texts_for.Goals as goal
 
 pub returns-in_err-texts-clause-value : goal.returns-in_err-texts-clause-value
 returns-in_err-texts-clause-value c =

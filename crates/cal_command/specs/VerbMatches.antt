@@ -1,0 +1,51 @@
+-- What `clap` finds in the arguments: a verb with its texts, and the values of its options (systemd-analyze(1)).
+use Rattle.std.specs.Prelude.{List, take, Option, None, Some, codes, if◌then◌else◌, option_and_then, option_map}
+use Rattle.std.specs.Str.{bytes_eq}
+use Rattle.clap.specs.Words.{Row, Text, all_of, first_of, found_of, rows_of}
+use Rattle.cal_command.specs.Ask.{texts_of}
+use Rattle.cal_command.specs.declared.verb_matches.VerbMatches as declared_matches
+use Rattle.cal_request.specs.Request.{has_zones, is_timer, seeks_elapses}
+use Rattle.cal_request.specs.declared.request.Verb.{Verb}
+use Rattle.cal_request.specs.declared.request.Verb.TheVariants.{Calendar, Timer, Timestamp, Timespan}
+
+-- a verb with its texts, and what `clap` found for the verb, a row for each argument
+pub record VerbMatches : Type 0 where
+  pub verb : Verb
+  pub texts : List Text
+  pub rows : List Row
+
+abbrev pub verb_named : Text → Option Verb
+verb_named name =
+    if bytes_eq name (codes "calendar") then Some Calendar
+    else if bytes_eq name (codes "timestamp") then Some Timestamp
+    else if bytes_eq name (codes "timespan") then Some Timespan
+    else if bytes_eq name (codes "timer") then Some Timer else None
+
+-- the texts that are used: only the first for `timer`, and all for other verbs
+abbrev pub texts_kept : Verb → List Text → List Text
+texts_kept verb texts = if is_timer verb then take 1 texts else texts
+
+abbrev pub texts_for : Verb → List Row → Option (List Text)
+texts_for verb rows = option_map (texts_kept verb) (all_of (codes "text") rows)
+
+abbrev pub verb_matches_for : Verb → List Row → Option VerbMatches
+verb_matches_for verb rows = option_map (λ texts. record { verb = verb; texts = texts; rows = rows }) (texts_for verb rows)
+
+-- the verb whose name `clap` found, with its texts
+unfoldable pub verb_matches_in : Option (Text × List Row) → Option VerbMatches
+verb_matches_in = option_and_then (λ found. option_and_then (λ verb. verb_matches_for verb found.1) (verb_named found.0))
+
+-- the value of an option, if the verb computes elapses and the option was given
+abbrev pub elapse_option : VerbMatches → Text → Option Text
+elapse_option found name = if seeks_elapses found.verb then first_of name found.rows else None
+
+-- the value of an option, if the verb reads or prints instants and the option was given
+abbrev pub zone_option : VerbMatches → Text → Option Text
+zone_option found name = if has_zones found.verb then first_of name found.rows else None
+
+abbrev pub shown_matches : declared_matches.VerbMatches → VerbMatches
+shown_matches found = record {
+  verb = found.verb;
+  texts = texts_of found.texts.now;
+  rows = rows_of (found_of found.values.now);
+}

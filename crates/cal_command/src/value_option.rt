@@ -1,0 +1,43 @@
+//! The options that take a value (systemd-analyze(1)): what `clap` is told about them, and under which name it is asked for
+//! their values.
+
+/// An option that takes one value and may be given once.
+#[derive(Clone, Copy)]
+pub(crate) struct ValueOption {
+    /// The name, as it stands after `--`.
+    pub(crate) name: &'static str,
+    /// What the help calls the value.
+    pub(crate) value: &'static str,
+    /// The line of the help.
+    pub(crate) help: &'static str,
+}
+
+pub(crate) const ITERATIONS: ValueOption = ValueOption {
+    name: "iterations",
+    value: "N",
+    help: "Show at most N elapses, 1 to 1000000 [default: 1]",
+};
+
+pub(crate) const BASE_TIME: ValueOption = ValueOption {
+    name: "base-time",
+    value: "STAMP",
+    help: "Show elapses after this timestamp [default: now]",
+};
+
+pub(crate) const LOCAL: ValueOption = ValueOption {
+    name: "local",
+    value: "ZONE",
+    help: "Local zone: UTC, +hh:mm, -hh:mm, posix:RULE or a{n}name from --zones [default: UTC]",
+};
+
+pub(crate) const ZONES: ValueOption = ValueOption {
+    name: "zones",
+    value: "NAME=FILE,..",
+    help: "Read 1 to 64 zone files [default: none]",
+};
+
+pub(crate) const NOW: ValueOption = ValueOption {
+    name: "now",
+    value: "@N",
+    help: "Present time in Unix seconds [default: the clock]",
+};

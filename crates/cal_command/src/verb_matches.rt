@@ -1,0 +1,16 @@
+//! What `clap` found for a verb.
+
+ghost use Rattle.std.specs.Prelude.{◌≡◌, ◌≤◌, length, true};
+ghost use Rattle.cal_request.specs.Request.{is_timer};
+
+use cal_request::Verb;
+use clap::ArgMatches;
+
+/// A verb with its texts, and all that `clap` found for it. For `timer` there is at most one text.
+#[derive(Clone, Copy)]
+pub(crate) struct VerbMatches<'b, 'a> {
+    pub(crate) verb: Verb,
+    pub(crate) texts: &'b [&'a str],
+    pub(crate) values: &'b ArgMatches<'a>,
+    ghost file: { is_timer verb ≡ true → length texts.now ≤ 1 },
+}
