@@ -68,8 +68,8 @@ impl<'z> Elapses<'z> {
     }
 
     /// Returns how many searches have been made: one by `new`, and one after each match that `next` has converted to an
-    /// instant or passed over because it is in a gap. One search is the work of one call of
-    /// [`next_local`](crate::next_local): finding the first match at or after a local second.
+    /// instant or passed over because it is in a gap. One search finds the first match at or after a local second, as
+    /// one call of [`next_local`](crate::next_local) does.
     pub fn searches(&self) -> u64
         ensures { result ≡ self.now.searcher.searches }
     {

@@ -52,8 +52,8 @@ pub record IsWithoutUnit (ws : List Piece) (p : Pair) (rest : List Piece) : Type
   pub no_unit : BeginsWithNoUnit rest
   pub pair : p ≡ record { number = number.text; unit = None }
 
--- the words `ws` begin with a word that is not a number; this word forms a pair `p` with an empty number, and `rest`
--- follows it
+-- the words `ws` begin with a word that is not a number, and `rest` follows it; the word itself is dropped, so the pair
+-- `p` has an empty number and no unit
 pub record IsNoNumber (ws : List Piece) (p : Pair) (rest : List Piece) : Type 0 where
   pub word : Piece
   pub words : ws ≡ word ∷ rest

@@ -116,8 +116,7 @@ impl<'z> PlaceCache<'z> {
     }
 
     /// Computes [`PlaceCache::local_at`] by the zone's rules, for an instant that isn't the place of a local second of
-    /// the cached range. If there is a result, also caches a range that contains it, if such a range is found, for the
-    /// calls that follow.
+    /// the cached range. If there is a result, may also cache a range that contains it, for the calls that follow.
     #[cold]
     #[inline(never)]
     fn local_outside(&mut self, instant: Instant) -> Option<i64>
