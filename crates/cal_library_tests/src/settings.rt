@@ -8,8 +8,8 @@ use std::test::Fail;
 /// The name of a section, and its settings: the line number, the key and the value of each.
 type Row = (&'static str, &'static [(u32, &'static str, &'static str)]);
 
-/// The first example of systemd.syntax(7), followed by lines of our own that open `[Section A]` again. A continuation line loses its
-/// leading blanks.
+/// The first example of systemd.syntax(7), followed by lines of our own that open `[Section A]` again. A continuation
+/// line loses its leading blanks.
 const EXAMPLE: &str = "\
 [Section A]
 KeyOne=value 1
