@@ -20,10 +20,13 @@ pub use Rattle.cal_zone.specs.FormattedDay
 pub use Rattle.cal_zone.specs.Instant
 pub use Rattle.cal_zone.specs.InstantOffsetRange
 pub use Rattle.cal_zone.specs.InstantText
+pub use Rattle.cal_zone.specs.LoadFault
+pub use Rattle.cal_zone.specs.LoadZone
 pub use Rattle.cal_zone.specs.LocalAt
 pub use Rattle.cal_zone.specs.LocalOffsetRange
 pub use Rattle.cal_zone.specs.Place
 pub use Rattle.cal_zone.specs.Rules
+pub use Rattle.cal_zone.specs.Setting
 pub use Rattle.cal_zone.specs.ZoneFault
 pub use Rattle.cal_zone.specs.ZoneFile
 pub use Rattle.cal_zone.specs.ZoneMap

@@ -20,6 +20,7 @@ pub use cal_text::{
     trim_blanks_end, word_len,
 };
 pub use cal_zone::{
-    Civil, Instant, InstantFormatter, MICROS_PER_SECOND, Moment, PlaceCache, Rules, Zone,
-    ZoneFault, ZoneTable, civil, laws, place, push_instant, settle, write_instant,
+    Civil, Instant, InstantFormatter, LoadFault, MICROS_PER_SECOND, Moment, PlaceCache, Rules,
+    Setting, Zone, ZoneFault, ZoneTable, civil, laws, load_named, load_zone, place, push_instant,
+    settle, write_instant,
 };

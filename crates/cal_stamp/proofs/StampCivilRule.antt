@@ -16,7 +16,8 @@ use Rattle.cal_zone.specs.headline.FixedOffsetZone.{fixed_offset_zone}
 use Rattle.cal_civil.specs.headline.ZoneName.{begins_with_letter}
 use Rattle.cal_text.specs.headline.Separators.{is_colon}
 use Rattle.cal_spec.specs.Weekdays.{day_named}
-use Rattle.cal_stamp.specs.Stamp.{Setting, CivilStamp, begins_with_digit, name_found, offset_found, zone_of_word, zone_alone, zone_by_words, civil_stamp_in, after_date, after_weekday, weekday_found, civil_time}
+use Rattle.cal_zone.specs.Setting.{Setting}
+use Rattle.cal_stamp.specs.Stamp.{CivilStamp, begins_with_digit, name_found, offset_found, zone_of_word, zone_alone, zone_by_words, civil_stamp_in, after_date, after_weekday, weekday_found, civil_time}
 use Rattle.cal_stamp.specs.StampCivilRule.{IsCivilTime, MeansZone, NamesWeekday, WritesDate, WritesTime, NamesZone}
 use Rattle.cal_stamp.specs.declared.date.DateNumbers.{DateNumbers}
 use Rattle.cal_stamp.specs.StampDate.{is_hyphen, digits_number, date_by, date_of_pieces, date_numbers, day_due, day_written}

@@ -11,7 +11,8 @@ use Rattle.cal_text.specs.TrimRule.{IsTrimmed, StartsSolid}
 use Rattle.cal_text.specs.headline.Words.{is_blank}
 use Rattle.cal_zone.specs.Instant.{IsInstant}
 use Rattle.cal_zone.specs.headline.Moment.{micros_of}
-use Rattle.cal_stamp.specs.Stamp.{Setting, after_second, in_moments, moment_in, moment_of_form}
+use Rattle.cal_zone.specs.Setting.{Setting}
+use Rattle.cal_stamp.specs.Stamp.{after_second, in_moments, moment_in, moment_of_form}
 use Rattle.cal_stamp.specs.StampForm.{counted, form_of, form_of_solid}
 
 -- The form of a text that is `@` and digits

@@ -14,7 +14,8 @@ use Rattle.cal_civil.specs.headline.ZoneName.{begins_with_letter}
 use Rattle.cal_text.specs.AndThen.{◌>>=◌}
 use Rattle.cal_text.specs.headline.Separators.{is_colon}
 use Rattle.cal_spec.specs.Weekdays.{day_named}
-use Rattle.cal_stamp.specs.Stamp.{Setting, begins_with_digit, name_found, offset_found, zone_of_word, zone_alone, zone_by_words, civil_stamp_in, after_date, after_weekday, weekday_found, civil_time}
+use Rattle.cal_zone.specs.Setting.{Setting}
+use Rattle.cal_stamp.specs.Stamp.{begins_with_digit, name_found, offset_found, zone_of_word, zone_alone, zone_by_words, civil_stamp_in, after_date, after_weekday, weekday_found, civil_time}
 use Rattle.cal_stamp.specs.StampCivilRule.{NamesWeekday, WritesDate, WritesTime, NamesZone}
 use Rattle.cal_stamp.specs.StampDate.{day_written}
 use Rattle.cal_stamp.specs.StampTime.{time_written}

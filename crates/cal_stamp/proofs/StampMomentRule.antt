@@ -17,7 +17,8 @@ use Rattle.cal_civil.specs.headline.Local.{day_of}
 use Rattle.cal_zone.specs.headline.Moment.{micros_of}
 use Rattle.cal_zone.specs.headline.Zone.{local_shown_at}
 use Rattle.cal_spec.proofs.ReadLemmas.{bind_ok}
-use Rattle.cal_stamp.specs.Stamp.{Setting, CivilStamp, in_moments, after_second, before_second, today, settle_on, zone_by_words, civil_time, fits_weekday, moment_of_civil_stamp, moment_of_form, moment_in}
+use Rattle.cal_zone.specs.Setting.{Setting}
+use Rattle.cal_stamp.specs.Stamp.{CivilStamp, in_moments, after_second, before_second, today, settle_on, zone_by_words, civil_time, fits_weekday, moment_of_civil_stamp, moment_of_form, moment_in}
 use Rattle.cal_stamp.specs.StampCivilRule.{IsCivilTime}
 use Rattle.cal_stamp.specs.StampFaultRule.{HasError, IsBadSpan, IsWrong}
 use Rattle.cal_stamp.specs.StampForm.{Form, nothing, present, later, earlier, counted, from_today, civil, form_of}

@@ -41,7 +41,8 @@ use Rattle.cal_stamp.proofs.StampPrintedZones.{IsLastWord, last_byte, shown_last
 use Rattle.cal_stamp.proofs.StampRule.{only}
 use Rattle.cal_text.specs.AndThen.{◌>>=◌}
 use Rattle.cal_zone.specs.headline.Moment.{micros_of}
-use Rattle.cal_stamp.specs.Stamp.{Setting, after_date, begins_with_digit, civil_time, fits_weekday, in_moments, moment_in, moment_of_form, moment_of_civil_stamp, settle_on, civil_stamp_in, zone_of_word}
+use Rattle.cal_zone.specs.Setting.{Setting}
+use Rattle.cal_stamp.specs.Stamp.{after_date, begins_with_digit, civil_time, fits_weekday, in_moments, moment_in, moment_of_form, moment_of_civil_stamp, settle_on, civil_stamp_in, zone_of_word}
 use Rattle.cal_stamp.specs.StampDate.{day_written}
 use Rattle.cal_stamp.specs.StampForm.{Form, civil, counted, earlier, later}
 use Rattle.cal_stamp.specs.StampPrinted.{ShowsMinutes, ShowsYear}

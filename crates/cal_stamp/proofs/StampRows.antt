@@ -19,7 +19,8 @@ use Rattle.cal_civil.specs.headline.ZoneName.{is_utc_name}
 use Rattle.cal_spec.specs.Weekdays.{day_named}
 use Rattle.cal_text.specs.headline.Trim.{trim_matches, trim_end_matches, trim_start_matches}
 use Rattle.cal_text.specs.headline.Words.{words}
-use Rattle.cal_stamp.specs.Stamp.{Setting, moment_in, in_moments, today, settle_on, moment_of_civil_stamp, zone_by_words}
+use Rattle.cal_zone.specs.Setting.{Setting}
+use Rattle.cal_stamp.specs.Stamp.{moment_in, in_moments, today, settle_on, moment_of_civil_stamp, zone_by_words}
 use Rattle.cal_stamp.specs.StampDate.{digits_number, date_numbers, day_of_date, day_written}
 use Rattle.cal_stamp.specs.StampForm.{form_of, form_by_end, day_shift}
 use Rattle.cal_stamp.specs.StampTime.{clock_number, fraction_in, second_written, time_numbers, time_written}

@@ -14,6 +14,7 @@ use Rattle.cal_civil.specs.OffsetWord.{offset_in}
 use Rattle.cal_zone.specs.headline.Place.{settle_of}
 use Rattle.cal_span.specs.SpanValue.{span_of}
 use Rattle.cal_zone.specs.headline.Zone.{local_shown_at}
+use Rattle.cal_zone.specs.Setting.{Setting}
 use Rattle.cal_zone.specs.headline.FixedOffsetZone.{fixed_offset_zone}
 use Rattle.cal_civil.specs.headline.ZoneName.{begins_with_letter}
 use Rattle.cal_text.specs.headline.Separators.{is_colon}
@@ -25,11 +26,6 @@ use Rattle.cal_stamp.specs.declared.fault.StampFault.{StampFault}
 use Rattle.cal_stamp.specs.declared.fault.StampFault.TheVariants.{Empty, BadWeekday, BadDate, WrongWeekday, BadSpan, NoSuchZone, StrayWord, OutOfRange}
 use Rattle.cal_text.specs.AndThen.{◌>>=◌}
 use Rattle.cal_zone.specs.headline.Moment.{micros_of, micros_per_second}
-
--- the zones that a timestamp can refer to: the local zone, and the zones that have a name
-pub record Setting : Type 0 where
-  pub local : TimeZone
-  pub find : List ℕ → Option TimeZone
 
 -- Time spans
 

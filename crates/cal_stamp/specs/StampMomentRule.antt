@@ -8,7 +8,8 @@ use Rattle.cal_span.specs.SpanValue.{span_of}
 use Rattle.cal_zone.specs.headline.Moment.{micros_of, micros_per_second}
 use Rattle.cal_zone.specs.headline.Place.{settle_of}
 use Rattle.cal_zone.specs.headline.Zone.{local_shown_at}
-use Rattle.cal_stamp.specs.Stamp.{Setting, CivilStamp}
+use Rattle.cal_zone.specs.Setting.{Setting}
+use Rattle.cal_stamp.specs.Stamp.{CivilStamp}
 use Rattle.cal_stamp.specs.StampCivilRule.{IsCivilTime, NamesZone}
 use Rattle.cal_stamp.specs.StampForm.{Form, nothing, present, later, earlier, counted, from_today, civil}
 use Rattle.cal_civil.specs.headline.Local.{seconds_per_day}

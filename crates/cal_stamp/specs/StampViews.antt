@@ -5,8 +5,8 @@ use Rattle.jiff.specs.Types.{TimeZone}
 use Rattle.cal_zone.specs.declared.moment.Moment.{Moment}
 use Rattle.cal_zone.specs.declared.zone.Zone.{Zone}
 use Rattle.cal_zone.specs.headline.Zone.{zone_of}
+use Rattle.cal_zone.specs.Setting.{Setting}
 use Rattle.cal_text.specs.headline.Words.{words}
-use Rattle.cal_zone.specs.headline.ZoneTable.{zone_named}
 use Rattle.cal_stamp.specs.Stamp as meaning
 use Rattle.cal_stamp.specs.StampForm as forms
 use Rattle.cal_stamp.specs.declared.fault.StampFault.{StampFault}
@@ -14,7 +14,6 @@ use Rattle.cal_stamp.specs.declared.form.Form as declared
 use Rattle.cal_stamp.specs.declared.form.Form.TheVariants.{Nothing, Present, Later, Earlier, Counted, Midnight, Civil}
 use Rattle.cal_stamp.specs.declared.form.RelativeDay.{RelativeDay}
 use Rattle.cal_stamp.specs.declared.form.RelativeDay.TheVariants.{Yesterday, Today, Tomorrow}
-use Rattle.cal_stamp.specs.declared.setting.Setting as zones
 use Rattle.cal_stamp.specs.declared.civil_stamp.CivilStamp as civil_stamp
 
 -- the result of parsing a timestamp, with the moment as microseconds of Unix time
@@ -46,8 +45,5 @@ form_seen (Midnight day after) = forms.from_today (shift_of day) (words after.no
 form_seen (Civil text) = forms.civil (words text.now)
 
 -- the zones that a timestamp can refer to, given the local zone and the function that finds a zone by its name
-abbrev pub setting : TimeZone → (List ℕ → Option TimeZone) → meaning.Setting
+abbrev pub setting : TimeZone → (List ℕ → Option TimeZone) → Setting
 setting local find = record { local = local; find = find }
-
-abbrev pub setting_seen : zones.Setting → meaning.Setting
-setting_seen at = setting (zone_of at.local) (zone_named at.table.now)

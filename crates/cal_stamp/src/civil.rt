@@ -3,30 +3,30 @@
 ghost use Rattle.std.specs.Prelude.{◌≡◌, ◌≤◌, pos, neg_ℤ, IfOk, IfSome};
 ghost use Rattle.std.specs.List.{list_any};
 ghost use Rattle.jiff.specs.Words.{IsBetween};
+ghost use Rattle.cal_zone.specs.Setting.{setting_seen};
 ghost use Rattle.cal_text.specs.headline.Separators.{is_colon};
 ghost use Rattle.cal_text.specs.headline.Words.{words};
 ghost use Rattle.cal_stamp.specs.Stamp.{begins_with_digit, after_date, after_weekday, civil_time, fits_weekday, moment_of_civil_stamp, civil_stamp_in};
-ghost use Rattle.cal_stamp.specs.StampViews.{micros_or_fault, setting_seen, civil_stamp_seen, civil_stamp_or_fault};
+ghost use Rattle.cal_stamp.specs.StampViews.{micros_or_fault, civil_stamp_seen, civil_stamp_or_fault};
 ghost use Rattle.cal_civil.specs.headline.Local.{last_day};
 
 use crate::StampFault;
 use crate::civil_stamp::CivilStamp;
 use crate::date::read_date;
 use crate::moment::{settle_on, today};
-use crate::setting::Setting;
 use crate::time::read_time;
 use crate::zone::read_zone;
 use cal_civil::begins_with_letter;
 use cal_spec::find_day;
 use cal_text::first_word;
-use cal_zone::{Instant, Moment};
+use cal_zone::{Instant, Moment, Setting};
 use jiff::civil::Weekday;
 use jiff_core::civil::Date;
 
 /// Parses a civil time, `[weekday] [date] [time] [zone]` with at least a date or a time (systemd.time(7), Parsing
 /// Timestamps). The words are checked from the left, and the first error is returned.
-pub(crate) fn read_civil<'t>(text: &str, at: &Setting<'t>) -> Result<CivilStamp<'t>, StampFault>
-    ensures { civil_stamp_or_fault result ≡ civil_time (setting_seen at.now) (words text.now) }
+pub(crate) fn read_civil<'t>(text: &str, at: Setting<'t>) -> Result<CivilStamp<'t>, StampFault>
+    ensures { civil_stamp_or_fault result ≡ civil_time (setting_seen at.entry) (words text.now) }
 {
     match first_word(text) {
         Some((word, after)) if begins_with_letter(word.as_bytes()) => {
@@ -42,9 +42,9 @@ pub(crate) fn read_civil<'t>(text: &str, at: &Setting<'t>) -> Result<CivilStamp<
 fn after_weekday<'t>(
     weekday: Option<Weekday>,
     text: &str,
-    at: &Setting<'t>,
+    at: Setting<'t>,
 ) -> Result<CivilStamp<'t>, StampFault>
-    ensures { civil_stamp_or_fault result ≡ after_weekday (setting_seen at.now) weekday (words text.now) }
+    ensures { civil_stamp_or_fault result ≡ after_weekday (setting_seen at.entry) weekday (words text.now) }
 {
     let (word, after) = first_word(text).ok_or(StampFault::BadDate)?;
     if has_colon(word.as_bytes()) {
@@ -67,10 +67,10 @@ fn after_date<'t>(
     weekday: Option<Weekday>,
     day: i64,
     text: &str,
-    at: &Setting<'t>,
+    at: Setting<'t>,
 ) -> Result<CivilStamp<'t>, StampFault>
     requires { IsBetween (pos 0) (pos last_day) day }
-    ensures { civil_stamp_or_fault result ≡ after_date (setting_seen at.now) weekday day (words text.now) }
+    ensures { civil_stamp_or_fault result ≡ after_date (setting_seen at.entry) weekday day (words text.now) }
 {
     match first_word(text) {
         Some((word, after)) if begins_with_digit(word.as_bytes()) => {

@@ -8,7 +8,6 @@ mod fault;
 mod form;
 pub mod laws;
 mod moment;
-mod setting;
 mod stamp;
 mod text;
 mod time;

@@ -12,10 +12,9 @@ use crate::form::{Form, form_of};
 use crate::moment::{
     after_second, before_second, micros_of, moment_of, relative_day_number, settle_on,
 };
-use crate::setting::Setting;
 use crate::zone::read_zone;
 use cal_span::read_span;
-use cal_zone::{Instant, Moment, Zone, ZoneTable};
+use cal_zone::{Instant, Moment, Setting, Zone, ZoneTable};
 
 /// Parses a timestamp and returns the moment that it stands for (systemd.time(7), Parsing Timestamps).
 ///
@@ -42,7 +41,11 @@ pub fn read_stamp(
     ensures { micros_or_fault result
         ≡ moment_in now.secs (setting (zone_of local.entry) (zone_named table.now)) text.now }
 {
-    let at = Setting { local, table };
+    let at = Setting {
+        now,
+        local,
+        zones: table,
+    };
     match form_of(text) {
         Form::Nothing => Err(StampFault::Empty),
         Form::Present => moment_of(micros_of(now.secs())),
@@ -50,11 +53,11 @@ pub fn read_stamp(
         Form::Earlier(span) => before_second(now.secs(), read_span(span)?),
         Form::Counted(span) => after_second(0, read_span(span)?),
         Form::Midnight(day, after) => {
-            let zone = read_zone(after, &at)?;
+            let zone = read_zone(after, at)?;
             settle_on(zone, relative_day_number(now, zone, day), 0)
         }
         Form::Civil(text) => {
-            let stamp = read_civil(text, &at)?;
+            let stamp = read_civil(text, at)?;
             moment_of_civil_stamp(now, stamp)
         }
     }

@@ -1,17 +1,17 @@
 //! Parsing the zone of a timestamp.
 
 ghost use Rattle.std.specs.Prelude.{◌≡◌};
+ghost use Rattle.cal_zone.specs.Setting.{setting_seen};
 ghost use Rattle.cal_zone.specs.headline.Zone.{zone_of};
 ghost use Rattle.cal_zone.specs.headline.ZoneTable.{zone_named};
 ghost use Rattle.cal_text.specs.headline.Words.{words};
 ghost use Rattle.cal_stamp.specs.Stamp.{zone_by_words, zone_of_word};
-ghost use Rattle.cal_stamp.specs.StampViews.{setting_seen, zone_or_fault};
+ghost use Rattle.cal_stamp.specs.StampViews.{zone_or_fault};
 
 use crate::StampFault;
-use crate::setting::Setting;
 use cal_civil::{begins_with_letter, read_offset};
 use cal_text::first_word;
-use cal_zone::{Zone, ZoneTable};
+use cal_zone::{Setting, Zone, ZoneTable};
 
 /// Parses `text` as a zone: no words, which stand for the local zone, or one word, which is a name in the table or an
 /// offset (systemd.time(7), Parsing Timestamps). A word that doesn't begin with a letter is never looked up in the
@@ -19,13 +19,13 @@ use cal_zone::{Zone, ZoneTable};
 ///
 /// Fails with `NoSuchZone` if the first word begins with a letter and is not a name in the table, and with `StrayWord`
 /// if the first word begins with anything else and is not an offset, or if another word follows a valid zone.
-pub(crate) fn read_zone<'t>(text: &str, at: &Setting<'t>) -> Result<Zone<'t>, StampFault>
-    ensures { zone_or_fault result ≡ zone_by_words (setting_seen at.now) (words text.now) }
+pub(crate) fn read_zone<'t>(text: &str, at: Setting<'t>) -> Result<Zone<'t>, StampFault>
+    ensures { zone_or_fault result ≡ zone_by_words (setting_seen at.entry) (words text.now) }
 {
     let Some((word, after)) = first_word(text) else {
         return Ok(at.local);
     };
-    let zone = zone_of_word(word, at.table)?;
+    let zone = zone_of_word(word, at.zones)?;
     match first_word(after) {
         None => Ok(zone),
         Some(_) => Err(StampFault::StrayWord),

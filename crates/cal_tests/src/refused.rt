@@ -7,8 +7,7 @@
 use cal_command::Ask;
 use cal_library_tests::shared::{ensure, zone_file};
 use cal_streams::Port;
-use cal_work::load_zone;
-use cal_zone::ZoneTable;
+use cal_zone::{ZoneTable, load_zone};
 use std::test::Fail;
 
 static ARGUMENTS: [&str; 4] = [

@@ -3,10 +3,9 @@
 use cal_faulty::{Faulty, Then};
 use cal_library_tests::shared::{ensure, zone_file};
 use cal_streams::Port;
-use cal_work::LoadFault::{self, Zone};
-use cal_work::load_zone;
+use cal_zone::LoadFault::{self, Zone};
 use cal_zone::ZoneFault::{self, BadFile, BadName, NameTaken, TooLarge};
-use cal_zone::{ZoneTable, place};
+use cal_zone::{ZoneTable, load_zone, place};
 use std::alloc::Global;
 use std::test::Fail;
 

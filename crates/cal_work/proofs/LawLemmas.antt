@@ -21,7 +21,7 @@ use Rattle.cal_work.specs.Stop.{Stop}
 use Rattle.cal_work.specs.System.{Known, Seen, GivesTime, SeesBytes, is_cut}
 use Rattle.cal_work.specs.WorkLaw.{TellsAll, taken_of, known_seen, known_time, known_zones, known_world, known_outcome, IsOr}
 use Rattle.cal_work.specs.Works.{SeesZones, SeesIf, Fits, FitsArguments}
-use Rattle.cal_work.specs.declared.zone_files.LoadFault.{LoadFault}
+use Rattle.cal_zone.specs.declared.zone_files.LoadFault.{LoadFault}
 use Rattle.cal_command.proofs.CommandLineLemmas.{taken_arguments}
 use Rattle.cal_text.proofs.General.{some_none}
 

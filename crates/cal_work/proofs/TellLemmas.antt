@@ -16,7 +16,7 @@ use Rattle.cal_request.specs.declared.request.RunFault.TheVariants.{OutFailed, E
 use Rattle.cal_request.specs.declared.request.Status.{Status}
 use Rattle.cal_command.specs.declared.command_fault.CommandFault.{CommandFault}
 use Rattle.cal_command.specs.declared.command_fault.CommandFault.TheVariants as command
-use Rattle.cal_work.specs.declared.zone_files.LoadFault.TheVariants.{ReadFailed, Zone}
+use Rattle.cal_zone.specs.declared.zone_files.LoadFault.TheVariants.{ReadFailed, Zone}
 use Rattle.cal_zone.specs.declared.zone_fault.ZoneFault.TheVariants as zone
 use Rattle.cal_work.specs.declared.stop.Outlet.{Outlet}
 use Rattle.cal_work.specs.declared.stop.Outlet.TheVariants.{OnOut, OnErr, Later}

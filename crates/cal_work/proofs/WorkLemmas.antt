@@ -24,7 +24,7 @@ use Rattle.cal_timer.specs.TimerText.{timer_file_limit}
 use Rattle.cal_stamp.specs.declared.fault.StampFault.{StampFault}
 use Rattle.cal_command.specs.Ask.{Ask, LocalZone, in_utc, ahead, by_rule, of_name, ZoneItem, shown_fault, bad_iterations, bad_now, bad_zones, bad_local, no_memory}
 use Rattle.cal_command.specs.CommandLine.{IsAskOf}
-use Rattle.cal_work.specs.LoadZone.{IsLoaded, IsLoadFault, is_load_read_failed}
+use Rattle.cal_zone.specs.LoadZone.{IsLoaded, IsLoadFault, is_load_read_failed}
 use Rattle.cal_work.specs.Outcome.{ZoneFound, and_then, loaded, table_by, local_by, present_by, input_if, run_by, asked_at, outcome, outcome_of, out_text, err_text}
 use Rattle.cal_report.specs.Report.{ByReading, IsReported, ReadsIf, base_in, file_name, reads_input, report, report_from}
 use Rattle.cal_report.specs.headline.Report.{Report}
@@ -36,8 +36,8 @@ use Rattle.cal_work.specs.WorkSteps.{StopsAs, Loads, ReadsZones, FindsLocal, IsB
 use Rattle.cal_work.specs.Works.{SeesZones, ReadsZone}
 use Rattle.cal_command.specs.declared.command_fault.CommandFault as declared_fault
 use Rattle.cal_command.specs.declared.command_fault.CommandFault.TheVariants as command
-use Rattle.cal_work.specs.declared.zone_files.LoadFault.{LoadFault}
-use Rattle.cal_work.specs.declared.zone_files.LoadFault.TheVariants.{ReadFailed, Zone}
+use Rattle.cal_zone.specs.declared.zone_files.LoadFault.{LoadFault}
+use Rattle.cal_zone.specs.declared.zone_files.LoadFault.TheVariants.{ReadFailed, Zone}
 use Rattle.cal_request.specs.declared.request.RunFault.{RunFault}
 use Rattle.cal_request.specs.declared.request.RunFault.TheVariants.{OutFailed, ErrFailed, NoMemory}
 use Rattle.cal_request.specs.declared.request.Status.{Status}

@@ -1,5 +1,3 @@
-pub mod LoadFault
-pub mod LoadZone
 pub mod Outcome
 pub mod Stop
 pub mod System

@@ -20,8 +20,8 @@ use Rattle.cal_request.specs.Request.{is_timer}
 use Rattle.cal_request.specs.headline.Request.{Request}
 use Rattle.cal_work.specs.Stop.{Stop, command_stop, load_stop, rule_stop, name_stop, clock_stop, unopened_stop, memory_stop, exit_status}
 use Rattle.cal_work.specs.System.{Seen}
-use Rattle.cal_work.specs.declared.zone_files.LoadFault.{LoadFault}
-use Rattle.cal_work.specs.declared.zone_files.LoadFault.TheVariants.{ReadFailed, Zone}
+use Rattle.cal_zone.specs.declared.zone_files.LoadFault.{LoadFault}
+use Rattle.cal_zone.specs.declared.zone_files.LoadFault.TheVariants.{ReadFailed, Zone}
 use Rattle.cal_request.specs.declared.request.RunFault.{RunFault}
 use Rattle.cal_request.specs.declared.request.RunFault.TheVariants as run
 

@@ -16,7 +16,7 @@ use Rattle.cal_request.specs.headline.Request.{Request}
 use Rattle.cal_work.specs.Stop.{Stop, exit_status, is_for_memory, is_out_stop, is_err_stop, outlet_of, shown_stop, stop_text}
 use Rattle.cal_work.specs.System.{Known, Seen, GivesTime}
 use Rattle.cal_work.specs.Works.{Fits, FitsArguments, IsLocal, SeesFile, SeesZone, SeesZones}
-use Rattle.cal_work.specs.declared.zone_files.LoadFault.{LoadFault}
+use Rattle.cal_zone.specs.declared.zone_files.LoadFault.{LoadFault}
 use Rattle.cal_request.specs.declared.request.RunFault.{RunFault}
 use Rattle.cal_request.specs.declared.request.RunFault.TheVariants.{OutFailed, ErrFailed, NoMemory}
 use Rattle.cal_request.specs.declared.request.Status.{Status}

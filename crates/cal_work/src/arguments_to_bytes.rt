@@ -19,13 +19,12 @@ ghost use Rattle.cal_work.specs.Works.{Reaches, TellsFault, Works};
 
 use crate::stop::{Outlet, Stop, exit_status, write_stop};
 use crate::system::System;
-use crate::zone_files::{LoadFault, load_named};
 use cal_bytes::Sink;
 use cal_command::{Ask, CommandFault, LocalZone, ZoneItem};
 use cal_report::{file_name, run};
 use cal_request::{Request, RunFault, Status, Verb};
 use cal_streams::{Output, Port};
-use cal_zone::{Instant, Rules, Zone, ZoneTable};
+use cal_zone::{Instant, LoadFault, Rules, Zone, ZoneTable, load_named};
 use std::alloc::Global;
 use std::convert::AsStr;
 

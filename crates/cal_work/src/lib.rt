@@ -5,9 +5,8 @@ mod arguments_to_bytes;
 mod stop;
 mod system;
 pub mod work_laws;
-mod zone_files;
 
 pub use arguments_to_bytes::{Ended, work};
+pub use cal_zone::{LoadFault, load_zone};
 pub use stop::{Stop, write_stop};
 pub use system::System;
-pub use zone_files::{LoadFault, load_zone};

@@ -5,11 +5,10 @@ ghost use Rattle.cal_bytes.specs.Puts.{Puts};
 ghost use Rattle.cal_command.specs.Ask.{shown_fault};
 ghost use Rattle.cal_work.specs.Stop.{command_outlet, command_stop, command_text, exit_status, fault_stop, load_outlet, load_stop, outlet_of, own_line, shown_stop, stop_text, unopened_line, zones_line};
 
-use crate::zone_files::LoadFault;
 use cal_bytes::{Sink, WriteFault, put_all, put_pieces};
 use cal_command::CommandFault;
 use cal_request::{RunFault, Status};
-use cal_zone::ZoneFault;
+use cal_zone::{LoadFault, ZoneFault};
 
 /// Why the program stops before everything is done.
 #[derive(Debug, Drop)]

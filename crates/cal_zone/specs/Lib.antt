@@ -3,10 +3,13 @@ pub mod FormattedDay
 pub mod Instant
 pub mod InstantOffsetRange
 pub mod InstantText
+pub mod LoadFault
+pub mod LoadZone
 pub mod LocalAt
 pub mod LocalOffsetRange
 pub mod Place
 pub mod Rules
+pub mod Setting
 pub mod ZoneFault
 pub mod ZoneFile
 pub mod ZoneMap

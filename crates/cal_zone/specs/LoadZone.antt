@@ -11,8 +11,8 @@ use Rattle.cal_civil.specs.headline.ZoneName.{is_zone_name}
 use Rattle.cal_zone.specs.ZoneTable.{IsAddable, IsAddFault}
 use Rattle.cal_zone.specs.declared.zone_fault.ZoneFault.{ZoneFault}
 use Rattle.cal_zone.specs.declared.zone_fault.ZoneFault.TheVariants.{BadName, BadRule, BadFile, TooLarge, NoMemory, NameTaken}
-use Rattle.cal_work.specs.declared.zone_files.LoadFault.{LoadFault}
-use Rattle.cal_work.specs.declared.zone_files.LoadFault.TheVariants.{ReadFailed, Zone}
+use Rattle.cal_zone.specs.declared.zone_files.LoadFault.{LoadFault}
+use Rattle.cal_zone.specs.declared.zone_files.LoadFault.TheVariants.{ReadFailed, Zone}
 
 -- The file was loaded: the bytes read are a valid zone file, the name was free, and the table has gained this zone.
 pub record IsLoaded (old new : Option (List ℕ)) (before after : ZoneMap) (name : List ℕ) : Type 0 where

@@ -2,12 +2,12 @@
 
 ghost use Rattle.std.specs.Prelude.{◌≡◌, true, false, MatchResult, OnErr};
 ghost use Rattle.cal_civil.specs.headline.ZoneName.{is_zone_name};
-ghost use Rattle.cal_work.specs.LoadZone.{is_load_read_failed, IsLoaded, IsLoadFault};
+ghost use Rattle.cal_zone.specs.LoadZone.{is_load_read_failed, IsLoaded, IsLoadFault};
 
+use crate::{Rules, ZoneFault, ZoneTable};
 use cal_bytes::Source;
 use cal_civil::is_zone_name;
 use cal_streams::{WholeFault, read_whole};
-use cal_zone::{Rules, ZoneFault, ZoneTable};
 use std::alloc::Global;
 
 /// Why a zone file can't be loaded.
@@ -27,7 +27,7 @@ pub enum LoadFault {
 }
 
 impl LoadFault {
-    ghost use Rattle.cal_work.specs.LoadFault.{message_of};
+    ghost use Rattle.cal_zone.specs.LoadFault.{message_of};
 
     /// Returns the message for the user. For `Zone` it is the message of the error inside.
     pub fn words(&self) -> &str
@@ -72,7 +72,7 @@ pub fn load_zone<R: Source>(
 }
 
 /// Like [`load_zone`], for a name that is known to be valid.
-pub(crate) fn load_named<R: Source>(
+pub fn load_named<R: Source>(
     alloc: Global,
     table: &mut ZoneTable,
     name: &str,
