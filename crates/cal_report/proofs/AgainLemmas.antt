@@ -7,13 +7,11 @@ use Rattle.jiff.proofs.SpanFacts.{signed_arith}
 use Rattle.cal_streams.specs.declared.whole.WholeFault.{WholeFault}
 use Rattle.cal_rising.specs.headline.Elements.{Has}
 use Rattle.cal_zone.specs.Instant.{IsInstant}
-use Rattle.cal_zone.specs.headline.Zone.{zone_of}
-use Rattle.cal_zone.specs.headline.ZoneTable.{zone_named}
 use Rattle.cal_stamp.proofs.StampCounted.{counted_back}
-use Rattle.cal_stamp.specs.StampViews.{setting}
-use Rattle.cal_report.specs.ElapseLines.{AreInstants}
+use Rattle.cal_plan.specs.Instants.{AreInstants}
 use Rattle.cal_report.specs.Report.{base_from, base_in, report, second_or_fault}
 use Rattle.cal_report.specs.Resume.{AreShown, IsBaseAfter, IsBegunAgain, Resumes, base_after, begun_again, showing}
+use Rattle.cal_report.specs.Setting.{setting_of}
 use Rattle.cal_report.specs.TimestampReport.{stamp_in}
 use Rattle.cal_report.specs.headline.Headline.{Schedule, base_text, started_at}
 use Rattle.cal_report.proofs.HeadlineElapses.{elapses_are_instants}
@@ -29,7 +27,7 @@ counted_base : (asked : Request) (secs : ℤ) → IsInstant secs → base_from a
 unfolding stamp_in
 counted_base asked (pos n) h =
     let whole : n * 1_000_000 / 1_000_000 ≡ n = omega arith in
-    ap second_or_fault (counted_back asked.now (setting (zone_of asked.local) (zone_named asked.zones)) n h) ∙ ap (λ m. Ok (pos m)) whole
+    ap second_or_fault (counted_back asked.now (setting_of asked) n h) ∙ ap (λ m. Ok (pos m)) whole
 counted_base asked (negsuc n) h = absurd (omega (arith, signed_arith, h.0))
 
 pub base_at : (asked : Request) (secs : ℤ) → IsInstant secs → base_in (started_at asked secs) ≡ Ok secs

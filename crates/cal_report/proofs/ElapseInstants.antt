@@ -6,7 +6,7 @@ use Rattle.cal_elapse.specs.headline.Timed.{timed}
 use Rattle.cal_elapse.proofs.ElapsesLemmas.{elapses_except-none}
 use Rattle.cal_elapse.proofs.InstantLemmas.{IsInstant-pairs}
 use Rattle.cal_spec.specs.headline.Fields.{Fields}
-use Rattle.cal_report.specs.ElapseLines.{AreInstants}
+use Rattle.cal_plan.specs.Instants.{AreInstants}
 
 pub elapses_are_instants : (fields : Fields) (tz : TimeZone) (base : ℤ) → pos 0 ≤ℤ base → AreInstants (elapses_after (timed fields tz ∷ []) base)
 elapses_are_instants fields tz base low i there =

@@ -28,16 +28,18 @@ use Rattle.cal_timer.specs.declared.fault.TimerFault.{TimerFault}
 use Rattle.cal_timer.proofs.ListedLemmas.{fault_of_exception, fault_of_expression}
 use Rattle.cal_timer.proofs.TimerRuleLemmas.{judged}
 use Rattle.cal_report.specs.Answer.{texts_status}
-use Rattle.cal_report.specs.CalendarReport.{answer_in, answer_with, calendar_answer, zone_for}
+use Rattle.cal_report.specs.CalendarReport.{answer_in, answer_with, calendar_answer}
 use Rattle.cal_report.specs.headline.Headline.{AreAccepted, AreSpelled, Expression, IsAccepted, IsAcceptedFile, IsZoneFor, Spells, assigned_in}
 use Rattle.cal_report.specs.Report.{answer_by, answer_to, base_in, file_name, report, texts_report, whole_report}
 use Rattle.cal_report.specs.headline.Report.{Report}
-use Rattle.cal_report.specs.TimerReport.{answer_of_timer, answer_unless, lacks_zone, timer_answer, unzoned}
+use Rattle.cal_report.specs.TimerReport.{answer_of_timer, answer_unless, timer_answer}
 use Rattle.cal_request.specs.headline.Request.{Request}
 use Rattle.cal_request.specs.declared.request.Status.TheVariants.{Fine, Refused}
 use Rattle.cal_request.specs.declared.request.Verb.TheVariants as verb
 use Rattle.cal_report.proofs.HeadlineLemmas.{HaveOneNormalForm, report_of_texts, spelled_is_read, text_of}
-use Rattle.cal_report.proofs.TimerLemmas.{all_zoned, none_mapped}
+use Rattle.cal_plan.proofs.PlanLemmas.{all_zoned, none_mapped}
+use Rattle.cal_plan.specs.ZoneFor.{lacks_zone, unzoned, zone_for}
+use Rattle.cal_report.specs.Setting.{setting_of}
 use Rattle.cal_text.proofs.General.{some_found}
 
 -- If the status is `Fine`, every text was accepted
@@ -58,7 +60,7 @@ read_is_spelled : AreNormalForms → (text : List ℕ) (fields : Fields) → exp
 unfolding expr_in
 read_is_spelled some text fields h = spelled_by some text fields (fields_in text) refl h
 
-found_is_zone : (asked : Request) (suffix : Option ZoneSuffix) (tz : TimeZone) → zone_for asked suffix ≡ Some tz → IsZoneFor asked suffix tz
+found_is_zone : (asked : Request) (suffix : Option ZoneSuffix) (tz : TimeZone) → zone_for (setting_of asked) suffix ≡ Some tz → IsZoneFor asked suffix tz
 unfolding zone_for
 found_is_zone asked None tz h = let same : zone_of asked.local ≡ tz = cc in sym same
 found_is_zone asked (Some (of_name name)) tz h = h
@@ -71,7 +73,7 @@ pub record IsAcceptedText (asked : Request) (text : List ℕ) : Type 0 where
   pub accepted : IsAccepted asked expression
 
 accepted_in : AreNormalForms → (asked : Request) (base : ℤ) (text : List ℕ) (fields : Fields) (o : Option TimeZone) → expr_in text ≡ Ok fields
-    → zone_for asked fields.zone ≡ o → is_err (answer_in asked base text fields o) ≡ false → IsAcceptedText asked text
+    → zone_for (setting_of asked) fields.zone ≡ o → is_err (answer_in asked base text fields o) ≡ false → IsAcceptedText asked text
 accepted_in some asked base text fields None read found h = cc
 accepted_in some asked base text fields (Some tz) read found h = record {
   expression = record { text = text; fields = fields; tz = tz };
@@ -81,7 +83,7 @@ accepted_in some asked base text fields (Some tz) read found h = record {
 
 accepted_with : AreNormalForms → (asked : Request) (base : ℤ) (text : List ℕ) (r : Result Fields SpecFault) → expr_in text ≡ r
     → is_err (answer_with asked base text r) ≡ false → IsAcceptedText asked text
-accepted_with some asked base text (Ok fields) read h = accepted_in some asked base text fields (zone_for asked fields.zone) read refl h
+accepted_with some asked base text (Ok fields) read h = accepted_in some asked base text fields (zone_for (setting_of asked) fields.zone) read refl h
 accepted_with some asked base text (Err fault) read h = cc
 
 pub text_accepted : AreNormalForms → (asked : Request) (base : ℤ) (text : List ℕ) → asked.verb ≡ verb.Calendar
@@ -178,10 +180,10 @@ found_none : (p : TimerLine Fields → Bool) (x : TimerLine Fields) (xs : List (
 found_none p x xs true is h = absurd (let never : ◌≡◌ {A = Option (TimerLine Fields)} (Some x) None = rw is at h in cc)
 found_none p x xs false is h = (is, rw is at h)
 
-one_more : (asked : Request) (a : Assignment) (list : List Assignment) (spelled : IsSpelled a) → expr_in a.value ≡ Ok spelled.0 → lacks_zone asked (record { number = a.number; text = a.value; expr = spelled.0 }) ≡ false
+one_more : (asked : Request) (a : Assignment) (list : List Assignment) (spelled : IsSpelled a) → expr_in a.value ≡ Ok spelled.0 → lacks_zone (setting_of asked) (record { number = a.number; text = a.value; expr = spelled.0 }) ≡ false
     → AreExpressionsOf asked list → AreExpressionsOf asked (a ∷ list)
 one_more asked a list spelled read there rest =
-    let zone = some_found (zone_for asked (spelled.0).zone) there in
+    let zone = some_found (zone_for (setting_of asked) (spelled.0).zone) there in
     record {
       expressions = record { text = a.value; fields = spelled.0; tz = zone.0 } ∷ rest.expressions;
       same = ap (λ (ts : List (List ℕ)). a.value ∷ ts) rest.same;
@@ -190,13 +192,13 @@ one_more asked a list spelled read there rest =
     }
 
 expressions_of : HaveOneNormalForm → (asked : Request) (list : List Assignment) → AllByRecursion IsSpelled list
-    → find (lacks_zone asked) (filter_map (λ a. entry_of a (expr_in a.value)) list) ≡ None → AreExpressionsOf asked list
+    → find (lacks_zone (setting_of asked)) (filter_map (λ a. entry_of a (expr_in a.value)) list) ≡ None → AreExpressionsOf asked list
 expressions_of one asked [] spelled h = no_expressions asked
 expressions_of one asked (a ∷ list) spelled h =
     let read = spelled_is_read one a.value (spelled.0).0 (spelled.0).1 in
     let entry : TimerLine Fields = record { number = a.number; text = a.value; expr = (spelled.0).0 } in
     let rest = filter_map (λ a. entry_of a (expr_in a.value)) list in
-    let parts = found_none (lacks_zone asked) entry rest (lacks_zone asked entry) refl (rw read at h) in
+    let parts = found_none (lacks_zone (setting_of asked)) entry rest (lacks_zone (setting_of asked) entry) refl (rw read at h) in
     one_more asked a list spelled.0 read parts.0 (expressions_of one asked list spelled.1 parts.1)
 
 read_parts : (utf8 : Bool) (good bad : Result (Timer Fields) TimerFault) (lists : Timer Fields) (fault : TimerFault) → bad ≡ Err fault
@@ -205,18 +207,18 @@ read_parts true good bad lists fault is h = (refl, h)
 read_parts false good bad lists fault is h = absurd (let never : ◌≡◌ {A = Result (Timer Fields) TimerFault} (Err fault) (Ok lists) = sym is ∙ h in cc)
 
 lists_accepted : HaveOneNormalForm → AreNormalForms → (asked : Request) (bytes : List ℕ) (lists : Timer Fields) → timer_in expr_in bytes ≡ Ok lists
-    → unzoned asked lists ≡ None → IsAcceptedFile asked bytes
+    → unzoned (setting_of asked) lists ≡ None → IsAcceptedFile asked bytes
 unfolding timer_in timer_of entries
 lists_accepted one some asked bytes lists read there =
     let parts = read_parts (is_utf8 bytes) _ _ lists _ refl read in
     let all = assigned_in bytes in
     let judges : JudgesTimer expr_in all (Ok lists) = subst (JudgesTimer expr_in all) parts.1 (judged expr_in all) in
     let spelled = fine_spelled some all judges.0 in
-    let zoned = all_zoned asked lists there in
-    let none : find (lacks_zone asked) (entries expr_in all).expressions ≡ None
-    = ap (λ (l : Timer Fields). find (lacks_zone asked) l.expressions) judges.1 ∙ none_mapped (find (lacks_zone asked) lists.expressions) zoned.0 in
-    let nor : find (lacks_zone asked) (entries expr_in all).exceptions ≡ None
-    = ap (λ (l : Timer Fields). find (lacks_zone asked) l.exceptions) judges.1 ∙ none_mapped (find (lacks_zone asked) lists.exceptions) zoned.1 in
+    let zoned = all_zoned (setting_of asked) lists there in
+    let none : find (lacks_zone (setting_of asked)) (entries expr_in all).expressions ≡ None
+    = ap (λ (l : Timer Fields). find (lacks_zone (setting_of asked)) l.expressions) judges.1 ∙ none_mapped (find (lacks_zone (setting_of asked)) lists.expressions) zoned.0 in
+    let nor : find (lacks_zone (setting_of asked)) (entries expr_in all).exceptions ≡ None
+    = ap (λ (l : Timer Fields). find (lacks_zone (setting_of asked)) l.exceptions) judges.1 ∙ none_mapped (find (lacks_zone (setting_of asked)) lists.exceptions) zoned.1 in
     let found = expressions_of one asked (listed all) (listed_spelled all spelled) none in
     let except = expressions_of one asked (excepted all) (excepted_spelled all spelled) nor in
     let many : length found.expressions ≡ length lists.expressions = found.many ∙ ap (λ (l : Timer Fields). length l.expressions) judges.1 in
@@ -227,13 +229,13 @@ lists_accepted one some asked bytes lists read there =
     }
 
 accepted_unless : HaveOneNormalForm → AreNormalForms → (asked : Request) (bytes name : List ℕ) (base : ℤ) (lists : Timer Fields) (o : Option ℕ)
-    → timer_in expr_in bytes ≡ Ok lists → unzoned asked lists ≡ o → (whole_report (answer_unless asked base name lists o)).status ≡ Fine → IsAcceptedFile asked bytes
+    → timer_in expr_in bytes ≡ Ok lists → unzoned (setting_of asked) lists ≡ o → (whole_report (answer_unless asked base name lists o)).status ≡ Fine → IsAcceptedFile asked bytes
 accepted_unless one some asked bytes name base lists None read there h = lists_accepted one some asked bytes lists read there
 accepted_unless one some asked bytes name base lists (Some number) read there h = never_fine h
 
 accepted_of : HaveOneNormalForm → AreNormalForms → (asked : Request) (bytes name : List ℕ) (base : ℤ) (r : Result (Timer Fields) TimerFault)
     → timer_in expr_in bytes ≡ r → (whole_report (answer_of_timer asked base name r)).status ≡ Fine → IsAcceptedFile asked bytes
-accepted_of one some asked bytes name base (Ok lists) read h = accepted_unless one some asked bytes name base lists (unzoned asked lists) read refl h
+accepted_of one some asked bytes name base (Ok lists) read h = accepted_unless one some asked bytes name base lists (unzoned (setting_of asked) lists) read refl h
 accepted_of one some asked bytes name base (Err fault) read h = never_fine h
 
 report_of_timer : (asked : Request) (bytes : List ℕ) (base : ℤ) → asked.verb ≡ verb.Timer → base_in asked ≡ Ok base

@@ -21,7 +21,7 @@ use Rattle.cal_elapse.specs.headline.Timed.{timed}
 use Rattle.cal_elapse.proofs.ElapsesLemmas.{AreElapses-elapses_except, AreElapses-only, elapses_except-later}
 use Rattle.cal_elapse.proofs.InstantLemmas.{IsInstant-elapse}
 use Rattle.cal_stamp.specs.declared.fault.StampFault.{StampFault}
-use Rattle.cal_report.specs.ElapseLines.{AreInstants}
+use Rattle.cal_plan.specs.Instants.{AreInstants}
 use Rattle.cal_report.specs.headline.Headline.{AreElapsesOf, Expression, Schedule, meaning}
 use Rattle.cal_report.specs.Report.{base_from, base_in, second_or_fault}
 use Rattle.cal_report.specs.TimestampReport.{stamp_in}

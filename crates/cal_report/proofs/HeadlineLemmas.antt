@@ -23,14 +23,17 @@ use Rattle.cal_timer.specs.TimerRule.{AreFine}
 use Rattle.cal_timer.specs.TimerText.{TimerLine, Timer, entries, entry_of, fault_following, fault_joining, timer_in, timer_of}
 use Rattle.cal_timer.specs.headline.TimerText.{excepted, is_exception, is_expression, listed, max_expressions}
 use Rattle.cal_timer.proofs.TimerRuleLemmas.{only_judged}
+use Rattle.cal_plan.specs.TimerElapses.{elapses_of_lists, timed_entry}
+use Rattle.cal_plan.specs.ZoneFor.{lacks_zone, unzoned, zone_for}
+use Rattle.cal_report.specs.Setting.{setting_of}
 use Rattle.cal_report.specs.Answer.{error_lines, report_in, reports_text, texts_status}
 use Rattle.cal_spec.specs.headline.ZoneSuffix.{ZoneSuffix, of_name, ahead}
-use Rattle.cal_report.specs.CalendarReport.{answer_in, answer_with, calendar_answer, calendar_report, zone_for}
+use Rattle.cal_report.specs.CalendarReport.{answer_in, answer_with, calendar_answer, calendar_report}
 use Rattle.cal_report.specs.headline.CalendarReport.{heading_text}
 use Rattle.cal_report.specs.headline.ElapseLines.{elapses_text}
 use Rattle.cal_report.specs.headline.Headline.{AreAllAccepted, AreReportsOf, AreSpelled, Expression, IsAccepted, IsFileOf, IsFine, IsReportOf, IsZoneFor, Schedule, Spells, alone, assigned_in, headings, meaning}
 use Rattle.cal_report.specs.Report.{ByReading, IsReported, answer_by, answer_to, base_in, file_name, report, texts_report}
-use Rattle.cal_report.specs.TimerReport.{elapses_of_lists, headings_text, lacks_zone, timed_entry, timer_answer, timer_report, unzoned}
+use Rattle.cal_report.specs.TimerReport.{headings_text, timer_answer, timer_report}
 use Rattle.cal_report.specs.headline.ReportLines.{except_label, original_label}
 use Rattle.cal_request.specs.Request.{is_timer}
 use Rattle.cal_request.specs.headline.Request.{Request}
@@ -51,7 +54,7 @@ spelled_is_read one text fields h =
     let found = valid_only text h.raw h.valid in
     rw found (ap Ok (sym (one h.raw fields (valid_fields text h.raw found) h.normal)))
 
-zone_is_found : (asked : Request) (suffix : Option ZoneSuffix) (tz : TimeZone) → IsZoneFor asked suffix tz → zone_for asked suffix ≡ Some tz
+zone_is_found : (asked : Request) (suffix : Option ZoneSuffix) (tz : TimeZone) → IsZoneFor asked suffix tz → zone_for (setting_of asked) suffix ≡ Some tz
 unfolding zone_for
 zone_is_found asked None tz h = ap Some (sym h)
 zone_is_found asked (Some (of_name name)) tz h = h
@@ -169,7 +172,7 @@ all_fine one all h before a after split = no_fault one before a (is_expression a
 record IsEntryOf (asked : Request) (entry : TimerLine Fields) (e : Expression) : Type 0 where
   text : entry.text ≡ e.text
   expr : entry.expr ≡ e.fields
-  zone : zone_for asked e.fields.zone ≡ Some e.tz
+  zone : zone_for (setting_of asked) e.fields.zone ≡ Some e.tz
 
 entries_are : HaveOneNormalForm → (asked : Request) (list : List Assignment) (es : List Expression)
     → map (λ (a : Assignment). a.value) list ≡ map text_of es → AllByRecursion (IsAccepted asked) es
@@ -187,7 +190,7 @@ entries_are one asked (a ∷ list) (e ∷ es) same all =
     )
 
 none_lacks : (asked : Request) (list : List (TimerLine Fields)) (es : List Expression) → AllZip (IsEntryOf asked) list es
-    → find (lacks_zone asked) list ≡ None
+    → find (lacks_zone (setting_of asked)) list ≡ None
 none_lacks asked [] [] h = refl
 none_lacks asked [] (e ∷ es) h = absurd h
 none_lacks asked (entry ∷ list) [] h = absurd h
@@ -195,7 +198,7 @@ none_lacks asked (entry ∷ list) (e ∷ es) h =
     rw (h.0.expr, h.0.zone) (none_lacks asked list es h.1)
 
 meanings_are : (asked : Request) (list : List (TimerLine Fields)) (es : List Expression) → AllZip (IsEntryOf asked) list es
-    → map (timed_entry asked) list ≡ map meaning es
+    → map (timed_entry (setting_of asked)) list ≡ map meaning es
 unfolding timed_entry
 meanings_are asked [] [] h = refl
 meanings_are asked [] (e ∷ es) h = absurd h
@@ -241,7 +244,7 @@ file_is_read one asked bytes s file all =
     let some = as_many asked (entries_in bytes).expressions s.expressions (file_entries one asked bytes s file all).expressions file.some in
     rw file.utf8 (sym (only_judged expr_in (assigned_in bytes) (Ok (entries_in bytes)) (all_fine one (assigned_in bytes) file.spelled, refl, some)))
 
-all_there : (asked : Request) (lists : Timer Fields) (s : Schedule) → AreEntriesOf asked lists s → unzoned asked lists ≡ None
+all_there : (asked : Request) (lists : Timer Fields) (s : Schedule) → AreEntriesOf asked lists s → unzoned (setting_of asked) lists ≡ None
 unfolding unzoned
 all_there asked lists s h =
     rw (none_lacks asked lists.expressions s.expressions h.expressions, none_lacks asked lists.exceptions s.exceptions h.exceptions) refl
@@ -348,5 +351,5 @@ one_meaning one asked e f h k text =
     let read : ◌≡◌ {A = Result Fields SpecFault} (Ok e.fields) (Ok f.fields) = sym here ∙ (ap expr_in text ∙ there) in
     let fields : e.fields ≡ f.fields = cc in
     let zone : Some e.tz ≡ Some f.tz
-    = sym (zone_is_found asked e.fields.zone e.tz h.zone) ∙ (ap (λ (g : Fields). zone_for asked g.zone) fields ∙ zone_is_found asked f.fields.zone f.tz k.zone) in
+    = sym (zone_is_found asked e.fields.zone e.tz h.zone) ∙ (ap (λ (g : Fields). zone_for (setting_of asked) g.zone) fields ∙ zone_is_found asked f.fields.zone f.tz k.zone) in
     same_expression e f text fields (cc)

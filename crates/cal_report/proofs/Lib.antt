@@ -1,4 +1,3 @@
-pub mod AddedLemmas
 pub mod AgainLemmas
 pub mod AmongLemmas
 pub mod AnswerLemmas

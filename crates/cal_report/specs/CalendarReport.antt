@@ -2,17 +2,15 @@
 use Rattle.std.specs.Prelude.{ℕ, ℤ, List, [], ◌∷◌, take, Option, None, Some, Result, Ok, Err, codes}
 use Rattle.jiff.specs.Types.{TimeZone}
 use Rattle.cal_bytes.specs.headline.Bytes.{joined}
-use Rattle.cal_zone.specs.headline.Zone.{zone_of}
-use Rattle.cal_zone.specs.headline.FixedOffsetZone.{fixed_offset_zone}
-use Rattle.cal_zone.specs.headline.ZoneTable.{zone_named}
 use Rattle.cal_elapse.specs.Elapses.{elapses_after}
 use Rattle.cal_elapse.specs.headline.Timed.{timed}
 use Rattle.cal_spec.specs.Expr.{expr_in}
 use Rattle.cal_spec.specs.headline.Fields.{Fields}
 use Rattle.cal_spec.specs.SpecFault.{message_of}
-use Rattle.cal_spec.specs.headline.ZoneSuffix.{ZoneSuffix, of_name, ahead}
 use Rattle.cal_spec.specs.declared.spec_fault.SpecFault.{SpecFault}
+use Rattle.cal_plan.specs.ZoneFor.{zone_for}
 use Rattle.cal_report.specs.Answer.{Answer}
+use Rattle.cal_report.specs.Setting.{setting_of}
 use Rattle.cal_report.specs.headline.ElapseLines.{elapses_text}
 use Rattle.cal_request.specs.headline.Request.{Request}
 use Rattle.cal_report.specs.headline.CalendarReport.{heading_text}
@@ -28,13 +26,6 @@ report_of_elapses asked text fields elapses =
 unfoldable pub calendar_report : Request → ℤ → List ℕ → Fields → TimeZone → List ℕ
 calendar_report asked base text fields tz = report_of_elapses asked text fields (elapses_after (timed fields tz ∷ []) base)
 
--- The zone in which an expression with this zone suffix is evaluated: the local zone if there is no suffix, the fixed
--- zone at a UTC offset, or the zone of a name in the table. The result is `None` if the table has no zone of that name.
-unfoldable pub zone_for : Request → Option ZoneSuffix → Option TimeZone
-zone_for asked None = Some (zone_of asked.local)
-zone_for asked (Some (of_name name)) = zone_named asked.zones name
-zone_for asked (Some (ahead seconds)) = Some (fixed_offset_zone seconds)
-
 -- the report of an expression in its zone, or the error message if its zone isn't in the table
 abbrev pub answer_in : Request → ℤ → List ℕ → Fields → Option TimeZone → Answer
 answer_in asked base text fields None = Err (codes "no such zone")
@@ -43,7 +34,7 @@ answer_in asked base text fields (Some tz) = Ok (calendar_report asked base text
 -- the report of a parsed expression, or the error message
 abbrev pub answer_with : Request → ℤ → List ℕ → Result Fields SpecFault → Answer
 answer_with asked base text (Err fault) = Err (message_of fault)
-answer_with asked base text (Ok fields) = answer_in asked base text fields (zone_for asked fields.zone)
+answer_with asked base text (Ok fields) = answer_in asked base text fields (zone_for (setting_of asked) fields.zone)
 
 -- the report of a calendar expression, or the error message
 unfoldable pub calendar_answer : Request → ℤ → List ℕ → Answer

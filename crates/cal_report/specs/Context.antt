@@ -5,4 +5,4 @@ use Rattle.cal_report.specs.declared.context.Context.{Context}
 
 -- the request of a context, together with the present and the zones of the context
 abbrev pub asked_by : Context → Request
-asked_by context = asked context.request.now context.now.secs context.local context.table.now
+asked_by context = asked context.request.now context.setting.now.secs context.setting.local context.setting.zones.now

@@ -2,9 +2,9 @@ pub mod Parsed
 pub mod Answer
 pub mod CalendarReport
 pub mod Context
-pub mod ElapseLines
 pub mod Report
 pub mod Resume
+pub mod Setting
 pub mod TimerPlan
 pub mod TimerReport
 pub mod TimespanReport

@@ -5,7 +5,7 @@ use Rattle.cal_elapse.specs.RemainingElapses.{remaining_elapses}
 use Rattle.cal_stamp.specs.StampFault.{message_of as stamp_message}
 use Rattle.cal_spec.specs.SpecFault.{message_of as spec_message}
 use Rattle.cal_report.specs.CalendarReport.{report_of_elapses}
-use Rattle.cal_report.specs.ElapseLines.{AreInstants}
+use Rattle.cal_plan.specs.Instants.{AreInstants}
 use Rattle.cal_request.specs.headline.Request.{Request}
 use Rattle.cal_report.specs.TimespanReport.{timespan_report}
 use Rattle.cal_report.specs.TimestampReport.{timestamp_report}

@@ -4,14 +4,12 @@ use Rattle.std.specs.Result.{result_map_both}
 use Rattle.cal_bytes.specs.headline.Bytes.{joined}
 use Rattle.cal_civil.specs.headline.OffsetText.{zeros}
 use Rattle.cal_zone.specs.headline.InstantText.{instant_text}
-use Rattle.cal_zone.specs.headline.Zone.{zone_of}
-use Rattle.cal_zone.specs.headline.ZoneTable.{zone_named}
 use Rattle.cal_zone.specs.declared.zone.Zone.{Zone}
 use Rattle.cal_stamp.specs.Stamp.{moment_in}
 use Rattle.cal_stamp.specs.StampFault.{message_of}
-use Rattle.cal_stamp.specs.StampViews.{setting}
 use Rattle.cal_stamp.specs.declared.fault.StampFault.{StampFault}
 use Rattle.cal_report.specs.Answer.{Answer}
+use Rattle.cal_report.specs.Setting.{setting_of}
 use Rattle.cal_zone.specs.headline.Moment.{micros_of, micros_per_second}
 use Rattle.cal_report.specs.headline.ReportLines.{distance_text, original_label, text_line, utc_line}
 use Rattle.cal_request.specs.headline.Request.{Request}
@@ -39,7 +37,7 @@ timestamp_report asked text micros = joined (text_line original_label text ∷ m
 
 -- the moment that a timestamp resolves to, in microseconds of Unix time, or why the timestamp is invalid
 unfoldable pub stamp_in : Request → List ℕ → Result ℤ StampFault
-stamp_in asked text = moment_in asked.now (setting (zone_of asked.local) (zone_named asked.zones)) text
+stamp_in asked text = moment_in asked.now (setting_of asked) text
 
 -- the report of a timestamp, or the error message
 unfoldable pub timestamp_answer : Request → List ℕ → Answer

@@ -6,7 +6,7 @@ ghost use Rattle.cal_bytes.specs.Puts.{Puts};
 ghost use Rattle.cal_report.specs.CalendarReport.{report_of_elapses};
 ghost use Rattle.cal_report.specs.headline.CalendarReport.{heading_text, normal_line};
 ghost use Rattle.cal_report.specs.Context.{asked_by};
-ghost use Rattle.cal_report.specs.ElapseLines.{AreInstants};
+ghost use Rattle.cal_plan.specs.Instants.{AreInstants};
 
 use crate::context::Context;
 use crate::elapse_lines::put_elapses;
@@ -35,8 +35,8 @@ pub fn write_calendar<W: Sink, S: Rising>(
         out,
         elapses,
         context.request.iterations,
-        context.local,
-        context.now,
+        context.setting.local,
+        context.setting.now,
     )
 }
 

@@ -15,7 +15,7 @@ ghost use Rattle.cal_spec.specs.headline.Match.{matches};
 ghost use Rattle.cal_spec.specs.headline.Members.{sets_of};
 ghost use Rattle.cal_elapse.specs.headline.Elapses.{AreElapses, IsPlace, Timed};
 ghost use Rattle.cal_elapse.specs.headline.Timed.{timed};
-ghost use Rattle.cal_report.specs.ElapseLines.{AreInstants};
+ghost use Rattle.cal_plan.specs.Instants.{AreInstants};
 ghost use Rattle.cal_report.specs.headline.Headline.{AreAccepted, AreAllAccepted, AreAnswered, AreElapsesOf, AreReportsOf, Expression, IsAccepted, IsAcceptedFile, IsFileOf, IsFine, IsReportOf, Schedule, alone, started_at};
 ghost use Rattle.cal_report.specs.Report.{ByReading, IsReported, base_in, report};
 ghost use Rattle.cal_report.specs.headline.Report.{Report};

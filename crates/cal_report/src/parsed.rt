@@ -1,9 +1,8 @@
 //! Parsing one argument of the verbs `calendar`, `timestamp` and `timespan`.
 
-ghost use Rattle.std.specs.Prelude.{◌≡◌, Ok, Err, IfOk, IfErr, IsErrOf, false, option_map};
-ghost use Rattle.cal_zone.specs.headline.Zone.{zone_of};
+ghost use Rattle.std.specs.Prelude.{◌≡◌, Ok, Err, IfOk, IfErr, IsErrOf, false};
 ghost use Rattle.cal_report.specs.Parsed.{HasInstants, report_text, text_error_message, verb_of};
-ghost use Rattle.cal_report.specs.CalendarReport.{calendar_answer, zone_for};
+ghost use Rattle.cal_report.specs.CalendarReport.{calendar_answer};
 ghost use Rattle.cal_report.specs.Context.{asked_by};
 ghost use Rattle.cal_report.specs.Report.{answer_to};
 ghost use Rattle.cal_report.specs.declared.text_error.TextError.TheVariants.{NoMemory};
@@ -12,11 +11,12 @@ ghost use Rattle.cal_request.specs.Request.{is_timer, seeks_elapses};
 use crate::context::Context;
 use crate::text_error::TextError;
 use cal_elapse::Elapses;
+use cal_plan::zone_for;
 use cal_request::Verb;
 use cal_span::{Span, read_span};
 use cal_spec::{Expr, SpecFault, read_expr};
 use cal_stamp::read_stamp;
-use cal_zone::{Moment, Zone};
+use cal_zone::{Moment, Setting};
 use std::alloc::{AllocError, Global};
 
 /// A parsed argument of one of the verbs `calendar`, `timestamp` and `timespan`.
@@ -52,10 +52,13 @@ pub fn read_text<'a>(
     match context.request.verb {
         Verb::Calendar => read_calendar(alloc, context, text),
         Verb::Timer => unreachable!(),
-        Verb::Timestamp => match read_stamp(text, context.now, context.local, context.table) {
-            Ok(moment) => Ok(Parsed::Timestamp(moment)),
-            Err(fault) => Err(TextError::Stamp(fault)),
-        },
+        Verb::Timestamp => {
+            let Setting { now, local, zones } = context.setting;
+            match read_stamp(text, now, local, zones) {
+                Ok(moment) => Ok(Parsed::Timestamp(moment)),
+                Err(fault) => Err(TextError::Stamp(fault)),
+            }
+        }
         Verb::Timespan => match read_span(text) {
             Ok(span) => Ok(Parsed::Timespan(span)),
             Err(fault) => Err(TextError::Span(fault)),
@@ -84,27 +87,11 @@ fn read_calendar<'a>(
         Err(SpecFault::NoMemory) => return Err(TextError::NoMemory),
         Err(fault) => return Err(TextError::Spec(fault)),
     };
-    let Some(zone) = zone_for(context, &expr) else {
+    let Some(zone) = zone_for(context.setting, &expr) else {
         return Err(TextError::NoSuchZone);
     };
     match Elapses::new(alloc, &expr, zone, context.base) {
         Ok(elapses) => Ok(Parsed::Calendar(expr, elapses)),
         Err(AllocError) => Err(TextError::NoMemory),
-    }
-}
-
-/// Returns the zone in which an expression is evaluated. Without a zone suffix this is the local zone, with a UTC
-/// offset it is the fixed zone at that offset, and with a zone name it is the zone of that name in the table. Returns
-/// `None` if the table has no zone of that name.
-#[tactic(auto, unfolding(crate::specs::CalendarReport::zone_for))]
-pub fn zone_for<'a>(context: Context<'a>, expr: &Expr) -> Option<Zone<'a>>
-    ensures { option_map zone_of result ≡ zone_for (asked_by context.entry) expr.now.zone }
-{
-    if let Some(seconds) = expr.zone_offset() {
-        return Some(Zone::offset(seconds));
-    }
-    match expr.zone_name() {
-        Some(name) => context.table.find(name),
-        None => Some(context.local),
     }
 }

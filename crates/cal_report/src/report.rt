@@ -27,7 +27,7 @@ use crate::timer_report::{TimerError, read_plan, write_timer};
 use cal_bytes::{Sink, Source, WriteFault, put_pieces};
 use cal_request::{Request, RunFault, Status, Verb};
 use cal_stamp::{StampFault, read_stamp};
-use cal_zone::{Instant, Zone, ZoneTable};
+use cal_zone::{Instant, Setting, Zone, ZoneTable};
 use itoa::Buffer;
 use std::alloc::Global;
 
@@ -77,10 +77,12 @@ pub fn run<R: Source, O: Sink, E: Sink>(
     };
     let context = Context {
         request,
-        now,
         base,
-        local,
-        table,
+        setting: Setting {
+            now,
+            local,
+            zones: table,
+        },
     };
     match request.verb {
         Verb::Timer => answer_timer(alloc, context, input, out, err),

@@ -28,7 +28,7 @@ pub fn write_timestamp<W: Sink>(
         (timestamp_report (asked_by context.entry) text.now moment.micros) }
 {
     put_text(out, ORIGINAL_LABEL, text)?;
-    put_moment(out, context.local, context.now, moment)
+    put_moment(out, context.setting.local, context.setting.now, moment)
 }
 
 /// Writes the lines of the report that describe the moment. The label `Normalized form:` of the first of these lines is

@@ -2,7 +2,7 @@
 -- `number` to at most `iterations`. The writer hasn't failed.
 use Rattle.std.proofs.Common.{◌≡◌, ◌+◌, ◌-◌, take}
 use Rattle.cal_bytes.proofs.PutLemmas.{PutsUpTo}
-use Rattle.cal_report.specs.ElapseLines.{AreInstants}
+use Rattle.cal_plan.specs.Instants.{AreInstants}
 use Rattle.cal_report.specs.headline.ElapseLines.{elapse_texts}
 use Rattle.cal_report.proofs.elapse_lines.put_more.Given as goal
 

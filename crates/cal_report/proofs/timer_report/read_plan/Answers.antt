@@ -1,4 +1,7 @@
-use Rattle.cal_report.proofs.TimerLemmas.{had_lists, merge_instants, plan_answers}
+use Rattle.cal_plan.specs.TimerElapses.{IsMergeOf}
+use Rattle.cal_report.specs.Context.{asked_by}
+use Rattle.cal_report.specs.Setting.{setting_of}
+use Rattle.cal_report.proofs.TimerLemmas.{had_lists, plan_answers}
 use Rattle.cal_report.proofs.timer_report.read_plan.Goals as goal
 
 pub returns-in-Ok-merge_of : goal.returns-in-Ok-merge_of
@@ -13,8 +16,8 @@ returns-in-Ok-merge_of g c =
         list.2,
         (
           had_lists _ _ list.3,
-          merge_instants _ _ _ _ merge c.args.context.base.in_range.0,
-          λ name. plan_answers _ _ list.0 _ _ list.3 merge name,
+          merge.instants,
+          λ name. plan_answers _ _ list.0 _ _ list.3 (rw (c.lines-lines.ensures, c.exceptions-exceptions.ensures) at merge.merge) name,
         ),
       );
     }

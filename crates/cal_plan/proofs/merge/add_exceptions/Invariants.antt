@@ -2,14 +2,14 @@
 use Rattle.std.proofs.Common.{◌≡◌, ◌++◌, false, map, take}
 use Rattle.cal_rising.specs.Merge.{Merge}
 use Rattle.cal_timer.specs.TimerView.{shown}
-use Rattle.cal_report.specs.Context.{asked_by}
-use Rattle.cal_report.specs.TimerPlan.{each_of}
-use Rattle.cal_report.proofs.timer_report.add_exceptions.Given as goal
+use Rattle.cal_zone.specs.Setting.{setting_seen}
+use Rattle.cal_plan.specs.TimerElapses.{each_of}
+use Rattle.cal_plan.proofs.merge.add_exceptions.Given as goal
 
 abbrev pub invariant-loop-line : goal.invariant-loop-line
 invariant-loop-line l =
     ◌≡◌ {A = Merge} l.merge (record {
       started = false;
       lists = l.fn.merge.lists;
-      exceptions = l.fn.merge.exceptions ++ each_of (asked_by l.context) l.context.base.secs (map shown (take l.line-index l.lines));
+      exceptions = l.fn.merge.exceptions ++ each_of (setting_seen l.setting) l.base.secs (map shown (take l.line-index l.lines));
     })

@@ -2,10 +2,10 @@
 -- suppressed by the exceptions may be missing.
 use Rattle.std.proofs.Common.{map, take}
 use Rattle.cal_timer.specs.TimerView.{shown}
-use Rattle.cal_report.specs.Context.{asked_by}
-use Rattle.cal_report.specs.TimerPlan.{IsAdded}
-use Rattle.cal_report.proofs.timer_report.add_expressions.Given as goal
+use Rattle.cal_zone.specs.Setting.{setting_seen}
+use Rattle.cal_plan.specs.TimerElapses.{IsAdded}
+use Rattle.cal_plan.proofs.merge.add_expressions.Given as goal
 
 abbrev pub invariant-loop-line : goal.invariant-loop-line
 invariant-loop-line l =
-    IsAdded (asked_by l.context) l.context.base.secs (map shown (take l.line-index l.lines)) (map shown l.exceptions) l.fn.merge l.merge
+    IsAdded (setting_seen l.setting) l.base.secs (map shown (take l.line-index l.lines)) (map shown l.exceptions) l.fn.merge l.merge

@@ -2,8 +2,8 @@
 use Rattle.std.proofs.Common.{◌≡◌, map, take}
 use Rattle.cal_elapse.specs.Masks.{sets_in}
 use Rattle.cal_timer.specs.TimerView.{shown}
-use Rattle.cal_report.specs.TimerPlan.{entry_sets}
-use Rattle.cal_report.proofs.timer_report.masks_of_lines.Given as goal
+use Rattle.cal_plan.specs.TimerElapses.{entry_sets}
+use Rattle.cal_plan.proofs.merge.masks_of_lines.Given as goal
 
 abbrev pub invariant-loop-line : goal.invariant-loop-line
 invariant-loop-line l = map sets_in l.masks.items ≡ map entry_sets (map shown (take l.line-index l.lines))

@@ -1,0 +1,4 @@
+pub mod Instants
+pub mod PlanFault
+pub mod TimerElapses
+pub mod ZoneFor

@@ -1,0 +1,62 @@
+-- The elapse times of expressions and exceptions, each in its zone, and the merge that yields them: systemd.timer(5),
+-- OnCalendar=.
+use Rattle.std.specs.Prelude.{◌≡◌, ◌++◌, ℤ, false, map, List, Option, None, Some}
+use Rattle.std.specs.Option.{unwrap_or}
+use Rattle.jiff.specs.Types.{TimeZone, UTC}
+use Rattle.cal_zone.specs.Setting.{Setting}
+use Rattle.cal_rising.specs.Merge.{Merge, merged}
+use Rattle.cal_elapse.specs.Covered.{AreKept, IsCovered}
+use Rattle.cal_elapse.specs.Elapses.{elapses_except}
+use Rattle.cal_elapse.specs.headline.Elapses.{Timed}
+use Rattle.cal_elapse.specs.headline.Timed.{timed}
+use Rattle.cal_elapse.specs.Merged.{each_after}
+use Rattle.cal_timer.specs.TimerText.{TimerLine, Timer}
+use Rattle.cal_timer.specs.TimerView.{shown}
+use Rattle.cal_timer.specs.declared.timer.TimerLine as declared_line
+use Rattle.cal_spec.specs.headline.Fields.{Fields}
+use Rattle.cal_spec.specs.headline.Match.{Sets}
+use Rattle.cal_spec.specs.headline.Members.{sets_of}
+use Rattle.cal_plan.specs.ZoneFor.{unzoned, zone_for}
+
+-- how contracts see a list of expressions and a list of exceptions
+abbrev pub lists_shown : List declared_line.TimerLine → List declared_line.TimerLine → Timer Fields
+lists_shown lines exceptions = record { expressions = map shown lines; exceptions = map shown exceptions }
+
+-- `e` is the meaning of the expression on this line in its zone, which is known
+abbrev pub IsTimed : Setting → TimerLine Fields → Timed → Type 0
+IsTimed at line e = (tz : TimeZone) × (zone_for at line.expr.zone ≡ Some tz) × (e ≡ timed line.expr tz)
+
+-- the expression in its zone, or in UTC if its zone is missing from the zone table; UTC is then only a placeholder,
+-- since a missing zone is an error
+unfoldable pub timed_entry : Setting → TimerLine Fields → Timed
+timed_entry at e = timed e.expr (unwrap_or (zone_for at e.expr.zone) UTC)
+
+-- the elapse times of the expressions after the base time, without the elapse times of the exceptions
+unfoldable pub elapses_of_lists : Setting → ℤ → Timer Fields → List ℤ
+elapses_of_lists at base lists =
+    elapses_except (map (timed_entry at) lists.expressions) (map (timed_entry at) lists.exceptions) base
+
+-- for each expression of a list, its elapse times after the base time, in its zone
+abbrev pub each_of : Setting → ℤ → List (TimerLine Fields) → List (List ℤ)
+each_of at base list = each_after (map (timed_entry at) list) base
+
+-- for each field of the expression on this line, the values that the field matches
+abbrev pub entry_sets : TimerLine Fields → Sets
+entry_sets e = sets_of e.expr
+
+-- every elapse time of the expression is an elapse time of an exception, whatever the zones are
+abbrev pub IsCoveredEntry : TimerLine Fields → List (TimerLine Fields) → Type 0
+IsCoveredEntry e exceptions = (at : Setting) → IsCovered (timed_entry at e) (map (timed_entry at) exceptions)
+
+-- `new` is the merge `old` with the elapse times of these expressions added; expressions whose elapse times are all
+-- suppressed by the exceptions may be left out
+pub record IsAdded (at : Setting) (base : ℤ) (list exceptions : List (TimerLine Fields)) (old new : Merge) : Type 0 where
+  pub kept : List Timed
+  pub are_kept : AreKept (map (timed_entry at) list) (map (timed_entry at) exceptions) kept
+  pub is : new ≡ record { started = false; lists = old.lists ++ each_after kept base; exceptions = old.exceptions }
+
+-- no line names a zone missing from the zone table, and the merge yields the elapse times of all expressions, without
+-- the elapse times of the exceptions
+pub record IsMergeOf (at : Setting) (base : ℤ) (lists : Timer Fields) (merge : Merge) : Type 0 where
+  pub found : unzoned at lists ≡ None
+  pub is : merged merge ≡ elapses_of_lists at base lists

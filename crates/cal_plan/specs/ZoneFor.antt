@@ -1,0 +1,36 @@
+-- The zone in which an expression is evaluated (systemd.time(7), Calendar Events), and the first line whose expression
+-- names a zone that isn't known.
+use Rattle.std.specs.Prelude.{ℕ, Bool, List, min, Option, None, Some, is_none}
+use Rattle.std.specs.List.{find}
+use Rattle.std.specs.Option.{option_map}
+use Rattle.jiff.specs.Types.{TimeZone}
+use Rattle.cal_zone.specs.Setting.{Setting}
+use Rattle.cal_zone.specs.headline.FixedOffsetZone.{fixed_offset_zone}
+use Rattle.cal_spec.specs.headline.Fields.{Fields}
+use Rattle.cal_spec.specs.headline.ZoneSuffix.{ZoneSuffix, of_name, ahead}
+use Rattle.cal_timer.specs.TimerText.{TimerLine, Timer}
+
+-- The zone in which an expression with this zone suffix is evaluated: the local zone if there is no suffix, the fixed
+-- zone at a UTC offset, or the zone of a name in the table. The result is `None` if the table has no zone of that name.
+unfoldable pub zone_for : Setting → Option ZoneSuffix → Option TimeZone
+zone_for at None = Some at.local
+zone_for at (Some (of_name name)) = at.find name
+zone_for at (Some (ahead seconds)) = Some (fixed_offset_zone seconds)
+
+-- the expression names a zone that isn't in the zone table
+abbrev pub lacks_zone : Setting → TimerLine Fields → Bool
+lacks_zone at e = is_none (zone_for at e.expr.zone)
+
+-- the number of the first line of a list that names a zone missing from the zone table
+abbrev pub first_unzoned : Setting → List (TimerLine Fields) → Option ℕ
+first_unzoned at list = option_map (λ (e : TimerLine Fields). e.number) (find (lacks_zone at) list)
+
+-- the smaller of two line numbers, either of which may be missing
+abbrev pub lesser_line : Option ℕ → Option ℕ → Option ℕ
+lesser_line None b = b
+lesser_line (Some x) None = Some x
+lesser_line (Some x) (Some y) = Some (min x y)
+
+-- the number of the first line, among the expressions and the exceptions, that names a zone missing from the zone table
+unfoldable pub unzoned : Setting → Timer Fields → Option ℕ
+unzoned at lists = lesser_line (first_unzoned at lists.expressions) (first_unzoned at lists.exceptions)

@@ -1,0 +1,30 @@
+//! Laws on the zones and the elapses of expressions and exceptions. Each law is a function that does nothing and whose
+//! contract is the law.
+
+ghost use Rattle.std.specs.Prelude.{◌≡◌, ℕ, ℤ, List, None, Some};
+ghost use Rattle.std.specs.List.{AllZip};
+ghost use Rattle.cal_zone.specs.Setting.{Setting};
+ghost use Rattle.cal_zone.specs.headline.FixedOffsetZone.{fixed_offset_zone};
+ghost use Rattle.cal_spec.specs.headline.Fields.{Fields};
+ghost use Rattle.cal_spec.specs.headline.ZoneSuffix.{of_name, ahead};
+ghost use Rattle.cal_elapse.specs.headline.Elapses.{AreElapses, Timed};
+ghost use Rattle.cal_timer.specs.TimerText.{Timer};
+ghost use Rattle.cal_plan.specs.TimerElapses.{IsTimed, elapses_of_lists};
+ghost use Rattle.cal_plan.specs.ZoneFor.{zone_for};
+
+/// An expression without a zone suffix is evaluated in the local zone, one with a zone name in the zone of that name,
+/// and one with a UTC offset in the fixed zone at that offset (systemd.time(7), Calendar Events).
+#[tactic(auto, unfolding(crate::specs::ZoneFor::zone_for))]
+pub fn zones_are_those_of_suffixes()
+    ensures local { (at : Setting) → zone_for at None ≡ Some at.local }
+    ensures named { (at : Setting) (name : List ℕ) → zone_for at (Some (of_name name)) ≡ at.find name }
+    ensures offset { (at : Setting) (seconds : ℤ) → zone_for at (Some (ahead seconds)) ≡ Some (fixed_offset_zone seconds) }
+{}
+
+/// If every expression and every exception has a zone, the merged elapses are exactly the elapses of the expressions
+/// after the base, each expression in its own zone, without those of the exceptions (systemd.timer(5), OnCalendar=).
+pub fn merged_elapses_are_those_of_each_zone()
+    ensures { (at : Setting) (base : ℤ) (lists : Timer Fields) (es exceptions : List Timed)
+        → AllZip (IsTimed at) lists.expressions es → AllZip (IsTimed at) lists.exceptions exceptions
+        → AreElapses es exceptions base (elapses_of_lists at base lists) }
+{}

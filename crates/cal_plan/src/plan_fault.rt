@@ -1,0 +1,23 @@
+//! Why the elapses of expressions and exceptions can't be computed.
+
+ghost use Rattle.std.specs.Prelude.{◌≡◌};
+ghost use Rattle.cal_plan.specs.declared.plan_fault.PlanFault.TheVariants.{NoMemory};
+
+use std::alloc::AllocError;
+
+/// Why the elapses of expressions and exceptions can't be computed.
+#[derive(Clone, Copy, PartialEq, Eq, Debug)]
+pub enum PlanFault {
+    /// The expression or exception on this line names a zone that isn't in the zone table.
+    NoSuchZone(u32),
+    /// Allocation failed.
+    NoMemory,
+}
+
+impl From<AllocError> for PlanFault {
+    ghost from_gives = { λ _ fault. fault ≡ NoMemory };
+
+    fn from(_refused: AllocError) -> PlanFault {
+        PlanFault::NoMemory
+    }
+}
