@@ -1,0 +1,118 @@
+-- The map of the code against the list of entries, and what the entries have.
+use Rattle.std.proofs.Common.{◌≡◌, ℕ, Bool, true, false, cond, List, [], ◌∷◌, ◌++◌, refl, sym, ap, ◌∙◌, map, reverse, Option, Some, None, option_map, string_bytes}
+use Rattle.std.specs.BTreeMap.{insert_entry}
+use Rattle.std.specs.Cmp.Lexicographic.{slice_cmp}
+use Rattle.std.specs.List.{find, fold}
+use Rattle.std.specs.Map.{lookup}
+use Rattle.std.specs.Option.{option_or}
+use Rattle.std.specs.Ordering.{match_ordering, nat_cmp, is_eq}
+use Rattle.std.specs.Str.{bytes_eq}
+use Rattle.std.specs.Prelude.{String}
+use Rattle.std.specs.String.{string_cmp}
+use Rattle.std.specs.declared.alloc.Global.{Global}
+use Rattle.std.specs.declared.cmp.Ordering.{Ordering}
+use Rattle.std.specs.declared.cmp.Ordering.TheVariants.{Less, Equal, Greater}
+use Rattle.std.proofs.lemmas.List.{reverse-append, map-append}
+use Rattle.std.proofs.lemmas.List.Folds.{find-append}
+use Rattle.std.proofs.lemmas.List.Sums.{fold-append}
+use Rattle.std.proofs.lemmas.Bool.{false_from_ne_true}
+use Rattle.std.proofs.lemmas.Map.Text.{is_eq-slice_cmp}
+use Rattle.std.proofs.lemmas.Slice.Eq.{bytes_eq-Decides}
+use Rattle.cal_drop_ins.specs.declared.drop_ins.DropIn.{DropIn}
+use Rattle.cal_drop_ins.specs.DropIns.{Found, by_name, chosen, put, shown, shown_entry}
+
+put_by : (o : Ordering) (e : String Global × String Global) (es more : List (String Global × String Global)) (k : String Global) (v : String Global) (rest : List (List ℕ × List ℕ))
+    → map shown_entry more ≡ rest
+    → map shown_entry (match_ordering o ((k, v) ∷ e ∷ es) ((e.0, v) ∷ es) (e ∷ more))
+    ≡ match_ordering o ((string_bytes k, string_bytes v) ∷ shown_entry e ∷ map shown_entry es) ((string_bytes e.0, string_bytes v) ∷ map shown_entry es) (shown_entry e ∷ rest)
+put_by Less e es more k v rest h = refl
+put_by Equal e es more k v rest h = refl
+put_by Greater e es more k v rest h = ap (λ es. shown_entry e ∷ es) h
+
+pub shown_insert : (es : List (String Global × String Global)) (k : String Global) (v : String Global)
+    → map shown_entry (insert_entry string_cmp es k v) ≡ insert_entry (slice_cmp nat_cmp) (map shown_entry es) (string_bytes k) (string_bytes v)
+shown_insert [] k v = refl
+shown_insert (e ∷ es) k v = put_by (string_cmp k e.0) e es (insert_entry string_cmp es k v) k v _ (shown_insert es k v)
+
+-- one file more
+pub by_name_more : (found : List Found) (file : Found) → by_name (found ++ file ∷ []) ≡ put (by_name found) file
+unfolding by_name
+by_name_more found file = fold-append put [] found (file ∷ [])
+
+-- the last of a name
+agree : {X : Type 0} (b : Bool) (v : X) (w r : Option X) → cond b (Some v) r ≡ cond b (Some v) (cond b w r)
+agree true v w r = refl
+agree false v w r = refl
+
+apart : {X : Type 0} (b d : Bool) (x y z : X) → (b ≡ true → d ≡ false) → cond b x (cond d y z) ≡ cond d y (cond b x z)
+apart true true x y z h = let other = h refl in absurd (cc)
+apart true false x y z h = refl
+apart false d x y z h = refl
+
+differs : (name k e : List ℕ) → slice_cmp nat_cmp k e ≡ Greater → bytes_eq name e ≡ true → bytes_eq name k ≡ false
+differs name k e c h = false_from_ne_true (bytes_eq name k) (λ h2.
+    let same : name ≡ e = (bytes_eq-Decides name e).0 h in
+    let also : name ≡ k = (bytes_eq-Decides name k).0 h2 in
+    let both : k ≡ e = cc in
+    let equal : bytes_eq k e ≡ true = (bytes_eq-Decides k e).1 both in
+    let is_not : is_eq (slice_cmp nat_cmp k e) ≡ false = ap is_eq c in
+    let is = is_eq-slice_cmp k e in
+    absurd (cc))
+
+put_has : (name : List ℕ) (o : Ordering) (k : List ℕ) (v : List ℕ) (e : List ℕ × List ℕ) (es more : List (List ℕ × List ℕ))
+    → slice_cmp nat_cmp k e.0 ≡ o → lookup (bytes_eq name) more ≡ cond (bytes_eq name k) (Some v) (lookup (bytes_eq name) es)
+    → lookup (bytes_eq name) (match_ordering o ((k, v) ∷ e ∷ es) ((e.0, v) ∷ es) (e ∷ more)) ≡ cond (bytes_eq name k) (Some v) (lookup (bytes_eq name) (e ∷ es))
+put_has name Less k v e es more c h = refl
+put_has name Equal k v e es more c h =
+    let same : k ≡ e.0 = (bytes_eq-Decides k e.0).0 (sym (is_eq-slice_cmp k e.0) ∙ ap is_eq c) in
+    rw same (agree (bytes_eq name e.0) v (Some e.1) (lookup (bytes_eq name) es))
+put_has name Greater k v e es more c h =
+    ap (λ rest. cond (bytes_eq name e.0) (Some e.1) rest) h
+    ∙ apart (bytes_eq name e.0) (bytes_eq name k) (Some e.1) (Some v) (lookup (bytes_eq name) es) (differs name k e.0 c)
+
+put_lookup : (name : List ℕ) (entries : List (List ℕ × List ℕ)) (file : Found) → lookup (bytes_eq name) (put entries file) ≡ cond (bytes_eq name file.name) (Some file.path) (lookup (bytes_eq name) entries)
+put_lookup name [] file = refl
+put_lookup name (e ∷ es) file = put_has name (slice_cmp nat_cmp file.name e.0) file.name file.path e es (put es file) refl (put_lookup name es file)
+
+either : (o : Option Found) (b : Bool) (x : Found) (r : Option (List ℕ)) → option_or (option_map (λ file. file.path) o) (cond b (Some x.path) r) ≡ option_or (option_map (λ file. file.path) (option_or o (cond b (Some x) None))) r
+either (Some f) b x r = refl
+either None true x r = refl
+either None false x r = refl
+
+last_after : (name : List ℕ) (entries : List (List ℕ × List ℕ)) (found : List Found)
+    → lookup (bytes_eq name) (fold put entries found) ≡ option_or (option_map (λ file. file.path) (find (λ file. bytes_eq name file.name) (reverse found))) (lookup (bytes_eq name) entries)
+last_after name entries [] = refl
+last_after name entries (x ∷ xs) =
+    last_after name (put entries x) xs
+    ∙ ap (λ r. option_or (option_map (λ file. file.path) (find (λ file. bytes_eq name file.name) (reverse xs))) r) (put_lookup name entries x)
+    ∙ either (find (λ file. bytes_eq name file.name) (reverse xs)) (bytes_eq name x.name) x (lookup (bytes_eq name) entries)
+    ∙ ap (λ o. option_or (option_map (λ file. file.path) o) (lookup (bytes_eq name) entries)) (sym (find-append (λ file. bytes_eq name file.name) (reverse xs) (x ∷ [])))
+    ∙ ap (λ all. option_or (option_map (λ file. file.path) (find (λ file. bytes_eq name file.name) all)) (lookup (bytes_eq name) entries)) (sym (reverse-append (x ∷ []) xs))
+
+or_none : {X : Type 0} (o : Option X) → option_or o None ≡ o
+or_none (Some x) = refl
+or_none None = refl
+
+pub last_of_name : (found : List Found) (name : List ℕ) → lookup (bytes_eq name) (by_name found) ≡ option_map (λ file. file.path) (find (λ file. bytes_eq name file.name) (reverse found))
+unfolding by_name
+last_of_name found name = last_after name [] found ∙ or_none (option_map (λ file. file.path) (find (λ file. bytes_eq name file.name) (reverse found)))
+
+-- what the code has after one file more
+pub file_more : (entries after : List (String Global × String Global)) (files : List DropIn) (file : DropIn)
+    → map shown_entry entries ≡ by_name (map shown files) → map shown_entry after ≡ put (map shown_entry entries) (shown file) → map shown_entry after ≡ by_name (map shown (files ++ file ∷ []))
+file_more entries after files file h e =
+    e
+    ∙ ap (λ es. put es (shown file)) h
+    ∙ sym (by_name_more (map shown files) (shown file))
+    ∙ ap by_name (sym (map-append shown files (file ∷ [])))
+
+pub shown_paths : (entries : List (String Global × String Global))
+    → map string_bytes (map (λ entry. entry.1) entries) ≡ map (λ entry. entry.1) (map shown_entry entries)
+shown_paths [] = refl
+shown_paths (e ∷ es) = ap (λ rest. string_bytes e.1 ∷ rest) (shown_paths es)
+
+pub paths_are : (entries : List (String Global × String Global)) (paths : List (String Global)) (files : List DropIn)
+    → map shown_entry entries ≡ by_name (map shown files) → paths ≡ map (λ entry. entry.1) entries
+    → map string_bytes paths ≡ chosen (map shown files)
+unfolding chosen
+paths_are entries paths files h e = ap (map string_bytes) e ∙ shown_paths entries ∙ ap (map (λ entry. entry.1)) h

@@ -1,0 +1,5 @@
+pub mod DropInLemmas
+mod DropInRows
+pub mod FolderLemmas
+pub mod SearchPathLemmas
+pub mod UnitNameLemmas

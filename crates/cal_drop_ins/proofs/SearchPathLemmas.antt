@@ -1,0 +1,10 @@
+-- The search path of a user's manager, from its two folders in the user's home.
+use Rattle.std.proofs.Common.{◌≡◌, ◌++◌, ◌∷◌, [], ℕ, List, codes, map, refl}
+use Rattle.cal_drop_ins.specs.SearchPath.{user_path}
+
+pub user_folders_are : (root home config share : List ℕ) → config ≡ home ++ codes "/.config/systemd/user" → share ≡ home ++ codes "/.local/share/systemd/user"
+    → map (λ folder. root ++ folder)
+    (config ∷ codes "/etc/xdg/systemd/user" ∷ codes "/etc/systemd/user" ∷ codes "/run/systemd/user" ∷ share ∷ codes "/usr/local/share/systemd/user"
+    ∷ codes "/usr/share/systemd/user" ∷ codes "/usr/local/lib/systemd/user" ∷ codes "/usr/lib/systemd/user" ∷ [])
+    ≡ user_path root home
+user_folders_are root home config share e f = rw (e, f) refl

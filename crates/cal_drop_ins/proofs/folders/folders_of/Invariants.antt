@@ -1,0 +1,9 @@
+use Rattle.std.proofs.Common.{◌≡◌, map, take, reverse, string_bytes}
+use Rattle.cal_drop_ins.specs.Folders.{folders}
+use Rattle.cal_drop_ins.proofs.folders.folders_of.Given as goal
+
+-- the folders of the names so far are there
+abbrev pub invariant-loop-stem : goal.invariant-loop-stem
+invariant-loop-stem l =
+    map string_bytes l.folders.items
+    ≡ folders (reverse (map string_bytes l.fn.path)) (map (λ stem. stem.now) (take l.stem-index l.stems))

@@ -1,0 +1,56 @@
+-- Which drop-ins of a unit are read, and in which order: systemd.unit(5), Description.
+use Rattle.std.specs.Prelude.{ℕ, nat_eq, Bool, not, ◌&&◌, List, [], ◌++◌, codes, filter, map, reverse, String, string_bytes}
+use Rattle.std.specs.BTreeMap.{insert_entry}
+use Rattle.std.specs.Cmp.Lexicographic.{slice_cmp}
+use Rattle.std.specs.List.{ends_with, flat_map, fold, starts_with}
+use Rattle.std.specs.Ordering.{nat_cmp}
+use Rattle.std.specs.declared.alloc.Global.{Global}
+use Rattle.cal_drop_ins.specs.Folders.{folders}
+use Rattle.cal_drop_ins.specs.declared.drop_ins.DropIn.{DropIn}
+
+-- what a machine has: the names in each folder, and which paths are links to `/dev/null`
+pub record Disk : Type 0 where
+  pub names : List ℕ → List (List ℕ)
+  pub is_null : List ℕ → Bool
+
+-- a file of a folder: its name and its path
+pub record Found : Type 0 where
+  pub name : List ℕ
+  pub path : List ℕ
+
+-- whether a file of that name in a folder of drop-ins is a drop-in: hidden files are not
+unfoldable pub is_drop_in : List ℕ → Bool
+is_drop_in name = ends_with nat_eq name (codes ".conf") && not (starts_with nat_eq name (codes "."))
+
+abbrev pub found_in : List ℕ → List ℕ → Found
+found_in folder name = record { name = name; path = folder ++ codes "/" ++ name }
+
+-- the drop-ins in a folder that has these names
+unfoldable pub candidates : List ℕ → List (List ℕ) → List Found
+candidates folder names = map (found_in folder) (filter is_drop_in names)
+
+-- the paths by their names, which are sorted by their bytes: of several files of one name the last one counts
+abbrev pub put : List (List ℕ × List ℕ) → Found → List (List ℕ × List ℕ)
+put entries file = insert_entry (slice_cmp nat_cmp) entries file.name file.path
+
+unfoldable pub by_name : List Found → List (List ℕ × List ℕ)
+by_name found = fold put [] found
+
+unfoldable pub chosen : List Found → List (List ℕ)
+chosen found = map (λ entry. entry.1) (by_name found)
+
+-- The drop-ins that are read, in this order. The roots are those of the search path, the most important first; the last
+-- name is the unit's own, the others are its aliases. A name in a more important folder hides the same name elsewhere
+-- even if it is a link to `/dev/null`, which itself isn't read.
+unfoldable pub drop_ins : Disk → List (List ℕ) → List (List ℕ) → List (List ℕ)
+drop_ins disk path stems =
+    filter (λ file. not (disk.is_null file))
+    (chosen (flat_map (λ folder. candidates folder (disk.names folder)) (folders (reverse path) stems)))
+
+-- a drop-in of the code as a file of a folder
+abbrev pub shown : DropIn → Found
+shown file = record { name = string_bytes file.name; path = string_bytes file.path }
+
+-- an entry of a map of the code
+abbrev pub shown_entry : String Global × String Global → List ℕ × List ℕ
+shown_entry entry = (string_bytes entry.0, string_bytes entry.1)

@@ -1,0 +1,37 @@
+-- The folders of a unit's drop-ins: systemd.unit(5), Description. All lists of this file go from the least important
+-- folder to the most important one.
+use Rattle.std.specs.Prelude.{ℕ, zero, suc, ◌+◌, ◌==◌, nat_lt, Bool, ◌&&◌, if◌then◌else◌, List, [], ◌∷◌, ◌++◌, length, map, take, slice_index, codes}
+use Rattle.std.specs.List.{flat_map}
+use Rattle.std.specs.Option.{option_to_list}
+use Rattle.cal_drop_ins.specs.UnitName.{base_of, template_of}
+
+-- whether a dash is there that is neither the first byte nor the last
+abbrev pub is_dash_within : List ℕ → ℕ → Bool
+is_dash_within base i = nat_lt 0 i && (nat_lt (i + 1) (length base) && (slice_index base i == 45))
+
+-- the prefixes that end at a dash among the first `n` bytes, the shortest first
+unfoldable pub prefixes_within : List ℕ → ℕ → List (List ℕ)
+prefixes_within base zero = []
+prefixes_within base (suc n) = prefixes_within base n ++ (if is_dash_within base n then take (n + 1) base ∷ [] else [])
+
+-- the stems whose folders apply to a unit: its prefixes that end at a dash, its template, and itself
+unfoldable pub folder_stems : List ℕ → List (List ℕ)
+folder_stems stem =
+    prefixes_within (base_of stem) (length (base_of stem)) ++ (option_to_list (template_of stem) ++ stem ∷ [])
+
+-- the folder of the drop-ins of a stem
+abbrev pub own_folder : List ℕ → List ℕ → List ℕ
+own_folder root stem = root ++ codes "/" ++ stem ++ codes ".timer.d"
+
+-- the folder of the drop-ins of all timers
+abbrev pub type_folder : List ℕ → List ℕ
+type_folder root = root ++ codes "/timer.d"
+
+-- the folders that apply to one name of a unit: below a more important root each of them is more important
+abbrev pub name_folders : List (List ℕ) → List ℕ → List (List ℕ)
+name_folders roots stem = flat_map (λ root. map (own_folder root) (folder_stems stem)) roots
+
+-- the folders that apply to a unit with these names, of which its own is the last: those of all timers, then those of
+-- each name
+unfoldable pub folders : List (List ℕ) → List (List ℕ) → List (List ℕ)
+folders roots stems = map type_folder roots ++ flat_map (name_folders roots) stems

@@ -1,0 +1,4 @@
+pub mod DropIns
+pub mod Folders
+pub mod SearchPath
+pub mod UnitName

@@ -1,0 +1,67 @@
+//! Which drop-ins of a unit are read, and in which order (systemd.unit(5), Description).
+
+ghost use Rattle.std.specs.Prelude.{◌≡◌, IfOk, OnOk, map, string_bytes};
+ghost use Rattle.cal_drop_ins.specs.DropIns.{by_name, chosen, is_drop_in, put, shown, shown_entry};
+
+use std::alloc::{AllocError, Global};
+use std::collections::BTreeMap;
+
+/// A file in a folder of drop-ins.
+#[derive(Debug, Drop)]
+pub struct DropIn {
+    /// Its name in the folder.
+    pub name: String,
+    /// Its path.
+    pub path: String,
+}
+
+/// Returns whether a file of that name in a folder of drop-ins is a drop-in: the name ends in `.conf` and doesn't begin
+/// with a dot.
+#[tactic(auto, unfolding(crate::specs::DropIns::is_drop_in))]
+pub fn is_drop_in(name: &str) -> bool
+    ensures { result ≡ is_drop_in name.now }
+{
+    let name = name.as_bytes();
+    name.ends_with(b".conf") && !name.starts_with(b".")
+}
+
+/// Returns the paths of the drop-ins that count, sorted by the bytes of their file names. Of several drop-ins with one
+/// name the last counts, so `found` goes from the least important folder to the most important one.
+#[tactic(auto, using(crate::proofs::DropInLemmas::paths_are))]
+pub fn choose(alloc: Global, found: Vec<DropIn>) -> Result<Vec<String>, AllocError>
+    ensures { IfOk result (λ paths. map string_bytes paths.items ≡ chosen (map shown found.items)) }
+{
+    let entered = enter_all(alloc, found)?;
+    paths_of(alloc, entered)
+}
+
+/// Returns the paths by their names.
+fn enter_all(alloc: Global, found: Vec<DropIn>) -> Result<BTreeMap<String, String>, AllocError>
+    ensures { IfOk result (λ entered. map shown_entry entered.entries ≡ by_name (map shown found.items)) }
+{
+    let mut entered = BTreeMap::new(alloc);
+    for file in found {
+        enter(&mut entered, file)?;
+    }
+    Ok(entered)
+}
+
+/// Enters a path, in the place of an earlier one with its name.
+fn enter(by_name: &mut BTreeMap<String, String>, file: DropIn) -> Result<(), AllocError>
+    ensures { OnOk result (map shown_entry by_name.new.entries ≡ put (map shown_entry by_name.old.entries) (shown file)) }
+{
+    let DropIn { name, path } = file;
+    by_name.insert(name, path)?;
+    Ok(())
+}
+
+/// Returns the paths of a map in the order of their names.
+fn paths_of(alloc: Global, entered: BTreeMap<String, String>) -> Result<Vec<String>, AllocError>
+    ensures { IfOk result (λ paths. paths.items ≡ map (λ entry. entry.1) entered.entries) }
+{
+    let mut paths = Vec::new(alloc);
+    for (_, path) in entered {
+        paths.push(path)?;
+    }
+    Ok(paths)
+}

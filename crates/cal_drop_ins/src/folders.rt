@@ -1,0 +1,157 @@
+//! The folders of a unit's drop-ins (systemd.unit(5), Description).
+
+ghost use Rattle.std.specs.Prelude.{◌≡◌, ◌+◌, ◌++◌, ◌∷◌, [], ◌<◌, IfOk, OnOk, if◌then◌else◌, map, length, take, reverse, string_bytes};
+ghost use Rattle.cal_drop_ins.specs.Folders.{folder_stems, folders, is_dash_within, name_folders, own_folder, prefixes_within, type_folder};
+
+use crate::unit_name::{base_of, template_of};
+use std::alloc::{AllocError, Global};
+
+/// Returns the folders that have drop-ins of a unit, from the least important one to the most important one, whether they
+/// exist or not.
+///
+/// `path` is the search path, the most important folder first. `stems` are the stems of the unit's names: its aliases,
+/// and last its own.
+#[tactic(auto, unfolding(crate::specs::Folders::folders))]
+pub fn folders_of(alloc: Global, path: &[String], stems: &[&str]) -> Result<Vec<String>, AllocError>
+    ensures { IfOk result (λ found. map string_bytes found.items
+        ≡ folders (reverse (map string_bytes path.now)) (map (λ stem. stem.now) stems.now)) }
+{
+    let roots = reversed(alloc, path)?;
+    let mut folders = type_folders(alloc, roots.as_slice())?;
+    for stem in stems {
+        push_name_folders(alloc, &mut folders, roots.as_slice(), stem)?;
+    }
+    Ok(folders)
+}
+
+/// Returns the stems whose folders of drop-ins apply to the unit with this stem, from the least important one to the most
+/// important one: the prefixes of its name that end at a dash, the template of an instance, and the stem itself.
+#[tactic(auto, unfolding(crate::specs::Folders::folder_stems))]
+pub fn folder_stems(alloc: Global, stem: &str) -> Result<Vec<&str>, AllocError>
+    ensures { IfOk result (λ stems. map (λ stem. stem.now) stems.items ≡ folder_stems stem.now) }
+{
+    let mut stems = Vec::new(alloc);
+    push_prefixes(&mut stems, base_of(stem))?;
+    if let Some(template) = template_of(stem) {
+        stems.push(template)?;
+    }
+    stems.push(stem)?;
+    Ok(stems)
+}
+
+/// Returns the folders of the search path, from the least important one to the most important one.
+#[tactic(auto, using(crate::proofs::FolderLemmas::map_reverse))]
+fn reversed(alloc: Global, path: &[String]) -> Result<Vec<&str>, AllocError>
+    ensures { IfOk result (λ roots. map (λ root. root.now) roots.items ≡ reverse (map string_bytes path.now)) }
+{
+    let mut roots = all_texts(alloc, path)?;
+    roots.reverse();
+    Ok(roots)
+}
+
+fn all_texts(alloc: Global, path: &[String]) -> Result<Vec<&str>, AllocError>
+    ensures { IfOk result (λ roots. map (λ root. root.now) roots.items ≡ map string_bytes path.now) }
+{
+    let mut roots = Vec::new(alloc);
+    for root in path {
+        roots.push(root.as_str())?;
+    }
+    Ok(roots)
+}
+
+/// Returns the folders of the drop-ins of all timers.
+fn type_folders(alloc: Global, roots: &[&str]) -> Result<Vec<String>, AllocError>
+    ensures { IfOk result (λ folders. map string_bytes folders.items ≡ map type_folder (map (λ root. root.now) roots.now)) }
+{
+    let mut folders = Vec::new(alloc);
+    for root in roots {
+        push_type_folder(alloc, &mut folders, root)?;
+    }
+    Ok(folders)
+}
+
+fn push_type_folder(alloc: Global, folders: &mut Vec<String>, root: &str) -> Result<(), AllocError>
+    ensures { OnOk result (map string_bytes folders.new.items
+        ≡ map string_bytes folders.old.items ++ type_folder root.now ∷ []) }
+{
+    folders.push(format!(in alloc; "{root}/timer.d")?)?;
+    Ok(())
+}
+
+/// Appends the folders that apply to one name of a unit.
+fn push_name_folders(
+    alloc: Global,
+    folders: &mut Vec<String>,
+    roots: &[&str],
+    stem: &str,
+) -> Result<(), AllocError>
+    ensures { OnOk result (map string_bytes folders.new.items
+        ≡ map string_bytes folders.old.items ++ name_folders (map (λ root. root.now) roots.now) stem.now) }
+{
+    let stems = folder_stems(alloc, stem)?;
+    for root in roots {
+        push_own_folders(alloc, folders, root, stems.as_slice())?;
+    }
+    Ok(())
+}
+
+/// Appends the folders of these stems below one folder of the search path.
+fn push_own_folders(
+    alloc: Global,
+    folders: &mut Vec<String>,
+    root: &str,
+    stems: &[&str],
+) -> Result<(), AllocError>
+    ensures { OnOk result (map string_bytes folders.new.items
+        ≡ map string_bytes folders.old.items ++ map (own_folder root.now) (map (λ stem. stem.now) stems.now)) }
+{
+    for stem in stems {
+        push_own_folder(alloc, folders, root, stem)?;
+    }
+    Ok(())
+}
+
+/// Appends the folder of one stem.
+fn push_own_folder(
+    alloc: Global,
+    folders: &mut Vec<String>,
+    root: &str,
+    stem: &str,
+) -> Result<(), AllocError>
+    ensures { OnOk result (map string_bytes folders.new.items
+        ≡ map string_bytes folders.old.items ++ own_folder root.now stem.now ∷ []) }
+{
+    folders.push(format!(in alloc; "{root}/{stem}.timer.d")?)?;
+    Ok(())
+}
+
+/// Appends the prefixes that end at a dash, the shortest first.
+fn push_prefixes<'n>(stems: &mut Vec<&'n str>, base: &'n str) -> Result<(), AllocError>
+    ensures { OnOk result (map (λ stem. stem.now) stems.new.items
+        ≡ map (λ stem. stem.now) stems.old.items ++ prefixes_within base.now (length base.now)) }
+{
+    for index in 0..base.len() {
+        push_prefix(stems, base, index)?;
+    }
+    Ok(())
+}
+
+/// Appends the prefix that ends at the dash at `index`, if there is one.
+fn push_prefix<'n>(stems: &mut Vec<&'n str>, base: &'n str, index: usize) -> Result<(), AllocError>
+    requires { index < length base.now }
+    ensures { OnOk result (map (λ stem. stem.now) stems.new.items ≡ map (λ stem. stem.now) stems.old.items
+        ++ (if is_dash_within base.now index then take (index + 1) base.now ∷ [] else [])) }
+{
+    if is_dash_within(base, index) {
+        stems.push(&base[..index + 1])?;
+    }
+    Ok(())
+}
+
+/// Returns whether there is a dash at `index` that is neither the first byte nor the last.
+fn is_dash_within(base: &str, index: usize) -> bool
+    requires { index < length base.now }
+    ensures { result ≡ is_dash_within base.now index }
+{
+    0 < index && index + 1 < base.len() && base.as_bytes()[index] == b'-'
+}

@@ -1,0 +1,14 @@
+//! Laws of the definitions that the contracts cite. Each law is a function that does nothing and whose contract is the
+//! law.
+
+ghost use Rattle.std.specs.Prelude.{◌≡◌, ℕ, List, option_map, reverse};
+ghost use Rattle.std.specs.List.{find};
+ghost use Rattle.std.specs.Map.{lookup};
+ghost use Rattle.std.specs.Str.{bytes_eq};
+ghost use Rattle.cal_drop_ins.specs.DropIns.{Found, by_name};
+
+/// Of several files with one name the last counts, which is that of the most important folder.
+pub fn last_of_a_name()
+    ensures { (found : List Found) (name : List ℕ) → lookup (bytes_eq name) (by_name found)
+        ≡ option_map (λ file. file.path) (find (λ file. bytes_eq name file.name) (reverse found)) }
+{}

@@ -1,0 +1,14 @@
+//! The files of a timer unit, by names alone (systemd.unit(5)): the search path, the folders of drop-ins, and which
+//! drop-ins are read.
+#![tactic(auto)]
+
+mod drop_ins;
+mod folders;
+pub mod laws;
+mod search_path;
+mod unit_name;
+
+pub use drop_ins::{DropIn, choose, is_drop_in};
+pub use folders::{folder_stems, folders_of};
+pub use search_path::{system_path, user_path};
+pub use unit_name::{UnitKind, kind_of, template_of, unit_stem};
