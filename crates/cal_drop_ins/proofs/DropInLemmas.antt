@@ -1,5 +1,5 @@
 -- The map of the code against the list of entries, and what the entries have.
-use Rattle.std.proofs.Common.{◌≡◌, ℕ, Bool, true, false, cond, List, [], ◌∷◌, ◌++◌, refl, sym, ap, ◌∙◌, map, reverse, Option, Some, None, option_map, string_bytes}
+use Rattle.std.proofs.Common.{◌≡◌, ℕ, Bool, true, false, cond, List, [], ◌∷◌, ◌++◌, refl, sym, ap, ◌∙◌, map, reverse, Option, Some, None, option_map, string_bytes, append_assoc, filter}
 use Rattle.std.specs.BTreeMap.{insert_entry}
 use Rattle.std.specs.Cmp.Lexicographic.{slice_cmp}
 use Rattle.std.specs.List.{find, fold}
@@ -13,13 +13,14 @@ use Rattle.std.specs.declared.alloc.Global.{Global}
 use Rattle.std.specs.declared.cmp.Ordering.{Ordering}
 use Rattle.std.specs.declared.cmp.Ordering.TheVariants.{Less, Equal, Greater}
 use Rattle.std.proofs.lemmas.List.{reverse-append, map-append}
+use Rattle.std.proofs.lemmas.List.Elements.{filter-append}
 use Rattle.std.proofs.lemmas.List.Folds.{find-append}
 use Rattle.std.proofs.lemmas.List.Sums.{fold-append}
 use Rattle.std.proofs.lemmas.Bool.{false_from_ne_true}
 use Rattle.std.proofs.lemmas.Map.Text.{is_eq-slice_cmp}
 use Rattle.std.proofs.lemmas.Slice.Eq.{bytes_eq-Decides}
 use Rattle.cal_drop_ins.specs.declared.drop_ins.DropIn.{DropIn}
-use Rattle.cal_drop_ins.specs.DropIns.{Found, by_name, chosen, put, shown, shown_entry}
+use Rattle.cal_drop_ins.specs.DropIns.{Found, by_name, candidates, found_in, is_drop_in, chosen, put, shown, shown_entry}
 
 put_by : (o : Ordering) (e : String Global × String Global) (es more : List (String Global × String Global)) (k : String Global) (v : String Global) (rest : List (List ℕ × List ℕ))
     → map shown_entry more ≡ rest
@@ -116,3 +117,24 @@ pub paths_are : (entries : List (String Global × String Global)) (paths : List 
     → map string_bytes paths ≡ chosen (map shown files)
 unfolding chosen
 paths_are entries paths files h e = ap (map string_bytes) e ∙ shown_paths entries ∙ ap (map (λ entry. entry.1)) h
+
+-- the candidates among some names, and one name more
+pub candidates_more : (folder : List ℕ) (names : List (List ℕ)) (name : List ℕ)
+    → candidates folder (names ++ name ∷ []) ≡ candidates folder names ++ candidates folder (name ∷ [])
+unfolding candidates
+candidates_more folder names name =
+    ap (map (found_in folder)) (filter-append is_drop_in names (name ∷ []))
+    ∙ map-append (found_in folder) (filter is_drop_in names) (filter is_drop_in (name ∷ []))
+
+pub candidates_none : (folder : List ℕ) → candidates folder [] ≡ []
+unfolding candidates
+candidates_none folder = refl
+
+pub candidate_more : (old before new : List Found) (folder : List ℕ) (names : List (List ℕ)) (name : List ℕ)
+    → before ≡ old ++ candidates folder names → new ≡ before ++ candidates folder (name ∷ [])
+    → new ≡ old ++ candidates folder (names ++ name ∷ [])
+candidate_more old before new folder names name h e =
+    e
+    ∙ ap (λ before. before ++ candidates folder (name ∷ [])) h
+    ∙ append_assoc old (candidates folder names) (candidates folder (name ∷ []))
+    ∙ ap (λ last. old ++ last) (sym (candidates_more folder names name))

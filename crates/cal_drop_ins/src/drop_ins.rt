@@ -1,7 +1,7 @@
 //! Which drop-ins of a unit are read, and in which order (systemd.unit(5), Description).
 
-ghost use Rattle.std.specs.Prelude.{◌≡◌, IfOk, OnOk, map, string_bytes};
-ghost use Rattle.cal_drop_ins.specs.DropIns.{by_name, chosen, is_drop_in, put, shown, shown_entry};
+ghost use Rattle.std.specs.Prelude.{◌≡◌, ◌++◌, ◌∷◌, [], IfOk, OnOk, map, string_bytes};
+ghost use Rattle.cal_drop_ins.specs.DropIns.{by_name, candidates, chosen, found_in, is_drop_in, put, shown, shown_entry};
 
 use std::alloc::{AllocError, Global};
 use std::collections::BTreeMap;
@@ -25,6 +25,22 @@ pub fn is_drop_in(name: &str) -> bool
     name.ends_with(b".conf") && !name.starts_with(b".")
 }
 
+/// Appends the drop-ins in a folder that has these names.
+pub fn push_candidates(
+    alloc: Global,
+    found: &mut Vec<DropIn>,
+    folder: &str,
+    names: Vec<String>,
+) -> Result<(), AllocError>
+    ensures { OnOk result (map shown found.new.items
+        ≡ map shown found.old.items ++ candidates folder.now (map string_bytes names.items)) }
+{
+    for name in names {
+        push_candidate(alloc, found, folder, name)?;
+    }
+    Ok(())
+}
+
 /// Returns the paths of the drop-ins that count, sorted by the bytes of their file names. Of several drop-ins with one
 /// name the last counts, so `found` goes from the least important folder to the most important one.
 #[tactic(auto, using(crate::proofs::DropInLemmas::paths_are))]
@@ -33,6 +49,30 @@ pub fn choose(alloc: Global, found: Vec<DropIn>) -> Result<Vec<String>, AllocErr
 {
     let entered = enter_all(alloc, found)?;
     paths_of(alloc, entered)
+}
+
+/// Appends the file of that name in a folder, if it is a drop-in.
+#[tactic(auto, unfolding(crate::specs::DropIns::candidates))]
+fn push_candidate(
+    alloc: Global,
+    found: &mut Vec<DropIn>,
+    folder: &str,
+    name: String,
+) -> Result<(), AllocError>
+    ensures { OnOk result (map shown found.new.items
+        ≡ map shown found.old.items ++ candidates folder.now (string_bytes name ∷ [])) }
+{
+    if is_drop_in(name.as_str()) {
+        found.push(file_in(alloc, folder, name)?)?;
+    }
+    Ok(())
+}
+
+fn file_in(alloc: Global, folder: &str, name: String) -> Result<DropIn, AllocError>
+    ensures { IfOk result (λ file. shown file ≡ found_in folder.now (string_bytes name)) }
+{
+    let path = format!(in alloc; "{folder}/{name}")?;
+    Ok(DropIn { name, path })
 }
 
 /// Returns the paths by their names.

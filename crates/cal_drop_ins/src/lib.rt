@@ -8,7 +8,7 @@ pub mod laws;
 mod search_path;
 mod unit_name;
 
-pub use drop_ins::{DropIn, choose, is_drop_in};
+pub use drop_ins::{DropIn, choose, is_drop_in, push_candidates};
 pub use folders::{folder_stems, folders_of};
 pub use search_path::{system_path, user_path};
 pub use unit_name::{UnitKind, kind_of, template_of, unit_stem};
