@@ -1,0 +1,14 @@
+use Rattle.std.proofs.Common.{◌≡◌}
+use Rattle.std.specs.Option.{option_copied}
+use Rattle.cal_bytes.specs.SplitPieces.{left, pieces_after}
+use Rattle.cal_lint.specs.Systemd252.{has_extra_after, is_space}
+use Rattle.cal_lint.proofs.older_systemd.has_extra_after.Given as goal
+
+-- no additional space so far, unless it is skipped
+abbrev pub invariant-loop-rest : goal.invariant-loop-rest
+invariant-loop-rest l =
+    has_extra_after l.skips (pieces_after is_space (option_copied l.rest))
+    ≡ has_extra_after l.fn.skips (pieces_after is_space (option_copied l.fn.rest))
+
+abbrev pub decreases-loop-rest : goal.decreases-loop-rest
+decreases-loop-rest l = left (option_copied l.rest)
