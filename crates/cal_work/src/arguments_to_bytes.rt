@@ -71,8 +71,8 @@ pub fn work<S: System, T: AsStr, O: Output, E: Sink>(
     }
 }
 
-/// Returns the exit status after the output is flushed: 1 if the output or an allocation failed, and otherwise
-/// `status`.
+/// Returns the exit status after `out` is flushed: 1 if `out` or an allocation failed, and otherwise `status`, even if
+/// `err` failed.
 fn status_by(written: Result<(), RunFault>, status: u8) -> u8
     ensures { result ≡ status_by written status }
 {

@@ -27,33 +27,33 @@ first_in year month = let long = days_in_month_bounds year month in (omega arith
 first_of_month : (year : ℤ) (month : ℕ) → IsYear year → IsInRange 1 12 month → Date
 first_of_month year month y m = record { year = year; month = month; day = 1; year_in = y; month_in = m; day_in = first_in year month }
 
--- if a date isn't the last day of its month, the day after it is in the same month
 next_in : (d : Date) → d.day < month_length d → IsInRange 1 (month_length d) (d.day + 1)
 next_in d before = (omega arith, omega arith)
 
 next_of : (d : Date) → d.day < month_length d → Date
 next_of d before = record { year = d.year; month = d.month; day = d.day + 1; year_in = d.year_in; month_in = d.month_in; day_in = next_in d before }
 
+-- if a date isn't the last day of its month, the day after it is in the same month
 epoch_day-next_of : (d : Date) (before : d.day < month_length d) → epoch_day (next_of d before) ≡ epoch_day d +ℤ pos 1
 unfolding next_of
 epoch_day-next_of d before = omega (arith, signed_arith, days_from_civil-day d.year d.month (d.day + 1) d.day (omega arith) d.day_in.0)
 
--- if a date is the last day of a month other than December, the day after it is the first day of the next month
 next_month_in : (d : Date) → d.month < 12 → IsInRange 1 12 (d.month + 1)
 next_month_in d before = (omega arith, omega arith)
 
+-- if a date is the last day of a month other than December, the day after it is the first day of the next month
 epoch_day-next_month : (d : Date) (before : d.month < 12) → month_length d ≤ d.day
     → epoch_day (first_of_month d.year (d.month + 1) d.year_in (next_month_in d before)) ≡ epoch_day d +ℤ pos 1
 unfolding first_of_month
 epoch_day-next_month d before last = days_from_civil-next_month d.year d.month d.day d.month_in.0 (omega (arith, d.day_in.1))
 
--- if a date is 31 December of a year before 9999, the day after it is 1 January of the next year
 next_year_in : (d : Date) → d.year <ℤ pos 9999 → IsYear (d.year +ℤ pos 1)
 next_year_in d before = (omega (arith, signed_arith), omega (arith, signed_arith))
 
 january_in : IsInRange 1 12 1
 january_in = (omega arith, omega arith)
 
+-- if a date is 31 December of a year before 9999, the day after it is 1 January of the next year
 epoch_day-next_year : (d : Date) (before : d.year <ℤ pos 9999) → d.month ≡ 12 → d.day ≡ 31
     → epoch_day (first_of_month (d.year +ℤ pos 1) 1 (next_year_in d before) january_in) ≡ epoch_day d +ℤ pos 1
 unfolding first_of_month
