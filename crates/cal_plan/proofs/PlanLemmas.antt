@@ -16,8 +16,8 @@ use Rattle.cal_timer.specs.TimerView.{shown}
 use Rattle.cal_timer.specs.declared.timer.TimerLine as declared_line
 use Rattle.cal_spec.specs.headline.Fields.{Fields}
 use Rattle.cal_plan.specs.Instants.{AreInstants}
-use Rattle.cal_plan.specs.TimerElapses.{IsMergeOf, IsTimed, elapses_of_lists, timed_entry}
-use Rattle.cal_plan.specs.ZoneFor.{first_unzoned, lacks_zone, lesser_line, unzoned, zone_for}
+use Rattle.cal_plan.specs.TimerElapses.{IsMergeOf, IsTimed, elapses_of_lists, timed_entry, zone_or_utc}
+use Rattle.cal_plan.specs.ZoneFor.{first_unzoned, lacks_zone, lesser_line, unzoned}
 
 pub none_mapped : (o : Option (TimerLine Fields)) → option_map (λ (e : TimerLine Fields). e.number) o ≡ None → o ≡ None
 none_mapped None h = refl
@@ -59,7 +59,7 @@ all_zoned at lists h = lesser_none (first_unzoned at lists.expressions) (first_u
 pub merge_instants : (at : Setting) (base : ℤ) (lists : Timer Fields) (merge : Merge) → IsMergeOf at base lists merge → pos 0 ≤ℤ base → AreInstants (merged merge)
 unfolding timed_entry elapses_of_lists
 merge_instants at base lists merge m low i h =
-    IsInstant-elapse (λ (e : TimerLine Fields). e.expr) (λ (e : TimerLine Fields). unwrap_or (zone_for at e.expr.zone) UTC) lists.expressions
+    IsInstant-elapse (λ (e : TimerLine Fields). e.expr) (zone_or_utc at) lists.expressions
     (map (timed_entry at) lists.exceptions) base i low (rw m.is at h)
 
 -- the expressions in their zones, if each of the zones is known

@@ -26,10 +26,14 @@ lists_shown lines exceptions = record { expressions = map shown lines; exception
 abbrev pub IsTimed : Setting → TimerLine Fields → Timed → Type 0
 IsTimed at line e = (tz : TimeZone) × (zone_for at line.expr.zone ≡ Some tz) × (e ≡ timed line.expr tz)
 
--- the expression in its zone, or in UTC if its zone is missing from the zone table; UTC is then only a placeholder,
--- since a missing zone is an error
+-- the zone of the expression on this line, or UTC if the zone is missing from the zone table; UTC is then only a
+-- placeholder, since a missing zone is an error
+abbrev pub zone_or_utc : Setting → TimerLine Fields → TimeZone
+zone_or_utc at line = unwrap_or (zone_for at line.expr.zone) UTC
+
+-- the meaning of the expression on this line in that zone
 unfoldable pub timed_entry : Setting → TimerLine Fields → Timed
-timed_entry at e = timed e.expr (unwrap_or (zone_for at e.expr.zone) UTC)
+timed_entry at line = timed line.expr (zone_or_utc at line)
 
 -- the elapse times of the expressions after the base time, without the elapse times of the exceptions
 unfoldable pub elapses_of_lists : Setting → ℤ → Timer Fields → List ℤ
