@@ -1,5 +1,5 @@
--- General lemmas that don't mention definitions of this project. All crates share them; a lemma that only one proof
--- needs stays next to that proof.
+-- General lemmas on definitions of the standard library, and on a few helpers that this file defines. All crates share
+-- them; a lemma that only one proof needs stays next to that proof.
 use Rattle.std.proofs.Common.{Bool, List, None, Option, Some, [], ap, arith, cond, drop, false, if◌then◌else◌, int_eq, int_lt, length, nat_le, refl, replicate, slice_get, suc, sym, true, zero, ℕ, ℤ, ◌++◌, ◌+ℤ◌, ◌-ℤ◌, ◌<ℤ◌, ◌<◌, ◌∙◌, ◌∷◌, ◌≡◌, ◌≤ℤ◌, Err, FitsSigned, IfOk, IfSome, IsSome, Ok, Result, add-one, append-nil, append_assoc, ap₂, decimal, drop-cons, get_or, inl, inr, leb, length-drop, length-take, map, max, min, nat_eq, nat_lt, negsuc, not, of_z, option_map, pos, pow_pos, reverse, subst, take, to_z, unsigned_abs, unwrap_or, w64, ◌%◌, ◌&&◌, ◌*◌, ◌+◌, ◌-◌, ◌/◌, ◌==◌, ◌^◌, ◌||◌, ◌≢◌, ◌≤◌, ◌⊎◌}
 use lib.Bits.{bit_or}
 use lib.Lanes.{fold_l}
