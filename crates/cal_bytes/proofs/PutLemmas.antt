@@ -25,7 +25,7 @@ module _ {W : Type 0} {sink : Ghosts W} where
     bytes = writes_err _ _ r (x ++ y) is_err (stop _ _ _ x y (x ++ y) (start _ (x ++ y)) p.bytes);
   }
 
-  -- if the first of two calls succeeds, the result of the second call is the result for the two texts together
+  -- if the first of two calls succeeds, then `Puts` holds for the two texts together and the result of the second call
   pub second_ends : {T E T' E' : Type 0} (a b c : W) (first : Result T' E') (r : Result T E) (x y : List ℕ) → Puts sink a b first x → IsOk first → Puts sink b c r y → Puts sink a c r (x ++ y)
   second_ends a b c (Err e) r x y p worked q = absurd (false≢true worked)
   second_ends a b c (Ok u) r x y p worked q = record {

@@ -23,8 +23,8 @@ pub trait Sink {
 
 /// A source of bytes.
 ///
-/// A contract can see the bytes still to come, if the type keeps track of them, whether a call has failed, and whether
-/// one can fail at all.
+/// A contract can see whether a call has failed and whether one can fail at all. If the type keeps track of the bytes
+/// still to come, the contract can see them, too.
 pub trait Source {
     /// The bytes still to come, or `None` if the type doesn't keep track of them.
     ghost remaining: { Self → Option (List ℕ) } = { λ _. None };
