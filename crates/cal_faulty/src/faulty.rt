@@ -8,13 +8,13 @@ use std::io::{ErrorKind, Read, Write};
 /// What a [`Faulty`] does once its limit is reached.
 #[derive(Clone, Copy, PartialEq, Eq, Debug)]
 pub enum Then {
-    /// Each call fails.
+    /// Each read or write fails.
     Error,
-    /// Each call fails with an error of the kind `Interrupted`.
+    /// Each read or write fails with an error of the kind `Interrupted`.
     Interrupted,
     /// A writer accepts 0 bytes; a reader is at its end.
     Zero,
-    /// A reader returns `#` forever; each call of a writer fails.
+    /// A reader returns `#` forever; each write fails.
     Endless,
 }
 
