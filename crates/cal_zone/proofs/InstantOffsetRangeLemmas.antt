@@ -181,7 +181,8 @@ next_in_table : (z : Table) (from : ℤ) → count_at z from < vec_len z.transit
     → OfTable.next_at z (nanos_of_seconds from) ≡ Some (OfTable.transition_view (transition_at z (count_at z from)))
 next_in_table z from some = grind (arith, signed_arith, vec_len, floor_second-whole)
 
--- before the last transition of a table, the UTC offset is constant until the next transition of the table
+-- if a table has transitions after `from`, the UTC offset is constant from `from` until the first of them or the end of
+-- the year of `from`, whichever is earlier
 constant_between : (z : Table) (from second : ℤ) → count_at z from < vec_len z.transitions → from ≤ℤ second → IsBeforeTransition (OfTable.next_at z (nanos_of_seconds from)) from second
     → OfTable.offset_at z (nanos_of_seconds second) ≡ OfTable.offset_at z (nanos_of_seconds from)
 constant_between z from second some later same =

@@ -83,22 +83,23 @@ outside z from local begun = outside_after z (count_at z from) local
 pub no_rule : (z : Table) (rows : ℕ) → rows < vec_len z.transitions → rule_after z rows ≡ None
 no_rule z rows some = grind (arith, signed_arith, vec_len)
 
--- a second that is converted to nanoseconds and back stays the same, and so does a local second that is converted to a
--- civil time and back
+-- a second that is converted to nanoseconds and back stays the same
 pub floor_second-whole : (second : ℤ) → floor_second (nanos_of_seconds second) ≡ second
 floor_second-whole second = omega (arith, signed_arith)
 
+-- a local second that is converted to a civil time and back stays the same
 civil_seconds-datetime_of : (local : ℤ) → IsEpochDay (day_of local) → civil_seconds (datetime_of local) ≡ local
 unfolding civil_seconds datetime_of time_of
 civil_seconds-datetime_of local day = omega (arith, signed_arith, epoch_day-date_of (day_of local) day)
 
--- From `from` until the next transition of the table, all instants have the same UTC offset. A civil time in between
--- that is far enough (93,599 seconds) from both ends is unambiguous, with this offset.
+-- if the table has transitions after `from`, all instants from `from` until the first of them have the same UTC offset
 pub offset_between : (z : Table) (from second : ℤ) → count_at z from < vec_len z.transitions → from ≤ℤ second
     → second <ℤ (transition_at z (count_at z from)).second
     → OfTable.offset_at z (nanos_of_seconds second) ≡ (type_after z (count_at z from)).offset
 offset_between z from second some begun within = grind (arith, signed_arith, floor_second-whole, count_stays, no_rule)
 
+-- if `local` is at least 93,599 seconds after `from`, and more than 93,599 seconds before the next transition after
+-- `from`, then its civil time is unambiguous, with the UTC offset at `from`
 ambiguous_between : (z : Table) (from local : ℤ) → IsEpochDay (day_of local) → count_at z from < vec_len z.transitions → (from +ℤ pos 93_599) ≤ℤ local
     → (local +ℤ pos 93_599) <ℤ (transition_at z (count_at z from)).second
     → OfTable.ambiguous_at z (datetime_of local) ≡ Unambiguous (type_after z (count_at z from)).offset

@@ -93,9 +93,9 @@ of_next_year rule d y next false e g = let under = le-false (pos 9999) y e in (o
 ordered_above : (high : ℤ) (w : ℤ × ℤ) → high ≤ℤ (ordered w).0 → (high ≤ℤ w.0) × (high ≤ℤ w.1)
 ordered_above high w = grind (arith, signed_arith, int_le)
 
--- If `high` is after the start of the year, but not after either time that `utc_window` returns, then daylight saving
--- time doesn't last all year. So these two times are those at which the rule starts and ends daylight saving time, and
--- `high` isn't after either of them.
+-- If `high` is after `first`, the start of the year, but not after either time that `window_of` returns, then daylight
+-- saving time doesn't last all year. So these two times are `start` and `end`, at which the rule starts and ends
+-- daylight saving time, and `high` isn't after either of them.
 parts_above : (high first last start end : ℤ) (some b : Bool) → first <ℤ high → (int_same start first && some) ≡ b → high ≤ℤ (window_of b start last end).0 → high ≤ℤ (window_of b start last end).1
     → (high ≤ℤ start) × (high ≤ℤ end)
 parts_above high first last start end some true above e p q = grind (arith, signed_arith, and_parts)

@@ -105,9 +105,9 @@ pub fn tables_change_at_one_name()
 {}
 
 /// A word is an offset if and only if it is a sign, two digits for hours from 00 to 25, a colon, and two digits for
-/// minutes from 00 to 59 (systemd.time(7), Calendar Events and Parsing Timestamps). No word stands for two offsets. The
-/// offsets that words stand for are exactly the whole minutes up to 25:59 east or west of UTC. Each of these offsets is
-/// printed as a word that is parsed as the same offset.
+/// minutes from 00 to 59; this form is the project's own. No word stands for two offsets. The offsets that words stand
+/// for are exactly the whole minutes up to 25:59 east or west of UTC. Each of these offsets is printed as a word that
+/// is parsed as the same offset.
 pub fn one_offset_word()
     ensures found { (word : List ℕ) (seconds : ℤ) → offset_in word ≡ Some seconds → IsOffsetWord word seconds }
     ensures only { (word : List ℕ) (seconds : ℤ) → IsOffsetWord word seconds → offset_in word ≡ Some seconds }

@@ -42,7 +42,8 @@ impl LoadFault {
 
 /// Reads a zone file (RFC 8536) and adds its rules to the table under `name`.
 ///
-/// Fails with the first of these errors that applies, and then leaves the table unchanged:
+/// If loading fails, the table is unchanged. Each [`ZoneFault`] is returned inside [`LoadFault::Zone`]. Fails with the
+/// first of these errors that applies:
 ///
 /// - [`ZoneFault::BadName`] if the name is invalid. Nothing is read then.
 /// - [`LoadFault::ReadFailed`] if reading fails, or [`ZoneFault::TooLarge`] if there are more than 1,048,576 bytes.

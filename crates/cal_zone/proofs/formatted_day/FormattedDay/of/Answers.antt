@@ -37,11 +37,12 @@ next_midnight c =
     let start = midnight c in
     omega (arith, signed_arith, c.civil_at-shown.ensures.ranges.hour, c.civil_at-shown.ensures.ranges.minute, c.civil_at-shown.ensures.ranges.second)
 
--- every instant of the returned day is in `range`, and between midnight and the next midnight
+-- an instant that isn't before the start of the returned day isn't before the start of `range`, nor before midnight
 at_midnight : (c : goal.After-min) (second : ℤ) → to_z w64 (of_z w64 c.max.result) ≤ℤ second
     → (c.args.range.from ≤ℤ second) × (midnight_of c.secs.result c.since_midnight.result ≤ℤ second)
 at_midnight c second from = grind (arith, signed_arith, c.max.ensures.self_bound, c.max.ensures.other_bound)
 
+-- an instant before the end of the returned day is before the end of `range` and before the next midnight
 at_next_midnight : (c : goal.After-min) (second : ℤ) → second <ℤ to_z w64 (of_z w64 c.min.result)
     → (second <ℤ c.args.range.to) × (second <ℤ (midnight_of c.secs.result c.since_midnight.result +ℤ pos 86_400))
 at_next_midnight c second before =
