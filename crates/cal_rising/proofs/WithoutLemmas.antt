@@ -139,7 +139,8 @@ pub behind_all : (n number : ℤ) (at : ℕ) (given now ss : List Peeked) → Ar
     → false ≡ list_any (λ xs. is_member int_eq xs number) (map numbers ss)
 behind_all n number at given now ss h same whole all = grind (arith, ints, any-none)
 
--- if the source at the index `at` has the number now, then at least one source had it before any source was read
+-- if `AreBehind` holds for the index `at`, and the source there has the number, then at least one source had it before
+-- any source was read
 pub behind_here : (n number : ℤ) (at : ℕ) (given now ss : List Peeked) (s : Peeked) → AreBehind n at given now → n ≡ number → given ≡ ss → at < length given
     → is_member int_eq (numbers (get_or now at s)) n ≡ true → true ≡ list_any (λ xs. is_member int_eq xs number) (map numbers ss)
 behind_here n number at given now ss s h same whole lt has = grind (arith, ints, any-here)
