@@ -19,8 +19,8 @@ struct TestedRange {
     max_offset: i64,
 }
 
-/// Appends the instants in the range that have a matching local second. Every local second that could have an instant
-/// in the range is tested.
+/// Appends the places of the local seconds that the expression matches, as far as they are in the range. Every local
+/// second whose place could be in the range is tested.
 fn push_places(
     instants: &mut Vec<i64>,
     expr: &Expr,

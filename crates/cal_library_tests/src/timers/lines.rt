@@ -70,8 +70,8 @@ static CONTINUED_LINES: [Row; 10] = [
         "[Ti\\\nmer]\n[Timer]\nOnCalendar=daily",
         Ok(&[(4, "daily")]),
     ),
-    // An even number of backslashes at its end doesn't continue a line, nor does a backslash before a blank. Of an odd
-    // number, the last one becomes a space.
+    // A line is not continued if it ends in an even number of backslashes, or in a backslash and a blank. If it ends in
+    // an odd number of backslashes, the last one becomes a space.
     (
         "[Timer]\nOnCalendar=daily\\\\\nOnCalendar=daily",
         Err(TimerFault::BadLine(2, SpecFault::BadWeekday)),

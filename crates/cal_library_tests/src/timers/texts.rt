@@ -130,7 +130,7 @@ static REFUSED: [(&[&str], Option<usize>, TimerFault); 7] = [
     ),
 ];
 
-/// Returns the texts with lines that are numbered from 1.
+/// Returns a [`UnitText`] for each text, with its lines numbered from 1.
 pub(super) fn unit_texts<'t>(alloc: Global, texts: &[&'t str]) -> Result<Vec<UnitText<'t>>, Fail>
     ensures { IfOk result (λ files. All (λ file. file.first + length file.text.now < 2 ^ 32) files.items) }
 {

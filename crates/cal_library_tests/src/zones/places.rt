@@ -4,8 +4,8 @@ use crate::shared::{SUMMER_TIME, posix};
 use cal_base::{PlaceCache, Zone, place, settle};
 use std::test::Fail;
 
-/// Expects `place`, and one `PlaceCache` for all rows, to return what is next to each local second: its instant, or
-/// `None` if it has no instant.
+/// Expects `place`, and one `PlaceCache` for all rows, to return what is next to each local second: its place, or
+/// `None` if it has no place.
 fn expect_places(zone: Zone, rows: &[(i64, Option<i64>)]) -> Result<(), Fail> {
     let mut place_cache = PlaceCache::new(zone);
     for (local, instant) in rows {
@@ -33,8 +33,8 @@ fn expect_settled(zone: Zone, rows: &[(i64, i64)]) -> Result<(), Fail> {
     Ok(())
 }
 
-/// In the gap from 02:00 to 03:00 on 2024-03-31 a local second has no instant, and settling moves it forward by the
-/// length of the gap. In the fold from 02:00 to 03:00 on 2024-10-27 a local second has the instant of its first
+/// In the gap from 02:00 to 03:00 on 2024-03-31 a local second has no place, and settling moves it forward by the
+/// length of the gap. In the fold from 02:00 to 03:00 on 2024-10-27 the place of a local second is its first
 /// occurrence.
 #[test]
 fn gap_and_fold(rt: HostRuntime) -> Result<(), Fail> {

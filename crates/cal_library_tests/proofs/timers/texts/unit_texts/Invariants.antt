@@ -1,4 +1,4 @@
--- Every text so far is short enough for its lines to be numbered.
+-- Every text so far is short enough for the numbers of its lines to fit into 32 bits.
 use Rattle.std.proofs.Common.{◌+◌, ◌<◌, ◌^◌, All, length}
 use Rattle.cal_library_tests.proofs.timers.texts.unit_texts.Given as goal
 
