@@ -1,0 +1,11 @@
+use Rattle.std.proofs.Common.{◌≡◌, drop, map, string_bytes}
+use Rattle.std.specs.Prelude.{slice_get}
+use Rattle.std.specs.List.{filter_map}
+use Rattle.cal_units.specs.Units.{stem_in}
+use Rattle.cal_units.proofs.links.alias_of.Given as goal
+
+-- none of the folders so far has the target
+abbrev pub invariant-loop-folder : goal.invariant-loop-folder
+invariant-loop-folder l =
+    slice_get (filter_map (stem_in l.target) (map string_bytes (drop l.folder-index l.path))) 0
+    ≡ slice_get (filter_map (stem_in l.target) (map string_bytes l.path)) 0

@@ -1,0 +1,10 @@
+use Rattle.std.proofs.Common.{◌≡◌, drop, map, string_bytes}
+use Rattle.cal_units.specs.Machine.{Machine}
+use Rattle.cal_units.specs.Units.{first_there}
+use Rattle.cal_units.proofs.places.first_there.Given as goal
+
+-- there is nothing at the paths so far
+abbrev pub invariant-loop-path : goal.invariant-loop-path
+invariant-loop-path g l =
+    (machine : Machine) → g.T.Tree.shows l.tree machine
+    → first_there machine (map string_bytes (drop l.path-index l.paths)) ≡ first_there machine (map string_bytes l.paths)

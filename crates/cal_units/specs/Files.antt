@@ -1,0 +1,20 @@
+-- The files of a unit that are read, in this order: its own, and then its drop-ins (systemd.unit(5), Description).
+use Rattle.std.specs.Prelude.{ℕ, List, string_bytes}
+use Rattle.std.specs.List.{flat_map}
+use Rattle.std.specs.Option.{option_map, option_to_list}
+use Rattle.cal_units.specs.Machine.{Machine}
+use Rattle.cal_units.specs.declared.files.UnitText as texts
+
+pub record UnitText : Type 0 where
+  pub path : List ℕ
+  pub bytes : List ℕ
+
+-- the file at a path, if there is one: a link to nothing isn't read
+abbrev pub file_at : Machine → List ℕ → List UnitText
+file_at machine path = option_to_list (option_map (λ bytes. record { path = path; bytes = bytes }) (machine.file path))
+
+abbrev pub files_at : Machine → List (List ℕ) → List UnitText
+files_at machine paths = flat_map (file_at machine) paths
+
+abbrev pub shown_text : texts.UnitText → UnitText
+shown_text file = record { path = string_bytes file.path; bytes = file.bytes.items }

@@ -1,0 +1,41 @@
+-- A machine as units see it: its folders, files and links, and the variables of the environment. Links are as in
+-- symlink(7).
+use Rattle.std.specs.Prelude.{ℕ, Bool, false, List, Option, codes, string_bytes}
+use Rattle.std.specs.Str.{bytes_eq}
+use Rattle.cal_drop_ins.specs.DropIns.{Disk}
+use Rattle.cal_units.specs.declared.tree.Entry as entries
+
+-- what a path leads to
+pub data Entry : Type 0 where
+  Missing : Entry
+  Empty : Entry
+  File : Entry
+  Folder : Entry
+  Link : (target : List ℕ) → Entry
+
+abbrev pub shown_entry : entries.Entry → Entry
+shown_entry entries.TheVariants.Missing = Missing
+shown_entry entries.TheVariants.Empty = Empty
+shown_entry entries.TheVariants.File = File
+shown_entry entries.TheVariants.Folder = Folder
+shown_entry (entries.TheVariants.Link target) = Link (string_bytes target)
+
+-- the names in each folder, what each path leads to, the bytes of the file to which it leads after following links, and the
+-- value of each variable
+pub record Machine : Type 0 where
+  pub names : List ℕ → List (List ℕ)
+  pub entry : List ℕ → Entry
+  pub file : List ℕ → Option (List ℕ)
+  pub variable : List ℕ → Option (List ℕ)
+
+abbrev pub null_device : List ℕ
+null_device = codes "/dev/null"
+
+-- whether it is a link to `/dev/null`
+abbrev pub is_null : Entry → Bool
+is_null (Link target) = bytes_eq target null_device
+is_null _ = false
+
+-- what drop-ins see of a machine
+abbrev pub disk_of : Machine → Disk
+disk_of machine = record { names = machine.names; is_null = λ path. is_null (machine.entry path) }

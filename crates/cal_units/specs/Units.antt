@@ -1,0 +1,132 @@
+-- Where the file of a unit is: systemd.unit(5), Description and Unit File Load Path. Search paths have the most important
+-- folder first.
+use Rattle.std.specs.Prelude.{ℕ, zero, suc, ◌+◌, nat_eq, Bool, true, false, ◌||◌, if◌then◌else◌, List, [], ◌∷◌, ◌++◌, Option, None, Some, codes, drop, length, map, slice_get, string_bytes}
+use Rattle.std.specs.List.{ends_with, filter_map, find, flat_map, starts_with}
+use Rattle.std.specs.Option.{option_or, option_to_list}
+use Rattle.std.specs.Str.{bytes_eq}
+use Rattle.cal_drop_ins.specs.UnitName.{kind_of, suffix, template_of, unit_stem}
+use Rattle.cal_drop_ins.specs.declared.unit_name.UnitKind.{UnitKind}
+use Rattle.cal_drop_ins.specs.declared.unit_name.UnitKind.TheVariants.{Plain, Template, Instance}
+use Rattle.cal_units.specs.Machine.{Entry, Machine, null_device}
+use Rattle.cal_units.specs.Machine.Entry.{Missing, Empty, File, Folder, Link}
+use Rattle.cal_units.specs.declared.places.Place as places
+use Rattle.cal_units.specs.declared.unit.Unit as units
+
+abbrev pub unit_path : List ℕ → List ℕ → List ℕ
+unit_path stem folder = folder ++ codes "/" ++ stem ++ codes ".timer"
+
+-- the paths at which a unit's file can be: those of its own name before those of its template's
+unfoldable pub unit_paths : List (List ℕ) → List ℕ → List (List ℕ)
+unit_paths path stem = map (unit_path stem) path ++ flat_map (λ template. map (unit_path template) path) (option_to_list (template_of stem))
+
+-- a folder is not a unit's file
+abbrev pub is_there : Entry → Bool
+is_there Missing = false
+is_there Folder = false
+is_there _ = true
+
+-- the first path with a unit's file, which counts
+abbrev pub first_there : Machine → List (List ℕ) → Option (List ℕ)
+first_there machine paths = find (λ path. is_there (machine.entry path)) paths
+
+-- what the text has after a prefix
+unfoldable pub after_prefix : List ℕ → List ℕ → Option (List ℕ)
+after_prefix prefix text = if starts_with nat_eq text prefix then Some (drop (length prefix) text) else None
+
+-- the stem of a timer from the name of its file
+unfoldable pub file_stem : List ℕ → Option (List ℕ)
+file_stem name = if ends_with nat_eq name suffix then unit_stem name else None
+
+abbrev pub and_then : Option (List ℕ) → (List ℕ → Option (List ℕ)) → Option (List ℕ)
+and_then None f = None
+and_then (Some x) f = f x
+
+-- the stem of the timer whose file is in a folder
+unfoldable pub stem_in : List ℕ → List ℕ → Option (List ℕ)
+stem_in target folder =
+    and_then (after_prefix folder target) (λ rest. and_then (after_prefix (codes "/") rest) file_stem)
+
+-- The stem of the timer for which a link stands, if its target is a timer in a folder of units, or a name without a folder.
+-- Any other link is to a file that is somewhere else.
+unfoldable pub alias_of : List (List ℕ) → List ℕ → Option (List ℕ)
+alias_of path target = option_or (file_stem target) (slice_get (filter_map (stem_in target) path) 0)
+
+-- what is found under a name: nothing, a path that masks the unit, the path of its file, or a link to another unit
+pub data Place : Type 0 where
+  Nowhere : Place
+  MaskedAt : (path : List ℕ) → Place
+  FileAt : (path : List ℕ) → Place
+  AliasOf : (stem : List ℕ) → Place
+
+abbrev pub is_template_kind : UnitKind → Bool
+is_template_kind Plain = false
+is_template_kind Template = true
+is_template_kind Instance = false
+
+abbrev pub is_template : List ℕ → Bool
+is_template stem = is_template_kind (kind_of stem)
+
+-- A link to a unit of the same name leads to that unit's file, and so does a link to a template.
+abbrev pub linked : List ℕ → List ℕ → Option (List ℕ) → Place
+linked stem file None = FileAt file
+linked stem file (Some other) = if bytes_eq other stem || is_template other then FileAt file else AliasOf other
+
+abbrev pub place_of_link : List (List ℕ) → List ℕ → List ℕ → List ℕ → Place
+place_of_link path stem file target =
+    if bytes_eq target null_device then MaskedAt file else linked stem file (alias_of path target)
+
+abbrev pub place_at : List (List ℕ) → List ℕ → List ℕ → Entry → Place
+place_at path stem file Missing = FileAt file
+place_at path stem file Empty = MaskedAt file
+place_at path stem file File = FileAt file
+place_at path stem file Folder = FileAt file
+place_at path stem file (Link target) = place_of_link path stem file target
+
+abbrev pub place_of : Machine → List (List ℕ) → List ℕ → Option (List ℕ) → Place
+place_of machine path stem None = Nowhere
+place_of machine path stem (Some file) = place_at path stem file (machine.entry file)
+
+abbrev pub place_in : Machine → List (List ℕ) → List ℕ → Place
+place_in machine path stem = place_of machine path stem (first_there machine (unit_paths path stem))
+
+-- a unit: it doesn't exist, it is a template, it is masked by a path, it has a file and these stems, of which its own is the last, or it is
+-- an alias of an alias and so on without an end
+pub data Unit : Type 0 where
+  Unfound : Unit
+  TemplateOnly : Unit
+  MaskedBy : (path : List ℕ) → Unit
+  FoundAt : (path : List ℕ) → (stems : List (List ℕ)) → Unit
+  Endless : Unit
+
+abbrev pub followed : (List (List ℕ) → List ℕ → Unit) → List (List ℕ) → List ℕ → Place → Unit
+followed more aliases stem Nowhere = Unfound
+followed more aliases stem (MaskedAt file) = MaskedBy file
+followed more aliases stem (FileAt file) = FoundAt file (aliases ++ stem ∷ [])
+followed more aliases stem (AliasOf other) = more (aliases ++ stem ∷ []) other
+
+-- the unit of a name, found after fewer than `n` links from unit to unit
+abbrev pub follow : Machine → List (List ℕ) → ℕ → List (List ℕ) → List ℕ → Unit
+follow machine path zero aliases stem = Endless
+follow machine path (suc n) aliases stem = followed (follow machine path n) aliases stem (place_in machine path stem)
+
+-- the maximum number of links from unit to unit; it is this project's choice
+abbrev pub max_links : ℕ
+max_links = 8
+
+abbrev pub named_unit : Machine → List (List ℕ) → List ℕ → Unit
+named_unit machine path stem = follow machine path (max_links + 1) [] stem
+
+abbrev pub unit_in : Machine → List (List ℕ) → List ℕ → Unit
+unit_in machine path stem = if is_template stem then TemplateOnly else named_unit machine path stem
+
+abbrev pub shown_place : places.Place → Place
+shown_place places.TheVariants.Nowhere = Nowhere
+shown_place (places.TheVariants.MaskedAt path) = MaskedAt (string_bytes path)
+shown_place (places.TheVariants.FileAt path) = FileAt (string_bytes path)
+shown_place (places.TheVariants.AliasOf stem) = AliasOf (string_bytes stem)
+
+abbrev pub shown_unit : units.Unit → Unit
+shown_unit units.TheVariants.NotFound = Unfound
+shown_unit units.TheVariants.Template = TemplateOnly
+shown_unit (units.TheVariants.Masked path) = MaskedBy (string_bytes path)
+shown_unit (units.TheVariants.Found file) = FoundAt (string_bytes file.path) (map string_bytes file.stems.items)

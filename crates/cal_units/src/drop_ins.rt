@@ -1,0 +1,154 @@
+//! The drop-ins of a unit on a machine (systemd.unit(5), Description).
+
+ghost use Rattle.std.specs.Prelude.{◌≡◌, ◌++◌, ◌∷◌, [], IfOk, OnOk, map, not, filter, if◌then◌else◌, string_bytes};
+ghost use Rattle.std.specs.List.{flat_map};
+ghost use Rattle.cal_drop_ins.specs.DropIns.{candidates, drop_ins, shown};
+ghost use Rattle.cal_units.specs.Machine.{Machine, disk_of, is_null, shown_entry};
+
+use crate::fault::{Reason, UnitFault};
+use crate::tree::{Entry, Names, Tree};
+use cal_drop_ins::{DropIn, choose, folders_of, push_candidates};
+use std::alloc::Global;
+
+/// The maximum number of drop-ins in the folders of a unit.
+const MAX_DROP_INS: usize = 10_000;
+
+/// The target of a link that masks a file.
+pub(crate) const NULL_DEVICE: &str = "/dev/null";
+
+/// The drop-ins of a unit.
+#[derive(Debug, Drop)]
+pub struct DropIns {
+    /// Their paths, in the order in which they are read.
+    pub paths: Vec<String>,
+    /// The folders of drop-ins that have entries whose names are not UTF-8. Those entries are not read.
+    pub unnamed: Vec<String>,
+}
+
+/// Returns the drop-ins of a unit that are read, in this order (systemd.unit(5), Description).
+///
+/// `path` is the search path, the most important folder first. `stems` are the stems of the unit's names: its aliases,
+/// and last its own.
+///
+/// Fails with [`UnitFault::At`] and [`Reason::ReadFailed`] if a folder can't be listed or a link can't be read, with
+/// [`Reason::NotUtf8`] if the target of a drop-in's link is not UTF-8, and with [`Reason::TooMany`] at the folder with the
+/// 10,001st drop-in, hidden ones included. Fails with [`UnitFault::NoMemory`] if allocation fails.
+#[tactic(auto, unfolding(cal_drop_ins::specs::DropIns::drop_ins))]
+pub fn find_drop_ins<T: Tree>(
+    alloc: Global,
+    tree: &T,
+    path: &[String],
+    stems: &[&str],
+) -> Result<DropIns, UnitFault>
+    ensures { IfOk result (λ found. (machine : Machine) → T.shows tree.now machine
+        → map string_bytes found.paths.items
+        ≡ drop_ins (disk_of machine) (map string_bytes path.now) (map (λ stem. stem.now) stems.now)) }
+{
+    let folders = folders_of(alloc, path, stems)?;
+    let mut unnamed = Vec::new(alloc);
+    let found = find_candidates(alloc, tree, folders.as_slice(), &mut unnamed)?;
+    let paths = without_masked(alloc, tree, choose(alloc, found)?)?;
+    Ok(DropIns { paths, unnamed })
+}
+
+/// Returns the drop-ins in the folders, and appends to `unnamed` the folders with other names.
+fn find_candidates<T: Tree>(
+    alloc: Global,
+    tree: &T,
+    folders: &[String],
+    unnamed: &mut Vec<String>,
+) -> Result<Vec<DropIn>, UnitFault>
+    ensures { IfOk result (λ found. (machine : Machine) → T.shows tree.now machine
+        → map shown found.items
+        ≡ flat_map (λ folder. candidates folder (machine.names folder)) (map string_bytes folders.now)) }
+{
+    let mut found = Vec::new(alloc);
+    for folder in folders {
+        push_folder(alloc, tree, folder.as_str(), &mut found, unnamed)?;
+    }
+    Ok(found)
+}
+
+/// Appends the drop-ins in a folder.
+fn push_folder<T: Tree>(
+    alloc: Global,
+    tree: &T,
+    folder: &str,
+    found: &mut Vec<DropIn>,
+    unnamed: &mut Vec<String>,
+) -> Result<(), UnitFault>
+    ensures { OnOk result ((machine : Machine) → T.shows tree.now machine
+        → map shown found.new.items ≡ map shown found.old.items ++ candidates folder.now (machine.names folder.now)) }
+{
+    let listed = match tree.names(alloc, folder) {
+        Ok(listed) => listed,
+        Err(fault) => return Err(UnitFault::of_tree(alloc, folder, fault)),
+    };
+    let Names {
+        names,
+        unnamed: others,
+    } = listed;
+    push_candidates(alloc, found, folder, names)?;
+    if found.len() > MAX_DROP_INS {
+        return Err(UnitFault::at(alloc, folder, Reason::TooMany));
+    }
+    if others > 0 {
+        unnamed.push(String::from_str(alloc, folder)?)?;
+    }
+    Ok(())
+}
+
+/// Returns the paths without links to `/dev/null`.
+fn without_masked<T: Tree>(
+    alloc: Global,
+    tree: &T,
+    paths: Vec<String>,
+) -> Result<Vec<String>, UnitFault>
+    ensures { IfOk result (λ kept. (machine : Machine) → T.shows tree.now machine
+        → map string_bytes kept.items
+        ≡ filter (λ path. not (is_null (machine.entry path))) (map string_bytes paths.items)) }
+{
+    let mut kept = Vec::new(alloc);
+    for path in paths {
+        keep_unmasked(alloc, tree, &mut kept, path)?;
+    }
+    Ok(kept)
+}
+
+/// Appends a path, unless it is a link to `/dev/null`.
+fn keep_unmasked<T: Tree>(
+    alloc: Global,
+    tree: &T,
+    kept: &mut Vec<String>,
+    path: String,
+) -> Result<(), UnitFault>
+    ensures { OnOk result ((machine : Machine) → T.shows tree.now machine
+        → map string_bytes kept.new.items ≡ map string_bytes kept.old.items
+        ++ filter (λ path. not (is_null (machine.entry path))) (string_bytes path ∷ [])) }
+{
+    match tree.look(alloc, path.as_str()) {
+        Ok(entry) => push_unless(kept, path, is_null(&entry)),
+        Err(fault) => Err(UnitFault::of_tree(alloc, path.as_str(), fault)),
+    }
+}
+
+/// Returns whether a path is a link to `/dev/null`.
+fn is_null(entry: &Entry) -> bool
+    ensures { result ≡ is_null (shown_entry entry.now) }
+{
+    match entry {
+        Entry::Link(target) => target.as_str() == NULL_DEVICE,
+        _ => false,
+    }
+}
+
+/// Appends a path if `masked` is `false`.
+fn push_unless(kept: &mut Vec<String>, path: String, masked: bool) -> Result<(), UnitFault>
+    ensures { OnOk result (map string_bytes kept.new.items
+        ≡ map string_bytes kept.old.items ++ (if masked then [] else string_bytes path ∷ [])) }
+{
+    if !masked {
+        kept.push(path)?;
+    }
+    Ok(())
+}

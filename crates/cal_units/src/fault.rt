@@ -1,0 +1,70 @@
+//! The errors of units.
+
+ghost use Rattle.std.specs.Prelude.{◌≡◌};
+ghost use Rattle.cal_units.specs.declared.fault.UnitFault.TheVariants.{NoMemory};
+
+use crate::tree::TreeFault;
+use std::alloc::{AllocError, AllocFailed, Global};
+
+/// Why a path of a unit can't be used.
+#[derive(Clone, Copy, PartialEq, Eq, Debug)]
+pub enum Reason {
+    /// It can't be listed, opened or read.
+    ReadFailed,
+    /// It is a link whose target is not UTF-8.
+    NotUtf8,
+    /// It is a folder, but should be a file.
+    IsFolder,
+    /// It was in its folder, but is gone.
+    Vanished,
+    /// The file has more than 1,048,576 bytes.
+    TooLarge,
+    /// The folder and those before it have more than 10,000 drop-ins.
+    TooMany,
+    /// More than 8 links lead from unit to unit.
+    TooManyLinks,
+}
+
+/// Why the files of a unit can't be had.
+#[derive(Debug, Drop)]
+pub enum UnitFault {
+    /// This path can't be used, for this reason.
+    At(String, Reason),
+    /// Out of memory.
+    NoMemory,
+}
+
+impl From<AllocError> for UnitFault {
+    ghost from_gives = { λ _ fault. fault ≡ NoMemory };
+
+    fn from(_refused: AllocError) -> UnitFault {
+        UnitFault::NoMemory
+    }
+}
+
+impl<T: Drop> From<AllocFailed<T>> for UnitFault {
+    ghost from_gives = { λ _ fault. fault ≡ NoMemory };
+
+    fn from(_refused: AllocFailed<T>) -> UnitFault {
+        UnitFault::NoMemory
+    }
+}
+
+impl UnitFault {
+    /// Returns the error for a path.
+    pub(crate) fn at(alloc: Global, path: &str, reason: Reason) -> UnitFault {
+        match String::from_str(alloc, path) {
+            Ok(path) => UnitFault::At(path, reason),
+            Err(_) => UnitFault::NoMemory,
+        }
+    }
+
+    /// Returns the error for a path of which a machine doesn't tell what it was asked.
+    pub(crate) fn of_tree(alloc: Global, path: &str, fault: TreeFault) -> UnitFault {
+        match fault {
+            TreeFault::ReadFailed => UnitFault::at(alloc, path, Reason::ReadFailed),
+            TreeFault::NotUtf8 => UnitFault::at(alloc, path, Reason::NotUtf8),
+            TreeFault::NoMemory => UnitFault::NoMemory,
+        }
+    }
+}

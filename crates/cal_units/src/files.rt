@@ -1,0 +1,99 @@
+//! Reading the files of a unit.
+
+ghost use Rattle.std.specs.Prelude.{◌≡◌, ◌++◌, ◌∷◌, [], IfOk, OnOk, map, option_map, string_bytes};
+ghost use Rattle.cal_units.specs.Files.{file_at, files_at, shown_text};
+ghost use Rattle.cal_units.specs.Machine.{Machine};
+
+use crate::fault::{Reason, UnitFault};
+use crate::places::look;
+use crate::tree::{Entry, Tree};
+use cal_streams::{WholeFault, read_whole};
+use std::alloc::Global;
+
+/// The maximum size of a file of a unit, in bytes.
+const FILE_LIMIT: usize = 1_048_576;
+
+/// A file of a unit.
+#[derive(Debug, Drop)]
+pub struct UnitText {
+    /// Its path.
+    pub path: String,
+    /// Its bytes.
+    pub bytes: Vec<u8>,
+}
+
+/// Reads the files of a unit to their ends: the one at `path`, and then the drop-ins. A link to nothing is left out, as
+/// systemd does.
+///
+/// Fails with [`UnitFault::At`] and, for the first file at fault, [`Reason::ReadFailed`] if it can't be opened or read,
+/// [`Reason::IsFolder`] if it is a folder, [`Reason::Vanished`] if nothing is there, or [`Reason::TooLarge`] if it has more
+/// than 1,048,576 bytes. Fails with [`UnitFault::NoMemory`] if allocation fails.
+pub fn read_files<T: Tree>(
+    alloc: Global,
+    tree: &T,
+    path: &str,
+    drop_ins: &[String],
+) -> Result<Vec<UnitText>, UnitFault>
+    ensures { IfOk result (λ files. (machine : Machine) → T.shows tree.now machine
+        → map shown_text files.items ≡ files_at machine (path.now ∷ map string_bytes drop_ins.now)) }
+{
+    let mut files = Vec::new(alloc);
+    push_file(alloc, tree, &mut files, path)?;
+    for drop_in in drop_ins {
+        push_file(alloc, tree, &mut files, drop_in.as_str())?;
+    }
+    Ok(files)
+}
+
+/// Reads the file at a path and appends it.
+fn push_file<T: Tree>(
+    alloc: Global,
+    tree: &T,
+    files: &mut Vec<UnitText>,
+    path: &str,
+) -> Result<(), UnitFault>
+    ensures { OnOk result ((machine : Machine) → T.shows tree.now machine
+        → map shown_text files.new.items ≡ map shown_text files.old.items ++ file_at machine path.now) }
+{
+    let Some(bytes) = read_file(alloc, tree, path)? else {
+        return check_link(alloc, tree, path);
+    };
+    let path = String::from_str(alloc, path)?;
+    files.push(UnitText { path, bytes })?;
+    Ok(())
+}
+
+/// Reads the file at a path. Returns `None` if there is no file.
+fn read_file<T: Tree>(alloc: Global, tree: &T, path: &str) -> Result<Option<Vec<u8>>, UnitFault>
+    ensures { IfOk result (λ bytes. (machine : Machine) → T.shows tree.now machine
+        → option_map (λ bytes. bytes.items) bytes ≡ machine.file path.now) }
+{
+    let mut file = match tree.open(path) {
+        Ok(Some(file)) => file,
+        Ok(None) => return Ok(None),
+        Err(fault) => return Err(UnitFault::of_tree(alloc, path, fault)),
+    };
+    match read_whole(alloc, &mut file, FILE_LIMIT) {
+        Ok(bytes) => Ok(Some(bytes)),
+        Err(WholeFault::ReadFailed) => Err(unreadable(alloc, tree, path)),
+        Err(WholeFault::TooLarge) => Err(UnitFault::at(alloc, path, Reason::TooLarge)),
+        Err(WholeFault::NoMemory) => Err(UnitFault::NoMemory),
+    }
+}
+
+/// Returns why the file at a path can't be read, although it could be opened.
+fn unreadable<T: Tree>(alloc: Global, tree: &T, path: &str) -> UnitFault {
+    match tree.look(alloc, path) {
+        Ok(Entry::Folder) => UnitFault::at(alloc, path, Reason::IsFolder),
+        _ => UnitFault::at(alloc, path, Reason::ReadFailed),
+    }
+}
+
+/// Fails with [`Reason::Vanished`] or [`Reason::IsFolder`] unless there is a link at a path.
+fn check_link<T: Tree>(alloc: Global, tree: &T, path: &str) -> Result<(), UnitFault> {
+    match look(alloc, tree, path)? {
+        Entry::Link(_) => Ok(()),
+        Entry::Folder => Err(UnitFault::at(alloc, path, Reason::IsFolder)),
+        _ => Err(UnitFault::at(alloc, path, Reason::Vanished)),
+    }
+}

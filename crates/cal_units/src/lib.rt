@@ -1,0 +1,16 @@
+//! The files of a timer unit on a machine (systemd.unit(5)), and the zones that its expressions need.
+#![tactic(auto)]
+
+mod drop_ins;
+mod fault;
+mod files;
+mod links;
+mod places;
+mod tree;
+mod unit;
+
+pub use drop_ins::{DropIns, find_drop_ins};
+pub use fault::{Reason, UnitFault};
+pub use files::{UnitText, read_files};
+pub use tree::{Entry, Names, Tree, TreeFault};
+pub use unit::{Unit, UnitFile, find_unit};

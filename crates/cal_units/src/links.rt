@@ -1,0 +1,51 @@
+//! Links between units: which unit a link stands for (systemd.unit(5), Description).
+
+ghost use Rattle.std.specs.Prelude.{◌≡◌, map, option_map, string_bytes};
+ghost use Rattle.cal_units.specs.Units.{after_prefix, alias_of, file_stem, stem_in};
+
+use cal_drop_ins::unit_stem;
+
+/// Returns the stem of the timer for which a link with this target stands: the target is the file of a timer in a folder
+/// of the search path, or the name of such a file without a folder. Returns `None` for any other link, which leads to a
+/// file that is somewhere else.
+#[tactic(auto, unfolding(crate::specs::Units::alias_of))]
+pub(crate) fn alias_of<'t>(path: &[String], target: &'t str) -> Option<&'t str>
+    ensures { option_map (λ stem. stem.now) result ≡ alias_of (map string_bytes path.now) target.now }
+{
+    if let Some(stem) = file_stem(target) {
+        return Some(stem);
+    }
+    for folder in path {
+        if let Some(stem) = stem_in(target, folder.as_str()) {
+            return Some(stem);
+        }
+    }
+    None
+}
+
+#[tactic(auto, unfolding(crate::specs::Units::stem_in))]
+fn stem_in<'t>(target: &'t str, folder: &str) -> Option<&'t str>
+    ensures { option_map (λ stem. stem.now) result ≡ stem_in target.now folder.now }
+{
+    let rest = after_prefix(folder, target)?;
+    let name = after_prefix("/", rest)?;
+    file_stem(name)
+}
+
+#[tactic(auto, unfolding(crate::specs::Units::after_prefix))]
+fn after_prefix<'t>(prefix: &str, text: &'t str) -> Option<&'t str>
+    ensures { option_map (λ rest. rest.now) result ≡ after_prefix prefix.now text.now }
+{
+    text.strip_prefix(prefix)
+}
+
+/// Returns the stem of a timer from the name of its file.
+#[tactic(auto, unfolding(crate::specs::Units::file_stem))]
+fn file_stem(name: &str) -> Option<&str>
+    ensures { option_map (λ stem. stem.now) result ≡ file_stem name.now }
+{
+    if !name.as_bytes().ends_with(b".timer") {
+        return None;
+    }
+    unit_stem(name)
+}

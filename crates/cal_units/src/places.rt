@@ -1,0 +1,171 @@
+//! The paths at which the file of a unit can be (systemd.unit(5), Unit File Load Path).
+
+ghost use Rattle.std.specs.Prelude.{◌≡◌, ◌++◌, ◌∷◌, [], IfOk, IfSome, OnOk, map, string_bytes};
+ghost use Rattle.std.specs.Option.{option_map};
+ghost use Rattle.cal_units.specs.Machine.{Machine, shown_entry};
+ghost use Rattle.cal_units.specs.Units.{first_there, is_there, linked, place_at, place_in, place_of_link, shown_place, unit_path, unit_paths};
+
+use crate::drop_ins::NULL_DEVICE;
+use crate::fault::UnitFault;
+use crate::links::alias_of;
+use crate::tree::{Entry, Tree};
+use cal_drop_ins::{UnitKind, kind_of, template_of};
+use std::alloc::{AllocError, Global};
+
+/// What is found under a unit's name.
+#[derive(Debug, Drop)]
+pub(crate) enum Place {
+    /// Nothing.
+    Nowhere,
+    /// An empty file or a link to `/dev/null`, which masks the unit.
+    MaskedAt(String),
+    /// The unit's file.
+    FileAt(String),
+    /// A link to the unit with this stem.
+    AliasOf(String),
+}
+
+/// Returns what is found under a unit's name.
+pub(crate) fn find_place<T: Tree>(
+    alloc: Global,
+    tree: &T,
+    path: &[String],
+    stem: &str,
+) -> Result<Place, UnitFault>
+    ensures { IfOk result (λ place. (machine : Machine) → T.shows tree.now machine
+        → shown_place place ≡ place_in machine (map string_bytes path.now) stem.now) }
+{
+    let paths = unit_paths(alloc, path, stem)?;
+    match first_there(alloc, tree, paths.as_slice())? {
+        Some((file, entry)) => place_at(alloc, path, stem, file, &entry),
+        None => Ok(Place::Nowhere),
+    }
+}
+
+/// Returns what a unit's name stands for if this is at the first path that has something.
+fn place_at(
+    alloc: Global,
+    path: &[String],
+    stem: &str,
+    file: &str,
+    entry: &Entry,
+) -> Result<Place, UnitFault>
+    ensures { IfOk result (λ place. shown_place place
+        ≡ place_at (map string_bytes path.now) stem.now file.now (shown_entry entry.now)) }
+{
+    match entry {
+        Entry::Empty => Ok(Place::MaskedAt(String::from_str(alloc, file)?)),
+        Entry::Link(target) => place_of_link(alloc, path, stem, file, target.as_str()),
+        _ => Ok(Place::FileAt(String::from_str(alloc, file)?)),
+    }
+}
+
+fn place_of_link(
+    alloc: Global,
+    path: &[String],
+    stem: &str,
+    file: &str,
+    target: &str,
+) -> Result<Place, UnitFault>
+    ensures { IfOk result (λ place. shown_place place
+        ≡ place_of_link (map string_bytes path.now) stem.now file.now target.now) }
+{
+    if target == NULL_DEVICE {
+        return Ok(Place::MaskedAt(String::from_str(alloc, file)?));
+    }
+    linked(alloc, stem, file, alias_of(path, target))
+}
+
+fn linked(alloc: Global, stem: &str, file: &str, alias: Option<&str>) -> Result<Place, UnitFault>
+    ensures { IfOk result (λ place. shown_place place
+        ≡ linked stem.now file.now (option_map (λ alias. alias.now) alias.entry)) }
+{
+    if let Some(other) = alias {
+        if other != stem && kind_of(other) != UnitKind::Template {
+            return Ok(Place::AliasOf(String::from_str(alloc, other)?));
+        }
+    }
+    Ok(Place::FileAt(String::from_str(alloc, file)?))
+}
+
+/// Returns the paths at which the unit's file can be, the most important first.
+#[tactic(auto, unfolding(crate::specs::Units::unit_paths))]
+pub(crate) fn unit_paths(
+    alloc: Global,
+    path: &[String],
+    stem: &str,
+) -> Result<Vec<String>, AllocError>
+    ensures { IfOk result (λ paths. map string_bytes paths.items ≡ unit_paths (map string_bytes path.now) stem.now) }
+{
+    let mut paths = Vec::new(alloc);
+    push_paths(alloc, &mut paths, path, stem)?;
+    if let Some(template) = template_of(stem) {
+        push_paths(alloc, &mut paths, path, template)?;
+    }
+    Ok(paths)
+}
+
+/// Appends the paths of one name.
+fn push_paths(
+    alloc: Global,
+    paths: &mut Vec<String>,
+    path: &[String],
+    stem: &str,
+) -> Result<(), AllocError>
+    ensures { OnOk result (map string_bytes paths.new.items
+        ≡ map string_bytes paths.old.items ++ map (unit_path stem.now) (map string_bytes path.now)) }
+{
+    for folder in path {
+        push_path(alloc, paths, folder.as_str(), stem)?;
+    }
+    Ok(())
+}
+
+fn push_path(
+    alloc: Global,
+    paths: &mut Vec<String>,
+    folder: &str,
+    stem: &str,
+) -> Result<(), AllocError>
+    ensures { OnOk result (map string_bytes paths.new.items
+        ≡ map string_bytes paths.old.items ++ unit_path stem.now folder.now ∷ []) }
+{
+    paths.push(format!(in alloc; "{folder}/{stem}.timer")?)?;
+    Ok(())
+}
+
+/// Returns the first path with a unit's file, and what is there. A folder is not a unit's file.
+pub(crate) fn first_there<'p, T: Tree>(
+    alloc: Global,
+    tree: &T,
+    paths: &'p [String],
+) -> Result<Option<(&'p str, Entry)>, UnitFault>
+    ensures { IfOk result (λ found. (machine : Machine) → T.shows tree.now machine
+        → (option_map (λ place. place.0.now) found ≡ first_there machine (map string_bytes paths.now))
+        × IfSome found (λ place. shown_entry place.1 ≡ machine.entry place.0.now)) }
+{
+    for path in paths {
+        let entry = look(alloc, tree, path.as_str())?;
+        if is_there(&entry) {
+            return Ok(Some((path.as_str(), entry)));
+        }
+    }
+    Ok(None)
+}
+
+/// Returns what is at a path, or the error with the path.
+pub(crate) fn look<T: Tree>(alloc: Global, tree: &T, path: &str) -> Result<Entry, UnitFault>
+    ensures { IfOk result (λ entry. (machine : Machine) → T.shows tree.now machine
+        → shown_entry entry ≡ machine.entry path.now) }
+{
+    match tree.look(alloc, path) {
+        Ok(entry) => Ok(entry),
+        Err(fault) => Err(UnitFault::of_tree(alloc, path, fault)),
+    }
+}
+
+fn is_there(entry: &Entry) -> bool
+    ensures { result ≡ is_there (shown_entry entry.now) }
+{
+    !matches!(entry, Entry::Missing | Entry::Folder)
+}

@@ -1,0 +1,87 @@
+//! What is asked of a machine: folders, files, links and variables.
+
+ghost use Rattle.std.specs.Prelude.{◌≡◌, false, map, option_map, string_bytes, IfOk, IfSome};
+ghost use Rattle.cal_units.specs.Machine.{Machine, shown_entry};
+
+use cal_bytes::Source;
+use std::alloc::{AllocError, AllocFailed, Global};
+
+/// What a path leads to. Links aren't followed.
+#[derive(Debug, Drop)]
+pub enum Entry {
+    /// Nothing.
+    Missing,
+    /// A file of 0 bytes.
+    Empty,
+    /// Any other file.
+    File,
+    /// A folder.
+    Folder,
+    /// A symbolic link with this target.
+    Link(String),
+}
+
+/// The names in a folder.
+#[derive(Debug, Drop)]
+pub struct Names {
+    /// The names, in any order.
+    pub names: Vec<String>,
+    /// How many further entries have names that are not UTF-8.
+    pub unnamed: usize,
+}
+
+/// Why a machine doesn't tell what it is asked.
+#[derive(Clone, Copy, PartialEq, Eq, Debug)]
+pub enum TreeFault {
+    /// It is there, but can't be read.
+    ReadFailed,
+    /// The target of a link, or the value of a variable, is not UTF-8.
+    NotUtf8,
+    /// Out of memory.
+    NoMemory,
+}
+
+impl From<AllocError> for TreeFault {
+    fn from(_refused: AllocError) -> TreeFault {
+        TreeFault::NoMemory
+    }
+}
+
+impl<T: Drop> From<AllocFailed<T>> for TreeFault {
+    fn from(_refused: AllocFailed<T>) -> TreeFault {
+        TreeFault::NoMemory
+    }
+}
+
+/// Access to the folders, files and links of a machine, and to the variables of the environment.
+///
+/// A contract can use what `shows` says. It says nothing about a real machine, and everything about one that exists only
+/// in memory.
+pub trait Tree {
+    /// An open file.
+    type File: Source + Drop;
+
+    /// Whether everything that the machine tells is as in this description.
+    ghost shows: { Self → Machine → Type 0 } = { λ _ _. ⊥ };
+
+    /// Returns the names in a folder. A folder that doesn't exist has none.
+    fn names(&self, alloc: Global, folder: &str) -> Result<Names, TreeFault>
+        ensures { IfOk result (λ found. (machine : Machine) → shows self.now machine
+            → map string_bytes found.names.items ≡ machine.names folder.now) };
+
+    /// Returns what is at a path.
+    fn look(&self, alloc: Global, path: &str) -> Result<Entry, TreeFault>
+        ensures { IfOk result (λ entry. (machine : Machine) → shows self.now machine
+            → shown_entry entry ≡ machine.entry path.now) };
+
+    /// Opens the file to which a path leads, following links. Returns `None` if there is no such file.
+    fn open(&self, path: &str) -> Result<Option<Self::File>, TreeFault>
+        ensures known { IfOk result (λ file. (machine : Machine) → shows self.now machine
+            → option_map Self.File.remaining file ≡ option_map Some (machine.file path.now)) }
+        ensures works { IfOk result (λ file. IfSome file (λ file. Self.File.is_failed file ≡ false)) };
+
+    /// Returns the value of a variable, or `None` if it isn't set.
+    fn variable(&self, alloc: Global, name: &str) -> Result<Option<String>, TreeFault>
+        ensures { IfOk result (λ value. (machine : Machine) → shows self.now machine
+            → option_map string_bytes value ≡ machine.variable name.now) };
+}

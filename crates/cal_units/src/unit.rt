@@ -1,0 +1,108 @@
+//! Units by their names (systemd.unit(5), Description and Unit File Load Path).
+
+ghost use Rattle.std.specs.Prelude.{◌≡◌, ◌++◌, ◌∷◌, [], IfOk, map, string_bytes};
+ghost use Rattle.cal_units.specs.Machine.{Machine};
+ghost use Rattle.cal_units.specs.Units.{follow, is_template, named_unit, shown_unit, unit_in};
+
+use crate::fault::{Reason, UnitFault};
+use crate::places::{Place, find_place};
+use crate::tree::Tree;
+use cal_drop_ins::{UnitKind, kind_of};
+use std::alloc::Global;
+
+/// The maximum number of links from unit to unit.
+const MAX_LINKS: usize = 8;
+
+/// The file of a unit, and the names for which its drop-ins are read.
+#[derive(Debug, Drop)]
+pub struct UnitFile {
+    /// The path of the file. If the name of an instance has no file of its own, it is the template's file.
+    pub path: String,
+    /// The stems of the names: those of the aliases that were followed, and last the unit's own.
+    pub stems: Vec<String>,
+}
+
+/// What is found under the name of a unit.
+#[derive(Debug, Drop)]
+pub enum Unit {
+    /// Nothing.
+    NotFound,
+    /// The name is that of a template, which isn't a unit. Whether it has a file isn't examined.
+    Template,
+    /// The unit is masked: the first path with something is an empty file or a link to `/dev/null`.
+    Masked(String),
+    /// The unit has a file.
+    Found(UnitFile),
+}
+
+/// Finds the unit with this stem in the search path, which has the most important folder first.
+///
+/// The first folder with a file of the unit's name counts. If there is none and the unit is an instance, its template's
+/// file is searched in the same way. A link to another unit of the search path is an alias: that unit is searched instead.
+/// A link to any other file is the unit's file, and so is a link to a template.
+///
+/// Fails with [`UnitFault::At`] and [`Reason::ReadFailed`] or [`Reason::NotUtf8`] if a path can't be looked at, and with
+/// [`Reason::TooManyLinks`] at the stem that comes after 8 aliases, as in a loop of links. Fails with
+/// [`UnitFault::NoMemory`] if allocation fails.
+pub fn find_unit<T: Tree>(
+    alloc: Global,
+    tree: &T,
+    path: &[String],
+    stem: &str,
+) -> Result<Unit, UnitFault>
+    ensures { IfOk result (λ unit. (machine : Machine) → T.shows tree.now machine
+        → shown_unit unit ≡ unit_in machine (map string_bytes path.now) stem.now) }
+{
+    if is_template(stem) {
+        return Ok(Unit::Template);
+    }
+    find_named(alloc, tree, path, stem)
+}
+
+fn is_template(stem: &str) -> bool
+    ensures { result ≡ is_template stem.now }
+{
+    matches!(kind_of(stem), UnitKind::Template)
+}
+
+/// Finds a unit that isn't a template.
+fn find_named<T: Tree>(
+    alloc: Global,
+    tree: &T,
+    path: &[String],
+    stem: &str,
+) -> Result<Unit, UnitFault>
+    ensures { IfOk result (λ unit. (machine : Machine) → T.shows tree.now machine
+        → shown_unit unit ≡ named_unit machine (map string_bytes path.now) stem.now) }
+{
+    let stem = String::from_str(alloc, stem)?;
+    follow(alloc, tree, path, MAX_LINKS + 1, Vec::new(alloc), stem)
+}
+
+/// Finds a unit after fewer than `count` links. `aliases` are the stems that were followed to this one.
+fn follow<T: Tree>(
+    alloc: Global,
+    tree: &T,
+    path: &[String],
+    count: usize,
+    mut aliases: Vec<String>,
+    stem: String,
+) -> Result<Unit, UnitFault>
+    ensures { IfOk result (λ unit. (machine : Machine) → T.shows tree.now machine
+        → shown_unit unit ≡ follow machine (map string_bytes path.now) count (map string_bytes aliases.items) (string_bytes stem)) }
+{
+    if count == 0 {
+        return Err(UnitFault::At(stem, Reason::TooManyLinks));
+    }
+    let place = find_place(alloc, tree, path, stem.as_str())?;
+    aliases.push(stem)?;
+    match place {
+        Place::Nowhere => Ok(Unit::NotFound),
+        Place::MaskedAt(path) => Ok(Unit::Masked(path)),
+        Place::FileAt(path) => Ok(Unit::Found(UnitFile {
+            path,
+            stems: aliases,
+        })),
+        Place::AliasOf(other) => follow(alloc, tree, path, count - 1, aliases, other),
+    }
+}
