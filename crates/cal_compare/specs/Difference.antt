@@ -1,0 +1,23 @@
+-- Where two timers differ. A timer is given as the list of the instants at which it elapses: systemd.timer(5),
+-- OnCalendar=.
+use Rattle.std.specs.Prelude.{◌≡◌, ℕ, List, ℤ, Option, None, Some, slice_get}
+use Rattle.cal_rising.specs.RisingList.{without}
+use Rattle.cal_compare.specs.declared.compare_fault.CompareFault.{CompareFault}
+use Rattle.cal_compare.specs.declared.compare_fault.CompareFault.TheVariants.{NoSuchZoneInOne, NoSuchZoneInOther}
+use Rattle.cal_compare.specs.declared.difference.Difference.{Difference}
+
+-- the first number of `xs` that isn't in `ys`
+abbrev pub first_only_in : List ℤ → List ℤ → Option ℤ
+first_only_in xs ys = slice_get (without xs ys) 0
+
+-- the difference names the first number that only `xs` has, and the first number that only `ys` has
+pub record IsDifference (xs ys : List ℤ) (difference : Difference) : Type 0 where
+  pub one : difference.only_one ≡ first_only_in xs ys
+  pub other : difference.only_other ≡ first_only_in ys xs
+
+-- the error names the first line of the first timer whose zone isn't known or, if all its zones are known, the first
+-- such line of the second timer; if there is no such line, no error fits
+abbrev pub IsUnzonedInEither : Option ℕ → Option ℕ → CompareFault → Type 0
+IsUnzonedInEither (Some line) other fault = fault ≡ NoSuchZoneInOne line
+IsUnzonedInEither None (Some line) fault = fault ≡ NoSuchZoneInOther line
+IsUnzonedInEither None None fault = ⊥

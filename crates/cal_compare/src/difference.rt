@@ -1,0 +1,118 @@
+//! The first instants at which only one of two timers elapses.
+
+ghost use Rattle.std.specs.Prelude.{◌≡◌, ◌≢◌, IfOk, MatchResult};
+ghost use Rattle.cal_zone.specs.Setting.{setting_seen};
+ghost use Rattle.cal_plan.specs.PlanFault.{IsUnzoned};
+ghost use Rattle.cal_plan.specs.TimerElapses.{IsMergeOf, elapses_of_lists};
+ghost use Rattle.cal_plan.specs.ZoneFor.{unzoned};
+ghost use Rattle.cal_plan.specs.declared.plan_fault.PlanFault.TheVariants.{NoMemory as PlanNoMemory};
+ghost use Rattle.cal_compare.specs.Difference.{IsDifference, IsUnzonedInEither, first_only_in};
+ghost use Rattle.cal_compare.specs.declared.compare_fault.CompareFault.TheVariants.{NoMemory as CompareNoMemory};
+
+use crate::compare_fault::CompareFault;
+use cal_elapse::Elapses;
+use cal_plan::{PlanFault, merge_of};
+use cal_rising::{Merge, NoMemory, Rising};
+use cal_timer::Timer;
+use cal_zone::{Instant, Setting};
+use std::alloc::Global;
+
+/// Where the elapses of two timers differ, in seconds of Unix time. If both fields are `None`, the timers elapse at the
+/// same instants.
+#[derive(Clone, Copy, PartialEq, Eq, Debug)]
+pub struct Difference {
+    /// The first instant at which the first timer elapses and the second doesn't.
+    pub only_one: Option<i64>,
+    /// The first instant at which the second timer elapses and the first doesn't.
+    pub only_other: Option<i64>,
+}
+
+/// Returns where the elapses of two timers after `base`, through 2199, differ.
+///
+/// Fails with [`CompareFault::NoSuchZoneInOne`] or [`CompareFault::NoSuchZoneInOther`] if an expression or an exception
+/// of a timer names a zone that isn't in the zone table, and with [`CompareFault::NoMemory`] if allocation fails.
+///
+/// If the timers agree for long, all these elapses are computed: two equal timers that elapse each minute take several
+/// seconds.
+pub fn first_difference(
+    alloc: Global,
+    setting: Setting<'_>,
+    base: Instant,
+    one: &Timer,
+    other: &Timer,
+) -> Result<Difference, CompareFault>
+    ensures { MatchResult result
+        (IsDifference (elapses_of_lists (setting_seen setting.entry) base.secs one.now) (elapses_of_lists (setting_seen setting.entry) base.secs other.now))
+        (λ fault. fault ≢ CompareNoMemory
+        → IsUnzonedInEither (unzoned (setting_seen setting.entry) one.now) (unzoned (setting_seen setting.entry) other.now) fault) }
+{
+    let only_one = first_only_of(alloc, setting, base, one, other)?;
+    // The zones of both timers are known now, so this can only fail if allocation does.
+    let Ok(only_other) = first_only_of(alloc, setting, base, other, one) else {
+        return Err(CompareFault::NoMemory);
+    };
+    Ok(Difference {
+        only_one,
+        only_other,
+    })
+}
+
+/// Returns the first number that `one` has yet to return and `other` hasn't. Returns `None` if there is no such number.
+///
+/// Fails with `NoMemory` if allocation fails.
+pub fn first_only<S: Rising + Drop>(
+    alloc: Global,
+    one: S,
+    other: S,
+) -> Result<Option<i64>, NoMemory>
+    ensures { IfOk result (λ first. first ≡ first_only_in (S.rest one) (S.rest other)) }
+{
+    let mut merge = Merge::new(alloc);
+    if let Err((_, refused)) = merge.add(one) {
+        return Err(refused);
+    }
+    if let Err((_, refused)) = merge.add_except(other) {
+        return Err(refused);
+    }
+    Ok(merge.next())
+}
+
+/// Returns the first instant after `base` at which the timer `one` elapses and the timer `other` doesn't.
+fn first_only_of(
+    alloc: Global,
+    setting: Setting<'_>,
+    base: Instant,
+    one: &Timer,
+    other: &Timer,
+) -> Result<Option<i64>, CompareFault>
+    ensures { MatchResult result
+        (λ first. first ≡ first_only_in (elapses_of_lists (setting_seen setting.entry) base.secs one.now) (elapses_of_lists (setting_seen setting.entry) base.secs other.now))
+        (λ fault. fault ≢ CompareNoMemory
+        → IsUnzonedInEither (unzoned (setting_seen setting.entry) one.now) (unzoned (setting_seen setting.entry) other.now) fault) }
+{
+    let these = match elapses_of(alloc, setting, base, one) {
+        Ok(elapses) => elapses,
+        Err(PlanFault::NoSuchZone(line)) => return Err(CompareFault::NoSuchZoneInOne(line)),
+        Err(PlanFault::NoMemory) => return Err(CompareFault::NoMemory),
+    };
+    let those = match elapses_of(alloc, setting, base, other) {
+        Ok(elapses) => elapses,
+        Err(PlanFault::NoSuchZone(line)) => return Err(CompareFault::NoSuchZoneInOther(line)),
+        Err(PlanFault::NoMemory) => return Err(CompareFault::NoMemory),
+    };
+    Ok(first_only(alloc, these, those)?)
+}
+
+/// Creates the iterator over the elapses of a timer after `base`.
+fn elapses_of<'a>(
+    alloc: Global,
+    setting: Setting<'a>,
+    base: Instant,
+    timer: &Timer,
+) -> Result<Merge<Elapses<'a>>, PlanFault>
+    ensures { MatchResult result
+        (IsMergeOf (setting_seen setting.entry) base.secs timer.now)
+        (λ fault. fault ≢ PlanNoMemory → IsUnzoned (unzoned (setting_seen setting.entry) timer.now) fault) }
+{
+    merge_of(alloc, setting, base, timer.lines(), timer.exceptions())
+}
