@@ -13,9 +13,9 @@ use cal_civil::{begins_with_letter, read_offset};
 use cal_text::first_word;
 use cal_zone::{Setting, Zone, ZoneTable};
 
-/// Parses `text` as a zone: no words, which stand for the local zone, or one word, which is a name in the table or an
-/// offset (systemd.time(7), Parsing Timestamps). A word that doesn't begin with a letter is never looked up in the
-/// table.
+/// Parses `text` as a zone: no words, which stand for the local zone, or one word, which is a name in the table
+/// (systemd.time(7), Parsing Timestamps) or an offset, which is this project's own. A word that doesn't begin with a
+/// letter is never looked up in the table.
 ///
 /// Fails with `NoSuchZone` if the first word begins with a letter and is not a name in the table, and with `StrayWord`
 /// if the first word begins with anything else and is not an offset, or if another word follows a valid zone.
@@ -32,8 +32,8 @@ pub(crate) fn read_zone<'t>(text: &str, at: Setting<'t>) -> Result<Zone<'t>, Sta
     }
 }
 
-/// Parses one word as a zone. If it begins with a letter, it must be a name in the table; otherwise it must be an
-/// offset, `+hh:mm` or `-hh:mm`, with hh from 00 to 25 and mm from 00 to 59 (systemd.time(7), Parsing Timestamps).
+/// Parses one word as a zone. If it begins with a letter, it must be a name in the table (systemd.time(7), Parsing
+/// Timestamps); otherwise it must be an offset, `+hh:mm` or `-hh:mm`, with hh from 00 to 25 and mm from 00 to 59.
 /// Fails with `NoSuchZone` in the first case, and with `StrayWord` in the second, if the word is anything else.
 fn zone_of_word<'t>(word: &str, table: &'t ZoneTable) -> Result<Zone<'t>, StampFault>
     ensures { zone_or_fault result ≡ zone_of_word (zone_named table.now) word.now }
