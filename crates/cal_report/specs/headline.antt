@@ -1,4 +1,4 @@
--- The definitions of this crate that the law `headline` rests on.
+-- The definitions of this crate that its law `headline` depends on.
 pub mod CalendarReport
 pub mod ElapseLines
 pub mod Headline

@@ -1,4 +1,4 @@
--- The definitions that the law `headline` of cal_report depends on.
+-- The definitions of this crate that the law `headline` of cal_report depends on.
 pub mod DateAndTime
 pub mod ExprText
 pub mod Fields

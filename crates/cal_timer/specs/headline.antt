@@ -1,3 +1,3 @@
--- The definitions that the law `headline` of cal_report depends on.
+-- The definitions of this crate that the law `headline` of cal_report depends on.
 pub mod Assignments
 pub mod TimerText
