@@ -31,7 +31,7 @@ IsTimed at line e = (tz : TimeZone) × (zone_for at line.expr.zone ≡ Some tz) 
 abbrev pub zone_or_utc : Setting → TimerLine Fields → TimeZone
 zone_or_utc at line = unwrap_or (zone_for at line.expr.zone) UTC
 
--- the meaning of the expression on this line in that zone
+-- the meaning of the expression on this line in the zone that `zone_or_utc` returns
 unfoldable pub timed_entry : Setting → TimerLine Fields → Timed
 timed_entry at line = timed line.expr (zone_or_utc at line)
 
@@ -48,7 +48,7 @@ each_of at base list = each_after (map (timed_entry at) list) base
 abbrev pub entry_sets : TimerLine Fields → Sets
 entry_sets e = sets_of e.expr
 
--- every elapse time of the expression is an elapse time of an exception, whatever the zones are
+-- in every setting, each elapse time of the expression on this line is also an elapse time of one of the exceptions
 abbrev pub IsCoveredEntry : TimerLine Fields → List (TimerLine Fields) → Type 0
 IsCoveredEntry e exceptions = (at : Setting) → IsCovered (timed_entry at e) (map (timed_entry at) exceptions)
 

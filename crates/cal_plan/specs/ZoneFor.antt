@@ -17,7 +17,7 @@ zone_for at None = Some at.local
 zone_for at (Some (of_name name)) = at.find name
 zone_for at (Some (ahead seconds)) = Some (fixed_offset_zone seconds)
 
--- the expression names a zone that isn't in the zone table
+-- whether the expression on this line names a zone missing from the zone table
 abbrev pub lacks_zone : Setting → TimerLine Fields → Bool
 lacks_zone at e = is_none (zone_for at e.expr.zone)
 

@@ -21,8 +21,9 @@ pub fn zones_are_those_of_suffixes()
     ensures offset { (at : Setting) (seconds : ℤ) → zone_for at (Some (ahead seconds)) ≡ Some (fixed_offset_zone seconds) }
 {}
 
-/// If every expression and every exception has a zone, the merged elapses are exactly the elapses of the expressions
-/// after the base, each expression in its own zone, without those of the exceptions (systemd.timer(5), OnCalendar=).
+/// If the zones of all expressions and exceptions are known, the merged elapses are exactly the elapses of the
+/// expressions after the base, each expression in its own zone, without those of the exceptions (systemd.timer(5),
+/// OnCalendar=).
 pub fn merged_elapses_are_those_of_each_zone()
     ensures { (at : Setting) (base : ℤ) (lists : Timer Fields) (es exceptions : List Timed)
         → AllZip (IsTimed at) lists.expressions es → AllZip (IsTimed at) lists.exceptions exceptions
