@@ -19,7 +19,7 @@ seeks_elapses Timestamp = false
 seeks_elapses Timespan = false
 seeks_elapses Timer = true
 
--- whether a verb reads or prints instants; only verbs that do so depend on the present and on zones
+-- whether a verb reads or prints instants; only the reports of such verbs depend on the present and on zones
 abbrev pub has_zones : Verb → Bool
 has_zones Calendar = true
 has_zones Timestamp = true

@@ -28,7 +28,8 @@ impl Verb {
         matches!(self, Verb::Calendar | Verb::Timer)
     }
 
-    /// Returns whether the verb reads or prints instants. Only verbs that do so depend on the present and on zones.
+    /// Returns whether the verb reads or prints instants. Only the reports of such verbs depend on the present and on
+    /// zones.
     pub fn has_zones(self) -> bool
         ensures { result ≡ has_zones self }
     {
@@ -51,7 +52,7 @@ pub struct Request {
     /// The expressions, timestamps or spans in the order of the arguments; for [`Verb::Timer`], only the path of the
     /// timer file.
     pub texts: Vec<String>,
-    /// The maximum number of elapses to report, 1 to 1,000,000.
+    /// The maximum number of elapses in the report of each expression, or in that of the timer file, 1 to 1,000,000.
     pub iterations: u32,
     /// The base time, a timestamp that hasn't been parsed yet. Only elapses after the base time are reported. If this
     /// is `None`, the base time is the present. It is always `None` for verbs that don't compute elapses.
@@ -64,9 +65,9 @@ pub struct Request {
 /// The outcome of a run whose output could be written in full.
 #[derive(Clone, Copy, PartialEq, Eq, Debug)]
 pub enum Status {
-    /// Every text was answered with a report.
+    /// Every text, or the timer file, was answered with a report.
     Fine,
-    /// At least one text was answered with an error line on standard error.
+    /// At least one error line was written: for a text, for the timer file, or for the base time.
     Refused,
 }
 
@@ -74,7 +75,7 @@ impl Status {
     ghost use Rattle.std.specs.Prelude.{◌≡◌};
     ghost use Rattle.cal_request.specs.Status.{is_fine, status_and};
 
-    /// Returns whether every text was answered with a report.
+    /// Returns whether the status is [`Status::Fine`].
     pub fn is_fine(self) -> bool
         ensures { result ≡ is_fine self }
     {
