@@ -32,8 +32,8 @@ among p kind (k ∷ ks) (inl same) holds = grind (arith, ap p same)
 among p kind (k ∷ ks) (inr later) holds = grind (arith, among p kind ks later holds)
 
 -- Suppose that `clap` returns an error of the kind `kind`: either `OutOfMemory`, or a kind that it may report for these
--- arguments, and then it doesn't accept them. The code converts this error to `fault`, which is right for the
--- arguments, as `IsFaultOf` defines it.
+-- arguments, which it then doesn't accept. If the code may report `fault` for this error (`IsReportedOf`), then `fault`
+-- is right for the arguments, as `IsFaultOf` defines it.
 pub reported_fault : (arguments : List Text) (kind : ErrorKind) (fault : CommandFault) → (takes_arguments arguments ≡ true → kind ≡ OutOfMemory)
     → (kind ≡ OutOfMemory) ⊎ IsAmong kind (faults_in arguments) → IsReportedOf kind fault → IsFaultOf arguments fault
 reported_fault arguments kind (usage text) passes kinds reported =
@@ -59,7 +59,8 @@ read_answer arguments found (Err bad_zones) none parsed is = (none, rw (← pars
 read_answer arguments found (Err bad_local) none parsed is = (none, rw (← parsed) (sym is))
 read_answer arguments found (Err no_memory) none parsed is = tt
 
--- if `clap` accepts the arguments, the result is what they ask for, unless memory ran out
+-- if `clap` accepts the arguments, every result that is right for them (`IsAskOf`) is what they ask for, or the error
+-- for a failed allocation
 pub taken_arguments : (arguments : List Text) (answer : Result Ask CommandFault) → IsAskOf arguments answer → takes_arguments arguments ≡ true
     → (answer ≡ Err no_memory) ⊎ (answer ≡ asked_in arguments)
 taken_arguments arguments (Ok ask) is takes = inr (sym is.1)

@@ -121,7 +121,7 @@ abbrev pub IsAskOf : List Text → Result Ask CommandFault → Type 0
 IsAskOf arguments (Ok ask) = HasRead arguments (Ok ask)
 IsAskOf arguments (Err fault) = IsFaultOf arguments fault
 
--- the error in the second argument may be reported if `clap` returns an error of the kind `kind`
+-- if `clap` returns an error of the kind `kind`, the `CommandFault` may be reported for it
 abbrev pub IsReportedOf : ErrorKind → CommandFault → Type 0
 IsReportedOf kind (usage text) = (is_of_help kind ≡ false) × (kind ≢ OutOfMemory)
 IsReportedOf kind (help text) = (is_of_help kind ≡ true) × (kind ≢ OutOfMemory)
@@ -141,7 +141,7 @@ IsFaultOrNoMemory bad_zones answer = Err bad_zones ≡ answer
 IsFaultOrNoMemory bad_local answer = Err bad_local ≡ answer
 IsFaultOrNoMemory no_memory answer = ⊤
 
--- the first argument, which is the result of the code, is `answer`, unless memory ran out
+-- a result equals `answer`, or is the error for a failed allocation
 abbrev pub IsOrNoMemory : Result Ask CommandFault → Result Ask CommandFault → Type 0
 IsOrNoMemory (Ok ask) answer = Ok ask ≡ answer
 IsOrNoMemory (Err fault) answer = IsFaultOrNoMemory fault answer

@@ -123,8 +123,8 @@ fn convert_error(alloc: Global, error: &Error) -> CommandFault
     }
 }
 
-/// Returns the text of an error of `clap`. Adds a line feed if there is none at the end, as in the text of `--version`.
-/// Returns `None` if allocation fails.
+/// Returns the text of an error of `clap`. If the text doesn't end with a line feed, adds one. Returns `None` if
+/// allocation fails.
 fn error_text(alloc: Global, error: &Error) -> Option<String> {
     let Ok(mut text) = error.to_string(alloc) else {
         return None;

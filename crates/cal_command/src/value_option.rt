@@ -1,5 +1,5 @@
-//! The options that take a value (systemd-analyze(1)): what `clap` is told about them, and under which name it is asked for
-//! their values.
+//! The options that take a value: what `clap` is told about them, and the names by which their values are looked up.
+//! `--iterations` and `--base-time` are options of systemd-analyze(1); the others are this project's own.
 
 /// An option that takes one value and may be given once.
 #[derive(Clone, Copy)]
