@@ -14,7 +14,7 @@ use Rattle.cal_request.specs.declared.request.Status.{Status}
 use Rattle.cal_request.specs.declared.request.Status.TheVariants.{Fine, Refused}
 
 -- the remaining reports, with an empty line between consecutive reports; if the flag is `true`, a report has already
--- been written, and there is an empty line before the first of them, too
+-- been written, and an empty line precedes the first remaining report, too
 pub left_of : Bool → List (List ℕ) → List ℕ
 left_of true reports = flat_map (λ report. codes "\n" ++ report) reports
 left_of false reports = join_by (λ report. report) (codes "\n") reports
@@ -55,7 +55,7 @@ pub refusals-none : (answer : List ℕ → Answer) → error_lines answer [] ≡
 unfolding error_lines
 refusals-none answer = refl
 
--- the final status, given the status after the texts so far and the remaining texts
+-- the final status, given the status so far and the texts that remain
 pub status_left : Status → (List ℕ → Answer) → List (List ℕ) → Status
 status_left Refused answer texts = Refused
 status_left Fine answer texts = texts_status answer texts

@@ -87,8 +87,8 @@ report asked read = report_from asked read (base_in asked)
 abbrev pub reads_input : Request → Bool
 reads_input asked = is_timer asked.verb && is_ok (base_in asked)
 
--- `read` is what reading the input returned: all of its bytes, or why reading them failed. If the input isn't read, as
--- the first argument says, then `read` has no bytes, and the input is unchanged.
+-- `read` is what reading the input returned: all of its bytes, or why reading them failed. `false` stands for an input
+-- that isn't read: then `read` has no bytes, and the input is unchanged.
 abbrev pub ReadsIf : Bool → Option (List ℕ) → Option (List ℕ) → Result (List ℕ) WholeFault → Type 0
 ReadsIf true old new read = ReadsWhole old new timer_file_limit read
 ReadsIf false old new read = (new ≡ old) × (read ≡ Ok [])

@@ -101,8 +101,8 @@ pub fn headline()
     ensures in_parts { (ts exceptions : List Timed) (base e : ℤ) (xs ys : List ℤ) (k m : ℕ) → AreElapses ts exceptions base xs
         → slice_get xs k ≡ Some e → AreElapses ts exceptions e ys → take (suc k) xs ++ take m ys ≡ take (suc k + m) xs }
 
-    // At an elapse time, the clock of the zone shows a matching local second, and it shows a different local second at
-    // every other elapse time.
+    // At an elapse time of an expression, the clock of its zone shows a matching local second, and it shows a different
+    // local second at every other elapse time of the expression.
     ensures shown { (fields : Fields) (tz : TimeZone) (i : ℤ) → IsPlace (timed fields tz) i
         → (local : ℕ) × (local < 7_258_118_400) × (matches (sets_of fields) local ≡ true)
         × (local_shown_at tz i ≡ pos local) }

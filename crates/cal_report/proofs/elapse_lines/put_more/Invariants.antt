@@ -1,5 +1,6 @@
--- All elapse times that the source still has are instants. The first of them remain to be written, with the labels from
--- `number` to at most `iterations`. The writer hasn't failed.
+-- All elapse times that the source still has are instants. What remains to be written are the next of these elapse
+-- times, with labels that count from `number` to at most `iterations`. The writer hasn't failed, and the local zone is
+-- the same as before the loop.
 use Rattle.std.proofs.Common.{◌≡◌, ◌+◌, ◌-◌, take}
 use Rattle.cal_bytes.proofs.PutLemmas.{PutsUpTo}
 use Rattle.cal_plan.specs.Instants.{AreInstants}
