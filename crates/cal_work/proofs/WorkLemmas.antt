@@ -53,7 +53,8 @@ use Rattle.cal_text.proofs.General.{no_ok, some_none}
 pub is_stop : {X : Type 0} (stop : declared_stop.Stop) (shown : Stop) → is_out_stop stop ≡ false → is_err_stop stop ≡ false → shown_stop stop ≡ shown → StopsAs {X = X} stop (Err shown)
 is_stop stop shown out err is = record { before_out = out; before_err = err; stopped = refl; same = λ h. ap (λ s. Err s) (sym is) }
 
--- if a step stops, then so do all the steps together, with the same report
+-- if a stop agrees with `expected`, the result of one step, then it also agrees with the result of this step followed
+-- by the step `next`
 pub stops : {A B : Type 0} (stop : declared_stop.Stop) (next : A → Result B Stop) (expected : Result A Stop) → StopsAs stop expected → StopsAs stop (and_then next expected)
 stops stop next (Ok value) s = absurd (false≢true s.stopped)
 stops stop next (Err shown) s = record { before_out = s.before_out; before_err = s.before_err; stopped = refl; same = λ h. ap (λ r. and_then next r) (s.same h) }
@@ -95,7 +96,7 @@ comes_beyond (Some xs) (Some ys) limit h =
     let more : limit < length h.front = h.is_more in
     omega (arith, e, more)
 
--- the result of reading a file with these bytes; the first argument says whether they are within the limit
+-- the result of reading a file with these bytes; the Boolean says whether they are within the limit
 came_within : Bool → List ℕ → Result (List ℕ) WholeFault
 came_within true all = Ok all
 came_within false all = Err whole.TooLarge
@@ -194,8 +195,8 @@ loads_none known table item opens = record {
 }
 
 -- What `GoesOn`, the invariant of the loop over the zone files, says about one `rest`. `left` are the files that remain
--- to be loaded, `rest` is what is found of them, and `found` is what is found of all files. Adding all files to the
--- empty table gives the same table or stop as adding the remaining files to `table`, the table so far.
+-- to be loaded, `rest` is what the program finds in them, and `found` is what it finds in all files. Adding all files
+-- to the empty table gives the same table or stop as adding the remaining files to `table`, the table so far.
 pub record Continues (known : Known) (items : List ZoneItem) (table : ZoneMap) (left : List ZoneItem) (rest : List ZoneFound) : Type 0 where
   pub found : List ZoneFound
   pub sees : SeesZones known empty items found

@@ -30,8 +30,8 @@ pub record ZoneFound : Type 0 where
   pub seen : Seen
   pub zone : Option TimeZone
 
--- Everything that the outcome depends on: the parsed arguments, what is found of the zone files (in their order), the
--- local zone, the clock's time in seconds, and what the program sees of the timer file.
+-- Everything that the outcome depends on: the parsed arguments, what the program finds in each zone file (in the order
+-- of the arguments), the local zone, the clock's time in seconds, and what the program sees of the timer file.
 pub record World : Type 0 where
   pub parsed : Result Ask CommandFault
   pub zones : List ZoneFound

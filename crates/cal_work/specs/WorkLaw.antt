@@ -17,12 +17,12 @@ pub record TellsAll (known : Known) : Type 0 where
   pub sure : (path : List ℕ) → known.may_fail path ≡ false
   pub time : IsSome known.time
 
--- the result of reading a file with these bytes; the first argument says whether they are within the limit
+-- the result of reading a file with these bytes; the Boolean says whether they are within the limit
 abbrev pub taken_of : Bool → List ℕ → Result (List ℕ) WholeFault
 taken_of true all = Ok all
 taken_of false all = Err TooLarge
 
--- what the program sees of a file if no read fails and memory doesn't run out; the second argument is what is known
+-- what the program sees of a file if no read fails and memory doesn't run out, given the size limit and what is known
 -- about the file
 unfoldable pub known_seen : ℕ → Option (Option (List ℕ)) → Seen
 known_seen limit None = None
@@ -33,7 +33,7 @@ abbrev pub known_time : Option (Option ℤ) → Option ℤ
 known_time None = None
 known_time (Some time) = time
 
--- what is found of each zone file if the program sees the file as it is known to be; the zone that `jiff` reads from
+-- what the program finds in each zone file if it sees the file as it is known to be; the zone that `jiff` reads from
 -- the file is taken from `found`
 unfoldable pub known_zones : Known → List ZoneItem → List ZoneFound → List ZoneFound
 known_zones known [] found = []
@@ -41,8 +41,8 @@ known_zones known (item ∷ items) [] = []
 known_zones known (item ∷ items) (f ∷ found) =
     record { seen = known_seen file_limit (known.file item.path); zone = f.zone } ∷ known_zones known items found
 
--- The world of a known system. `ask` is what `clap` makes of the arguments. The local zone and the zones that `jiff`
--- reads from the files are those of `world`.
+-- The world of a known system. `ask` is what the arguments ask for. The local zone and the zones that `jiff` reads from
+-- the files are those of `world`.
 unfoldable pub known_world : Known → Ask → World → World
 known_world known ask world = record {
   parsed = Ok ask;

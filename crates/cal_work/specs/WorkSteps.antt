@@ -44,8 +44,8 @@ pub record StopsAs {X : Type 0} (stop : declared_stop.Stop) (expected : Result X
   pub stopped : IsErr expected
   pub same : is_for_memory stop ≡ false → expected ≡ Err (shown_stop stop)
 
--- what a step returned agrees with `expected`, the result of the definitions; `view` maps a value of the code to a
--- value of the definitions
+-- what a step returned agrees with `expected`, the result of the definitions; `view` maps the Rust value that the step
+-- returned to a value of the definitions
 abbrev pub Answers : {A B : Type 0} → (A → B) → Result A declared_stop.Stop → Result B Stop → Type 0
 Answers view (Ok value) expected = expected ≡ Ok (view value)
 Answers view (Err stop) expected = StopsAs stop expected
@@ -63,7 +63,7 @@ pub record Loads (known : Known) (before after : ZoneMap) (item : ZoneItem) (res
   pub sees : SeesZone known item found
   pub loads : LoadsAs result after (loaded before item found)
 
--- what reading all zone files returned agrees with `table_by`, for what was found of the files
+-- what reading all zone files returned agrees with `table_by`, for what the program found in the files
 pub record ReadsZones {T : Type 0} (view : T → ZoneMap) (known : Known) (items : List ZoneItem) (result : Result T declared_stop.Stop) : Type 0 where
   pub found : List ZoneFound
   pub sees : SeesZones known empty items found
@@ -154,8 +154,8 @@ pub record WritesOf {T : Type 0} (written : Result T RunFault) (status : ℕ) (e
   pub out_bytes : Writes out out' written (out_text expected)
   pub err_bytes : Writes err err' written (err_text expected)
 
--- The first argument is the result before standard output is flushed, and the second is the result after the flush. The
--- flush can change the result only from `Ok` to `OutFailed`.
+-- The two results are those before and after standard output is flushed. The flush can change the result only from `Ok`
+-- to `OutFailed`.
 abbrev pub IsFlushed : {T : Type 0} → Result T RunFault → Result T RunFault → Type 0
 IsFlushed (Ok all) (Ok flushed) = Unit {0}
 IsFlushed (Ok all) (Err fault) = fault ≡ OutFailed

@@ -28,8 +28,8 @@ use Rattle.cal_work.specs.declared.arguments_to_bytes.Ended.{Ended}
 
 -- A world that agrees with what is known, as far as the program asked for it
 
--- whether the third argument is the zone that `jiff` reads from a zone file with these bytes, or `None` if `jiff`
--- rejects the file
+-- `jiff` reads this zone from a zone file with this name and these bytes, or, if there is no zone (`None`), it rejects
+-- the file
 abbrev pub IsReadZone : List ℕ → List ℕ → Option TimeZone → Type 0
 IsReadZone name bytes None = IsFileFault name bytes BadFile
 IsReadZone name bytes (Some zone) = IsFileZone name bytes zone
@@ -43,8 +43,8 @@ pub record SeesZone (known : Known) (item : ZoneItem) (found : ZoneFound) : Type
   pub sees : Sees known file_limit item.path found.seen
   pub reads : ReadsZone item.name found.seen found.zone
 
--- What is found of each zone file, in order, agrees with what is known about the file. The files after the first one
--- that can't be loaded are not opened, so nothing is required of what is found of them.
+-- `found`, what the program finds in each zone file, in order, agrees with what is known about the files. The files
+-- after the first one that can't be loaded are not opened, so nothing is required of their entries in `found`.
 abbrev pub SeesZones : Known → ZoneMap → List ZoneItem → List ZoneFound → Type 0
 SeesZones known table [] found = Unit {0}
 SeesZones known table (item ∷ items) [] = ⊥

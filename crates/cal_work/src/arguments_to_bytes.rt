@@ -40,12 +40,13 @@ pub struct Ended {
 
 /// Does what the arguments ask for.
 ///
-/// Reports and the text of help go to `out`, which is flushed at the end. Error lines go to `err`.
+/// Reports and the texts of help and the version go to `out`, which is flushed at the end. Error lines go to `err`.
 ///
-/// The status is 0 for success and for help; 1 if an expression, a timestamp, a span or the timer file is rejected, if
-/// the timer file can't be opened, if `out` fails or memory runs out, or if `err` fails during the run; and 2 if the
-/// arguments, a zone file, the local zone or the clock are invalid. If an output or an allocation fails, each output
-/// has a prefix of its whole text. On `err`, the line that reports the failure follows, unless `err` is what failed.
+/// The status is 0 for success, help and the version; 1 if an expression, a timestamp, a span or the timer file is
+/// rejected, if the timer file can't be opened, if `out` fails or memory runs out, or if `err` fails during the run;
+/// and 2 if the arguments, a zone file, the local zone or the clock are invalid. If an output or an allocation fails,
+/// each output has a prefix of its whole text. On `err`, the line that reports the failure follows, unless `err` is
+/// what failed.
 pub fn work<S: System, T: AsStr, O: Output, E: Sink>(
     alloc: Global,
     system: &S,
@@ -312,8 +313,8 @@ fn open_file<S: System>(alloc: Global, system: &S, path: &str) -> Result<S::File
 
 // What is reported at the end
 
-/// Reports why the work stopped early, if it did, and returns the exit status together with whether the report was
-/// written. A failed output and running out of memory are not reported here, but by `tell_fault` after the output is
+/// If the work stopped early, reports why. Returns the exit status, and whether everything was written, including this
+/// report. A failed output and running out of memory are not reported here, but by `tell_fault` after the output is
 /// flushed.
 fn tell<O: Sink, E: Sink>(answered: &Result<Status, Stop>, out: &mut O, err: &mut E) -> Ended
     requires out { O.is_failed out.old ≡ is_out_cut answered.now }
