@@ -185,7 +185,7 @@ fn push_resumed(
 }
 
 /// Cuts the report off at every length. Expects that the elapses whose first line is then complete, followed by the
-/// elapses of the run that continues after them, are all elapses of the report.
+/// elapses of the run that continues after them, are exactly the elapses of the report, in the same order.
 fn expect_resumed(alloc: Global, text: &'static str, runs: &[Row<'static>]) -> Result<(), Fail> {
     let mut all = Vec::new(alloc);
     push_instants(&mut all, text)?;
