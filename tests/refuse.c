@@ -1,5 +1,6 @@
-/* A library that is preloaded, and refuses memory: the allocation numbered REFUSE_FIRST, and where REFUSE_ALL is set all
-   that follow it. Each refusal writes one byte to the file that REFUSED names. It is built by tests/refused. */
+/* A library that is preloaded and makes allocations fail: the one with the number REFUSE_FIRST, and if REFUSE_ALL is
+   set, also all that follow it. Each failure writes one byte to the file that REFUSED names. tests/refused builds the
+   library. */
 #include <errno.h>
 #include <fcntl.h>
 #include <stddef.h>
