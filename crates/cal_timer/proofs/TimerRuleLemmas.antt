@@ -147,7 +147,8 @@ unfolding first_fault
 fault_from_some read first [] fault h = cc
 fault_from_some read first (x ∷ xs) fault h = fault_at read first x xs fault (fault_following read first x) refl h (fault_from_some read (first ++ x ∷ []) xs fault)
 
--- if the assignment `a` has an error, and no assignment in `before` has one, then the error of `a` is the first error
+-- if `a` has an error, and none of the assignments in `before`, which come after those in `first` and before `a`, has
+-- one, then the error of `a` is the first error after the assignments in `first`
 some_from_fault : {E : Type 0} (read : List ℕ → Result E SpecFault) (first before : List Assignment) (a : Assignment) (after : List Assignment) (fault : TimerFault) → AreFineBehind read first before → fault_following read (first ++ before) a ≡ Some fault → first_fault read first (before ++ (a ∷ after)) ≡ Some fault
 unfolding first_fault
 some_from_fault read first [] a after fault fine e =

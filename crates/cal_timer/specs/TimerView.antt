@@ -10,7 +10,7 @@ use Rattle.cal_timer.specs.declared.timer.TimerLine as declared_line
 use Rattle.cal_timer.specs.declared.fault.TimerFault.{TimerFault}
 use Rattle.cal_timer.specs.declared.fault.TimerFault.TheVariants.{BadLine, TooMany}
 
--- an entry of the list of expressions or of exceptions, converted from the type in the code to the type in `TimerText`
+-- the Rust struct `TimerLine`, an entry of the list of expressions or of exceptions, as a `TimerLine` of `TimerText`
 abbrev pub shown : declared_line.TimerLine → TimerLine Fields
 shown line = record { number = line.number; text = string_bytes line.text; expr = line.expr }
 

@@ -1,4 +1,4 @@
-//! The lists of expressions and exceptions, which are built line by line (systemd.timer(5), OnCalendar=).
+//! The lists of expressions (systemd.timer(5), OnCalendar=) and of exceptions, which are built line by line.
 
 ghost use Rattle.std.specs.Prelude.{◌≡◌, ◌≢◌, ◌+◌, ◌<◌, ◌^◌, ◌∷◌, List, Some, Ok, Err, IfErr, MatchResult, false, length, map};
 ghost use Rattle.cal_spec.specs.Expr.{expr_in};

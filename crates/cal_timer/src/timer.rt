@@ -1,4 +1,4 @@
-//! The calendar expressions and the exceptions of a timer file (systemd.timer(5), OnCalendar=).
+//! The calendar expressions of a timer file (systemd.timer(5), OnCalendar=), and its exceptions.
 
 ghost use Rattle.std.specs.Prelude.{◌≡◌, map};
 ghost use Rattle.cal_timer.specs.TimerView.{shown};
