@@ -1,4 +1,4 @@
-//! All errors in the texts of a timer, not only the first (systemd.timer(5), OnCalendar=).
+//! All errors in the texts of a timer (systemd.timer(5), OnCalendar=), not only the first.
 
 ghost use Rattle.std.specs.Prelude.{◌≡◌, ◌+◌, ◌<◌, ◌≤◌, ◌^◌, ◌++◌, [], IfOk, OnOk, All, length, map};
 ghost use Rattle.std.specs.Option.{option_to_list};
