@@ -40,8 +40,8 @@ printed width n some narrow few small =
     let long : length (padded width n) ≡ width - length (decimal n) + length (decimal n) = length-append (zeros width n) (decimal n) ∙ ap (λ m. m + length (decimal n)) (length-replicate (width - length (decimal n)) 48) in
     record { number = number_printed width n small; short = omega arith }
 
--- padding a number below 10,000 to four digits gives 1 to 4 digits, which stand for the number; likewise, padding a
--- number below 100 to two digits gives 1 or 2
+-- `IsPrinted` holds for a number below 10,000 that is padded to four digits, and for a number below 100 that is padded
+-- to two digits
 in_four : (n : ℕ) → n < 10_000 → IsPrinted 4 n (padded 4 n)
 in_four n small = printed 4 n (omega arith) (omega arith) (omega arith) small
 

@@ -80,16 +80,16 @@ pub fn weekdays_are_checked()
         → ((moment_in now at text ≡ Err WrongWeekday) ↔ (FallsOn c.weekday day → ⊥)) }
 {}
 
-/// The error of a civil time is the error of the leftmost word that isn't valid in its position, or `BadDate` if the
-/// words end before a date or a time. If all words are valid, the weekday is checked (`WrongWeekday`), and then the
-/// range (`OutOfRange`). In the other forms, too, the range is checked last (systemd.time(7), Parsing Timestamps).
+/// The error of a civil time (systemd.time(7), Parsing Timestamps) is the error of the leftmost word that isn't valid
+/// in its position, or `BadDate` if the words end before a date or a time. If all words are valid, the weekday is
+/// checked (`WrongWeekday`), and then the range (`OutOfRange`). In the other forms, too, the range is checked last.
 pub fn first_error()
     ensures { (now : ℤ) (at : Setting) (text : List ℕ) (form : Form) (fault : StampFault) → HasForm text form
         → ((moment_in now at text ≡ Err fault) ↔ HasError now at form fault) }
 {}
 
-/// A timestamp resolves to a time from the first moment to the last. If a text stands for any other time, the error is
-/// `OutOfRange` (systemd.time(7), Parsing Timestamps).
+/// A timestamp (systemd.time(7), Parsing Timestamps) resolves to a time from the first moment to the last. If a text
+/// stands for any other time, the error is `OutOfRange`.
 pub fn moments_are_in_range()
     ensures inside { (now : ℤ) (at : Setting) (text : List ℕ) (time : ℤ) → moment_in now at text ≡ Ok time
         → IsMoment time }
