@@ -150,7 +150,7 @@ is_time room word weekdays d h name at =
 
 -- If the grammar allows a date or a time, it is parsed
 
--- no component has more counted parts than the components before it leave of the 240
+-- no component has more counted parts than are left of the 240 after the components before it
 pub record AreFew (f : Fields) : Type 0 where
   pub year : counted Year f.year ≤ 240
   pub month : counted Month f.month ≤ 240 - counted Year f.year

@@ -94,7 +94,8 @@ parts_have slot ps v all =
     ∙ list_any-map f reduced ps
     ∙ list_any-same (λ p. f (reduced p)) f IsPart ps all (λ p h. reduced_has slot p v h)
 
--- a component matches the same values as its normal form
+-- if no range of a component runs backwards and no step is zero, the component matches the same values as its normal
+-- form
 pub component_stays : (slot : Slot) (c : Option (List Part)) (v : ℕ) → AreParts c → component_has slot (normal_component c) v ≡ component_has slot c v
 component_stays slot None v h = refl
 component_stays slot (Some ps) v h = parts_have slot ps v h

@@ -93,8 +93,9 @@ unfolding run_text
 led-comma [] = refl
 led-comma (r ∷ rs) = refl
 
--- if the days from `day` to `last` are a run, the text of the runs from `day` on is the text of this run, followed by
--- the text of the runs from `next` on
+-- Suppose that the days from `day` to `last` are a run, so that the day after `last` doesn't match, and that `next` is
+-- the day after that. The text of the runs from `day` on is then the text of this run, followed by the text of the runs
+-- from `next` on.
 pub led-front : (lead : List ℕ) (day last next n : ℕ) (days : List Bool) → n ≡ front (drop day days) → 0 < n → last ≡ day + n - 1 → next ≡ day + (n + 1)
     → led lead (runs_from day (drop day days)) ≡ run_text lead (record { first = day; last = last }) ++ led (codes ",") (runs_from next (drop next days))
 led-front lead day last next zero days e positive at_last at_next = absurd (omega arith)
@@ -108,7 +109,8 @@ led-front lead day last next (suc m) days e positive at_last at_next =
     ∙ ap (λ t. run_text lead (record { first = day; last = day + m }) ++ t) (led-comma (runs_from (day + m + 2) (drop (suc (suc m)) bs)))
     ∙ rw (at_end, after, dropped) refl
 
--- if `day` doesn't match, the text of the runs from `day` on is the text of the runs from `next` on
+-- if `day` doesn't match, and `next` is the day after it, the text of the runs from `day` on is the text of the runs
+-- from `next` on
 pub led-skip : (lead : List ℕ) (day next n : ℕ) (days : List Bool) → n ≡ front (drop day days) → n ≡ 0 → next ≡ day + (n + 1)
     → led lead (runs_from day (drop day days)) ≡ led lead (runs_from next (drop next days))
 led-skip lead day next n days e none at_next =
@@ -217,7 +219,7 @@ rest_same r q rs qs last a b same day = elim (cases_lt day (r.last + 2)) [
   | inr late ↦ sym (run_past r rs day (omega arith)) ∙ same day ∙ run_past q qs day (omega arith)
 ]
 
--- two lists of runs that contain the same days are equal
+-- two lists of runs that are in order and apart (`AreApartFrom`), and that contain the same days, are equal
 same_runs : (low other : ℕ) (rs qs : List Run) → AreApartFrom low rs → AreApartFrom other qs → ((day : ℕ) → is_in day rs ≡ is_in day qs) → rs ≡ qs
 same_runs low other [] [] a b same = refl
 same_runs low other [] (q ∷ qs) a b same = contradiction _ _ (run_in q qs q.first (omega arith) b.1) refl (sym (same q.first))

@@ -1,6 +1,6 @@
--- The list of all checks of an expression, in their documented order: systemd.time(7), Calendar Events. In this list,
--- `None` stands for a check that passes, and a check that fails is represented by its error. The error of an invalid
--- text is the first error in the list.
+-- The list of all checks of an expression (systemd.time(7), Calendar Events), in the order that docs/GRAMMAR.md states
+-- under "Rejected expressions". In this list, `None` stands for a check that passes, and a check that fails is
+-- represented by its error. The error of an invalid text is the first error in the list.
 use Rattle.std.specs.Prelude.{ℕ, ◌+◌, ◌-◌, nat_lt, if◌then◌else◌, List, [], ◌∷◌, ◌++◌, length, map, Option, None, Some, Result, Ok, Err}
 use Rattle.std.specs.List.{slice_split}
 use Rattle.std.specs.Result.{result_err}
