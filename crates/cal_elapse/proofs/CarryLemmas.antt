@@ -12,7 +12,8 @@ use Rattle.cal_text.proofs.General.{quotient_part, remainder_part}
 pub first_then : (passes : ℕ → Bool) (from mid end : ℕ) (r : Option ℕ) → NonePasses passes from mid → from ≤ mid → IsFirstPassing passes mid end r → IsFirstPassing passes from end r
 first_then passes from mid end r none low rest = grind arith
 
--- the first number that passes up to some end is also the first up to a later end
+-- if `s` is the first number from `from` up to but not including `mid` that passes, it is also the first from `from` up
+-- to but not including a later `end`
 pub first_within : (passes : ℕ → Bool) (from mid end s : ℕ) → mid ≤ end → IsFirstPassing passes from mid (Some s) → IsFirstPassing passes from end (Some s)
 first_within passes from mid end s low found = (found.0, omega (arith, found.1), found.2, found.3)
 

@@ -27,7 +27,8 @@ count_from-none passes a k (suc n) none =
     let before = count_from-none passes a k n (λ t low high. none t low (omega arith)) in
     rw (next, fails) (omega arith)
 
--- if `local` passes, one more number passes up to and including `local` than before `local`
+-- if `local` passes, the number of passing numbers from `start` up to and including `local` is one more than the number
+-- from `start` up to but not including `local`
 pub count_from-with : (passes : ℕ → Bool) (start local : ℕ) → start ≤ local → passes local ≡ true → count_from passes start (local + 1 - start) ≡ count_from passes start (local - start) + 1
 count_from-with passes start local low holds =
     let k = local - start in
@@ -35,8 +36,8 @@ count_from-with passes start local low holds =
     let ends : local + 1 - start ≡ k + 1 = omega arith in
     ap (count_from passes start) ends ∙ count_from-one passes start k (subst (λ (t : ℕ). passes t ≡ true) here holds)
 
--- if no number from `middle` up to but not including `bound` passes, as many numbers pass below `bound` as below
--- `middle`
+-- if no number from `middle` up to but not including `bound` passes, as many numbers from `start` on pass below `bound`
+-- as below `middle`
 pub count_from-on : (passes : ℕ → Bool) (start middle bound : ℕ) → start ≤ middle → middle ≤ bound → NonePasses passes middle bound
     → count_from passes start (bound - start) ≡ count_from passes start (middle - start)
 count_from-on passes start middle bound low high none =
@@ -46,8 +47,8 @@ count_from-on passes start middle bound low high none =
     let nothing = λ (t : ℕ) (above : start + k ≤ t) (below : t < start + k + n). none t (omega arith) (omega arith) in
     ap (count_from passes start) ends ∙ count_from-none passes start k n nothing
 
--- if `next` is the first number after `local` that passes, one more number passes up to and including `next` than up to
--- and including `local`
+-- if `next` is the first number after `local` that passes, the number of passing numbers after `start` up to and
+-- including `next` is one more than the number after `start` up to and including `local`
 pub count_from-to : (passes : ℕ → Bool) (start local next : ℕ) → start ≤ local → local + 1 ≤ next → passes next ≡ true → NonePasses passes (local + 1) next
     → count_from passes (start + 1) (next - start) ≡ count_from passes (start + 1) (local - start) + 1
 count_from-to passes start local next low high holds none =
@@ -72,8 +73,8 @@ count_from-both passes a k (suc n) =
     let place : a + (k + n) ≡ a + k + n = omega arith in
     rw (next, place) (omega (arith, count_from-both passes a k n))
 
--- the numbers up to and including `last` that pass are counted in two parts: those up to and including `local`, and
--- those after `local`
+-- the numbers from `start` up to and including `last` that pass are counted in two parts: those up to and including
+-- `local`, and those after `local`; in `count_from-then`, `start` itself isn't counted
 pub count_from-part : (passes : ℕ → Bool) (start local last : ℕ) → start ≤ local → local ≤ last
     → count_from passes start (last + 1 - start) ≡ count_from passes start (local + 1 - start) + count_from passes (local + 1) (last - local)
 count_from-part passes start local last low high =

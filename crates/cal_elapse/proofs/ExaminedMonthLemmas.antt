@@ -34,8 +34,8 @@ pub none_in_month : (sets : Sets) (first length bits from : ℕ) → HasDays set
     → NonePasses (is_bit bits) (from - first) 64 → NonePasses (day_in sets) from (first + length)
 none_in_month sets first length bits from has low short none = grind (arith, day_is)
 
--- if `next` is the first month from `index` on that passes, one more month passes up to and including `next` than
--- before `index`
+-- if `next` is the first month from `index` on that passes, the number of passing months from `from` up to and
+-- including `next` is one more than the number from `from` up to but not including `index`
 pub count_step : (passes : ℕ → Bool) (from index next : ℕ) → from ≤ index → index ≤ next → NonePasses passes index next → passes next ≡ true
     → count_from passes from (suc next - from) ≡ count_from passes from (index - from) + 1
 count_step passes from index next low high none holds =
@@ -83,8 +83,8 @@ examined_here sets n first length day within begins long low high =
     let here : n + 0 ≡ n = omega arith in
     rw (month, one, here) (omega arith)
 
--- if `old` months before month `index` were examined, and `next` is the first month from `index` on whose year and
--- number match, then a search that ends in month `next` examines `old` + 1 months
+-- Suppose that a search starts in month `from` and examines `old` months before month `index`. If it ends in month
+-- `next`, the first month from `index` on whose year and number match, it examines `old` + 1 months.
 pub examined_some : (sets : Sets) (from index next place old new : ℕ) → from ≤ index → index ≤ next → next < 2_760 → place < length_of next
     → NonePasses (month_in sets) index next → month_in sets next ≡ true → old ≡ count_from (month_in sets) from (index - from)
     → examined_from sets from (Some (first_day next + place)) ≡ old + 1

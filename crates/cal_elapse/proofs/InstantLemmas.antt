@@ -35,8 +35,8 @@ IsInstant-elapse fields tz xs exceptions base i low m =
     let here = ((AreElapses-elapses_except (map (λ x. timed (fields x) (tz x)) xs) exceptions base).members i).0 m in
     places_in fields tz xs i (above_zero base i low here.0) here.1.0
 
--- the lemma `IsInstant-elapse` for a list of pairs, each of the fields of an expression and its zone: every elapse
--- after a base of 0 or more is an instant
+-- The lemma `IsInstant-elapse` for a list of pairs: every elapse after a base of 0 or more is an instant. Each pair
+-- consists of the fields of an expression and its zone.
 pub IsInstant-pairs : (pairs : List (Fields × TimeZone)) (exceptions : List Timed) (base i : ℤ) → pos 0 ≤ℤ base
     → Has (elapses_except (map (λ (p : Fields × TimeZone). timed p.0 p.1) pairs) exceptions base) i → IsInstant i
 IsInstant-pairs pairs exceptions base i low m = IsInstant-elapse (λ (p : Fields × TimeZone). p.0) (λ (p : Fields × TimeZone). p.1) pairs exceptions base i low m

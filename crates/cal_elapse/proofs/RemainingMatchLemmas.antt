@@ -51,8 +51,9 @@ ahead_near tz from to offset ahead order inside =
 signed_word : (local : ℕ) (signed : ℤ) → local < seconds_in_all → signed ≡ pos local → to_z w64 (of_z w64 signed) ≡ pos local
 signed_word local signed inside is = ap (λ z. to_z w64 (of_z w64 z)) is ∙ to_z_pos w64 local (omega (arith, seconds_in_all-is))
 
--- The UTC offset is constant from `local` to `end`, the end of its minute. Both local seconds, the offset, the instants
--- of both local seconds, and the second after the instant of `local` fit into 64-bit integers.
+-- The UTC offset is `offset` from `local` to `end`, and at most 93,599 seconds in either direction. `from` and `to` are
+-- `local` and `end` as signed integers. These two, the offset, the instants of `local` and `end`, and the second after
+-- the instant of `local` fit into 64-bit integers. (In the program, `end` is the end of the minute of `local`.)
 pub record IsRun (tz : TimeZone) (local end : ℕ) (from to offset : ℤ) : Type 0 where
   pub ahead : AreAtOffset tz (pos local) (pos end) offset
   pub low : offset ≤ℤ pos 93_599
@@ -106,10 +107,10 @@ place_there v local t end offset h ahead low high inside =
     let count = seconds_in_all-is in
     ahead (pos t) (omega (arith, ints), omega (arith, ints)) (omega (arith, ints)) (omega (arith, ints))
 
--- What has to be true before the remaining matches of a minute are added to the pending instants. `bits` and `last`
--- describe the rest of the minute of `local`. The UTC offset is constant from `local` to the end of the minute. The
--- instant of `local` isn't before `least`, the smallest pending instant. The end of the minute is at most 93,599
--- seconds after every pending instant.
+-- What has to be true before the remaining matches of a minute are added to the pending instants. `bits` stands for the
+-- matches after `local` up to `last`, all in the minute of `local` (`IsRestOfMinute`). The UTC offset is constant from
+-- `local` to the end of the minute. The instant of `local` isn't before `least`, the smallest pending instant. The end
+-- of the minute is at most 93,599 seconds after every pending instant.
 pub record IsBehind (v : Window) (local bits last : ℕ) (offset least : ℤ) : Type 0 where
   pub rest : IsRestOfMinute (matches (sets_in v.searcher.masks)) local bits last
   pub ahead : AreAtOffset (zone_of v.zone) (pos local) (pos (local / 60 * 60 + 59)) offset
@@ -203,7 +204,8 @@ no_later xs none i m = subst (λ (ys : List ℤ). Has ys i) (list-no_first xs (s
 passed_by : (t end : ℕ) (last offset i : ℤ) → Some (pos t -ℤ offset) ≡ Some i → t ≤ end → (pos end -ℤ offset) ≤ℤ last → last <ℤ i → ⊥
 passed_by t end last offset i at up early above = grind (arith, signed_arith)
 
--- the window after the remaining matches up to `last` have been found
+-- In this module, `v` is the window before the remaining matches up to `last` are searched for, and `searcher` is the
+-- searcher after these searches.
 module _ (v : Window) (local : ℕ) (searcher : Searcher) (last : ℕ) (h : IsPlacedTo v (pos local)) (masks : searcher.masks ≡ v.searcher.masks)
     (more : searcher.searches ≡ v.searcher.searches + count_from (matches (sets_in v.searcher.masks)) (local + 1) (last - local))
     (most : IsMostAfter (sets_in v.searcher.masks) local last v.searcher.most_months searcher.most_months)

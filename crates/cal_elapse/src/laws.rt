@@ -34,9 +34,9 @@ pub fn elapses_of_each()
 
 /// An expression is covered by exceptions if and only if, after any base, none of its elapses is left once the elapses
 /// of the exceptions are removed. In the same zone, an expression is covered by another one that matches all its
-/// values, field by field, and counts days from the same end of the month. Leaving expressions out doesn't change which
-/// elapses are left once those of the exceptions are removed, if each of their elapses is an elapse of an exception or
-/// of an expression that is kept. So covered expressions may be left out.
+/// values, field by field, and counts days from the same end of the month. If each elapse of the expressions left out
+/// is also an elapse of an exception or of an expression that is kept, leaving them out doesn't change which elapses
+/// remain once those of the exceptions are removed. So covered expressions may be left out.
 pub fn covered_are_left_out()
     ensures covered { (e : Timed) (exceptions : List Timed) → IsCovered e exceptions
         ↔ ((base : ℤ) → elapses_except (e ∷ []) exceptions base ≡ []) }

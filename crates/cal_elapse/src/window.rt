@@ -150,10 +150,10 @@ impl<'z> Window<'z> {
         }
     }
 
-    /// If a later minute with matches in the hour of `local` is known, searches for the remaining matches in this hour,
-    /// up to the first match of the last such minute, and converts them, but only if two conditions are met. Otherwise,
-    /// nothing changes. `local` is a match that has already been converted. Returns the last match that has been
-    /// converted, which can be `local`.
+    /// Searches for the matches after `local` in its hour, up to the first match of the last minute with matches, and
+    /// converts them. Does this only if a later minute with matches in this hour is known and two conditions are met;
+    /// otherwise, nothing changes. `local` is a match that has already been converted. Returns the last match that has
+    /// been converted, which can be `local`.
     ///
     /// The conditions for the 3,600 local seconds from `local` on are:
     ///

@@ -16,8 +16,8 @@ inside c = minutes_inside c.args.self.now.masks (unsigned_abs c.args.self.now.fo
 none : (c : After-lowest_bit) → AreRemaining (matches (sets_in c.args.self.now.masks)) (unsigned_abs c.args.self.now.found) (unsigned_abs c.args.self.now.from) 0
 none c = rw c.requires.none at c.args.self.now.is_left
 
--- the local second of the match fits into a 64-bit integer, so storing it doesn't change it; nor does it change the
--- local second after the match (`behind_is`)
+-- the local second of the match and the one after it (`behind_is`) fit into 64-bit integers, so storing them doesn't
+-- change them
 local_is : (c : After-local_in-local) → to_z w64 (of_z w64 c.local_in-local.result) ≡ pos ((c.args.self.now.minute + c.lowest_bit.result) * 60 + c.lowest_bit-second.result)
 local_is c =
     let fits : FitsSigned w64 c.local_in-local.result = search rules in
