@@ -10,7 +10,7 @@ use cal_span::SpanFault;
 /// If several words are invalid, the leftmost error is reported. `WrongWeekday` is reported only if all words are
 /// valid, and `OutOfRange` only if there is no other error.
 ///
-/// Each error has a number, which never changes:
+/// Each error has a number, which never changes, so that other documents can refer to it:
 ///
 /// | number | error          |
 /// |--------|----------------|

@@ -12,7 +12,7 @@ use std::alloc::{AllocError, AllocFailed};
 /// lines in order, and last `NothingToDo`. Lines are numbered from 1, and a logical line has the number of its first
 /// physical line.
 ///
-/// Each error has a number, which never changes:
+/// Each error has a number, which never changes, so that other documents can refer to it:
 ///
 /// | number | error         |
 /// |--------|---------------|

@@ -12,7 +12,7 @@ use std::alloc::Global;
 
 /// Why a zone file can't be loaded.
 ///
-/// The errors are numbered:
+/// Each error has a number, which never changes, so that other documents can refer to it:
 ///
 /// | number | error |
 /// |---|---|

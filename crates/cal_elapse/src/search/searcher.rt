@@ -315,7 +315,7 @@ fn minute_of(local: i64) -> u32
     (local / 60) as u32
 }
 
-/// Returns the second of a local second in its minute, 0 to 59.
+/// Returns how many seconds after the start of its minute a local second is, 0 to 59.
 #[tactic(auto, using(cal_civil::proofs::LocalLemmas::local_arith))]
 fn second_of_minute(local: i64) -> u32
     requires { IsLocalSecond local }

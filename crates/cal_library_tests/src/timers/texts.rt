@@ -93,7 +93,7 @@ static READ: [Row; 9] = [
 static REFUSED: [(&[&str], Option<usize>, TimerFault); 7] = [
     (&[], None, TimerFault::NothingToDo),
     (&["[Unit]", "[Timer]"], None, TimerFault::NothingToDo),
-    // A drop-in clears the only expression.
+    // A drop-in clears the only expression: an empty `OnBootSec=` clears `OnCalendar=` too.
     (
         &["[Timer]\nOnCalendar=daily", "[Timer]\nOnBootSec="],
         None,
