@@ -10,6 +10,6 @@ pub struct Context<'a> {
     pub request: &'a Request,
     /// The base time: only elapse times after this instant are reported.
     pub base: Instant,
-    /// The present and the zones. Instants are printed in its local zone.
+    /// The present and the zones. Instants are printed in the local zone.
     pub setting: Setting<'a>,
 }

@@ -1,6 +1,3 @@
-use Rattle.cal_plan.specs.TimerElapses.{IsMergeOf}
-use Rattle.cal_report.specs.Context.{asked_by}
-use Rattle.cal_report.specs.Setting.{setting_of}
 use Rattle.cal_report.proofs.TimerLemmas.{had_lists, plan_answers}
 use Rattle.cal_report.proofs.timer_report.read_plan.Goals as goal
 
