@@ -6,7 +6,7 @@ ghost use Rattle.cal_units.specs.Machine.{Machine};
 
 use crate::fault::{Reason, UnitFault};
 use crate::places::look;
-use crate::tree::{Entry, Tree};
+use crate::tree::{Entry, Tree, TreeFault};
 use cal_streams::{WholeFault, read_whole};
 use std::alloc::Global;
 
@@ -71,6 +71,7 @@ fn read_file<T: Tree>(alloc: Global, tree: &T, path: &str) -> Result<Option<Vec<
     let mut file = match tree.open(path) {
         Ok(Some(file)) => file,
         Ok(None) => return Ok(None),
+        Err(TreeFault::ReadFailed) => return Err(unreadable(alloc, tree, path)),
         Err(fault) => return Err(UnitFault::of_tree(alloc, path, fault)),
     };
     match read_whole(alloc, &mut file, FILE_LIMIT) {
@@ -81,7 +82,7 @@ fn read_file<T: Tree>(alloc: Global, tree: &T, path: &str) -> Result<Option<Vec<
     }
 }
 
-/// Returns why the file at a path can't be read, although it could be opened.
+/// Returns why the file at a path can't be opened or read.
 fn unreadable<T: Tree>(alloc: Global, tree: &T, path: &str) -> UnitFault {
     match tree.look(alloc, path) {
         Ok(Entry::Folder) => UnitFault::at(alloc, path, Reason::IsFolder),

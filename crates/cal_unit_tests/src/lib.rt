@@ -1,0 +1,6 @@
+//! Tests of the files of units, on machines in memory. What a contract proves for all arguments is not tested again.
+#![tactic(auto)]
+
+pub mod memory;
+#[cfg(test)]
+mod units;

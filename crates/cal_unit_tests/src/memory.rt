@@ -1,0 +1,113 @@
+//! A machine in memory.
+
+use cal_streams::Port;
+use cal_units::{Entry, Names, Tree, TreeFault};
+use std::alloc::Global;
+
+/// What a path has.
+#[derive(Clone, Copy, Debug)]
+pub enum Item<'a> {
+    /// A file with these bytes.
+    File(&'a [u8]),
+    /// A symbolic link with this target.
+    Link(&'a str),
+    /// A folder.
+    Folder,
+    /// A folder with this many drop-ins, which are gone when they are opened.
+    Many(u32),
+    /// A file that is in its folder, but gone when it is opened.
+    Gone,
+    /// Something that can't be listed, opened or looked at.
+    Locked,
+    /// An entry whose name isn't UTF-8, in place of this one.
+    Unnamed,
+}
+
+/// A machine with these items by their paths.
+#[derive(Clone, Copy, Debug)]
+pub struct Memory<'a> {
+    pub items: &'a [(&'a str, Item<'a>)],
+}
+
+impl<'a> Memory<'a> {
+    fn at(&self, path: &str) -> Option<Item<'a>> {
+        for (name, item) in self.items {
+            if *name == path {
+                return Some(*item);
+            }
+        }
+        None
+    }
+
+    fn push_names(&self, alloc: Global, folder: &str, found: &mut Names) -> Result<(), TreeFault> {
+        for (path, item) in self.items {
+            if let Some((place, name)) = path.rsplit_once('/') {
+                if place == folder {
+                    push_name(alloc, name, *item, found)?;
+                }
+            }
+        }
+        Ok(())
+    }
+}
+
+fn push_name(
+    alloc: Global,
+    name: &str,
+    item: Item<'_>,
+    found: &mut Names,
+) -> Result<(), TreeFault> {
+    if let Item::Unnamed = item {
+        found.unnamed = found.unnamed.saturating_add(1);
+        return Ok(());
+    }
+    found.names.push(String::from_str(alloc, name)?)?;
+    Ok(())
+}
+
+fn push_many(alloc: Global, count: u32, found: &mut Names) -> Result<(), TreeFault> {
+    for number in 0..count {
+        found.names.push(format!(in alloc; "{number}.conf")?)?;
+    }
+    Ok(())
+}
+
+impl<'a> Tree for Memory<'a> {
+    type File = Port<&'a [u8]>;
+
+    fn names(&self, alloc: Global, folder: &str) -> Result<Names, TreeFault> {
+        let mut found = Names {
+            names: Vec::new(alloc),
+            unnamed: 0,
+        };
+        match self.at(folder) {
+            Some(Item::Locked) => return Err(TreeFault::ReadFailed),
+            Some(Item::Many(count)) => push_many(alloc, count, &mut found)?,
+            _ => self.push_names(alloc, folder, &mut found)?,
+        }
+        Ok(found)
+    }
+
+    fn look(&self, alloc: Global, path: &str) -> Result<Entry, TreeFault> {
+        match self.at(path) {
+            None | Some(Item::Gone | Item::Unnamed) => Ok(Entry::Missing),
+            Some(Item::File(bytes)) if bytes.is_empty() => Ok(Entry::Empty),
+            Some(Item::File(_)) => Ok(Entry::File),
+            Some(Item::Link(target)) => Ok(Entry::Link(String::from_str(alloc, target)?)),
+            Some(Item::Folder | Item::Many(_)) => Ok(Entry::Folder),
+            Some(Item::Locked) => Err(TreeFault::ReadFailed),
+        }
+    }
+
+    fn open(&self, path: &str) -> Result<Option<Port<&'a [u8]>>, TreeFault> {
+        match self.at(path) {
+            Some(Item::File(bytes)) => Ok(Some(Port::new(bytes))),
+            Some(Item::Locked | Item::Folder) => Err(TreeFault::ReadFailed),
+            _ => Ok(None),
+        }
+    }
+
+    fn variable(&self, _alloc: Global, _name: &str) -> Result<Option<String>, TreeFault> {
+        Ok(None)
+    }
+}
