@@ -1,5 +1,5 @@
--- Examples that check the definitions of drop-ins. They were seen with systemd-analyze 252: it names the files of a unit in
--- the order in which it reads them if each has a line that it refuses.
+-- Examples that check the definitions of drop-ins. They were seen with systemd-analyze 252: it names the files of a
+-- unit in the order in which it reads them if each has a line that it refuses.
 use Rattle.std.proofs.Common.{◌≡◌, ℕ, List, [], ◌∷◌, ◌++◌, codes, filter, map, refl, Some, None}
 use Rattle.std.specs.List.{list_any}
 use Rattle.std.specs.Str.{bytes_eq}

@@ -1,4 +1,5 @@
--- Names of timer units: systemd.unit(5), Description. The stem of a name is what the name has before its suffix `.timer`.
+-- Names of timer units: systemd.unit(5), Description. The stem of a name is what the name has before its suffix
+-- `.timer`.
 use Rattle.std.specs.Prelude.{ℕ, ◌+◌, ◌-◌, ◌==◌, nat_eq, nat_lt, nat_le, Bool, ◌&&◌, ◌||◌, if◌then◌else◌, List, Option, None, Some, codes, length, take}
 use Rattle.std.specs.List.{before_first, ends_with, list_all, list_any}
 use Rattle.cal_drop_ins.specs.declared.unit_name.UnitKind.{UnitKind}

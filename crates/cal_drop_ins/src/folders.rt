@@ -6,8 +6,8 @@ ghost use Rattle.cal_drop_ins.specs.Folders.{folder_stems, folders, is_dash_with
 use crate::unit_name::{base_of, template_of};
 use std::alloc::{AllocError, Global};
 
-/// Returns the folders that have drop-ins of a unit, from the least important one to the most important one, whether they
-/// exist or not.
+/// Returns the folders that have drop-ins of a unit, from the least important one to the most important one, whether
+/// they exist or not.
 ///
 /// `path` is the search path, the most important folder first. `stems` are the stems of the unit's names: its aliases,
 /// and last its own.
@@ -24,8 +24,8 @@ pub fn folders_of(alloc: Global, path: &[String], stems: &[&str]) -> Result<Vec<
     Ok(folders)
 }
 
-/// Returns the stems whose folders of drop-ins apply to the unit with this stem, from the least important one to the most
-/// important one: the prefixes of its name that end at a dash, the template of an instance, and the stem itself.
+/// Returns the stems whose folders of drop-ins apply to the unit with this stem, from the least important one to the
+/// most important one: the prefixes of its name that end at a dash, the template of an instance, and the stem itself.
 #[tactic(auto, unfolding(crate::specs::Folders::folder_stems))]
 pub fn folder_stems(alloc: Global, stem: &str) -> Result<Vec<&str>, AllocError>
     ensures { IfOk result (λ stems. map (λ stem. stem.now) stems.items ≡ folder_stems stem.now) }

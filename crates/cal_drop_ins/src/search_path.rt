@@ -5,8 +5,8 @@ ghost use Rattle.cal_drop_ins.specs.SearchPath.{system_path, user_path};
 
 use std::alloc::{AllocError, Global};
 
-/// Returns the search path of the system's manager below `root`, the most important folder first. The root of the machine
-/// itself is the empty text.
+/// Returns the search path of the system's manager below `root`, the most important folder first. The root of the
+/// machine itself is the empty text.
 pub fn system_path(alloc: Global, root: &str) -> Result<Vec<String>, AllocError>
     ensures { IfOk result (λ path. map string_bytes path.items ≡ system_path root.now) }
 {
@@ -20,8 +20,8 @@ pub fn system_path(alloc: Global, root: &str) -> Result<Vec<String>, AllocError>
     all_below(alloc, root, &folders)
 }
 
-/// Returns the search path of a user's manager below `root`, the most important folder first. `home` is the user's home,
-/// such as `/home/ann`. Variables such as `XDG_CONFIG_HOME` have no effect.
+/// Returns the search path of a user's manager below `root`, the most important folder first. `home` is the user's
+/// home, such as `/home/ann`. Variables such as `XDG_CONFIG_HOME` have no effect.
 pub fn user_path(alloc: Global, root: &str, home: &str) -> Result<Vec<String>, AllocError>
     ensures { IfOk result (λ path. map string_bytes path.items ≡ user_path root.now home.now) }
 {

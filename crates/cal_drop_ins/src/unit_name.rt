@@ -49,8 +49,8 @@ pub fn kind_of(stem: &str) -> UnitKind
     UnitKind::Instance
 }
 
-/// Returns the stem of the template of an instance, such as `backup@` for `backup@home`. Returns `None` if the stem isn't
-/// that of an instance.
+/// Returns the stem of the template of an instance, such as `backup@` for `backup@home`. Returns `None` if the stem
+/// isn't that of an instance.
 #[tactic(auto, unfolding(crate::specs::UnitName::template_of))]
 pub fn template_of(stem: &str) -> Option<&str>
     ensures { option_map (λ template. template.now) result ≡ template_of stem.now }

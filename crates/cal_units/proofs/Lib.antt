@@ -1,2 +1,3 @@
 pub mod LinkLemmas
 pub mod UnitLemmas
+mod UnitRows

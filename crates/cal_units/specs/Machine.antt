@@ -20,8 +20,8 @@ shown_entry entries.TheVariants.File = File
 shown_entry entries.TheVariants.Folder = Folder
 shown_entry (entries.TheVariants.Link target) = Link (string_bytes target)
 
--- the names in each folder, what each path leads to, the bytes of the file to which it leads after following links, and the
--- value of each variable
+-- the names in each folder, what each path leads to, the bytes of the file to which it leads after following links, and
+-- the value of each variable
 pub record Machine : Type 0 where
   pub names : List ℕ → List (List ℕ)
   pub entry : List ℕ → Entry

@@ -1,5 +1,5 @@
--- Where the file of a unit is: systemd.unit(5), Description and Unit File Load Path. Search paths have the most important
--- folder first.
+-- Where the file of a unit is: systemd.unit(5), Description and Unit File Load Path. Search paths have the most
+-- important folder first.
 use Rattle.std.specs.Prelude.{ℕ, zero, suc, ◌+◌, nat_eq, Bool, true, false, ◌||◌, if◌then◌else◌, List, [], ◌∷◌, ◌++◌, Option, None, Some, codes, drop, length, map, slice_get, string_bytes}
 use Rattle.std.specs.List.{ends_with, filter_map, find, flat_map, starts_with}
 use Rattle.std.specs.Option.{option_or, option_to_list}
@@ -17,7 +17,9 @@ unit_path stem folder = folder ++ codes "/" ++ stem ++ codes ".timer"
 
 -- the paths at which a unit's file can be: those of its own name before those of its template's
 unfoldable pub unit_paths : List (List ℕ) → List ℕ → List (List ℕ)
-unit_paths path stem = map (unit_path stem) path ++ flat_map (λ template. map (unit_path template) path) (option_to_list (template_of stem))
+unit_paths path stem =
+    map (unit_path stem) path
+    ++ flat_map (λ template. map (unit_path template) path) (option_to_list (template_of stem))
 
 -- a folder is not a unit's file
 abbrev pub is_there : Entry → Bool
@@ -46,8 +48,8 @@ unfoldable pub stem_in : List ℕ → List ℕ → Option (List ℕ)
 stem_in target folder =
     and_then (after_prefix folder target) (λ rest. and_then (after_prefix (codes "/") rest) file_stem)
 
--- The stem of the timer for which a link stands, if its target is a timer in a folder of units, or a name without a folder.
--- Any other link is to a file that is somewhere else.
+-- The stem of the timer for which a link stands, if its target is a timer in a folder of units, or a name without a
+-- folder. Any other link is to a file that is somewhere else.
 unfoldable pub alias_of : List (List ℕ) → List ℕ → Option (List ℕ)
 alias_of path target = option_or (file_stem target) (slice_get (filter_map (stem_in target) path) 0)
 
@@ -89,8 +91,8 @@ place_of machine path stem (Some file) = place_at path stem file (machine.entry 
 abbrev pub place_in : Machine → List (List ℕ) → List ℕ → Place
 place_in machine path stem = place_of machine path stem (first_there machine (unit_paths path stem))
 
--- a unit: it doesn't exist, it is a template, it is masked by a path, it has a file and these stems, of which its own is the last, or it is
--- an alias of an alias and so on without an end
+-- A unit: it doesn't exist, it is a template, it is masked by a path, or it has a file and these stems, of which its own
+-- is the last. `Endless` stands for too many links, as in a loop.
 pub data Unit : Type 0 where
   Unfound : Unit
   TemplateOnly : Unit

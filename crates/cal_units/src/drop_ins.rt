@@ -31,8 +31,8 @@ pub struct DropIns {
 /// and last its own.
 ///
 /// Fails with [`UnitFault::At`] and [`Reason::ReadFailed`] if a folder can't be listed or a link can't be read, with
-/// [`Reason::NotUtf8`] if the target of a drop-in's link is not UTF-8, and with [`Reason::TooMany`] at the folder with the
-/// 10,001st drop-in, hidden ones included. Fails with [`UnitFault::NoMemory`] if allocation fails.
+/// [`Reason::NotUtf8`] if the target of a drop-in's link is not UTF-8, and with [`Reason::TooMany`] at the folder with
+/// the 10,001st drop-in, hidden ones included. Fails with [`UnitFault::NoMemory`] if allocation fails.
 #[tactic(auto, unfolding(cal_drop_ins::specs::DropIns::drop_ins))]
 pub fn find_drop_ins<T: Tree>(
     alloc: Global,

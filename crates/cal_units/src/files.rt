@@ -26,8 +26,8 @@ pub struct UnitText {
 /// systemd does.
 ///
 /// Fails with [`UnitFault::At`] and, for the first file at fault, [`Reason::ReadFailed`] if it can't be opened or read,
-/// [`Reason::IsFolder`] if it is a folder, [`Reason::Vanished`] if nothing is there, or [`Reason::TooLarge`] if it has more
-/// than 1,048,576 bytes. Fails with [`UnitFault::NoMemory`] if allocation fails.
+/// [`Reason::IsFolder`] if it is a folder, [`Reason::Vanished`] if nothing is there, or [`Reason::TooLarge`] if it has
+/// more than 1,048,576 bytes. Fails with [`UnitFault::NoMemory`] if allocation fails.
 pub fn read_files<T: Tree>(
     alloc: Global,
     tree: &T,

@@ -5,9 +5,9 @@ ghost use Rattle.cal_units.specs.Units.{after_prefix, alias_of, file_stem, stem_
 
 use cal_drop_ins::unit_stem;
 
-/// Returns the stem of the timer for which a link with this target stands: the target is the file of a timer in a folder
-/// of the search path, or the name of such a file without a folder. Returns `None` for any other link, which leads to a
-/// file that is somewhere else.
+/// Returns the stem of the timer for which a link with this target stands: the target is the file of a timer in a
+/// folder of the search path, or the name of such a file without a folder. Returns `None` for any other link, which
+/// leads to a file that is somewhere else.
 #[tactic(auto, unfolding(crate::specs::Units::alias_of))]
 pub(crate) fn alias_of<'t>(path: &[String], target: &'t str) -> Option<&'t str>
     ensures { option_map (λ stem. stem.now) result ≡ alias_of (map string_bytes path.now) target.now }

@@ -55,8 +55,8 @@ impl<T: Drop> From<AllocFailed<T>> for TreeFault {
 
 /// Access to the folders, files and links of a machine, and to the variables of the environment.
 ///
-/// A contract can use what `shows` says. It says nothing about a real machine, and everything about one that exists only
-/// in memory.
+/// A contract can use what `shows` says. It says nothing about a real machine, and everything about one that exists
+/// only in memory.
 pub trait Tree {
     /// An open file.
     type File: Source + Drop;

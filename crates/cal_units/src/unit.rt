@@ -38,11 +38,11 @@ pub enum Unit {
 /// Finds the unit with this stem in the search path, which has the most important folder first.
 ///
 /// The first folder with a file of the unit's name counts. If there is none and the unit is an instance, its template's
-/// file is searched in the same way. A link to another unit of the search path is an alias: that unit is searched instead.
-/// A link to any other file is the unit's file, and so is a link to a template.
+/// file is searched in the same way. A link to another unit of the search path is an alias: that unit is searched
+/// instead. A link to any other file is the unit's file, and so is a link to a template.
 ///
-/// Fails with [`UnitFault::At`] and [`Reason::ReadFailed`] or [`Reason::NotUtf8`] if a path can't be looked at, and with
-/// [`Reason::TooManyLinks`] at the stem that comes after 8 aliases, as in a loop of links. Fails with
+/// Fails with [`UnitFault::At`] and [`Reason::ReadFailed`] or [`Reason::NotUtf8`] if a path can't be looked at, and
+/// with [`Reason::TooManyLinks`] at the stem that comes after 8 aliases, as in a loop of links. Fails with
 /// [`UnitFault::NoMemory`] if allocation fails.
 pub fn find_unit<T: Tree>(
     alloc: Global,

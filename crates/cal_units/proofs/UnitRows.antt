@@ -1,0 +1,53 @@
+-- Examples that check the definitions of units, after systemd.unit(5).
+use Rattle.std.proofs.Common.{◌≡◌, ℕ, List, [], ◌∷◌, ◌++◌, codes, map, refl, Option, Some, None}
+use Rattle.std.specs.Map.{lookup}
+use Rattle.std.specs.Option.{unwrap_or}
+use Rattle.std.specs.Str.{bytes_eq}
+use Rattle.cal_drop_ins.specs.UnitName.{is_stem, kind_of, template_of, unit_stem, without_suffix}
+use Rattle.cal_units.specs.Machine.{Entry, Machine}
+use Rattle.cal_units.specs.Machine.Entry.{Missing, Empty, File, Folder, Link}
+use Rattle.cal_units.specs.Units.{Unit, after_prefix, alias_of, file_stem, stem_in, unit_in, unit_paths}
+use Rattle.cal_units.specs.Units.Unit.{Unfound, TemplateOnly, MaskedBy, FoundAt, Endless}
+
+-- what the paths of a machine lead to
+abbrev entries : List (List ℕ × Entry)
+entries =
+    (codes "/lib/a.timer", File) ∷ (codes "/etc/a.timer", Folder) ∷ (codes "/etc/b.timer", Link (codes "/lib/a.timer"))
+    ∷ (codes "/lib/c.timer", Link (codes "b.timer")) ∷ (codes "/etc/m.timer", Link (codes "/dev/null"))
+    ∷ (codes "/lib/m.timer", File) ∷ (codes "/lib/e.timer", Empty) ∷ (codes "/lib/t@.timer", File)
+    ∷ (codes "/lib/t@y.timer", File) ∷ (codes "/etc/t@.timer", File) ∷ (codes "/etc/l.timer", Link (codes "/opt/a.timer"))
+    ∷ (codes "/etc/s.timer", Link (codes "/lib/s.timer")) ∷ (codes "/etc/p.timer", Link (codes "q.timer"))
+    ∷ (codes "/etc/q.timer", Link (codes "p.timer")) ∷ []
+
+abbrev machine : Machine
+machine =
+    record {
+      names = λ folder. [];
+      entry = λ path. unwrap_or (lookup (bytes_eq path) entries) Missing;
+      file = λ path. None;
+      variable = λ name. None;
+    }
+
+-- the unit of that name on the machine
+abbrev unit : List ℕ → Unit
+unit stem = unit_in machine (codes "/etc" ∷ codes "/lib" ∷ []) stem
+
+-- a folder is not a unit; an alias of an alias has three names; a link to /dev/null and an empty file mask
+plain_units : map unit (codes "a" ∷ codes "b" ∷ codes "c" ∷ codes "m" ∷ codes "e" ∷ codes "none" ∷ [])
+    ≡ FoundAt (codes "/lib/a.timer") (codes "a" ∷ []) ∷ FoundAt (codes "/lib/a.timer") (codes "b" ∷ codes "a" ∷ [])
+    ∷ FoundAt (codes "/lib/a.timer") (codes "c" ∷ codes "b" ∷ codes "a" ∷ []) ∷ MaskedBy (codes "/etc/m.timer")
+    ∷ MaskedBy (codes "/lib/e.timer") ∷ Unfound ∷ []
+unfolding unit_paths template_of alias_of stem_in after_prefix file_stem unit_stem without_suffix is_stem kind_of
+plain_units = refl
+
+-- an instance has its own file before its template's, even in a less important folder
+instances : map unit (codes "t@" ∷ codes "t@x" ∷ codes "t@y" ∷ [])
+    ≡ TemplateOnly ∷ FoundAt (codes "/etc/t@.timer") (codes "t@x" ∷ []) ∷ FoundAt (codes "/lib/t@y.timer") (codes "t@y" ∷ []) ∷ []
+unfolding unit_paths template_of alias_of stem_in after_prefix file_stem unit_stem without_suffix is_stem kind_of
+instances = refl
+
+-- a link out of the search path, a link to the same name, and a loop of links
+links : map unit (codes "l" ∷ codes "s" ∷ codes "p" ∷ [])
+    ≡ FoundAt (codes "/etc/l.timer") (codes "l" ∷ []) ∷ FoundAt (codes "/etc/s.timer") (codes "s" ∷ []) ∷ Endless ∷ []
+unfolding unit_paths template_of alias_of stem_in after_prefix file_stem unit_stem without_suffix is_stem kind_of
+links = refl
