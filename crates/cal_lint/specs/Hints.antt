@@ -1,0 +1,26 @@
+-- Common mistakes in place of a calendar expression that show in the whole text: systemd.time(7), Calendar Events and
+-- Parsing Time Spans.
+use Rattle.std.specs.Prelude.{ℕ, ◌==◌, Bool, ◌&&◌, ◌||◌, if◌then◌else◌, List, codes, Option, None, Some, is_ok}
+use Rattle.std.specs.List.{list_any}
+use Rattle.std.specs.Char.{is_ascii_alphabetic}
+use Rattle.std.specs.Str.{str_eq_ignore_ascii_case}
+use Rattle.cal_text.specs.headline.Separators.{is_equals}
+use Rattle.cal_span.specs.SpanValue.{span_of}
+use Rattle.cal_lint.specs.declared.hints.Mistake.{Mistake}
+use Rattle.cal_lint.specs.declared.hints.Mistake.TheVariants.{Setting, Comment, Now, Span}
+
+-- a character that begins a comment: `#` or `;`
+abbrev pub is_comment_mark : ℕ → Bool
+is_comment_mark b = (b == 35) || (b == 59)
+
+-- whether the text has a letter and is a time span; numbers without a unit, which count seconds, are more likely hours
+abbrev pub is_span : List ℕ → Bool
+is_span text = list_any is_ascii_alphabetic text && is_ok (span_of text)
+
+-- the mistake in a text that is not a valid expression, if the whole text shows it
+unfoldable pub mistake_in : List ℕ → Option Mistake
+mistake_in text =
+    if list_any is_equals text then Some Setting
+    else (if list_any is_comment_mark text then Some Comment
+    else (if str_eq_ignore_ascii_case text (codes "now") then Some Now
+    else (if is_span text then Some Span else None)))

@@ -1,0 +1,88 @@
+//! Converting the five fields of a crontab to a calendar expression.
+
+use std::alloc::{AllocError, Global};
+
+/// Converts the five fields of a crontab to a calendar expression, which may be invalid. Returns `None` if the text
+/// doesn't have five words, or if a word can't be a field of a crontab.
+pub(crate) fn from_crontab(alloc: Global, text: &str) -> Result<Option<String>, AllocError> {
+    let mut fields = text.split_whitespace();
+    let (Some(minute), Some(hour), Some(day), Some(month), Some(weekday), None) = (
+        fields.next(),
+        fields.next(),
+        fields.next(),
+        fields.next(),
+        fields.next(),
+        fields.next(),
+    ) else {
+        return Ok(None);
+    };
+    if !is_field(minute) || !is_field(hour) || !is_field(day) || !is_field(month) {
+        return Ok(None);
+    }
+    // If both days are restricted, cron runs on either of them, which no single expression can say.
+    if weekday != "*" && day != "*" {
+        return Ok(Some(String::new(alloc)));
+    }
+    let mut expr = String::new(alloc);
+    push_weekdays(&mut expr, weekday)?;
+    expr.push_str("*-")?;
+    push_field(&mut expr, '1', month)?;
+    expr.push('-')?;
+    push_field(&mut expr, '1', day)?;
+    expr.push(' ')?;
+    push_field(&mut expr, '0', hour)?;
+    expr.push(':')?;
+    push_field(&mut expr, '0', minute)?;
+    Ok(Some(expr))
+}
+
+/// Returns whether a word consists of digits, `*`, `/`, `,` and `-`, as the fields of a crontab do, except for names.
+fn is_field(word: &str) -> bool {
+    word.as_bytes()
+        .iter()
+        .all(|byte| byte.is_ascii_digit() || b"*/,-".contains(byte))
+}
+
+/// Appends a field of a crontab as a component of an expression. `least` is the least number of the component.
+fn push_field(expr: &mut String, least: char, field: &str) -> Result<(), AllocError> {
+    if let Some(step) = field.strip_prefix("*/") {
+        expr.push(least)?;
+        expr.push('/')?;
+        return expr.push_str(step);
+    }
+    for sign in field.chars() {
+        if sign == '-' {
+            expr.push_str("..")?;
+        } else {
+            expr.push(sign)?;
+        }
+    }
+    Ok(())
+}
+
+/// Appends the weekdays of a crontab and a space, or nothing for `*`.
+fn push_weekdays(expr: &mut String, weekdays: &str) -> Result<(), AllocError> {
+    if weekdays == "*" {
+        return Ok(());
+    }
+    for sign in weekdays.chars() {
+        push_weekday_sign(expr, sign)?;
+    }
+    expr.push(' ')
+}
+
+/// Appends a character of the weekdays of a crontab: the name of the weekday with this number, `..` for `-`, or the
+/// character itself.
+fn push_weekday_sign(expr: &mut String, sign: char) -> Result<(), AllocError> {
+    match sign {
+        '0' | '7' => expr.push_str("Sun"),
+        '1' => expr.push_str("Mon"),
+        '2' => expr.push_str("Tue"),
+        '3' => expr.push_str("Wed"),
+        '4' => expr.push_str("Thu"),
+        '5' => expr.push_str("Fri"),
+        '6' => expr.push_str("Sat"),
+        '-' => expr.push_str(".."),
+        other => expr.push(other),
+    }
+}

@@ -1,0 +1,278 @@
+//! Words of invalid calendar expressions that are common mistakes, and what to write instead of them.
+
+use crate::hints::{Hint, Mistake, is_valid};
+use cal_civil::begins_with_letter;
+use cal_text::are_digits;
+use std::alloc::{AllocError, Global};
+use strsim::osa_distance;
+
+/// The names of all shorthands (systemd.time(7), Calendar Events).
+const SHORTHANDS: [&str; 12] = [
+    "minutely",
+    "hourly",
+    "daily",
+    "weekly",
+    "monthly",
+    "quarterly",
+    "semiannually",
+    "semi-annually",
+    "biannually",
+    "bi-annually",
+    "yearly",
+    "annually",
+];
+
+/// The names of the weekdays, each in full and in lower case, and shortened to three letters.
+const DAYS: [(&str, &str); 7] = [
+    ("monday", "Mon"),
+    ("tuesday", "Tue"),
+    ("wednesday", "Wed"),
+    ("thursday", "Thu"),
+    ("friday", "Fri"),
+    ("saturday", "Sat"),
+    ("sunday", "Sun"),
+];
+
+/// What to write instead of a word, and why.
+#[derive(Drop)]
+struct Rewritten {
+    mistake: Mistake,
+    word: String,
+}
+
+/// Returns the text with its mistaken words replaced, and the first mistake. Returns `None` if no word is a known
+/// mistake.
+pub(crate) fn rewrite_words(alloc: Global, text: &str) -> Result<Option<Hint>, AllocError> {
+    let mut joined = String::new(alloc);
+    let mut mistake = None;
+    for word in text.split_whitespace() {
+        let is_first = joined.is_empty();
+        if !is_first {
+            joined.push(' ')?;
+        }
+        let found = push_word(alloc, &mut joined, is_first, word)?;
+        mistake = mistake.or(found);
+    }
+    match mistake {
+        Some(mistake) => Ok(Some(Hint {
+            mistake,
+            instead: Some(joined),
+        })),
+        None => Ok(None),
+    }
+}
+
+/// Appends a word, or what to write instead of it. Returns the mistake in the word, if it has one.
+fn push_word(
+    alloc: Global,
+    joined: &mut String,
+    is_first: bool,
+    word: &str,
+) -> Result<Option<Mistake>, AllocError> {
+    match rewrite(alloc, is_first, word)? {
+        Some(Rewritten { mistake, word }) => {
+            joined.push_str(word.as_str())?;
+            Ok(Some(mistake))
+        }
+        None => {
+            joined.push_str(word)?;
+            Ok(None)
+        }
+    }
+}
+
+fn rewrite(alloc: Global, is_first: bool, word: &str) -> Result<Option<Rewritten>, AllocError> {
+    if begins_with_letter(word.as_bytes()) {
+        return if is_first && !is_valid(alloc, word)? {
+            rewrite_name(alloc, word)
+        } else {
+            Ok(None)
+        };
+    }
+    if let Some((hour, minute)) = twelve_hours(word) {
+        return clock(alloc, Mistake::TwelveHours, hour, minute);
+    }
+    if let Some((hour, minute)) = pointed(word) {
+        return clock(alloc, Mistake::Point, hour, minute);
+    }
+    if let Some(hour) = number_below(word, 24) {
+        return clock(alloc, Mistake::BareHour, hour, 0);
+    }
+    rewrite_signed(alloc, word)
+}
+
+/// Returns the hint to write the time with a colon.
+fn clock(
+    alloc: Global,
+    mistake: Mistake,
+    hour: u8,
+    minute: u8,
+) -> Result<Option<Rewritten>, AllocError> {
+    let word = format!(in alloc; "{hour:02}:{minute:02}")?;
+    Ok(Some(Rewritten { mistake, word }))
+}
+
+/// Parses at most two digits. Returns `None` if the number is not below `end`.
+fn number_below(text: &str, end: u8) -> Option<u8> {
+    if text.len() > 2 || !are_digits(text.as_bytes()) {
+        return None;
+    }
+    let number = text.parse::<u8>().ok()?;
+    if number < end { Some(number) } else { None }
+}
+
+/// Parses `9am`, `12pm` or `9:30pm`.
+fn twelve_hours(word: &str) -> Option<(u8, u8)> {
+    let (time, is_afternoon) = before_noon_mark(word)?;
+    let (hour, minute) = match time.split_once(':') {
+        Some((hour, minute)) => (number_below(hour, 13)?, number_below(minute, 60)?),
+        None => (number_below(time, 13)?, 0),
+    };
+    if hour == 0 {
+        return None;
+    }
+    let hour = hour % 12;
+    Some((if is_afternoon { hour + 12 } else { hour }, minute))
+}
+
+/// Returns the text before `am` or `pm`, and whether it is `pm`.
+fn before_noon_mark(word: &str) -> Option<(&str, bool)> {
+    if let Some(time) = word.strip_suffix("am").or(word.strip_suffix("AM")) {
+        return Some((time, false));
+    }
+    let time = word.strip_suffix("pm").or(word.strip_suffix("PM"))?;
+    Some((time, true))
+}
+
+/// Parses `09.00`.
+fn pointed(word: &str) -> Option<(u8, u8)> {
+    let (hour, minute) = word.split_once('.')?;
+    if minute.len() != 2 {
+        return None;
+    }
+    Some((number_below(hour, 24)?, number_below(minute, 60)?))
+}
+
+/// Rewrites a short offset or a date without a day.
+fn rewrite_signed(alloc: Global, word: &str) -> Result<Option<Rewritten>, AllocError> {
+    if let Some(hour) = word.strip_prefix('+') {
+        return offset(alloc, '+', hour);
+    }
+    if let Some(hour) = word.strip_prefix('-') {
+        return offset(alloc, '-', hour);
+    }
+    match year_month(word) {
+        Some(month) => {
+            let (year, _) = word.split_once('-').unwrap_or(("", ""));
+            let word = format!(in alloc; "{year}-{month:02}-*")?;
+            Ok(Some(Rewritten {
+                mistake: Mistake::YearMonth,
+                word,
+            }))
+        }
+        None => Ok(None),
+    }
+}
+
+/// Rewrites an offset of whole hours.
+fn offset(alloc: Global, sign: char, hour: &str) -> Result<Option<Rewritten>, AllocError> {
+    let Some(hour) = number_below(hour, 26) else {
+        return Ok(None);
+    };
+    let word = format!(in alloc; "{sign}{hour:02}:00")?;
+    Ok(Some(Rewritten {
+        mistake: Mistake::ShortOffset,
+        word,
+    }))
+}
+
+/// Returns the month in a word such as `2026-12`.
+fn year_month(word: &str) -> Option<u8> {
+    let (year, month) = word.split_once('-')?;
+    if year.len() != 4 || !are_digits(year.as_bytes()) {
+        return None;
+    }
+    number_below(month, 13)
+}
+
+/// Rewrites a word that begins with a letter: a shorthand, or a list of weekdays.
+fn rewrite_name(alloc: Global, word: &str) -> Result<Option<Rewritten>, AllocError> {
+    if let Some(name) = find_near(alloc, word)? {
+        return Ok(Some(Rewritten {
+            mistake: Mistake::Shorthand,
+            word: String::from_str(alloc, name)?,
+        }));
+    }
+    match rewrite_days(alloc, word)? {
+        Some(word) => Ok(Some(Rewritten {
+            mistake: Mistake::Weekday,
+            word,
+        })),
+        None => Ok(None),
+    }
+}
+
+/// Returns the shorthand that differs from `word` in one letter: it is wrong, missing or additional, or is swapped with
+/// the next one.
+fn find_near(alloc: Global, word: &str) -> Result<Option<&'static str>, AllocError> {
+    let mut lower = String::from_str(alloc, word)?;
+    lower.make_ascii_lowercase();
+    for name in SHORTHANDS {
+        if osa_distance(alloc, lower.as_str(), name)? == 1 {
+            return Ok(Some(name));
+        }
+    }
+    Ok(None)
+}
+
+/// Rewrites a list of weekdays with names of three letters. Returns `None` if one of them isn't like a weekday.
+fn rewrite_days(alloc: Global, word: &str) -> Result<Option<String>, AllocError> {
+    let mut days = String::new(alloc);
+    for item in word.split(',') {
+        if !days.is_empty() {
+            days.push(',')?;
+        }
+        if !push_days(alloc, &mut days, item)? {
+            return Ok(None);
+        }
+    }
+    Ok(Some(days))
+}
+
+/// Appends a weekday or a range of weekdays. Returns `false` if a name isn't like a weekday.
+fn push_days(alloc: Global, days: &mut String, item: &str) -> Result<bool, AllocError> {
+    let Some((first, last)) = item.split_once("..").or(item.split_once('-')) else {
+        return push_day(alloc, days, item);
+    };
+    if !push_day(alloc, days, first)? {
+        return Ok(false);
+    }
+    days.push_str("..")?;
+    push_day(alloc, days, last)
+}
+
+fn push_day(alloc: Global, days: &mut String, name: &str) -> Result<bool, AllocError> {
+    match find_day_like(alloc, name)? {
+        Some(day) => {
+            days.push_str(day)?;
+            Ok(true)
+        }
+        None => Ok(false),
+    }
+}
+
+/// Returns the weekday whose name begins with `name`, which has at least two letters, or that `name` begins with, or
+/// whose full name differs from `name` in one letter.
+fn find_day_like(alloc: Global, name: &str) -> Result<Option<&'static str>, AllocError> {
+    let mut lower = String::from_str(alloc, name)?;
+    lower.make_ascii_lowercase();
+    if lower.len() < 2 {
+        return Ok(None);
+    }
+    for (full, short) in DAYS {
+        if full.starts_with(lower.as_str()) || osa_distance(alloc, lower.as_str(), full)? <= 1 {
+            return Ok(Some(short));
+        }
+    }
+    Ok(None)
+}
