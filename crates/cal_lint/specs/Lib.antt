@@ -1,2 +1,3 @@
+pub mod Doubts
 pub mod Hints
 pub mod Systemd252

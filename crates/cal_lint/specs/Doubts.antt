@@ -1,0 +1,86 @@
+-- Calendar expressions that are valid and rarely meant: systemd.time(7), Calendar Events.
+use Rattle.std.specs.Prelude.{ℕ, ◌==◌, nat_le, nat_lt, Bool, false, ◌&&◌, List, [], ◌∷◌, Option, None, Some, Result, Ok}
+use Rattle.std.specs.List.{find}
+use Rattle.cal_text.specs.AndThen.{◌>>=◌}
+use Rattle.cal_text.specs.headline.Words.{words}
+use Rattle.cal_spec.specs.Expr.{expr_in}
+use Rattle.cal_spec.specs.headline.Fields.{Fields}
+use Rattle.cal_spec.specs.declared.part.Part.{Part}
+use Rattle.cal_spec.specs.declared.spec_fault.SpecFault.{SpecFault}
+use Rattle.cal_lint.specs.declared.doubts.Doubt.{Doubt}
+use Rattle.cal_lint.specs.declared.doubts.Doubt.TheVariants.{HourRange, HourList, MonthDay}
+
+-- the number of a part that is a single number
+abbrev pub number_of : ℕ → Option ℕ → Option ℕ → Option ℕ
+number_of start None None = Some start
+number_of start end step = None
+
+abbrev pub only_number : List Part → Option ℕ
+only_number [] = None
+only_number (p ∷ []) = number_of p.start p.end p.step
+only_number (p ∷ q ∷ ps) = None
+
+-- the only number of a component, if it has only one
+abbrev pub single : Option (List Part) → Option ℕ
+single None = None
+single (Some ps) = only_number ps
+
+-- whether `number` could be an hour after `hour`
+abbrev pub is_later_hour : ℕ → ℕ → Bool
+is_later_hour hour number = nat_lt hour number && nat_le number 23
+
+abbrev pub is_range_to : ℕ → Option ℕ → Option ℕ → Bool
+is_range_to hour (Some end) None = is_later_hour hour end
+is_range_to hour end step = false
+
+-- whether the minutes are the range from 0 to a number that could be a later hour
+abbrev pub is_hour_range : ℕ → List Part → Bool
+is_hour_range hour [] = false
+is_hour_range hour (p ∷ []) = (p.start == 0) && is_range_to hour p.end p.step
+is_hour_range hour (p ∷ q ∷ ps) = false
+
+abbrev pub are_zero_and_later : ℕ → Option ℕ → Option ℕ → Bool
+are_zero_and_later hour (Some first) (Some second) = (first == 0) && is_later_hour hour second
+are_zero_and_later hour first second = false
+
+-- whether the minutes are 0 and a number that could be a later hour
+abbrev pub is_hour_list : ℕ → List Part → Bool
+is_hour_list hour [] = false
+is_hour_list hour (p ∷ []) = false
+is_hour_list hour (p ∷ q ∷ []) = are_zero_and_later hour (number_of p.start p.end p.step) (number_of q.start q.end q.step)
+is_hour_list hour (p ∷ q ∷ r ∷ ps) = false
+
+-- whether the minutes have this form in the given hour
+abbrev pub are_hours : Doubt → ℕ → List Part → Bool
+are_hours HourRange hour minutes = is_hour_range hour minutes
+are_hours HourList hour minutes = is_hour_list hour minutes
+are_hours MonthDay hour minutes = false
+
+-- whether there is only one hour and only one second, and the minutes have this form
+abbrev pub has_hours_by : Doubt → Option ℕ → Option ℕ → Option (List Part) → Bool
+has_hours_by doubt (Some hour) (Some second) (Some minutes) = are_hours doubt hour minutes
+has_hours_by doubt hour second minutes = false
+
+abbrev pub has_hours : Doubt → Fields → Bool
+has_hours doubt f = has_hours_by doubt (single f.hour) (single f.second) f.minute
+
+-- whether the word is a digit from 1 to 7, `-`, and a greater digit up to 7
+abbrev pub is_month_day : List ℕ → Bool
+is_month_day (a ∷ b ∷ c ∷ []) = (b == 45) && nat_le 49 a && nat_lt a c && nat_le c 55
+is_month_day word = false
+
+abbrev pub has_month_day : List (List ℕ) → Bool
+has_month_day [] = false
+has_month_day (word ∷ ws) = is_month_day word
+
+-- whether the expression `text` with the normal form `f` has this form
+abbrev pub is_doubtful : List ℕ → Fields → Doubt → Bool
+is_doubtful text f MonthDay = has_month_day (words text)
+is_doubtful text f doubt = has_hours doubt f
+
+abbrev pub doubts : List Doubt
+doubts = HourRange ∷ HourList ∷ MonthDay ∷ []
+
+-- the first form that a valid expression has, or the error of an invalid one
+unfoldable pub doubt_in : List ℕ → Result (Option Doubt) SpecFault
+doubt_in text = expr_in text >>= λ f. Ok (find (is_doubtful text f) doubts)

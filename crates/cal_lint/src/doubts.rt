@@ -1,0 +1,158 @@
+//! Calendar expressions that are valid and rarely meant.
+
+ghost use Rattle.std.specs.Prelude.{◌≡◌};
+ghost use Rattle.std.specs.List.{find};
+ghost use Rattle.std.specs.Option.{option_copied};
+ghost use Rattle.cal_spec.specs.Reads.{GivesUnlessNoMemory};
+ghost use Rattle.cal_text.specs.headline.Words.{words};
+ghost use Rattle.cal_lint.specs.Doubts.{doubt_in, is_doubtful, is_hour_list, is_hour_range, is_later_hour, is_month_day, is_range_to, has_month_day, number_of, single, has_hours};
+
+use cal_spec::{Expr, Field, Part, SpecFault, read_expr};
+use cal_text::first_word;
+use std::alloc::Global;
+
+/// Why a valid expression may not mean what its author thinks.
+#[derive(Clone, Copy, PartialEq, Eq, Debug)]
+pub enum Doubt {
+    /// The minutes are a range that starts at 0 and ends at what could be a later hour. `10:00..12:00` stands for the
+    /// minutes 0 to 12 of the hour 10, and not for the time from 10:00 to 12:00.
+    HourRange,
+    /// The minutes are 0 and what could be a later hour. `00:00,12:00` stands for 00:00 and 00:12, and not for 00:00 and
+    /// 12:00.
+    HourList,
+    /// The date is a month and a day that could be a range of weekdays. `1-5 09:00` stands for January 5, and not for
+    /// Monday to Friday.
+    MonthDay,
+}
+
+impl Doubt {
+    const ALL: [Doubt; 3] = [Doubt::HourRange, Doubt::HourList, Doubt::MonthDay];
+}
+
+/// Returns why a valid calendar expression may not mean what its author thinks (systemd.time(7), Calendar Events), or
+/// `None` if it has none of the forms of [`Doubt`]. If it has several of them, returns the first in the order of
+/// [`Doubt`].
+///
+/// If `text` is not a valid expression, fails with the error of [`read_expr`], and only if allocation fails with
+/// [`SpecFault::NoMemory`].
+#[tactic(auto, unfolding(crate::specs::Doubts::doubt_in))]
+pub fn find_doubt(alloc: Global, text: &str) -> Result<Option<Doubt>, SpecFault>
+    ensures { GivesUnlessNoMemory (λ doubt. doubt) result (doubt_in text.now) }
+{
+    let expr = read_expr(alloc, text)?;
+    Ok(first_among(&Doubt::ALL, text, &expr))
+}
+
+fn first_among(doubts: &[Doubt], text: &str, expr: &Expr) -> Option<Doubt>
+    ensures { result ≡ find (λ doubt. is_doubtful text.now expr.now doubt) doubts.now }
+{
+    doubts
+        .iter()
+        .copied()
+        .find(|doubt| is_doubtful(text, expr, *doubt))
+}
+
+fn is_doubtful(text: &str, expr: &Expr, doubt: Doubt) -> bool
+    ensures { result ≡ is_doubtful text.now expr.now doubt }
+{
+    match doubt {
+        Doubt::HourRange | Doubt::HourList => has_hours(doubt, expr),
+        Doubt::MonthDay => has_month_day(text),
+    }
+}
+
+/// Returns whether the hour and the second are one number each, and the minutes have this form.
+fn has_hours(doubt: Doubt, expr: &Expr) -> bool
+    ensures { result ≡ has_hours doubt expr.now }
+{
+    let (Some(hour), Some(_), Some(minutes)) = (
+        single(expr.field(Field::Hour)),
+        single(expr.field(Field::Second)),
+        expr.field(Field::Minute),
+    ) else {
+        return false;
+    };
+    match doubt {
+        Doubt::HourRange => is_hour_range(hour, minutes),
+        Doubt::HourList => is_hour_list(hour, minutes),
+        Doubt::MonthDay => false,
+    }
+}
+
+/// Returns the only number of a component, or `None` if it has several.
+fn single(parts: Option<&[Part]>) -> Option<u16>
+    ensures { result ≡ single (option_copied parts.entry) }
+{
+    match parts {
+        Some([part]) => number_of(*part),
+        _ => None,
+    }
+}
+
+/// Returns the number of a part that is a single number.
+fn number_of(part: Part) -> Option<u16>
+    ensures { result ≡ number_of part.start part.end part.step }
+{
+    match (part.end, part.step) {
+        (None, None) => Some(part.start),
+        _ => None,
+    }
+}
+
+/// Returns whether the minutes are the range from 0 to a number that could be a later hour.
+fn is_hour_range(hour: u16, minutes: &[Part]) -> bool
+    ensures { result ≡ is_hour_range hour minutes.now }
+{
+    match minutes {
+        [part] => part.start == 0 && is_range_to(hour, part.end, part.step),
+        _ => false,
+    }
+}
+
+fn is_range_to(hour: u16, end: Option<u16>, step: Option<u16>) -> bool
+    ensures { result ≡ is_range_to hour end step }
+{
+    match (end, step) {
+        (Some(end), None) => is_later_hour(hour, end),
+        _ => false,
+    }
+}
+
+/// Returns whether the minutes are 0 and a number that could be a later hour.
+fn is_hour_list(hour: u16, minutes: &[Part]) -> bool
+    ensures { result ≡ is_hour_list hour minutes.now }
+{
+    match minutes {
+        [first, second] => match (number_of(*first), number_of(*second)) {
+            (Some(first), Some(second)) => first == 0 && is_later_hour(hour, second),
+            _ => false,
+        },
+        _ => false,
+    }
+}
+
+/// Returns whether `number` could be an hour after `hour`, including 23.
+fn is_later_hour(hour: u16, number: u16) -> bool
+    ensures { result ≡ is_later_hour hour number }
+{
+    hour < number && number <= 23
+}
+
+/// Returns whether the first word is such as `1-5`.
+fn has_month_day(text: &str) -> bool
+    ensures { result ≡ has_month_day (words text.now) }
+{
+    match first_word(text) {
+        Some((word, _)) => is_month_day(word.as_bytes()),
+        None => false,
+    }
+}
+
+fn is_month_day(word: &[u8]) -> bool
+    ensures { result ≡ is_month_day word.now }
+{
+    match word {
+        [month, b'-', day] => b'1' <= *month && *month < *day && *day <= b'7',
+        _ => false,
+    }
+}
