@@ -1,5 +1,5 @@
 //! Advice on timer units beyond the errors in them: what systemd 252 rejects, what to write instead of common mistakes,
-//! and what is valid and rarely meant.
+//! what is valid and rarely meant, and keys that systemd doesn't know.
 #![tactic(auto)]
 
 mod crontab;
@@ -7,7 +7,9 @@ mod doubts;
 mod hint_words;
 mod hints;
 mod older_systemd;
+mod unknown_keys;
 
 pub use doubts::{Doubt, find_doubt};
 pub use hints::{Hint, Mistake, find_hint};
 pub use older_systemd::{Rejection, systemd_252};
+pub use unknown_keys::find_unknown_keys;

@@ -1,0 +1,29 @@
+-- Keys in the section `Timer` of a unit file that systemd 252 doesn't know: systemd.timer(5), Options.
+use Rattle.std.specs.Prelude.{ℕ, ◌-◌, Bool, not, ◌&&◌, ◌||◌, List, [], ◌∷◌, codes, drop, length, min, nat_eq, take}
+use Rattle.std.specs.List.{list_any, starts_with}
+use Rattle.std.specs.Str.{bytes_eq, str_eq_ignore_ascii_case}
+use Rattle.cal_timer.specs.headline.Assignments.{Assignment}
+use Rattle.cal_timer.specs.headline.TimerText.{exception_key}
+
+-- all keys that systemd 252 knows, in the order of the manual
+abbrev pub timer_keys : List (List ℕ)
+timer_keys =
+    codes "OnActiveSec" ∷ codes "OnBootSec" ∷ codes "OnStartupSec" ∷ codes "OnUnitActiveSec" ∷ codes "OnUnitInactiveSec"
+    ∷ codes "OnCalendar" ∷ codes "AccuracySec" ∷ codes "RandomizedDelaySec" ∷ codes "FixedRandomDelay" ∷ codes "OnClockChange"
+    ∷ codes "OnTimezoneChange" ∷ codes "Unit" ∷ codes "Persistent" ∷ codes "WakeSystem" ∷ codes "RemainAfterElapse"
+    ∷ exception_key ∷ []
+
+-- whether a key begins with `X-Except` or ends with `OnCalendar`, ignoring case
+abbrev pub is_like_exception_key : List ℕ → Bool
+is_like_exception_key key =
+    str_eq_ignore_ascii_case (take (min (length key) 8) key) (codes "X-Except")
+    || str_eq_ignore_ascii_case (drop (length key - 10) key) (codes "OnCalendar")
+
+-- Whether systemd 252 doesn't know a key. It ignores keys that begin with `X-`; these count only if they look like the
+-- key of exceptions.
+abbrev pub is_unknown_key : List ℕ → Bool
+is_unknown_key key =
+    not (list_any (bytes_eq key) timer_keys) && (not (starts_with nat_eq key (codes "X-")) || is_like_exception_key key)
+
+abbrev pub has_unknown_key : Assignment → Bool
+has_unknown_key a = is_unknown_key a.key

@@ -1,0 +1,74 @@
+//! Keys in the section `Timer` of a unit file that systemd doesn't know.
+
+ghost use Rattle.std.specs.Prelude.{◌≡◌, ◌+◌, ◌<◌, ◌-◌, ◌^◌, IfOk, codes, drop, false, filter, length, map, nat_eq, take};
+ghost use Rattle.std.specs.List.{starts_with};
+ghost use Rattle.std.specs.Str.{str_eq_ignore_ascii_case};
+ghost use Rattle.cal_lines.specs.headline.Lines.{logical_lines};
+ghost use Rattle.cal_timer.specs.headline.TimerText.{without_mark};
+ghost use Rattle.cal_read.specs.Settings.{settings_in, shown_setting};
+ghost use Rattle.cal_lint.specs.UnknownKeys.{has_unknown_key, is_like_exception_key, is_unknown_key};
+
+use cal_bytes::is_among;
+use cal_read::{Setting, Settings, without_mark};
+use std::alloc::{AllocError, Global};
+
+/// The keys of the section `Timer` that systemd 252 knows (systemd.timer(5), Options), and the key of this project for
+/// exceptions.
+const KNOWN_KEYS: [&[u8]; 16] = [
+    b"OnActiveSec",
+    b"OnBootSec",
+    b"OnStartupSec",
+    b"OnUnitActiveSec",
+    b"OnUnitInactiveSec",
+    b"OnCalendar",
+    b"AccuracySec",
+    b"RandomizedDelaySec",
+    b"FixedRandomDelay",
+    b"OnClockChange",
+    b"OnTimezoneChange",
+    b"Unit",
+    b"Persistent",
+    b"WakeSystem",
+    b"RemainAfterElapse",
+    b"X-ExceptOnCalendar",
+];
+
+/// Returns the settings in the sections `Timer` of a unit file whose keys systemd 252 doesn't know (systemd.timer(5),
+/// Options), in order. The first line of the text has the number `first`.
+///
+/// systemd ignores keys that begin with `X-` (systemd.unit(5)). So these are not among the result unless they look like
+/// a misspelled `X-ExceptOnCalendar`: they begin with `X-Except` or end with `OnCalendar`, in upper or lower case.
+///
+/// Fails only if allocation fails.
+pub fn find_unknown_keys(alloc: Global, first: u32, text: &str) -> Result<Vec<Setting>, AllocError>
+    requires { first + length text.now < 2 ^ 32 }
+    ensures { IfOk result (λ found. map shown_setting found.items ≡ filter has_unknown_key
+        (settings_in (codes "Timer") false (logical_lines first (without_mark text.now)))) }
+{
+    let mut found = Vec::new(alloc);
+    let mut settings = Settings::new("Timer", first, without_mark(text));
+    while let Some(setting) = settings.next(alloc)? {
+        if is_unknown_key(setting.key.as_str()) {
+            found.push(setting)?;
+        }
+    }
+    Ok(found)
+}
+
+fn is_unknown_key(key: &str) -> bool
+    ensures { result ≡ is_unknown_key key.now }
+{
+    if is_among(&KNOWN_KEYS, key.as_bytes()) {
+        return false;
+    }
+    !key.as_bytes().starts_with(b"X-") || is_like_exception_key(key.as_bytes())
+}
+
+/// Returns whether a key that begins with `X-` looks like `X-ExceptOnCalendar`.
+fn is_like_exception_key(key: &[u8]) -> bool
+    ensures { result ≡ is_like_exception_key key.now }
+{
+    let start = key.split_at(key.len().min(8)).0;
+    let end = key.split_at(key.len().saturating_sub(10)).1;
+    start.eq_ignore_ascii_case(b"X-Except") || end.eq_ignore_ascii_case(b"OnCalendar")
+}
