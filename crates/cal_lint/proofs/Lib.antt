@@ -1,2 +1,3 @@
 mod DigitLemmas
+mod DoubtsRows
 mod Systemd252Rows

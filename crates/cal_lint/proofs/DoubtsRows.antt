@@ -1,0 +1,50 @@
+-- Examples of expressions that are rarely meant, and of keys that systemd 252 doesn't know, checked by computation.
+use Rattle.std.proofs.Common.{◌≡◌, ℕ, List, true, false, [], ◌∷◌, codes, refl, Option, None, Some}
+use Rattle.cal_text.specs.headline.Words.{words}
+use Rattle.cal_spec.specs.declared.part.Part.{Part}
+use Rattle.cal_spec.specs.headline.NormalForm.{point}
+use Rattle.cal_lint.specs.Doubts.{has_month_day, is_hour_list, is_hour_range}
+use Rattle.cal_lint.specs.UnknownKeys.{is_unknown_key}
+
+abbrev to : ℕ → Option ℕ → List Part
+to end step = record { start = 0; end = Some end; step = step } ∷ []
+
+-- the minutes of `10:00..12:00`, and of `10:00..30:00`, `10:00..12/2:00` and `10:00..10:00`
+range : is_hour_range 10 (to 12 None) ≡ true
+range = refl
+
+no_hour : is_hour_range 10 (to 30 None) ≡ false
+no_hour = refl
+
+with_a_step : is_hour_range 10 (to 12 (Some 2)) ≡ false
+with_a_step = refl
+
+no_later_hour : is_hour_range 10 (to 10 None) ≡ false
+no_later_hour = refl
+
+-- the minutes of `00:00,12:00`
+two_hours : is_hour_list 0 (point 0 ∷ point 12 ∷ []) ≡ true
+two_hours = refl
+
+month_day : has_month_day (words (codes "1-5 09:00")) ≡ true
+unfolding words
+month_day = refl
+
+padded : has_month_day (words (codes "01-05 09:00")) ≡ false
+unfolding words
+padded = refl
+
+known : is_unknown_key (codes "FixedRandomDelay") ≡ false
+known = refl
+
+exceptions : is_unknown_key (codes "X-ExceptOnCalendar") ≡ false
+exceptions = refl
+
+vendor : is_unknown_key (codes "X-Vendor") ≡ false
+vendor = refl
+
+other_case : is_unknown_key (codes "onCalendar") ≡ true
+other_case = refl
+
+misspelled : is_unknown_key (codes "X-ExcepOnCalendar") ≡ true
+misspelled = refl
