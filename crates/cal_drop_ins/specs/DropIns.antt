@@ -39,18 +39,18 @@ by_name found = fold put [] found
 unfoldable pub chosen : List Found → List (List ℕ)
 chosen found = map (λ entry. entry.1) (by_name found)
 
--- The drop-ins that are read, in this order. The roots are those of the search path, the most important first; the last
--- name is the unit's own, the others are its aliases. A name in a more important folder hides the same name elsewhere
--- even if it is a link to `/dev/null`, which itself isn't read.
+-- The drop-ins that are read, in this order. `path` has the roots of the search path, the most important first. `stems`
+-- has the unit's names without `.timer`: first its aliases, last its own. A file in a more important folder hides the
+-- files of the same name in other folders, even if it is a link to `/dev/null`, which itself isn't read.
 unfoldable pub drop_ins : Disk → List (List ℕ) → List (List ℕ) → List (List ℕ)
 drop_ins disk path stems =
     filter (λ file. not (disk.is_null file))
     (chosen (flat_map (λ folder. candidates folder (disk.names folder)) (folders (reverse path) stems)))
 
--- a drop-in of the code as a file of a folder
+-- the struct `DropIn`, with its strings as lists of bytes
 abbrev pub shown : DropIn → Found
 shown file = record { name = string_bytes file.name; path = string_bytes file.path }
 
--- an entry of a map of the code
+-- an entry of a map, with its strings as lists of bytes
 abbrev pub shown_entry : String Global × String Global → List ℕ × List ℕ
 shown_entry entry = (string_bytes entry.0, string_bytes entry.1)

@@ -1,4 +1,4 @@
--- The digits at the start of a text are digits.
+-- The longest prefix of a text whose bytes all pass a test, such as its leading digits, has only bytes that pass it.
 use Rattle.std.proofs.Common.{◌≡◌, ℕ, suc, cond, Bool, true, false, List, [], ◌∷◌, take, ◌+◌, refl, ap, ◌∙◌, arith}
 use Rattle.std.specs.Prelude.{◌&&◌}
 use Rattle.std.specs.List.{list_all, prefix_len}
