@@ -1,0 +1,33 @@
+-- The elapses of several timers, each with the index of its timer. A timer is given as the list of the instants at which
+-- it elapses: systemd.timer(5), OnCalendar=.
+use Rattle.std.specs.Prelude.{ℕ, List, [], ◌∷◌, ℤ}
+use Rattle.std.specs.List.{enumerate_from, flat_map}
+use Rattle.std.specs.Ordering.{int_cmp, nat_cmp, ordering_then}
+use Rattle.std.specs.declared.cmp.Ordering.{Ordering}
+use Rattle.cal_compare.specs.declared.timer_elapse.TimerElapse.{TimerElapse}
+
+-- the order of elapses: by instant, and at the same instant by the index of the timer
+abbrev pub by_instant : TimerElapse → TimerElapse → Ordering
+by_instant x y = ordering_then (int_cmp x.secs y.secs) (nat_cmp x.timer y.timer)
+
+-- what `f` returns for each timer's index and elapses, timer by timer; `first` is the index of the first timer
+abbrev pub of_each : {B : Type 0} → (ℕ → List ℤ → List B) → ℕ → List (List ℤ) → List B
+of_each f first timers = flat_map (λ t. f t.0 t.1) (enumerate_from first timers)
+
+-- the next elapse of one timer, if it has one
+abbrev pub next_of_one : ℕ → List ℤ → List TimerElapse
+next_of_one timer [] = []
+next_of_one timer (x ∷ xs) = record { secs = x; timer = timer } ∷ []
+
+-- the next elapse of each timer that has one, timer by timer
+abbrev pub next_of_each : List (List ℤ) → List TimerElapse
+next_of_each timers = of_each next_of_one 0 timers
+
+-- the index of the timer if it has no elapses
+abbrev pub index_if_ended : ℕ → List ℤ → List ℕ
+index_if_ended timer [] = timer ∷ []
+index_if_ended timer (x ∷ xs) = []
+
+-- the indices of the timers that have no elapses
+abbrev pub ended : List (List ℤ) → List ℕ
+ended timers = of_each index_if_ended 0 timers

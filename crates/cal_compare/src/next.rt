@@ -1,0 +1,48 @@
+//! Which of several timers elapses next.
+
+ghost use Rattle.std.specs.Prelude.{◌≡◌, ◌++◌, IfOk, map, IsPermutation, IsSorted};
+ghost use Rattle.cal_compare.specs.SeveralTimers.{by_instant, ended, next_of_each};
+
+use crate::timer_elapse::TimerElapse;
+use cal_rising::{NoMemory, Rising};
+use std::alloc::Global;
+
+/// The next elapse of each of several timers.
+#[derive(Debug, Drop)]
+pub struct NextOfAll {
+    /// The next elapse of each timer that has one, soonest first. At the same instant, timers are in the order given.
+    pub soonest: Vec<TimerElapse>,
+    /// The indices of the timers that don't elapse any more, in the order given.
+    pub never: Vec<usize>,
+}
+
+/// Takes the next elapse of each timer, and sorts them, soonest first.
+///
+/// Each timer is a source of its elapses, such as `cal_plan::merge_of` returns. Fails with `NoMemory` if allocation
+/// fails.
+pub fn next_of_all<S: Rising>(alloc: Global, timers: &mut [S]) -> Result<NextOfAll, NoMemory>
+    ensures sorted { IfOk result (λ next. IsSorted by_instant next.soonest.items) }
+    ensures soonest { IfOk result (λ next. IsPermutation (next_of_each (map S.rest timers.old)) next.soonest.items) }
+    ensures never { IfOk result (λ next. next.never.items ≡ ended (map S.rest timers.old)) }
+{
+    let mut next = take_next(alloc, timers)?;
+    next.soonest.sort_unstable();
+    Ok(next)
+}
+
+/// Takes the next elapse of each timer, in the order given.
+fn take_next<S: Rising>(alloc: Global, timers: &mut [S]) -> Result<NextOfAll, NoMemory>
+    ensures soonest { IfOk result (λ next. next.soonest.items ≡ next_of_each (map S.rest timers.old)) }
+    ensures never { IfOk result (λ next. next.never.items ≡ ended (map S.rest timers.old)) }
+{
+    let mut soonest = Vec::new(alloc);
+    let mut never = Vec::new(alloc);
+    for (timer, elapses) in timers.iter_mut().enumerate() {
+        let Some(secs) = elapses.next() else {
+            never.push(timer)?;
+            continue;
+        };
+        soonest.push(TimerElapse { secs, timer })?;
+    }
+    Ok(NextOfAll { soonest, never })
+}
