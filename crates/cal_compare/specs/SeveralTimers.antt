@@ -1,6 +1,6 @@
 -- The elapses of several timers, each with the index of its timer. A timer is given as the list of the instants at which
 -- it elapses: systemd.timer(5), OnCalendar=.
-use Rattle.std.specs.Prelude.{ℕ, List, [], ◌∷◌, ℤ}
+use Rattle.std.specs.Prelude.{ℕ, Bool, ◌&&◌, List, [], ◌∷◌, ℤ, int_le, int_lt, map, filter}
 use Rattle.std.specs.List.{enumerate_from, flat_map}
 use Rattle.std.specs.Ordering.{int_cmp, nat_cmp, ordering_then}
 use Rattle.std.specs.declared.cmp.Ordering.{Ordering}
@@ -13,6 +13,18 @@ by_instant x y = ordering_then (int_cmp x.secs y.secs) (nat_cmp x.timer y.timer)
 -- what `f` returns for each timer's index and elapses, timer by timer; `first` is the index of the first timer
 abbrev pub of_each : {B : Type 0} → (ℕ → List ℤ → List B) → ℕ → List (List ℤ) → List B
 of_each f first timers = flat_map (λ t. f t.0 t.1) (enumerate_from first timers)
+
+-- the instant is in the range from `from` on and before `before`
+abbrev pub in_range : ℤ → ℤ → ℤ → Bool
+in_range from before secs = int_le from secs && int_lt secs before
+
+-- the elapses of one timer in this range
+abbrev pub range_of_one : ℤ → ℤ → ℕ → List ℤ → List TimerElapse
+range_of_one from before timer xs = map (λ secs. record { secs = secs; timer = timer }) (filter (in_range from before) xs)
+
+-- the elapses of all timers in this range, timer by timer
+abbrev pub range_of_each : ℤ → ℤ → List (List ℤ) → List TimerElapse
+range_of_each from before timers = of_each (range_of_one from before) 0 timers
 
 -- the next elapse of one timer, if it has one
 abbrev pub next_of_one : ℕ → List ℤ → List TimerElapse

@@ -32,8 +32,8 @@ pub struct Difference {
 /// Fails with [`CompareFault::NoSuchZoneInOne`] or [`CompareFault::NoSuchZoneInOther`] if an expression or an exception
 /// of a timer names a zone that isn't in the zone table, and with [`CompareFault::NoMemory`] if allocation fails.
 ///
-/// If the timers agree for long, all these elapses are computed: two equal timers that elapse each minute take several
-/// seconds.
+/// All elapses before the difference are computed. This takes longest if the timers are equal, since then all their
+/// elapses through 2199 are, once for each field of the result.
 pub fn first_difference(
     alloc: Global,
     setting: Setting<'_>,

@@ -1,12 +1,14 @@
-//! Several timers together: where two of them differ, and which of them elapses next.
+//! Several timers together: where two of them differ, which of them elapses next, and their elapses in a range.
 #![tactic(auto)]
 
 mod compare_fault;
 mod difference;
 mod next;
+mod range;
 mod timer_elapse;
 
 pub use compare_fault::CompareFault;
 pub use difference::{Difference, first_difference, first_only};
 pub use next::{NextOfAll, next_of_all};
+pub use range::{base_before, between};
 pub use timer_elapse::TimerElapse;

@@ -1,0 +1,10 @@
+-- What was found of the timers before the loop's index, with what is to be found of the others, is all that is to be
+-- found.
+use Rattle.std.proofs.Common.{◌≡◌, ◌++◌, map, drop}
+use Rattle.cal_compare.specs.SeveralTimers.{of_each, range_of_each, range_of_one}
+use Rattle.cal_compare.proofs.range.between.Given as goal
+
+abbrev pub invariant-loop-timer : goal.invariant-loop-timer
+invariant-loop-timer g l =
+    let rest = g.S.Rising.rest in
+    l.found.items ++ of_each (range_of_one l.from.secs l.before.secs) l.timer (map rest (drop l.timer l.timers)) ≡ range_of_each l.from.secs l.before.secs (map rest l.fn.timers)

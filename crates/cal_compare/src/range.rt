@@ -1,0 +1,66 @@
+//! The elapses of several timers in a range of instants.
+
+ghost use Rattle.std.specs.Prelude.{◌≡◌, ◌++◌, ◌-ℤ◌, pos, IfOk, OnOk, map, IsPermutation, IsSorted};
+ghost use Rattle.std.specs.Int.{int_max};
+ghost use Rattle.cal_compare.specs.SeveralTimers.{by_instant, range_of_each, range_of_one};
+
+use crate::timer_elapse::TimerElapse;
+use cal_rising::{NoMemory, Rising};
+use cal_zone::Instant;
+use std::alloc::Global;
+
+/// Returns the elapses of all timers from `from` on (included) and before `before`, in increasing order, each with the
+/// index of its timer. At the same instant, timers are in the order given.
+///
+/// Each timer is a source of its elapses, such as `cal_plan::merge_of` returns. Its base should be
+/// [`base_before`] of `from`: an earlier base takes longer, and after a later one elapses are missing. Fails with
+/// `NoMemory` if allocation fails.
+pub fn between<S: Rising>(
+    alloc: Global,
+    timers: &mut [S],
+    from: Instant,
+    before: Instant,
+) -> Result<Vec<TimerElapse>, NoMemory>
+    ensures sorted { IfOk result (λ found. IsSorted by_instant found.items) }
+    ensures all { IfOk result (λ found.
+        IsPermutation (range_of_each from.secs before.secs (map S.rest timers.old)) found.items) }
+{
+    let mut found = Vec::new(alloc);
+    for (timer, elapses) in timers.iter_mut().enumerate() {
+        add_range(&mut found, timer, elapses, from.secs(), before.secs())?;
+    }
+    found.sort_unstable();
+    Ok(found)
+}
+
+/// Returns the base for the elapses from `from` on (included): the instant one second earlier.
+///
+/// Instant 0 has no earlier instant, so it is its own base. A timer that elapses at 1970-01-01 00:00:00 UTC then lacks
+/// this one elapse.
+pub fn base_before(from: Instant) -> Instant
+    ensures { result.secs ≡ int_max (from.secs -ℤ pos 1) (pos 0) }
+{
+    Instant::new(from.secs() - 1).unwrap_or(from)
+}
+
+/// Appends the elapses of one timer from `from` on and before `before`.
+fn add_range<S: Rising>(
+    found: &mut Vec<TimerElapse>,
+    timer: usize,
+    elapses: &mut S,
+    from: i64,
+    before: i64,
+) -> Result<(), NoMemory>
+    ensures { OnOk result (found.new.items ≡ found.old.items ++ range_of_one from before timer (S.rest elapses.old)) }
+{
+    while let Some(secs) = elapses.next() {
+        if secs >= before {
+            return Ok(());
+        }
+        if secs < from {
+            continue;
+        }
+        found.push(TimerElapse { secs, timer })?;
+    }
+    Ok(())
+}
