@@ -1,4 +1,5 @@
--- Examples of expressions that are rarely meant, and of keys that systemd 252 doesn't know, checked by computation.
+-- Examples of expressions that may not mean what their author thinks, and of keys that systemd 252 doesn't know,
+-- checked by computation.
 use Rattle.std.proofs.Common.{◌≡◌, ℕ, List, true, false, [], ◌∷◌, codes, refl, Option, None, Some}
 use Rattle.cal_text.specs.headline.Words.{words}
 use Rattle.cal_spec.specs.declared.part.Part.{Part}

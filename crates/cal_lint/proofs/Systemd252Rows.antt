@@ -1,5 +1,5 @@
--- Examples of what systemd 252 rejects, checked by computation. The script tests/systemd_252 gives the same expressions
--- to systemd-analyze. The fields matter only for days from the month's end, so that most rows have those of `daily`.
+-- Examples of what systemd 252 rejects, checked by computation. The script tests/systemd_252 compares such expressions
+-- with systemd-analyze. The fields matter only for days from the month's end, so all other rows have those of `daily`.
 use Rattle.std.proofs.Common.{◌≡◌, ℕ, List, true, false, ◌++◌, ◌∷◌, [], codes, refl, Option, None, Some}
 use Rattle.cal_text.specs.headline.Words.{words}
 use Rattle.cal_civil.specs.headline.Weekday.{name_of}

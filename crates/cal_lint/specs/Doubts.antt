@@ -1,4 +1,4 @@
--- Calendar expressions that are valid and rarely meant: systemd.time(7), Calendar Events.
+-- Valid calendar expressions that may not mean what their author thinks: systemd.time(7), Calendar Events.
 use Rattle.std.specs.Prelude.{ℕ, ◌==◌, nat_le, nat_lt, Bool, false, ◌&&◌, List, [], ◌∷◌, Option, None, Some, Result, Ok}
 use Rattle.std.specs.List.{find}
 use Rattle.cal_text.specs.AndThen.{◌>>=◌}
@@ -20,12 +20,12 @@ only_number [] = None
 only_number (p ∷ []) = number_of p.start p.end p.step
 only_number (p ∷ q ∷ ps) = None
 
--- the only number of a component, if it has only one
+-- the number of a component that is a single number
 abbrev pub single : Option (List Part) → Option ℕ
 single None = None
 single (Some ps) = only_number ps
 
--- whether `number` could be an hour after `hour`
+-- whether `number` could be a later hour than `hour`: greater than `hour`, and at most 23
 abbrev pub is_later_hour : ℕ → ℕ → Bool
 is_later_hour hour number = nat_lt hour number && nat_le number 23
 
@@ -50,13 +50,13 @@ is_hour_list hour (p ∷ []) = false
 is_hour_list hour (p ∷ q ∷ []) = are_zero_and_later hour (number_of p.start p.end p.step) (number_of q.start q.end q.step)
 is_hour_list hour (p ∷ q ∷ r ∷ ps) = false
 
--- whether the minutes have this form in the given hour
+-- whether the minutes of this hour have the form of this doubt
 abbrev pub are_hours : Doubt → ℕ → List Part → Bool
 are_hours HourRange hour minutes = is_hour_range hour minutes
 are_hours HourList hour minutes = is_hour_list hour minutes
 are_hours MonthDay hour minutes = false
 
--- whether there is only one hour and only one second, and the minutes have this form
+-- whether the hour and the second are one number each, and the minutes have the form of this doubt
 abbrev pub has_hours_by : Doubt → Option ℕ → Option ℕ → Option (List Part) → Bool
 has_hours_by doubt (Some hour) (Some second) (Some minutes) = are_hours doubt hour minutes
 has_hours_by doubt hour second minutes = false

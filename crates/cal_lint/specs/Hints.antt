@@ -1,5 +1,5 @@
--- Common mistakes in place of a calendar expression that show in the whole text: systemd.time(7), Calendar Events and
--- Parsing Time Spans.
+-- Common mistakes in invalid calendar expressions that show in the text as a whole, not in single words:
+-- systemd.time(7), Calendar Events and Parsing Time Spans.
 use Rattle.std.specs.Prelude.{ℕ, ◌==◌, Bool, ◌&&◌, ◌||◌, if◌then◌else◌, List, codes, Option, None, Some, is_ok}
 use Rattle.std.specs.List.{list_any}
 use Rattle.std.specs.Char.{is_ascii_alphabetic}

@@ -30,7 +30,7 @@ is_tab b = b == 9
 abbrev pub is_space : ℕ → Bool
 is_space b = b == 32
 
--- whether a first word is the weekdays, and not a shorthand
+-- whether the first word of an expression is a list of weekdays, and not a shorthand
 abbrev pub is_weekday_list : List ℕ → Bool
 is_weekday_list word = is_some (day_named (leading_letters word))
 
@@ -38,7 +38,7 @@ is_weekday_list word = is_some (day_named (leading_letters word))
 abbrev pub is_date : List ℕ → Bool
 is_date word = not (begins_zone word) && not (list_any is_colon word)
 
--- whether a piece is an additional space that isn't skipped; `skips` says whether the word before the pieces is one
+-- whether one of the pieces is an additional space that isn't skipped; `skips` says whether the word before them is one
 -- after which additional spaces are skipped
 abbrev pub has_extra_after : Bool → List (List ℕ) → Bool
 has_extra_after skips [] = false
@@ -70,7 +70,7 @@ leading_digits part = take (prefix_len is_ascii_digit part) part
 abbrev pub after_digits : List ℕ → List ℕ
 after_digits part = drop (prefix_len is_ascii_digit part) part
 
--- whether two numbers, which an expression may contain, are equal
+-- whether two texts of digits are the same number, and an expression may contain this number
 abbrev pub are_equal : List ℕ → List ℕ → Bool
 are_equal a b = (digits_value 10 a == digits_value 10 b) && nat_le (digits_value 10 a) most
 
@@ -102,7 +102,7 @@ has_large_step part = is_above max_second_step (step_in (slice_split is_slash pa
 
 -- Days
 
--- the last number of a part as it is written
+-- the end of a part, or its start if it has no end
 abbrev pub last_of : Part → ℕ
 last_of p = unwrap_or p.end p.start
 
@@ -128,8 +128,8 @@ is_empty (b ∷ bs) = false
 
 -- All reasons
 
--- whether systemd 252 rejects an expression for this reason because of an item of a weekday list, a part of the seconds,
--- or a text between the slashes of a zone's name
+-- whether this piece makes systemd 252 reject an expression for this reason; a piece is an item of a weekday list, a
+-- part of the seconds, or a part of a zone's name between slashes or after the last slash
 abbrev pub piece_is_rejected_for : Rejection → List ℕ → Bool
 piece_is_rejected_for PastSunday item = runs_past_sunday item
 piece_is_rejected_for OneSecond part = is_one_second part
@@ -145,7 +145,7 @@ has_weekday_wrap (word ∷ ws) = list_any (piece_is_rejected_for PastSunday) (sl
 abbrev pub has_empty_part : List ℕ → Bool
 has_empty_part word = begins_with_letter word && list_any (piece_is_rejected_for ZoneName) (slice_split is_slash word)
 
--- whether systemd 252 rejects an expression for this reason because of one of its words
+-- whether this word makes systemd 252 reject an expression for this reason
 abbrev pub word_is_rejected_for : Rejection → List ℕ → Bool
 word_is_rejected_for OneSecond word = list_any (piece_is_rejected_for OneSecond) (slice_split is_comma (seconds_in word))
 word_is_rejected_for SecondStep word = list_any (piece_is_rejected_for SecondStep) (slice_split is_comma (seconds_in word))

@@ -5,7 +5,8 @@ use Rattle.std.specs.Str.{bytes_eq, str_eq_ignore_ascii_case}
 use Rattle.cal_timer.specs.headline.Assignments.{Assignment}
 use Rattle.cal_timer.specs.headline.TimerText.{exception_key}
 
--- all keys that systemd 252 knows, in the order of the manual
+-- the keys of the section `Timer` that systemd 252 knows, in the order of the manual, and last this project's key for
+-- exceptions
 abbrev pub timer_keys : List (List ℕ)
 timer_keys =
     codes "OnActiveSec" ∷ codes "OnBootSec" ∷ codes "OnStartupSec" ∷ codes "OnUnitActiveSec" ∷ codes "OnUnitInactiveSec"
@@ -19,8 +20,8 @@ is_like_exception_key key =
     str_eq_ignore_ascii_case (take (min (length key) 8) key) (codes "X-Except")
     || str_eq_ignore_ascii_case (drop (length key - 10) key) (codes "OnCalendar")
 
--- Whether systemd 252 doesn't know a key. It ignores keys that begin with `X-`; these count only if they look like the
--- key of exceptions.
+-- Whether systemd 252 doesn't know a key. It ignores keys that begin with `X-`; these count as unknown only if they
+-- look like a misspelled key of exceptions.
 abbrev pub is_unknown_key : List ℕ → Bool
 is_unknown_key key =
     not (list_any (bytes_eq key) timer_keys) && (not (starts_with nat_eq key (codes "X-")) || is_like_exception_key key)

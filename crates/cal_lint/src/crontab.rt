@@ -2,8 +2,9 @@
 
 use std::alloc::{AllocError, Global};
 
-/// Converts the five fields of a crontab to a calendar expression, which may be invalid. Returns `None` if the text
-/// doesn't have five words, or if a word can't be a field of a crontab.
+/// Converts the five fields of a crontab to a calendar expression, which may be invalid. Returns an empty text if both
+/// the day of the month and the weekday are restricted. Returns `None` if `text` doesn't have five words, or if one of
+/// the first four words can't be a field of a crontab.
 pub(crate) fn from_crontab(alloc: Global, text: &str) -> Result<Option<String>, AllocError> {
     let mut fields = text.split_whitespace();
     let (Some(minute), Some(hour), Some(day), Some(month), Some(weekday), None) = (
@@ -19,7 +20,8 @@ pub(crate) fn from_crontab(alloc: Global, text: &str) -> Result<Option<String>, 
     if !is_field(minute) || !is_field(hour) || !is_field(day) || !is_field(month) {
         return Ok(None);
     }
-    // If both days are restricted, cron runs on either of them, which no single expression can say.
+    // In this case, cron runs on each day that matches either the day of the month or the weekday, which no single
+    // expression can say.
     if weekday != "*" && day != "*" {
         return Ok(Some(String::new(alloc)));
     }
@@ -36,7 +38,8 @@ pub(crate) fn from_crontab(alloc: Global, text: &str) -> Result<Option<String>, 
     Ok(Some(expr))
 }
 
-/// Returns whether a word consists of digits, `*`, `/`, `,` and `-`, as the fields of a crontab do, except for names.
+/// Returns whether a word consists of digits, `*`, `/`, `,` and `-`, as the fields of a crontab do unless they have
+/// names.
 fn is_field(word: &str) -> bool {
     word.as_bytes()
         .iter()

@@ -1,4 +1,4 @@
-//! Calendar expressions that are valid and rarely meant.
+//! Valid calendar expressions that may not mean what their author thinks.
 
 ghost use Rattle.std.specs.Prelude.{◌≡◌};
 ghost use Rattle.std.specs.List.{find};
@@ -17,8 +17,8 @@ pub enum Doubt {
     /// The minutes are a range that starts at 0 and ends at what could be a later hour. `10:00..12:00` stands for the
     /// minutes 0 to 12 of the hour 10, and not for the time from 10:00 to 12:00.
     HourRange,
-    /// The minutes are 0 and what could be a later hour. `00:00,12:00` stands for 00:00 and 00:12, and not for 00:00 and
-    /// 12:00.
+    /// The minutes are 0 and what could be a later hour. `00:00,12:00` stands for 00:00 and 00:12, and not for 00:00
+    /// and 12:00.
     HourList,
     /// The date is a month and a day that could be a range of weekdays. `1-5 09:00` stands for January 5, and not for
     /// Monday to Friday.
@@ -33,8 +33,8 @@ impl Doubt {
 /// `None` if it has none of the forms of [`Doubt`]. If it has several of them, returns the first in the order of
 /// [`Doubt`].
 ///
-/// If `text` is not a valid expression, fails with the error of [`read_expr`], and only if allocation fails with
-/// [`SpecFault::NoMemory`].
+/// Fails with the error of [`read_expr`] if `text` is not a valid expression. Fails with [`SpecFault::NoMemory`] only
+/// if allocation fails.
 #[tactic(auto, unfolding(crate::specs::Doubts::doubt_in))]
 pub fn find_doubt(alloc: Global, text: &str) -> Result<Option<Doubt>, SpecFault>
     ensures { GivesUnlessNoMemory (λ doubt. doubt) result (doubt_in text.now) }
@@ -61,7 +61,7 @@ fn is_doubtful(text: &str, expr: &Expr, doubt: Doubt) -> bool
     }
 }
 
-/// Returns whether the hour and the second are one number each, and the minutes have this form.
+/// Returns whether the hour and the second are one number each, and the minutes have the form of this doubt.
 fn has_hours(doubt: Doubt, expr: &Expr) -> bool
     ensures { result ≡ has_hours doubt expr.now }
 {
@@ -79,7 +79,7 @@ fn has_hours(doubt: Doubt, expr: &Expr) -> bool
     }
 }
 
-/// Returns the only number of a component, or `None` if it has several.
+/// Returns the number of a component that is a single number, or `None` for any other component.
 fn single(parts: Option<&[Part]>) -> Option<u16>
     ensures { result ≡ single (option_copied parts.entry) }
 {
@@ -131,14 +131,14 @@ fn is_hour_list(hour: u16, minutes: &[Part]) -> bool
     }
 }
 
-/// Returns whether `number` could be an hour after `hour`, including 23.
+/// Returns whether `number` could be a later hour than `hour`: greater than `hour`, and at most 23.
 fn is_later_hour(hour: u16, number: u16) -> bool
     ensures { result ≡ is_later_hour hour number }
 {
     hour < number && number <= 23
 }
 
-/// Returns whether the first word is such as `1-5`.
+/// Returns whether the first word is a digit from 1 to 7, `-`, and a greater digit up to 7, such as `1-5`.
 fn has_month_day(text: &str) -> bool
     ensures { result ≡ has_month_day (words text.now) }
 {

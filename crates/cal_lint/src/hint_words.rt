@@ -101,7 +101,7 @@ fn rewrite(alloc: Global, is_first: bool, word: &str) -> Result<Option<Rewritten
     rewrite_signed(alloc, word)
 }
 
-/// Returns the hint to write the time with a colon.
+/// Returns this mistake, and the time written as `hh:mm`.
 fn clock(
     alloc: Global,
     mistake: Mistake,
@@ -112,7 +112,7 @@ fn clock(
     Ok(Some(Rewritten { mistake, word }))
 }
 
-/// Parses at most two digits. Returns `None` if the number is not below `end`.
+/// Parses at most two digits that are a number below `end`. Returns `None` for anything else.
 fn number_below(text: &str, end: u8) -> Option<u8> {
     if text.len() > 2 || !are_digits(text.as_bytes()) {
         return None;
@@ -121,7 +121,7 @@ fn number_below(text: &str, end: u8) -> Option<u8> {
     if number < end { Some(number) } else { None }
 }
 
-/// Parses `9am`, `12pm` or `9:30pm`.
+/// Parses a time on a 12-hour clock, such as `9am`, `12pm` or `9:30pm`. Returns its hour, 0 to 23, and its minute.
 fn twelve_hours(word: &str) -> Option<(u8, u8)> {
     let (time, is_afternoon) = before_noon_mark(word)?;
     let (hour, minute) = match time.split_once(':') {
@@ -144,7 +144,7 @@ fn before_noon_mark(word: &str) -> Option<(&str, bool)> {
     Some((time, true))
 }
 
-/// Parses `09.00`.
+/// Parses a time with a point in place of the colon, such as `09.00`. Returns its hour and its minute.
 fn pointed(word: &str) -> Option<(u8, u8)> {
     let (hour, minute) = word.split_once('.')?;
     if minute.len() != 2 {
@@ -225,7 +225,8 @@ fn find_near(alloc: Global, word: &str) -> Result<Option<&'static str>, AllocErr
     Ok(None)
 }
 
-/// Rewrites a list of weekdays with names of three letters. Returns `None` if one of them isn't like a weekday.
+/// Rewrites a list of weekdays, with each name shortened to three letters. Returns `None` if a name isn't like a
+/// weekday.
 fn rewrite_days(alloc: Global, word: &str) -> Result<Option<String>, AllocError> {
     let mut days = String::new(alloc);
     for item in word.split(',') {
@@ -261,8 +262,8 @@ fn push_day(alloc: Global, days: &mut String, name: &str) -> Result<bool, AllocE
     }
 }
 
-/// Returns the weekday whose name begins with `name`, which has at least two letters, or that `name` begins with, or
-/// whose full name differs from `name` in one letter.
+/// Returns the short name of a weekday whose full name begins with `name` or differs from `name` in at most one letter,
+/// ignoring case. Returns `None` if there is no such weekday, or if `name` has fewer than two letters.
 fn find_day_like(alloc: Global, name: &str) -> Result<Option<&'static str>, AllocError> {
     let mut lower = String::from_str(alloc, name)?;
     lower.make_ascii_lowercase();

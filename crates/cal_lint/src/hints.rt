@@ -131,7 +131,8 @@ fn mistake_in(text: &str) -> Option<Mistake>
     }
 }
 
-/// Returns a hint with this mistake: to write only the value of the setting, or the text before the comment.
+/// Returns a hint with this mistake. For a setting, the hint says to write only its value, and for a comment, only the
+/// text before it. For any other mistake, it doesn't say what to write.
 fn hint_with(alloc: Global, mistake: Mistake, text: &str) -> Result<Option<Hint>, AllocError>
     ensures { IfOk result (λ found. option_map (λ hint. hint.mistake) found ≡ Some mistake) }
 {
@@ -170,7 +171,7 @@ fn after_equals(text: &str) -> &str {
     }
 }
 
-/// Returns the text before the first `#`, or otherwise before the first `;`.
+/// Returns the text before the first `#`, or before the first `;` if there is no `#`.
 fn before_comment(text: &str) -> &str {
     match text.split_once('#').or(text.split_once(';')) {
         Some((before, _)) => before,

@@ -1,5 +1,5 @@
 //! Advice on timer units beyond the errors in them: what systemd 252 rejects, what to write instead of common mistakes,
-//! what is valid and rarely meant, and keys that systemd doesn't know.
+//! valid expressions that may not mean what their author thinks, and keys that systemd 252 doesn't know.
 #![tactic(auto)]
 
 mod crontab;

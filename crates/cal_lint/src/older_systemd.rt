@@ -18,10 +18,11 @@ use cal_text::{are_digits, decimal_value, first_word};
 use jiff_core::civil::Weekday;
 use std::alloc::Global;
 
-/// The greatest step of a range of seconds that systemd 252 accepts. It counts seconds in microseconds, in 32 bits.
+/// The greatest step of a range of seconds that systemd 252 accepts. It counts seconds in microseconds, in signed
+/// 32-bit numbers.
 const MAX_SECOND_STEP: u64 = 2147;
 
-/// The greatest day from the month's end in the first part of a list of days.
+/// The greatest number that systemd 252 accepts in the first part of a list of days from the month's end.
 const MAX_DAY_FROM_END: u16 = 28;
 
 /// The greatest number that an expression may contain.
@@ -66,9 +67,10 @@ impl Rejection {
 /// Returns why systemd 252 rejects a calendar expression that is valid here, or `None` if it accepts the expression
 /// (systemd.time(7), Calendar Events). If there are several reasons, returns the first in the order of [`Rejection`].
 ///
-/// systemd 252 also rejects the name of a zone that the machine doesn't have. This is not taken into account. If `text`
-/// is not a valid expression, fails with the error of [`read_expr`], and only if allocation fails with
-/// [`SpecFault::NoMemory`].
+/// systemd 252 also rejects the name of a zone that the machine doesn't have. This is not taken into account.
+///
+/// Fails with the error of [`read_expr`] if `text` is not a valid expression. Fails with [`SpecFault::NoMemory`] only
+/// if allocation fails.
 #[tactic(auto, unfolding(crate::specs::Systemd252::rejection_in))]
 pub fn systemd_252(alloc: Global, text: &str) -> Result<Option<Rejection>, SpecFault>
     ensures { GivesUnlessNoMemory (λ rejection. rejection) result (rejection_in text.now) }
@@ -125,7 +127,8 @@ fn word_is_rejected_for(rejection: Rejection, word: &str) -> bool
     }
 }
 
-/// Returns whether systemd 252 rejects an expression for this reason because of one of the pieces of `text`.
+/// Returns whether one of the pieces of `text` between separators makes systemd 252 reject an expression for this
+/// reason.
 fn any_piece(rejection: Rejection, separator: u8, text: &[u8]) -> bool
     ensures { result ≡ list_any (piece_is_rejected_for rejection)
         (slice_split (λ byte. byte == separator) text.now) }
@@ -155,7 +158,7 @@ fn piece_is_rejected_for(rejection: Rejection, piece: &[u8]) -> bool
 
 // Blanks
 
-/// Returns whether the expression has a space that systemd 252 doesn't skip.
+/// Returns whether the expression has an additional space that systemd 252 doesn't skip.
 fn has_extra(text: &[u8]) -> bool
     ensures { result ≡ has_extra (slice_split is_space text.now) }
 {
@@ -163,7 +166,8 @@ fn has_extra(text: &[u8]) -> bool
     first.is_empty() || has_extra_after(is_weekday_list(first) || is_date(first), rest)
 }
 
-/// Returns whether `rest` has a space that systemd 252 doesn't skip. `skips` says whether it skips those at the start.
+/// Returns whether `rest` has an additional space that systemd 252 doesn't skip. `skips` says whether systemd 252 skips
+/// those at the start of `rest`.
 fn has_extra_after(skips: bool, rest: Option<&[u8]>) -> bool
     ensures { result ≡ has_extra_after skips (pieces_after is_space (option_copied rest.entry)) }
 {
@@ -181,7 +185,7 @@ fn has_extra_after(skips: bool, rest: Option<&[u8]>) -> bool
     false
 }
 
-/// Returns whether the first word of a valid expression is the weekdays, and not a shorthand.
+/// Returns whether the first word of a valid expression is a list of weekdays, and not a shorthand.
 fn is_weekday_list(word: &[u8]) -> bool
     ensures { result ≡ is_weekday_list word.now }
 {
@@ -275,7 +279,7 @@ fn digits_len(text: &[u8]) -> usize
     text.iter().take_while(|byte| byte.is_ascii_digit()).count()
 }
 
-/// Returns whether two numbers are equal. Numbers above 9,999 are never equal.
+/// Returns whether two texts of digits are the same number, and an expression may contain this number.
 fn are_equal(a: &[u8], b: &[u8]) -> bool
     requires first { IsTrue (list_all is_ascii_digit a.now) }
     requires last { IsTrue (list_all is_ascii_digit b.now) }
@@ -292,7 +296,7 @@ fn has_large_step(part: &[u8]) -> bool
     are_digits(step) && decimal_value(step) > MAX_SECOND_STEP
 }
 
-/// Returns the text after the first `/`, up to the next one, or an empty text if there is none.
+/// Returns the text between the first `/` and the next one or the end. Returns an empty text if there is no `/`.
 fn step_in(part: &[u8]) -> &[u8]
     ensures { result.now ≡ step_in (slice_split is_slash part.now) }
 {

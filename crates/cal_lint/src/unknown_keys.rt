@@ -36,8 +36,9 @@ const KNOWN_KEYS: [&[u8]; 16] = [
 /// Returns the settings in the sections `Timer` of a unit file whose keys systemd 252 doesn't know (systemd.timer(5),
 /// Options), in order. The first line of the text has the number `first`.
 ///
-/// systemd ignores keys that begin with `X-` (systemd.unit(5)). So these are not among the result unless they look like
-/// a misspelled `X-ExceptOnCalendar`: they begin with `X-Except` or end with `OnCalendar`, in upper or lower case.
+/// systemd ignores keys that begin with `X-` (systemd.unit(5)). So a setting with such a key is left out, unless the
+/// key looks like a misspelled `X-ExceptOnCalendar`: it begins with `X-Except` or ends with `OnCalendar`, ignoring
+/// case.
 ///
 /// Fails only if allocation fails.
 pub fn find_unknown_keys(alloc: Global, first: u32, text: &str) -> Result<Vec<Setting>, AllocError>
