@@ -1,4 +1,4 @@
-//! Valid expressions that are rarely meant.
+//! Valid expressions that may not mean what their author thinks.
 
 use crate::ensure;
 use cal_lint::{Doubt, find_doubt};
@@ -10,7 +10,7 @@ static ROWS: [(&str, Option<Doubt>); 16] = [
     ("10:00..12:00", Some(Doubt::HourRange)),
     ("Mon..Fri 10:00..12:30 UTC", Some(Doubt::HourRange)),
     ("10..12:00", None),
-    // A minute that could not be a later hour is meant.
+    // The last minute couldn't be a later hour than 10, so the range of minutes is probably meant.
     ("10:00..10:00", None),
     ("10:00..30", None),
     ("10:00..12/2:00", None),
