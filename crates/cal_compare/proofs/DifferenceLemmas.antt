@@ -1,4 +1,4 @@
--- Lemmas on the elapses that only one of two timers has.
+-- Lemmas on the numbers that only one of two lists has.
 use Rattle.std.proofs.Common.{◌≡◌, ◌++◌, false, List, [], ◌∷◌, Option, inl, inr, ℤ, slice_get, sym, ap, ◌∙◌}
 use Rattle.std.specs.List.Sorted.{IsStrictlySortedBy}
 use Rattle.std.specs.Ordering.{int_cmp}

@@ -11,7 +11,7 @@ use Rattle.cal_text.proofs.General.{list-first, lt_from_less}
 use Rattle.cal_compare.specs.SeveralTimers.{in_range, range_of_one}
 use Rattle.cal_compare.specs.declared.timer_elapse.TimerElapse.{TimerElapse}
 
--- a first elapse outside the range is not one of the elapses in the range
+-- leaving out a first elapse that is outside the range doesn't change the elapses in the range
 left_out : (from before : ℤ) (timer : ℕ) (x : ℤ) (xs : List ℤ) → in_range from before x ≡ false
     → range_of_one from before timer (x ∷ xs) ≡ range_of_one from before timer xs
 left_out from before timer x xs h = grind arith
@@ -19,7 +19,7 @@ left_out from before timer x xs h = grind arith
 in_range-late : (from before x : ℤ) → before ≤ℤ x → in_range from before x ≡ false
 in_range-late from before x late = grind (arith, ints)
 
--- no number above a number past the range is in the range
+-- if `x` is past the range, no number above `x` is in the range
 none_past : (from before : ℤ) (timer : ℕ) (x : ℤ) (xs : List ℤ) → before ≤ℤ x → AllByRecursion (λ y. int_cmp x y ≡ Less) xs → range_of_one from before timer xs ≡ []
 none_past from before timer x [] late above = refl
 none_past from before timer x (y ∷ xs) late above =

@@ -15,8 +15,8 @@ pub record IsDifference (xs ys : List ℤ) (difference : Difference) : Type 0 wh
   pub one : difference.only_one ≡ first_only_in xs ys
   pub other : difference.only_other ≡ first_only_in ys xs
 
--- the error names the first line of the first timer whose zone isn't known or, if all its zones are known, the first
--- such line of the second timer; if there is no such line, no error fits
+-- Given the first line with an unknown zone of each of two timers, if it has one: the error names that of the first
+-- timer or, if the first timer has none, that of the second. If neither timer has such a line, no error fits.
 abbrev pub IsUnzonedInEither : Option ℕ → Option ℕ → CompareFault → Type 0
 IsUnzonedInEither (Some line) other fault = fault ≡ NoSuchZoneInOne line
 IsUnzonedInEither None (Some line) fault = fault ≡ NoSuchZoneInOther line

@@ -1,5 +1,5 @@
--- The elapses of several timers, each with the index of its timer. A timer is given as the list of the instants at which
--- it elapses: systemd.timer(5), OnCalendar=.
+-- The elapses of several timers, each with the index of its timer. A timer is given as the list of the instants at
+-- which it elapses: systemd.timer(5), OnCalendar=.
 use Rattle.std.specs.Prelude.{ℕ, Bool, ◌&&◌, List, [], ◌∷◌, ℤ, int_le, int_lt, map, filter}
 use Rattle.std.specs.List.{enumerate_from, flat_map}
 use Rattle.std.specs.Ordering.{int_cmp, nat_cmp, ordering_then}
@@ -14,7 +14,7 @@ by_instant x y = ordering_then (int_cmp x.secs y.secs) (nat_cmp x.timer y.timer)
 abbrev pub of_each : {B : Type 0} → (ℕ → List ℤ → List B) → ℕ → List (List ℤ) → List B
 of_each f first timers = flat_map (λ t. f t.0 t.1) (enumerate_from first timers)
 
--- the instant is in the range from `from` on and before `before`
+-- whether the instant is at or after `from` and before `before`
 abbrev pub in_range : ℤ → ℤ → ℤ → Bool
 in_range from before secs = int_le from secs && int_lt secs before
 

@@ -32,8 +32,8 @@ pub struct Difference {
 /// Fails with [`CompareFault::NoSuchZoneInOne`] or [`CompareFault::NoSuchZoneInOther`] if an expression or an exception
 /// of a timer names a zone that isn't in the zone table, and with [`CompareFault::NoMemory`] if allocation fails.
 ///
-/// All elapses before the difference are computed. This takes longest if the timers are equal, since then all their
-/// elapses through 2199 are, once for each field of the result.
+/// All elapses before the difference are computed. This takes longest if the timers are equal: then all their elapses
+/// through 2199 are computed, once for each field of the result.
 pub fn first_difference(
     alloc: Global,
     setting: Setting<'_>,
@@ -57,7 +57,8 @@ pub fn first_difference(
     })
 }
 
-/// Returns the first number that `one` has yet to return and `other` hasn't. Returns `None` if there is no such number.
+/// Returns the first number that `one` has yet to return and that isn't among those that `other` has yet to return.
+/// Returns `None` if there is no such number.
 ///
 /// Fails with `NoMemory` if allocation fails.
 pub fn first_only<S: Rising + Drop>(

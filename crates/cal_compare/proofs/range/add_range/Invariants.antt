@@ -1,4 +1,5 @@
--- What was appended, with the timer's remaining elapses in the range, is all that is to be appended.
+-- The elapses appended so far, followed by the timer's remaining elapses in the range, are all that have to be
+-- appended.
 use Rattle.std.proofs.Common.{◌≡◌, ◌++◌, length}
 use Rattle.cal_compare.specs.SeveralTimers.{range_of_one}
 use Rattle.cal_compare.proofs.range.add_range.Given as goal
