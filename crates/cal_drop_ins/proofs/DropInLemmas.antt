@@ -1,4 +1,5 @@
--- The map of the code against the list of entries, and what the entries have.
+-- How the entries of the Rust map of drop-ins agree with `by_name`, and what one more file or name adds to `by_name`
+-- and `candidates`.
 use Rattle.std.proofs.Common.{◌≡◌, ℕ, Bool, true, false, cond, List, [], ◌∷◌, ◌++◌, refl, sym, ap, ◌∙◌, map, reverse, Option, Some, None, option_map, string_bytes, append_assoc, filter}
 use Rattle.std.specs.BTreeMap.{insert_entry}
 use Rattle.std.specs.Cmp.Lexicographic.{slice_cmp}
@@ -35,12 +36,11 @@ pub shown_insert : (es : List (String Global × String Global)) (k : String Glob
 shown_insert [] k v = refl
 shown_insert (e ∷ es) k v = put_by (string_cmp k e.0) e es (insert_entry string_cmp es k v) k v _ (shown_insert es k v)
 
--- one file more
+-- one more file is put into the entries of those before it
 pub by_name_more : (found : List Found) (file : Found) → by_name (found ++ file ∷ []) ≡ put (by_name found) file
 unfolding by_name
 by_name_more found file = fold-append put [] found (file ∷ [])
 
--- the last of a name
 agree : {X : Type 0} (b : Bool) (v : X) (w r : Option X) → cond b (Some v) r ≡ cond b (Some v) (cond b w r)
 agree true v w r = refl
 agree false v w r = refl
@@ -94,11 +94,12 @@ or_none : {X : Type 0} (o : Option X) → option_or o None ≡ o
 or_none (Some x) = refl
 or_none None = refl
 
+-- of several files with the same name, `by_name` has the path of the last
 pub last_of_name : (found : List Found) (name : List ℕ) → lookup (bytes_eq name) (by_name found) ≡ option_map (λ file. file.path) (find (λ file. bytes_eq name file.name) (reverse found))
 unfolding by_name
 last_of_name found name = last_after name [] found ∙ or_none (option_map (λ file. file.path) (find (λ file. bytes_eq name file.name) (reverse found)))
 
--- what the code has after one file more
+-- if the Rust map has the entries of `by_name`, it still does after one more file is entered
 pub file_more : (entries after : List (String Global × String Global)) (files : List DropIn) (file : DropIn)
     → map shown_entry entries ≡ by_name (map shown files) → map shown_entry after ≡ put (map shown_entry entries) (shown file) → map shown_entry after ≡ by_name (map shown (files ++ file ∷ []))
 file_more entries after files file h e =
@@ -118,7 +119,7 @@ pub paths_are : (entries : List (String Global × String Global)) (paths : List 
 unfolding chosen
 paths_are entries paths files h e = ap (map string_bytes) e ∙ shown_paths entries ∙ ap (map (λ entry. entry.1)) h
 
--- the candidates among some names, and one name more
+-- the candidates of one more name follow those of the names before it
 pub candidates_more : (folder : List ℕ) (names : List (List ℕ)) (name : List ℕ)
     → candidates folder (names ++ name ∷ []) ≡ candidates folder names ++ candidates folder (name ∷ [])
 unfolding candidates

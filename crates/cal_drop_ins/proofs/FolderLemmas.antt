@@ -1,4 +1,4 @@
--- One byte more of a name, and where it may be cut.
+-- The prefixes of a name that end at a dash, byte by byte, and why a name may be cut after a dash or `@`.
 use Rattle.std.proofs.Common.{◌≡◌, ◌+◌, ◌<◌, ◌==◌, ℕ, true, List, [], ◌∷◌, ◌++◌, refl, sym, ap, ◌∙◌, arith, append_assoc, get_or, length, map, reverse, take, add-one}
 use Rattle.std.specs.Prelude.{if◌then◌else◌}
 use Rattle.std.specs.List.{position_or_len}
@@ -24,7 +24,7 @@ prefixes_step front before now base i h e =
     ∙ append_assoc front (prefixes_within base i) (if is_dash_within base i then take (i + 1) base ∷ [] else [])
     ∙ ap (λ last. front ++ last) (sym (prefixes_more base i))
 
--- a template ends at its `@`
+-- if a stem is longer than its base, the byte after the base, which is `@`, is ASCII
 pub at_sign_is_ascii : (stem : List ℕ) → length (base_of stem) < length stem → get_or stem (length (base_of stem)) 0 < 128
 at_sign_is_ascii stem h =
     let cut = length-take (position_or_len is_at_sign stem) stem in

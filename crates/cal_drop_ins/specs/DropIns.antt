@@ -18,7 +18,8 @@ pub record Found : Type 0 where
   pub name : List ℕ
   pub path : List ℕ
 
--- whether a file of that name in a folder of drop-ins is a drop-in: hidden files are not
+-- whether a file of that name in a folder of drop-ins is a drop-in: the name ends in `.conf` and doesn't begin with a
+-- dot
 unfoldable pub is_drop_in : List ℕ → Bool
 is_drop_in name = ends_with nat_eq name (codes ".conf") && not (starts_with nat_eq name (codes "."))
 
@@ -29,13 +30,17 @@ found_in folder name = record { name = name; path = folder ++ codes "/" ++ name 
 unfoldable pub candidates : List ℕ → List (List ℕ) → List Found
 candidates folder names = map (found_in folder) (filter is_drop_in names)
 
--- the paths by their names, which are sorted by their bytes: of several files of one name the last one counts
+-- the entries, which are pairs of a name and a path, with the path of this file under its name; it replaces an earlier
+-- path of the same name
 abbrev pub put : List (List ℕ × List ℕ) → Found → List (List ℕ × List ℕ)
 put entries file = insert_entry (slice_cmp nat_cmp) entries file.name file.path
 
+-- the files' names with their paths, sorted by the bytes of the names: of several files with the same name the last one
+-- counts
 unfoldable pub by_name : List Found → List (List ℕ × List ℕ)
 by_name found = fold put [] found
 
+-- the paths of the files that count
 unfoldable pub chosen : List Found → List (List ℕ)
 chosen found = map (λ entry. entry.1) (by_name found)
 

@@ -5,16 +5,18 @@ use Rattle.std.specs.List.{flat_map}
 use Rattle.std.specs.Option.{option_to_list}
 use Rattle.cal_drop_ins.specs.UnitName.{base_of, template_of}
 
--- whether a dash is there that is neither the first byte nor the last
+-- whether there is a dash at index `i` that is neither the first byte nor the last
 abbrev pub is_dash_within : List ℕ → ℕ → Bool
 is_dash_within base i = nat_lt 0 i && (nat_lt (i + 1) (length base) && (slice_index base i == 45))
 
--- the prefixes that end at a dash among the first `n` bytes, the shortest first
+-- the prefixes of `base` that end at a dash among its first `n` bytes, the shortest first, but not `base` itself and
+-- not a dash alone
 unfoldable pub prefixes_within : List ℕ → ℕ → List (List ℕ)
 prefixes_within base zero = []
 prefixes_within base (suc n) = prefixes_within base n ++ (if is_dash_within base n then take (n + 1) base ∷ [] else [])
 
--- the stems whose folders apply to a unit: its prefixes that end at a dash, its template, and itself
+-- the stems whose folders apply to the unit with this stem: the prefixes of the stem that end at a dash before any `@`,
+-- the template of an instance, and the stem itself
 unfoldable pub folder_stems : List ℕ → List (List ℕ)
 folder_stems stem =
     prefixes_within (base_of stem) (length (base_of stem)) ++ (option_to_list (template_of stem) ++ stem ∷ [])
@@ -27,7 +29,7 @@ own_folder root stem = root ++ codes "/" ++ stem ++ codes ".timer.d"
 abbrev pub type_folder : List ℕ → List ℕ
 type_folder root = root ++ codes "/timer.d"
 
--- the folders that apply to one name of a unit: below a more important root each of them is more important
+-- the folders that apply to one name of a unit: any folder below a more important root is more important
 abbrev pub name_folders : List (List ℕ) → List ℕ → List (List ℕ)
 name_folders roots stem = flat_map (λ root. map (own_folder root) (folder_stems stem)) roots
 

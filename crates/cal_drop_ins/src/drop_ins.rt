@@ -41,8 +41,8 @@ pub fn push_candidates(
     Ok(())
 }
 
-/// Returns the paths of the drop-ins that count, sorted by the bytes of their file names. Of several drop-ins with one
-/// name the last counts, so `found` goes from the least important folder to the most important one.
+/// Returns the paths of the drop-ins that count, sorted by the bytes of their file names. Of several drop-ins with the
+/// same name the last counts, so `found` has to go from the least important folder to the most important one.
 #[tactic(auto, using(crate::proofs::DropInLemmas::paths_are))]
 pub fn choose(alloc: Global, found: Vec<DropIn>) -> Result<Vec<String>, AllocError>
     ensures { IfOk result (λ paths. map string_bytes paths.items ≡ chosen (map shown found.items)) }
@@ -75,7 +75,7 @@ fn file_in(alloc: Global, folder: &str, name: String) -> Result<DropIn, AllocErr
     Ok(DropIn { name, path })
 }
 
-/// Returns the paths by their names.
+/// Returns a map from the names of the drop-ins to their paths. Of several drop-ins with the same name the last counts.
 fn enter_all(alloc: Global, found: Vec<DropIn>) -> Result<BTreeMap<String, String>, AllocError>
     ensures { IfOk result (λ entered. map shown_entry entered.entries ≡ by_name (map shown found.items)) }
 {
@@ -86,7 +86,7 @@ fn enter_all(alloc: Global, found: Vec<DropIn>) -> Result<BTreeMap<String, Strin
     Ok(entered)
 }
 
-/// Enters a path, in the place of an earlier one with its name.
+/// Enters the path of a file under its name. This replaces an earlier path of the same name.
 fn enter(by_name: &mut BTreeMap<String, String>, file: DropIn) -> Result<(), AllocError>
     ensures { OnOk result (map shown_entry by_name.new.entries ≡ put (map shown_entry by_name.old.entries) (shown file)) }
 {

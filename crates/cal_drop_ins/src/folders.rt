@@ -25,7 +25,8 @@ pub fn folders_of(alloc: Global, path: &[String], stems: &[&str]) -> Result<Vec<
 }
 
 /// Returns the stems whose folders of drop-ins apply to the unit with this stem, from the least important one to the
-/// most important one: the prefixes of its name that end at a dash, the template of an instance, and the stem itself.
+/// most important one: the prefixes of the stem that end at a dash before any `@`, the template of an instance, and the
+/// stem itself.
 #[tactic(auto, unfolding(crate::specs::Folders::folder_stems))]
 pub fn folder_stems(alloc: Global, stem: &str) -> Result<Vec<&str>, AllocError>
     ensures { IfOk result (λ stems. map (λ stem. stem.now) stems.items ≡ folder_stems stem.now) }
@@ -125,7 +126,7 @@ fn push_own_folder(
     Ok(())
 }
 
-/// Appends the prefixes that end at a dash, the shortest first.
+/// Appends the prefixes of `base` that end at a dash, the shortest first, but not `base` itself and not a dash alone.
 fn push_prefixes<'n>(stems: &mut Vec<&'n str>, base: &'n str) -> Result<(), AllocError>
     ensures { OnOk result (map (λ stem. stem.now) stems.new.items
         ≡ map (λ stem. stem.now) stems.old.items ++ prefixes_within base.now (length base.now)) }
@@ -136,7 +137,8 @@ fn push_prefixes<'n>(stems: &mut Vec<&'n str>, base: &'n str) -> Result<(), Allo
     Ok(())
 }
 
-/// Appends the prefix that ends at the dash at `index`, if there is one.
+/// Appends the prefix of `base` that ends with the byte at `index`, if that is a dash and neither the first byte nor
+/// the last.
 fn push_prefix<'n>(stems: &mut Vec<&'n str>, base: &'n str, index: usize) -> Result<(), AllocError>
     requires { index < length base.now }
     ensures { OnOk result (map (λ stem. stem.now) stems.new.items ≡ map (λ stem. stem.now) stems.old.items

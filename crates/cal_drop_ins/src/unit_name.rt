@@ -24,8 +24,8 @@ pub enum UnitKind {
 /// Returns the stem of the timer unit that `name` stands for, which is its name without the suffix `.timer`. A name
 /// without the suffix stands for the timer of that name.
 ///
-/// Returns `None` if the name isn't valid: it has more than 255 bytes with its suffix, is empty or begins with `@`, or
-/// has a byte that is neither a letter, a digit nor one of `:-_.\@`.
+/// Returns `None` if the name isn't valid: its stem is empty, begins with `@`, has a byte that is neither a letter, a
+/// digit nor one of `:-_.\@`, or has more than 255 bytes with the suffix.
 #[tactic(auto, unfolding(crate::specs::UnitName::unit_stem))]
 pub fn unit_stem(name: &str) -> Option<&str>
     ensures { option_map (λ stem. stem.now) result ≡ unit_stem name.now }
@@ -34,7 +34,7 @@ pub fn unit_stem(name: &str) -> Option<&str>
     if is_stem(stem) { Some(stem) } else { None }
 }
 
-/// Returns what the unit with this stem is.
+/// Returns what a name with this stem stands for.
 #[tactic(auto, unfolding(crate::specs::UnitName::kind_of))]
 pub fn kind_of(stem: &str) -> UnitKind
     ensures { result ≡ kind_of stem.now }
