@@ -1,4 +1,4 @@
--- One link more.
+-- Following one more link.
 use Rattle.std.proofs.Common.{◌≡◌, ℕ, suc, List, [], ◌∷◌, ◌++◌, refl}
 use Rattle.cal_units.specs.Machine.{Machine}
 use Rattle.cal_units.specs.Units.{follow, place_in}

@@ -9,7 +9,7 @@ use Rattle.cal_units.specs.Machine.Entry.{Missing, Empty, File, Folder, Link}
 use Rattle.cal_units.specs.Units.{Unit, after_prefix, alias_of, file_stem, stem_in, unit_in, unit_paths}
 use Rattle.cal_units.specs.Units.Unit.{Unfound, TemplateOnly, MaskedBy, FoundAt, Endless}
 
--- what the paths of a machine lead to
+-- what is at the paths of a machine
 abbrev entries : List (List ℕ × Entry)
 entries =
     (codes "/lib/a.timer", File) ∷ (codes "/etc/a.timer", Folder) ∷ (codes "/etc/b.timer", Link (codes "/lib/a.timer"))
@@ -40,7 +40,7 @@ plain_units : map unit (codes "a" ∷ codes "b" ∷ codes "c" ∷ codes "m" ∷ 
 unfolding unit_paths template_of alias_of stem_in after_prefix file_stem unit_stem without_suffix is_stem kind_of
 plain_units = refl
 
--- an instance has its own file before its template's, even in a less important folder
+-- an instance's own file counts before its template's, even if it is in a less important folder
 instances : map unit (codes "t@" ∷ codes "t@x" ∷ codes "t@y" ∷ [])
     ≡ TemplateOnly ∷ FoundAt (codes "/etc/t@.timer") (codes "t@x" ∷ []) ∷ FoundAt (codes "/lib/t@y.timer") (codes "t@y" ∷ []) ∷ []
 unfolding unit_paths template_of alias_of stem_in after_prefix file_stem unit_stem without_suffix is_stem kind_of

@@ -5,7 +5,7 @@ use Rattle.std.specs.Str.{bytes_eq}
 use Rattle.cal_drop_ins.specs.DropIns.{Disk}
 use Rattle.cal_units.specs.declared.tree.Entry as entries
 
--- what a path leads to
+-- what is at a path; links aren't followed
 pub data Entry : Type 0 where
   Missing : Entry
   Empty : Entry
@@ -20,8 +20,8 @@ shown_entry entries.TheVariants.File = File
 shown_entry entries.TheVariants.Folder = Folder
 shown_entry (entries.TheVariants.Link target) = Link (string_bytes target)
 
--- the names in each folder, what each path leads to, the bytes of the file to which it leads after following links, and
--- the value of each variable
+-- the names in each folder, what is at each path, the bytes of the file to which each path leads after following links,
+-- and the value of each variable
 pub record Machine : Type 0 where
   pub names : List ℕ → List (List ℕ)
   pub entry : List ℕ → Entry
@@ -36,6 +36,6 @@ abbrev pub is_null : Entry → Bool
 is_null (Link target) = bytes_eq target null_device
 is_null _ = false
 
--- what drop-ins see of a machine
+-- the part of a machine that decides which drop-ins are read
 abbrev pub disk_of : Machine → Disk
 disk_of machine = record { names = machine.names; is_null = λ path. is_null (machine.entry path) }

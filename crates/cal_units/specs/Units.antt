@@ -31,7 +31,7 @@ is_there _ = true
 abbrev pub first_there : Machine → List (List ℕ) → Option (List ℕ)
 first_there machine paths = find (λ path. is_there (machine.entry path)) paths
 
--- what the text has after a prefix
+-- what the text has after a prefix, if it begins with this prefix
 unfoldable pub after_prefix : List ℕ → List ℕ → Option (List ℕ)
 after_prefix prefix text = if starts_with nat_eq text prefix then Some (drop (length prefix) text) else None
 
@@ -43,7 +43,7 @@ abbrev pub and_then : Option (List ℕ) → (List ℕ → Option (List ℕ)) →
 and_then None f = None
 and_then (Some x) f = f x
 
--- the stem of the timer whose file is in a folder
+-- the stem of the timer whose file has the path `target`, if it is in this folder
 unfoldable pub stem_in : List ℕ → List ℕ → Option (List ℕ)
 stem_in target folder =
     and_then (after_prefix folder target) (λ rest. and_then (after_prefix (codes "/") rest) file_stem)
@@ -68,7 +68,8 @@ is_template_kind Instance = false
 abbrev pub is_template : List ℕ → Bool
 is_template stem = is_template_kind (kind_of stem)
 
--- A link to a unit of the same name leads to that unit's file, and so does a link to a template.
+-- A link is itself the unit's file if it leads to a file that is somewhere else, to a file of the same name or to a
+-- template. Any other link is an alias of the unit to which it leads.
 abbrev pub linked : List ℕ → List ℕ → Option (List ℕ) → Place
 linked stem file None = FileAt file
 linked stem file (Some other) = if bytes_eq other stem || is_template other then FileAt file else AliasOf other
@@ -91,8 +92,8 @@ place_of machine path stem (Some file) = place_at path stem file (machine.entry 
 abbrev pub place_in : Machine → List (List ℕ) → List ℕ → Place
 place_in machine path stem = place_of machine path stem (first_there machine (unit_paths path stem))
 
--- A unit: it doesn't exist, it is a template, it is masked by a path, or it has a file and these stems, of which its own
--- is the last. `Endless` stands for too many links, as in a loop.
+-- A unit: it doesn't exist, it is a template, it is masked by a path, or it has a file and these stems, of which its
+-- own is the last. `Endless` stands for too many links, as in a loop.
 pub data Unit : Type 0 where
   Unfound : Unit
   TemplateOnly : Unit

@@ -32,7 +32,8 @@ pub struct DropIns {
 ///
 /// Fails with [`UnitFault::At`] and [`Reason::ReadFailed`] if a folder can't be listed or a link can't be read, with
 /// [`Reason::NotUtf8`] if the target of a drop-in's link is not UTF-8, and with [`Reason::TooMany`] at the folder with
-/// the 10,001st drop-in, hidden ones included. Fails with [`UnitFault::NoMemory`] if allocation fails.
+/// the 10,001st drop-in, counting those that others of the same name hide. Fails with [`UnitFault::NoMemory`] if
+/// allocation fails.
 #[tactic(auto, unfolding(cal_drop_ins::specs::DropIns::drop_ins))]
 pub fn find_drop_ins<T: Tree>(
     alloc: Global,
@@ -51,7 +52,7 @@ pub fn find_drop_ins<T: Tree>(
     Ok(DropIns { paths, unnamed })
 }
 
-/// Returns the drop-ins in the folders, and appends to `unnamed` the folders with other names.
+/// Returns the drop-ins in the folders, and appends to `unnamed` the folders with names that are not UTF-8.
 fn find_candidates<T: Tree>(
     alloc: Global,
     tree: &T,
@@ -69,7 +70,7 @@ fn find_candidates<T: Tree>(
     Ok(found)
 }
 
-/// Appends the drop-ins in a folder.
+/// Appends the drop-ins in a folder to `found`, and the folder to `unnamed` if it has names that are not UTF-8.
 fn push_folder<T: Tree>(
     alloc: Global,
     tree: &T,
@@ -98,7 +99,7 @@ fn push_folder<T: Tree>(
     Ok(())
 }
 
-/// Returns the paths without links to `/dev/null`.
+/// Returns the paths that aren't links to `/dev/null`.
 fn without_masked<T: Tree>(
     alloc: Global,
     tree: &T,
@@ -132,7 +133,7 @@ fn keep_unmasked<T: Tree>(
     }
 }
 
-/// Returns whether a path is a link to `/dev/null`.
+/// Returns whether an entry is a link to `/dev/null`.
 fn is_null(entry: &Entry) -> bool
     ensures { result ≡ is_null (shown_entry entry.now) }
 {

@@ -25,10 +25,10 @@ pub enum Reason {
     TooManyLinks,
 }
 
-/// Why the files of a unit can't be had.
+/// Why the files of a unit can't be found or read.
 #[derive(Debug, Drop)]
 pub enum UnitFault {
-    /// This path can't be used, for this reason.
+    /// This path can't be used, for this reason. With [`Reason::TooManyLinks`], it is a stem instead of a path.
     At(String, Reason),
     /// Out of memory.
     NoMemory,
@@ -59,7 +59,7 @@ impl UnitFault {
         }
     }
 
-    /// Returns the error for a path of which a machine doesn't tell what it was asked.
+    /// Returns the error for a path, if a call of a `Tree` about it failed with `fault`.
     pub(crate) fn of_tree(alloc: Global, path: &str, fault: TreeFault) -> UnitFault {
         match fault {
             TreeFault::ReadFailed => UnitFault::at(alloc, path, Reason::ReadFailed),

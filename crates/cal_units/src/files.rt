@@ -23,11 +23,12 @@ pub struct UnitText {
 }
 
 /// Reads the files of a unit to their ends: the one at `path`, and then the drop-ins. A link to nothing is left out, as
-/// systemd does.
+/// in systemd.
 ///
 /// Fails with [`UnitFault::At`] and, for the first file at fault, [`Reason::ReadFailed`] if it can't be opened or read,
-/// [`Reason::IsFolder`] if it is a folder, [`Reason::Vanished`] if nothing is there, or [`Reason::TooLarge`] if it has
-/// more than 1,048,576 bytes. Fails with [`UnitFault::NoMemory`] if allocation fails.
+/// [`Reason::IsFolder`] if it is a folder, [`Reason::Vanished`] if nothing is there, [`Reason::NotUtf8`] if it is a
+/// link to nothing whose target is not UTF-8, or [`Reason::TooLarge`] if it has more than 1,048,576 bytes. Fails with
+/// [`UnitFault::NoMemory`] if allocation fails.
 pub fn read_files<T: Tree>(
     alloc: Global,
     tree: &T,

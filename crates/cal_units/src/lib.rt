@@ -1,4 +1,4 @@
-//! The files of a timer unit on a machine (systemd.unit(5)), and the zones that its expressions need.
+//! Which files make up a timer unit on a machine (systemd.unit(5)), and what they contain.
 #![tactic(auto)]
 
 mod drop_ins;

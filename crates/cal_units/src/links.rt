@@ -5,7 +5,7 @@ ghost use Rattle.cal_units.specs.Units.{after_prefix, alias_of, file_stem, stem_
 
 use cal_drop_ins::unit_stem;
 
-/// Returns the stem of the timer for which a link with this target stands: the target is the file of a timer in a
+/// Returns the stem of the timer for which a link with this target stands, if the target is the file of a timer in a
 /// folder of the search path, or the name of such a file without a folder. Returns `None` for any other link, which
 /// leads to a file that is somewhere else.
 #[tactic(auto, unfolding(crate::specs::Units::alias_of))]

@@ -42,7 +42,8 @@ pub(crate) fn find_place<T: Tree>(
     }
 }
 
-/// Returns what a unit's name stands for if this is at the first path that has something.
+/// Returns what is found under a unit's name if `file` is the first path with a unit's file, and `entry` is what is
+/// there.
 fn place_at(
     alloc: Global,
     path: &[String],

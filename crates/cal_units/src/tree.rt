@@ -6,7 +6,7 @@ ghost use Rattle.cal_units.specs.Machine.{Machine, shown_entry};
 use cal_bytes::Source;
 use std::alloc::{AllocError, AllocFailed, Global};
 
-/// What a path leads to. Links aren't followed.
+/// What is at a path. Links aren't followed.
 #[derive(Debug, Drop)]
 pub enum Entry {
     /// Nothing.
@@ -33,7 +33,7 @@ pub struct Names {
 /// Why a machine doesn't tell what it is asked.
 #[derive(Clone, Copy, PartialEq, Eq, Debug)]
 pub enum TreeFault {
-    /// It is there, but can't be read.
+    /// What is asked for is there, but can't be read.
     ReadFailed,
     /// The target of a link, or the value of a variable, is not UTF-8.
     NotUtf8,

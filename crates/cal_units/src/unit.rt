@@ -29,7 +29,7 @@ pub enum Unit {
     NotFound,
     /// The name is that of a template, which isn't a unit. Whether it has a file isn't examined.
     Template,
-    /// The unit is masked: the first path with something is an empty file or a link to `/dev/null`.
+    /// The unit is masked by the empty file or the link to `/dev/null` at this path.
     Masked(String),
     /// The unit has a file.
     Found(UnitFile),
@@ -38,12 +38,12 @@ pub enum Unit {
 /// Finds the unit with this stem in the search path, which has the most important folder first.
 ///
 /// The first folder with a file of the unit's name counts. If there is none and the unit is an instance, its template's
-/// file is searched in the same way. A link to another unit of the search path is an alias: that unit is searched
-/// instead. A link to any other file is the unit's file, and so is a link to a template.
+/// file is searched for in the same way. A link to another unit of the search path is an alias: that unit is searched
+/// for instead. A link to any other file is the unit's file, and so is a link to a template.
 ///
-/// Fails with [`UnitFault::At`] and [`Reason::ReadFailed`] or [`Reason::NotUtf8`] if a path can't be looked at, and
-/// with [`Reason::TooManyLinks`] at the stem that comes after 8 aliases, as in a loop of links. Fails with
-/// [`UnitFault::NoMemory`] if allocation fails.
+/// Fails with [`UnitFault::At`] and [`Reason::ReadFailed`] or [`Reason::NotUtf8`] if a path can't be looked at. If more
+/// than 8 links lead from unit to unit, as in a loop of links, fails with [`Reason::TooManyLinks`] and the stem to
+/// which the 9th link leads. Fails with [`UnitFault::NoMemory`] if allocation fails.
 pub fn find_unit<T: Tree>(
     alloc: Global,
     tree: &T,
