@@ -4,7 +4,7 @@ use cal_streams::Port;
 use cal_units::{Entry, Names, Tree, TreeFault};
 use std::alloc::Global;
 
-/// What a path has.
+/// What is at a path.
 #[derive(Clone, Copy, Debug)]
 pub enum Item<'a> {
     /// A file with these bytes.
@@ -19,7 +19,7 @@ pub enum Item<'a> {
     Gone,
     /// Something that can't be listed, opened or looked at.
     Locked,
-    /// An entry whose name isn't UTF-8, in place of this one.
+    /// An entry whose name isn't UTF-8. The name in the path of this item has no effect.
     Unnamed,
 }
 

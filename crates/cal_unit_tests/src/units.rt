@@ -65,7 +65,7 @@ fn ensure(holds: bool, about: &str) -> Result<(), Fail> {
     if holds { Ok(()) } else { Err(about.into()) }
 }
 
-/// Whether a unit was found with this file, and its own stem is this one.
+/// Returns whether a unit was found with the file at `path` and its own stem is `own`.
 fn is_found(unit: &Unit, path: &str, own: &str) -> bool {
     match unit {
         Unit::Found(file) => {
@@ -184,7 +184,8 @@ fn reports_other_names(rt: HostRuntime) -> Result<(), Fail> {
     )
 }
 
-/// Checks that reading the unit `a` of a machine with its file and one more item fails with this error.
+/// Checks that reading the unit `a` fails with `reason` at the path `at` if the machine has the unit's file and one
+/// more item.
 fn check_fault(
     alloc: Global,
     path: &str,
