@@ -1,6 +1,6 @@
 //! What to write instead of an invalid calendar expression.
 //!
-//! A hint comes from the form of the text alone. What it says to write instead is parsed before it is returned.
+//! A hint comes from the form of the text alone. Its suggestion is parsed first, and left out if it isn't valid.
 
 ghost use Rattle.std.specs.Prelude.{◌≡◌, IfOk, IfSome, Some, false, is_ok, string_bytes, true};
 ghost use Rattle.std.specs.List.{list_any};

@@ -33,8 +33,8 @@ const MAX_NUMBER: u64 = 9999;
 pub enum Rejection {
     /// The expression contains a tab.
     Tab,
-    /// The expression begins with a space, or a space that systemd 252 doesn't skip follows another one or ends the
-    /// expression. It skips additional spaces only after the weekdays and after the date.
+    /// The expression begins with a space, ends with one, or has two in a row. Spaces after the weekdays and after the
+    /// date don't count, since systemd 252 skips any number of them.
     Blanks,
     /// A range of weekdays runs past Sunday, as `Sat..Mon` does.
     PastSunday,
