@@ -1,0 +1,91 @@
+-- Tables of the zones of a machine.
+use Rattle.std.proofs.Common.{◌≡◌, ℕ, List, Bool, true, false, Option, Some, None, refl, sym, ap, ◌∙◌, arith}
+use Rattle.std.specs.Prelude.{◌||◌, IfSome, MatchOption, is_some}
+use Rattle.std.specs.FinMap.{empty, get-empty, insert}
+use Rattle.std.specs.Option.{option_map, unwrap_or}
+use Rattle.std.specs.Str.{bytes_eq}
+use Rattle.std.proofs.lemmas.Bool.{both_ways}
+use Rattle.std.proofs.lemmas.List.{append-nil}
+use Rattle.std.proofs.lemmas.Option.{none-some}
+use Rattle.std.specs.Cmp.Lexicographic.{slice_cmp}
+use Rattle.std.specs.Ordering.{nat_cmp}
+use Rattle.std.proofs.lemmas.Slice.Eq.{bytes_eq-Decides}
+use Rattle.jiff.specs.Types.{TimeZone}
+use Rattle.cal_civil.specs.headline.ZoneName.{is_utc_name}
+use Rattle.cal_streams.specs.Whole.{GivesAll}
+use Rattle.cal_units.specs.Machine.{Machine}
+use Rattle.cal_zone.specs.LoadZone.{IsLoaded}
+use Rattle.cal_zone.specs.ZoneFile.{IsFileZone, file_limit}
+use Rattle.cal_zone.specs.ZoneTable.{is_taken}
+use Rattle.cal_zone.specs.headline.ZoneMap.{ZoneMap}
+use Rattle.cal_zone.specs.headline.ZoneTable.{zone_named}
+use Rattle.cal_zone.proofs.ZoneMapLemmas.{zone_named-here, zone_named-elsewhere}
+use Rattle.cal_machine_zones.specs.ZoneFiles.{HasZonesOf, IsAdded, IsZoneOn}
+
+-- a name that isn't taken isn't UTC
+pub free_is_other : (table : ZoneMap) (name : List ℕ) → is_taken table name ≡ false → is_utc_name name ≡ false
+unfolding zone_named
+free_is_other table name free = grind (arith, free)
+
+-- the empty table has UTC alone
+pub empty_has : (name : List ℕ) → is_some (zone_named empty name) ≡ is_utc_name name
+unfolding zone_named
+empty_has name = grind (arith, get-empty {X = TimeZone} (slice_cmp nat_cmp) name)
+
+pub empty_has_none : (machine : Machine) → HasZonesOf machine empty
+unfolding zone_named
+empty_has_none machine name other = rw (other, get-empty {X = TimeZone} (slice_cmp nat_cmp) name) tt
+
+-- all bytes that a file had were read
+pub read_all : (xs : List ℕ) (new : Option (List ℕ)) (limit : ℕ) (bytes : List ℕ) → GivesAll (Some xs) new limit bytes → xs ≡ bytes
+read_all xs None limit bytes all = absurd all.taken
+read_all xs (Some ys) limit bytes all = rw (all.taken, all.at_end) (append-nil bytes)
+
+pub loaded_is : (xs : List ℕ) (new : Option (List ℕ)) (before after : ZoneMap) (name : List ℕ) (l : IsLoaded (Some xs) new before after name) → IsFileZone name xs l.zone
+loaded_is xs new before after name l = rw (read_all xs new file_limit l.bytes l.given) l.is_zone
+
+known_on : (file new : Option (List ℕ)) (xs : List ℕ) (before after : ZoneMap) (name : List ℕ) (l : IsLoaded file new before after name)
+    → file ≡ Some xs → IsFileZone name xs l.zone
+known_on None new xs before after name l e = absurd (none-some xs e)
+known_on (Some ys) new xs before after name l e = rw (sym (ap (λ o. unwrap_or o ys) e)) (loaded_is ys new before after name l)
+
+-- what was loaded from a file of the machine
+pub loaded_on : (file new contents : Option (List ℕ)) (before after : ZoneMap) (name : List ℕ) (l : IsLoaded file new before after name)
+    → Some file ≡ option_map Some contents → MatchOption contents ⊥ (λ bytes. IsFileZone name bytes l.zone)
+loaded_on file new None before after name l e = absurd (none-some file (sym e))
+loaded_on file new (Some xs) before after name l e = known_on file new xs before after name l (ap (λ o. unwrap_or o None) e)
+
+or_true : (b : Bool) → (b || true) ≡ true
+or_true true = refl
+or_true false = refl
+
+or_false : (b : Bool) → (b || false) ≡ b
+or_false true = refl
+or_false false = refl
+
+-- a table with one more name
+named_if : (old : ZoneMap) (name : List ℕ) (zone : TimeZone) (other : List ℕ) → is_utc_name name ≡ false → (t : Bool) → bytes_eq other name ≡ t
+    → is_some (zone_named (insert old name zone) other) ≡ (is_some (zone_named old other) || t)
+named_if old name zone other utc true is =
+    let same : other ≡ name = (bytes_eq-Decides other name).0 is in
+    rw same (ap is_some (zone_named-here old name zone utc) ∙ sym (or_true _))
+named_if old name zone other utc false is =
+    ap is_some (zone_named-elsewhere old name other zone (λ e. both_ways _ is ((bytes_eq-Decides other name).1 e))) ∙ sym (or_false _)
+
+held_if : (machine : Machine) (old : ZoneMap) (name : List ℕ) (zone : TimeZone) (other : List ℕ) → is_utc_name name ≡ false
+    → IsZoneOn machine name zone → IfSome (zone_named old other) (IsZoneOn machine other) → (t : Bool) → bytes_eq other name ≡ t
+    → IfSome (zone_named (insert old name zone) other) (IsZoneOn machine other)
+held_if machine old name zone other utc on held true is =
+    let same : other ≡ name = (bytes_eq-Decides other name).0 is in
+    rw (same, zone_named-here old name zone utc) on
+held_if machine old name zone other utc on held false is =
+    rw (zone_named-elsewhere old name other zone (λ e. both_ways _ is ((bytes_eq-Decides other name).1 e))) held
+
+pub added_names : (old new : ZoneMap) (name : List ℕ) (IsZone : TimeZone → Type 0) (other : List ℕ) → IsAdded old new name IsZone
+    → is_some (zone_named new other) ≡ (is_some (zone_named old other) || bytes_eq other name)
+added_names old new name IsZone other a = rw (a.added) (named_if old name a.zone other a.other (bytes_eq other name) refl)
+
+pub added_zones : (machine : Machine) (old new : ZoneMap) (name : List ℕ) (IsZone : TimeZone → Type 0) (a : IsAdded old new name IsZone)
+    → IsZoneOn machine name a.zone → HasZonesOf machine old → HasZonesOf machine new
+added_zones machine old new name IsZone a on held other utc =
+    rw (a.added) (held_if machine old name a.zone other a.other on (held other utc) (bytes_eq other name) refl)

@@ -1,0 +1,27 @@
+-- Examples that check the definition of the local zone, after tzset(3) and localtime(5).
+use Rattle.std.proofs.Common.{◌≡◌, [], ◌∷◌, codes, map, refl, Some, None}
+use Rattle.cal_civil.specs.OffsetWord.{offset_in}
+use Rattle.cal_civil.specs.headline.ZoneName.{is_utc_name, is_zone_name}
+use Rattle.cal_units.specs.Machine.Entry.{Missing, File, Link}
+use Rattle.cal_units.specs.Units.{after_prefix}
+use Rattle.cal_machine_zones.specs.LocalZone.{argument_zone, link_zone, variable_zone}
+use Rattle.cal_machine_zones.specs.LocalZone.LocalZone.{InUtc, ByRule, OfName, UnclearIn}
+use Rattle.cal_machine_zones.specs.declared.fault.Origin.TheVariants as origins
+
+-- `UTC` in any case, a rule, a name, and none of these
+options : map argument_zone (codes "utc" ∷ codes "posix:CET-1" ∷ codes "Europe/Berlin" ∷ codes "9am" ∷ [])
+    ≡ InUtc ∷ ByRule (codes "CET-1") ∷ OfName (codes "Europe/Berlin") ∷ UnclearIn origins.Argument ∷ []
+unfolding is_utc_name after_prefix is_zone_name offset_in
+options = refl
+
+-- after a colon a file, without or with the folder of zones; nothing after it is UTC
+files : map variable_zone (codes ":" ∷ codes ":Asia/Tokyo" ∷ codes ":/usr/share/zoneinfo/Asia/Tokyo" ∷ codes ":UTC" ∷ codes ":/etc/localtime" ∷ codes ":/a" ∷ [])
+    ≡ Some InUtc ∷ Some (OfName (codes "Asia/Tokyo")) ∷ Some (OfName (codes "Asia/Tokyo")) ∷ Some InUtc ∷ None ∷ Some (UnclearIn origins.Variable) ∷ []
+unfolding is_utc_name after_prefix is_zone_name
+files = refl
+
+-- an absolute link and a relative one, a link to another folder, and what isn't a link
+links : map link_zone (Link (codes "/usr/share/zoneinfo/Asia/Tokyo") ∷ Link (codes "../usr/share/zoneinfo/Etc/UTC") ∷ Link (codes "/usr/share/zoneinfo/UTC") ∷ Link (codes "/a/Asia/Tokyo") ∷ File ∷ Missing ∷ [])
+    ≡ OfName (codes "Asia/Tokyo") ∷ OfName (codes "Etc/UTC") ∷ InUtc ∷ UnclearIn origins.Link ∷ UnclearIn origins.Link ∷ InUtc ∷ []
+unfolding is_utc_name after_prefix is_zone_name
+links = refl

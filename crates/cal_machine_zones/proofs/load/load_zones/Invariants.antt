@@ -1,0 +1,16 @@
+use Rattle.std.proofs.Common.{◌≡◌, ℕ, List, map, take, string_bytes}
+use Rattle.std.specs.Prelude.{◌||◌, is_some}
+use Rattle.std.specs.List.{list_any}
+use Rattle.std.specs.Str.{bytes_eq}
+use Rattle.cal_civil.specs.headline.ZoneName.{is_utc_name}
+use Rattle.cal_units.specs.Machine.{Machine}
+use Rattle.cal_zone.specs.headline.ZoneTable.{zone_named}
+use Rattle.cal_machine_zones.specs.ZoneFiles.{HasZonesOf}
+use Rattle.cal_machine_zones.proofs.load.load_zones.Given as goal
+
+-- the table has the names so far, with the zones of the machine
+abbrev pub invariant-loop-name : goal.invariant-loop-name
+invariant-loop-name g l =
+    ((name : List ℕ) → is_some (zone_named l.table name)
+    ≡ (is_utc_name name || list_any (bytes_eq name) (map string_bytes (take l.name-index l.names))))
+    × ((machine : Machine) → g.T.Tree.shows l.tree machine → HasZonesOf machine l.table)

@@ -1,0 +1,2 @@
+pub mod LocalZone
+pub mod ZoneFiles

@@ -1,0 +1,150 @@
+-- Which zone the local zone of a machine is: that of the option, else that of the variable TZ (tzset(3)), else that of
+-- the link /etc/localtime (localtime(5)), else UTC. The forms of the option are this project's own, except for names
+-- (systemd.time(7), Calendar Events).
+use Rattle.std.specs.Prelude.{◌≡◌, ⊤, ℕ, ℤ, List, [], Option, None, Some, Result, Ok, Err, codes, if◌then◌else◌, is_some, string_bytes}
+use Rattle.std.specs.Option.{option_or, unwrap_or}
+use Rattle.std.specs.Str.{bytes_eq}
+use Rattle.jiff.specs.Words.{read_whole}
+use Rattle.jiff_core.specs.Timestamp.{IsOffsetSeconds}
+use Rattle.cal_civil.specs.OffsetWord.{offset_in}
+use Rattle.cal_civil.specs.headline.ZoneName.{is_utc_name, is_zone_name}
+use Rattle.cal_units.specs.Machine.{Entry, Machine}
+use Rattle.cal_units.specs.Machine.Entry.{Missing, Empty, File, Folder, Link}
+use Rattle.cal_units.specs.Units.{after_prefix}
+use Rattle.cal_machine_zones.specs.declared.clock.LocalZone as zones
+use Rattle.cal_machine_zones.specs.declared.fault.Origin.{Origin}
+use Rattle.cal_machine_zones.specs.declared.fault.Origin.TheVariants as origins
+use Rattle.cal_machine_zones.specs.declared.fault.ZonesFault.{ZonesFault}
+use Rattle.cal_machine_zones.specs.declared.fault.ZonesFault.TheVariants as faults
+use Rattle.cal_machine_zones.specs.declared.texts.Told as tolds
+
+-- UTC, an offset in seconds east of UTC, a POSIX rule, the name of a zone, or a text that is none of these
+pub data LocalZone : Type 0 where
+  InUtc : LocalZone
+  Ahead : (seconds : ℤ) → LocalZone
+  ByRule : (rule : List ℕ) → LocalZone
+  OfName : (name : List ℕ) → LocalZone
+  UnclearIn : (origin : Origin) → LocalZone
+
+abbrev pub offset_or_unclear : Option ℤ → LocalZone
+offset_or_unclear None = UnclearIn origins.Argument
+offset_or_unclear (Some seconds) = Ahead seconds
+
+abbrev pub offset_zone : List ℕ → LocalZone
+offset_zone text = offset_or_unclear (offset_in text)
+
+abbrev pub name_or_offset : List ℕ → LocalZone
+name_or_offset text = if is_zone_name text then OfName text else offset_zone text
+
+abbrev pub rule_or_other : List ℕ → Option (List ℕ) → LocalZone
+rule_or_other text None = name_or_offset text
+rule_or_other text (Some rule) = ByRule rule
+
+-- the option: `UTC`, ignoring case, `posix:` and a rule, a name or an offset
+abbrev pub argument_zone : List ℕ → LocalZone
+argument_zone text = if is_utc_name text then InUtc else rule_or_other text (after_prefix (codes "posix:") text)
+
+-- a name in the variable or the link
+abbrev pub name_zone : Origin → List ℕ → LocalZone
+name_zone origin name = if is_utc_name name then InUtc else if is_zone_name name then OfName name else UnclearIn origin
+
+abbrev pub zone_folder : List ℕ
+zone_folder = codes "/usr/share/zoneinfo/"
+
+abbrev pub localtime : List ℕ
+localtime = codes "/etc/localtime"
+
+abbrev pub without_folder : List ℕ → List ℕ
+without_folder file = unwrap_or (after_prefix zone_folder file) file
+
+-- A file in the variable (tzset(3)): relative to the folder of zones, or with its absolute path. If it is empty, it is
+-- UTC. The zone of the file /etc/localtime is that of the link.
+abbrev pub file_zone : List ℕ → Option LocalZone
+file_zone file =
+    if bytes_eq file localtime then None
+    else if bytes_eq file [] then Some InUtc
+    else Some (name_zone origins.Variable (without_folder file))
+
+abbrev pub value_zone : List ℕ → Option (List ℕ) → Option LocalZone
+value_zone text None = if is_some (read_whole text) then Some (ByRule text) else file_zone text
+value_zone text (Some file) = file_zone file
+
+-- The variable (tzset(3)): after a colon a file, and without a colon a POSIX rule or a file.
+abbrev pub variable_zone : List ℕ → Option LocalZone
+variable_zone text = value_zone text (after_prefix (codes ":") text)
+
+-- the name of the zone to which the link leads (localtime(5)): its target is absolute, or relative to /etc
+abbrev pub link_name : List ℕ → Option (List ℕ)
+link_name target = option_or (after_prefix zone_folder target) (after_prefix (codes "../usr/share/zoneinfo/") target)
+
+abbrev pub named_link : Option (List ℕ) → LocalZone
+named_link None = UnclearIn origins.Link
+named_link (Some name) = name_zone origins.Link name
+
+abbrev pub target_zone : List ℕ → LocalZone
+target_zone target = named_link (link_name target)
+
+-- what is at /etc/localtime (localtime(5)): if it is missing, the zone is UTC; it may be nothing but a link
+abbrev pub link_zone : Entry → LocalZone
+link_zone Missing = InUtc
+link_zone Empty = UnclearIn origins.Link
+link_zone File = UnclearIn origins.Link
+link_zone Folder = UnclearIn origins.Link
+link_zone (Link target) = target_zone target
+
+-- The variable that isn't set leaves it to the link.
+abbrev pub set_zone : Option (List ℕ) → Option LocalZone
+set_zone None = None
+set_zone (Some text) = variable_zone text
+
+abbrev pub machine_zone : Machine → LocalZone
+machine_zone machine = unwrap_or (set_zone (machine.variable (codes "TZ"))) (link_zone (machine.entry localtime))
+
+abbrev pub local_zone : Machine → Option (List ℕ) → LocalZone
+local_zone machine None = machine_zone machine
+local_zone machine (Some text) = argument_zone text
+
+abbrev pub shown_told : tolds.Told → LocalZone
+shown_told tolds.TheVariants.Utc = InUtc
+shown_told (tolds.TheVariants.Offset seconds) = Ahead seconds
+shown_told (tolds.TheVariants.Rule rule) = ByRule rule.now
+shown_told (tolds.TheVariants.Named name) = OfName name.now
+shown_told (tolds.TheVariants.Unclear origin) = UnclearIn origin
+
+abbrev pub shown_zone : zones.LocalZone → LocalZone
+shown_zone zones.TheVariants.Utc = InUtc
+shown_zone (zones.TheVariants.Offset seconds) = Ahead seconds
+shown_zone (zones.TheVariants.Rule rule) = ByRule (string_bytes rule)
+shown_zone (zones.TheVariants.Named name) = OfName (string_bytes name)
+
+-- an offset is in the range of the library `jiff`
+abbrev pub HasOffset : tolds.Told → Type 0
+HasOffset tolds.TheVariants.Utc = ⊤
+HasOffset (tolds.TheVariants.Offset seconds) = IsOffsetSeconds seconds
+HasOffset (tolds.TheVariants.Rule rule) = ⊤
+HasOffset (tolds.TheVariants.Named name) = ⊤
+HasOffset (tolds.TheVariants.Unclear origin) = ⊤
+
+abbrev pub HasZoneOffset : zones.LocalZone → Type 0
+HasZoneOffset zones.TheVariants.Utc = ⊤
+HasZoneOffset (zones.TheVariants.Offset seconds) = IsOffsetSeconds seconds
+HasZoneOffset (zones.TheVariants.Rule rule) = ⊤
+HasZoneOffset (zones.TheVariants.Named name) = ⊤
+
+-- whether a zone can be missed with this error: a text is called unclear only if it is
+abbrev pub IsMissedBy : LocalZone → ZonesFault → Type 0
+IsMissedBy zone (faults.Unclear origin) = zone ≡ UnclearIn origin
+IsMissedBy zone (faults.Unread origin) = ⊤
+IsMissedBy zone (faults.At path reason) = ⊥
+IsMissedBy zone faults.NoMemory = ⊤
+
+abbrev pub IsTold : LocalZone → Result zones.LocalZone ZonesFault → Type 0
+IsTold zone (Ok found) = shown_zone found ≡ zone
+IsTold zone (Err fault) = IsMissedBy zone fault
+
+-- the machine didn't tell what it was asked
+abbrev pub IsUnread : ZonesFault → Type 0
+IsUnread (faults.Unclear origin) = ⊥
+IsUnread (faults.Unread origin) = ⊤
+IsUnread (faults.At path reason) = ⊥
+IsUnread faults.NoMemory = ⊤

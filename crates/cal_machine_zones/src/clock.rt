@@ -1,0 +1,98 @@
+//! The local zone of a machine.
+
+ghost use Rattle.std.specs.Prelude.{◌≡◌, IfOk, option_map};
+ghost use Rattle.cal_units.specs.Machine.{Machine, shown_entry};
+ghost use Rattle.cal_machine_zones.specs.LocalZone.{HasOffset, HasZoneOffset, IsTold, IsUnread, link_zone, localtime, local_zone, machine_zone, shown_told};
+
+use crate::fault::{Origin, ZonesFault};
+use crate::texts::{LOCALTIME, Told, argument_zone, link_zone, variable_zone};
+use cal_units::{Tree, TreeFault};
+use std::alloc::Global;
+
+/// Which zone the local zone is.
+#[derive(Debug, Drop)]
+pub enum LocalZone {
+    /// UTC.
+    Utc,
+    /// An offset from UTC in seconds, from -93,540 to 93,540.
+    Offset(i32),
+    /// A POSIX rule. That of the variable `TZ` is valid; that of an option isn't checked.
+    Rule(String),
+    /// The name of a zone, whose file is below `/usr/share/zoneinfo`.
+    Named(String),
+}
+
+/// Returns which zone the local zone of a machine is, without reading its file.
+///
+/// It is the zone of the option, if there is one: `UTC`, ignoring case; `+hh:mm` or `-hh:mm`; `posix:` and a rule; or a
+/// name. Else it is the zone of the variable `TZ` (tzset(3)): a POSIX rule, a name, or `:` and a name; UTC if it is
+/// empty. Else it is the zone to which the link `/etc/localtime` leads (localtime(5)), and UTC if nothing is there.
+///
+/// Fails with [`ZonesFault::Unclear`] if the first of these that exists doesn't say which zone it is, with
+/// [`ZonesFault::Unread`] if it can't be read or is not UTF-8, and with [`ZonesFault::NoMemory`] if allocation fails.
+pub fn find_local_zone<T: Tree>(
+    alloc: Global,
+    tree: &T,
+    argument: Option<&str>,
+) -> Result<LocalZone, ZonesFault>
+    ensures zone { (machine : Machine) → T.shows tree.now machine
+        → IsTold (local_zone machine (option_map (λ text. text.now) argument.entry)) result }
+    ensures offset { IfOk result HasZoneOffset }
+{
+    match argument {
+        Some(text) => to_owned(alloc, argument_zone(text)),
+        None => find_machine_zone(alloc, tree),
+    }
+}
+
+fn find_machine_zone<T: Tree>(alloc: Global, tree: &T) -> Result<LocalZone, ZonesFault>
+    ensures zone { (machine : Machine) → T.shows tree.now machine → IsTold (machine_zone machine) result }
+    ensures offset { IfOk result HasZoneOffset }
+{
+    let value = match tree.variable(alloc, "TZ") {
+        Ok(value) => value,
+        Err(fault) => return Err(unread(Origin::Variable, fault)),
+    };
+    let Some(text) = value else {
+        return find_link_zone(alloc, tree);
+    };
+    match variable_zone(alloc, text.as_str()) {
+        Some(told) => to_owned(alloc, told),
+        None => find_link_zone(alloc, tree),
+    }
+}
+
+fn find_link_zone<T: Tree>(alloc: Global, tree: &T) -> Result<LocalZone, ZonesFault>
+    ensures zone { (machine : Machine) → T.shows tree.now machine
+        → IsTold (link_zone (machine.entry localtime)) result }
+    ensures offset { IfOk result HasZoneOffset }
+{
+    match tree.look(alloc, LOCALTIME) {
+        Ok(entry) => to_owned(alloc, link_zone(&entry)),
+        Err(fault) => Err(unread(Origin::Link, fault)),
+    }
+}
+
+fn unread(origin: Origin, fault: TreeFault) -> ZonesFault
+    ensures { IsUnread result }
+{
+    match fault {
+        TreeFault::NoMemory => ZonesFault::NoMemory,
+        TreeFault::ReadFailed | TreeFault::NotUtf8 => ZonesFault::Unread(origin),
+    }
+}
+
+/// Copies the text of a zone.
+fn to_owned(alloc: Global, told: Told<'_>) -> Result<LocalZone, ZonesFault>
+    requires { HasOffset told }
+    ensures zone { IsTold (shown_told told.entry) result }
+    ensures offset { IfOk result HasZoneOffset }
+{
+    match told {
+        Told::Utc => Ok(LocalZone::Utc),
+        Told::Offset(seconds) => Ok(LocalZone::Offset(seconds)),
+        Told::Rule(rule) => Ok(LocalZone::Rule(String::from_str(alloc, rule)?)),
+        Told::Named(name) => Ok(LocalZone::Named(String::from_str(alloc, name)?)),
+        Told::Unclear(origin) => Err(ZonesFault::Unclear(origin)),
+    }
+}

@@ -1,0 +1,48 @@
+//! The errors of a machine's clock.
+
+ghost use Rattle.std.specs.Prelude.{◌≡◌};
+ghost use Rattle.cal_machine_zones.specs.declared.fault.ZonesFault.TheVariants.{NoMemory};
+
+use cal_zone::LoadFault;
+use std::alloc::{AllocError, Global};
+
+/// What the local zone is taken from.
+#[derive(Clone, Copy, PartialEq, Eq, Debug)]
+pub enum Origin {
+    /// The option of the command line.
+    Argument,
+    /// The variable `TZ`.
+    Variable,
+    /// The link `/etc/localtime`.
+    Link,
+}
+
+/// Why the file of a zone can't be used.
+#[derive(Clone, Copy, PartialEq, Eq, Debug)]
+pub enum FileReason {
+    /// There is no such file.
+    NotFound,
+    /// It can't be loaded. This is never because of memory, for which there is [`ZonesFault::NoMemory`].
+    Load(LoadFault),
+}
+
+/// Why the zones of a machine can't be had.
+#[derive(Debug, Drop)]
+pub enum ZonesFault {
+    /// This doesn't say which zone it is.
+    Unclear(Origin),
+    /// This can't be read, or is not UTF-8.
+    Unread(Origin),
+    /// The zone file at this path can't be used, for this reason.
+    At(String, FileReason),
+    /// Out of memory.
+    NoMemory,
+}
+
+impl From<AllocError> for ZonesFault {
+    ghost from_gives = { λ _ fault. fault ≡ NoMemory };
+
+    fn from(_refused: AllocError) -> ZonesFault {
+        ZonesFault::NoMemory
+    }
+}

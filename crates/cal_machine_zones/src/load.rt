@@ -1,0 +1,85 @@
+//! Loading of the zones that expressions name.
+
+ghost use Rattle.std.specs.Prelude.{◌≡◌, ◌||◌, ℕ, List, IfOk, IfSome, OnOk, is_some, map, string_bytes};
+ghost use Rattle.std.specs.List.{list_any};
+ghost use Rattle.std.specs.Str.{bytes_eq};
+ghost use Rattle.cal_civil.specs.headline.ZoneName.{is_utc_name};
+ghost use Rattle.cal_units.specs.Machine.{Machine};
+ghost use Rattle.cal_zone.specs.headline.ZoneTable.{zone_named};
+ghost use Rattle.cal_machine_zones.specs.ZoneFiles.{HasZonesOf, IsAdded, IsZoneOn, zone_path};
+
+use crate::fault::{FileReason, ZonesFault};
+use cal_units::{Tree, TreeFault};
+use cal_zone::{LoadFault, ZoneFault, ZoneTable, load_zone};
+use std::alloc::{AllocError, Global};
+
+/// Returns a table of the zones with these names, each from its file `/usr/share/zoneinfo/NAME` (RFC 8536). The table
+/// has no other zones. The name `UTC`, ignoring case, needs no file, and a name may be repeated.
+///
+/// Fails with [`ZonesFault::At`] and the path of the first file that can't be used: with [`FileReason::NotFound`] if
+/// there is none, or with [`FileReason::Load`] and the error of [`load_zone`], as for a name that doesn't have the form
+/// of a zone's name. Fails with [`ZonesFault::NoMemory`] if allocation fails.
+pub fn load_zones<T: Tree>(
+    alloc: Global,
+    tree: &T,
+    names: &[String],
+) -> Result<ZoneTable, ZonesFault>
+    ensures names { IfOk result (λ table. (name : List ℕ) → is_some (zone_named table name)
+        ≡ (is_utc_name name || list_any (bytes_eq name) (map string_bytes names.now))) }
+    ensures zones { IfOk result (λ table. (machine : Machine) → T.shows tree.now machine → HasZonesOf machine table) }
+{
+    let mut table = ZoneTable::new(alloc);
+    for name in names {
+        load_name(alloc, tree, &mut table, name.as_str())?;
+    }
+    Ok(table)
+}
+
+/// Loads a zone, unless the table has it.
+fn load_name<T: Tree>(
+    alloc: Global,
+    tree: &T,
+    table: &mut ZoneTable,
+    name: &str,
+) -> Result<(), ZonesFault>
+    ensures names { OnOk result ((other : List ℕ) → is_some (zone_named table.new other)
+        ≡ (is_some (zone_named table.old other) || bytes_eq other name.now)) }
+    ensures zones { OnOk result ((machine : Machine) → T.shows tree.now machine
+        → HasZonesOf machine table.old → HasZonesOf machine table.new) }
+{
+    if table.find(name).is_some() {
+        return Ok(());
+    }
+    add_zone(alloc, tree, table, name)
+}
+
+/// Loads a zone that the table doesn't have.
+fn add_zone<T: Tree>(
+    alloc: Global,
+    tree: &T,
+    table: &mut ZoneTable,
+    name: &str,
+) -> Result<(), ZonesFault>
+    ensures { OnOk result (IsAdded table.old table.new name.now
+        (λ zone. (machine : Machine) → T.shows tree.now machine → IsZoneOn machine name.now zone)) }
+{
+    let path = zone_path(alloc, name)?;
+    let mut file = match tree.open(path.as_str()) {
+        Ok(Some(file)) => file,
+        Ok(None) => return Err(ZonesFault::At(path, FileReason::NotFound)),
+        Err(TreeFault::NoMemory) => return Err(ZonesFault::NoMemory),
+        Err(_) => return Err(ZonesFault::At(path, FileReason::Load(LoadFault::ReadFailed))),
+    };
+    match load_zone(alloc, table, name, &mut file) {
+        Ok(()) => Ok(()),
+        Err(LoadFault::Zone(ZoneFault::NoMemory)) => Err(ZonesFault::NoMemory),
+        Err(fault) => Err(ZonesFault::At(path, FileReason::Load(fault))),
+    }
+}
+
+/// Returns the path of the file of a zone.
+fn zone_path(alloc: Global, name: &str) -> Result<String, AllocError>
+    ensures { IfOk result (λ path. string_bytes path ≡ zone_path name.now) }
+{
+    format!(in alloc; "/usr/share/zoneinfo/{name}")
+}

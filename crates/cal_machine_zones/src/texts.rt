@@ -1,0 +1,168 @@
+//! The zones that options, the variable `TZ` and the link `/etc/localtime` name.
+
+ghost use Rattle.std.specs.Prelude.{◌≡◌, IfSome, is_some, option_map};
+ghost use Rattle.jiff.specs.Words.{read_whole};
+ghost use Rattle.cal_civil.specs.headline.ZoneName.{is_utc_name};
+ghost use Rattle.cal_units.specs.Machine.{shown_entry};
+ghost use Rattle.cal_units.specs.Units.{after_prefix};
+ghost use Rattle.cal_machine_zones.specs.LocalZone.{HasOffset, argument_zone, file_zone, link_name, link_zone, name_or_offset, name_zone, offset_zone, shown_told, target_zone, variable_zone, without_folder};
+
+use crate::fault::Origin;
+use cal_civil::{is_zone_name, read_offset};
+use cal_units::Entry;
+use cal_zone::Rules;
+use std::alloc::Global;
+
+/// The link to the file of the local zone.
+pub(crate) const LOCALTIME: &str = "/etc/localtime";
+
+/// A local zone, with the part of the text that says which one it is.
+#[derive(Clone, Copy, Debug)]
+pub(crate) enum Told<'t> {
+    Utc,
+    /// An offset from UTC in seconds.
+    Offset(i32),
+    /// A POSIX rule.
+    Rule(&'t str),
+    /// A name below `/usr/share/zoneinfo`.
+    Named(&'t str),
+    /// The text doesn't say which zone it is.
+    Unclear(Origin),
+}
+
+/// Returns the zone of an option's value: `UTC`, ignoring case; `posix:` and a rule, which isn't checked; a name; or
+/// `+hh:mm` or `-hh:mm`.
+pub(crate) fn argument_zone(text: &str) -> Told<'_>
+    ensures zone { shown_told result ≡ argument_zone text.now }
+    ensures offset { HasOffset result }
+{
+    if is_utc_name(text) {
+        return Told::Utc;
+    }
+    match after_prefix("posix:", text) {
+        Some(rule) => Told::Rule(rule),
+        None => name_or_offset(text),
+    }
+}
+
+fn name_or_offset(text: &str) -> Told<'_>
+    ensures zone { shown_told result ≡ name_or_offset text.now }
+    ensures offset { HasOffset result }
+{
+    if is_zone_name(text.as_bytes()) {
+        Told::Named(text)
+    } else {
+        offset_zone(text)
+    }
+}
+
+fn offset_zone(text: &str) -> Told<'_>
+    ensures zone { shown_told result ≡ offset_zone text.now }
+    ensures offset { HasOffset result }
+{
+    match read_offset(text.as_bytes()) {
+        Some(seconds) => Told::Offset(seconds),
+        None => Told::Unclear(Origin::Argument),
+    }
+}
+
+/// Returns the zone of the value of `TZ` (tzset(3)), or `None` if it is the file `/etc/localtime`, whose link says which
+/// zone it is.
+pub(crate) fn variable_zone(alloc: Global, text: &str) -> Option<Told<'_>>
+    ensures zone { option_map shown_told result ≡ variable_zone text.now }
+    ensures offset { IfSome result HasOffset }
+{
+    if let Some(file) = after_prefix(":", text) {
+        return file_zone(file);
+    }
+    if is_rule(alloc, text) {
+        return Some(Told::Rule(text));
+    }
+    file_zone(text)
+}
+
+fn is_rule(alloc: Global, text: &str) -> bool
+    ensures { result ≡ is_some (read_whole text.now) }
+{
+    Rules::posix(alloc, text).is_ok()
+}
+
+fn file_zone(file: &str) -> Option<Told<'_>>
+    ensures zone { option_map shown_told result ≡ file_zone file.now }
+    ensures offset { IfSome result HasOffset }
+{
+    if file == LOCALTIME {
+        return None;
+    }
+    if file.is_empty() {
+        return Some(Told::Utc);
+    }
+    Some(name_zone(Origin::Variable, without_folder(file)))
+}
+
+/// Returns the name of the zone whose file has this absolute path. Any other text is the name itself.
+fn without_folder(file: &str) -> &str
+    ensures { result.now ≡ without_folder file.now }
+{
+    match after_prefix("/usr/share/zoneinfo/", file) {
+        Some(name) => name,
+        None => file,
+    }
+}
+
+fn name_zone(origin: Origin, name: &str) -> Told<'_>
+    ensures zone { shown_told result ≡ name_zone origin name.now }
+    ensures offset { HasOffset result }
+{
+    if is_utc_name(name) {
+        Told::Utc
+    } else if is_zone_name(name.as_bytes()) {
+        Told::Named(name)
+    } else {
+        Told::Unclear(origin)
+    }
+}
+
+/// Returns the zone of what is at `/etc/localtime` (localtime(5)): UTC if there is nothing.
+pub(crate) fn link_zone(entry: &Entry) -> Told<'_>
+    ensures zone { shown_told result ≡ link_zone (shown_entry entry.now) }
+    ensures offset { HasOffset result }
+{
+    match entry {
+        Entry::Missing => Told::Utc,
+        Entry::Link(target) => target_zone(target.as_str()),
+        _ => Told::Unclear(Origin::Link),
+    }
+}
+
+fn target_zone(target: &str) -> Told<'_>
+    ensures zone { shown_told result ≡ target_zone target.now }
+    ensures offset { HasOffset result }
+{
+    match link_name(target) {
+        Some(name) => name_zone(Origin::Link, name),
+        None => Told::Unclear(Origin::Link),
+    }
+}
+
+fn link_name(target: &str) -> Option<&str>
+    ensures { option_map (λ name. name.now) result ≡ link_name target.now }
+{
+    if let Some(name) = after_prefix("/usr/share/zoneinfo/", target) {
+        return Some(name);
+    }
+    after_prefix("../usr/share/zoneinfo/", target)
+}
+
+fn after_prefix<'t>(prefix: &str, text: &'t str) -> Option<&'t str>
+    ensures { option_map (λ rest. rest.now) result ≡ after_prefix prefix.now text.now }
+{
+    text.strip_prefix(prefix)
+}
+
+/// Returns whether a name is `UTC`, ignoring case.
+fn is_utc_name(text: &str) -> bool
+    ensures { result ≡ is_utc_name text.now }
+{
+    text.eq_ignore_ascii_case("utc")
+}
