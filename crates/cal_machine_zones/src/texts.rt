@@ -66,8 +66,8 @@ fn offset_zone(text: &str) -> Told<'_>
     }
 }
 
-/// Returns the zone of the value of `TZ` (tzset(3)), or `None` if it is the file `/etc/localtime`, whose link says which
-/// zone it is.
+/// Returns the zone of the value of `TZ` (tzset(3)). Returns `None` if the value is the file `/etc/localtime`, whose
+/// link says which zone it is.
 pub(crate) fn variable_zone(alloc: Global, text: &str) -> Option<Told<'_>>
     ensures zone { option_map shown_told result ≡ variable_zone text.now }
     ensures offset { IfSome result HasOffset }
