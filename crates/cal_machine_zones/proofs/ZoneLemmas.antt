@@ -1,11 +1,14 @@
 -- Tables of the zones of a machine.
-use Rattle.std.proofs.Common.{◌≡◌, ℕ, List, Bool, true, false, Option, Some, None, refl, sym, ap, ◌∙◌, arith}
+use Rattle.std.proofs.Common.{◌≡◌, ℕ, List, ◌∷◌, map, take, drop, string_bytes, Bool, true, false, Option, Some, None, refl, sym, ap, ◌∙◌, arith}
 use Rattle.std.specs.Prelude.{◌||◌, IfSome, MatchOption, is_some}
 use Rattle.std.specs.FinMap.{empty, get-empty, insert}
 use Rattle.std.specs.Option.{option_map, unwrap_or}
 use Rattle.std.specs.Str.{bytes_eq}
-use Rattle.std.proofs.lemmas.Bool.{both_ways}
-use Rattle.std.proofs.lemmas.List.{append-nil}
+use Rattle.std.proofs.lemmas.Bool.{both_ways, false≢true}
+use Rattle.std.proofs.lemmas.List.{append-nil, drop-map}
+use Rattle.std.specs.List.{list_any, take-map}
+use Rattle.std.specs.Prelude.{String}
+use Rattle.std.specs.declared.alloc.Global.{Global}
 use Rattle.std.proofs.lemmas.Option.{none-some}
 use Rattle.std.specs.Cmp.Lexicographic.{slice_cmp}
 use Rattle.std.specs.Ordering.{nat_cmp}
@@ -20,7 +23,8 @@ use Rattle.cal_zone.specs.ZoneTable.{is_taken}
 use Rattle.cal_zone.specs.headline.ZoneMap.{ZoneMap}
 use Rattle.cal_zone.specs.headline.ZoneTable.{zone_named}
 use Rattle.cal_zone.proofs.ZoneMapLemmas.{zone_named-here, zone_named-elsewhere}
-use Rattle.cal_machine_zones.specs.ZoneFiles.{HasZonesOf, IsAdded, IsZoneOn}
+use Rattle.cal_machine_zones.specs.ZoneFiles.{HasZonesOf, IsAdded, IsFirstError, IsLoadError, IsZoneOn}
+use Rattle.cal_machine_zones.specs.declared.fault.ZonesFault.{ZonesFault}
 
 -- a name that isn't taken isn't UTC
 pub free_is_other : (table : ZoneMap) (name : List ℕ) → is_taken table name ≡ false → is_utc_name name ≡ false
@@ -89,3 +93,27 @@ pub added_zones : (machine : Machine) (old new : ZoneMap) (name : List ℕ) (IsZ
     → IsZoneOn machine name a.zone → HasZonesOf machine old → HasZonesOf machine new
 added_zones machine old new name IsZone a on held other utc =
     rw (a.added) (held_if machine old name a.zone other a.other on (held other utc) (bytes_eq other name) refl)
+
+either_of : (a b : Bool) → a ≡ false → b ≡ true → (a || b) ≡ true
+either_of a b off on = rw (off, on) refl
+
+usable_of : (machine : Machine) (other : List ℕ) (o : Option TimeZone) → is_some o ≡ true → IfSome o (IsZoneOn machine other) → (zone : TimeZone) × IsZoneOn machine other zone
+usable_of machine other None there on = absurd (false≢true there)
+usable_of machine other (Some zone) there on = (zone, on)
+
+-- the error of the name at a place, when the names before it are in the table
+pub error_at : (machine : Machine) (names : List (String Global)) (place : ℕ) (name : List ℕ) (after : List (List ℕ)) (table : ZoneMap) (fault : ZonesFault)
+    → map string_bytes (drop place names) ≡ name ∷ after → IsLoadError machine name fault
+    → ((other : List ℕ) → is_some (zone_named table other) ≡ (is_utc_name other || list_any (bytes_eq other) (map string_bytes (take place names))))
+    → HasZonesOf machine table → IsFirstError machine (map string_bytes names) fault
+error_at machine names place name after table fault at error known zones =
+    record {
+      place = place;
+      name = name;
+      after = after;
+      is_at = drop-map string_bytes place names ∙ at;
+      is_error = error;
+      earlier = λ other any utc.
+          usable_of machine other (zone_named table other)
+          (known other ∙ either_of _ _ utc (ap (list_any (bytes_eq other)) (sym (take-map string_bytes place names)) ∙ any)) (zones other utc);
+    }

@@ -1,5 +1,7 @@
 -- The zone files of a machine, in /usr/share/zoneinfo (tzset(3), localtime(5)).
-use Rattle.std.specs.Prelude.{◌≡◌, ℕ, false, List, ◌++◌, IfSome, MatchOption}
+use Rattle.std.specs.Prelude.{◌≡◌, ⊤, ℕ, true, false, List, ◌∷◌, ◌++◌, None, IfSome, MatchOption, drop, string_bytes, take}
+use Rattle.std.specs.List.{list_any}
+use Rattle.std.specs.Str.{bytes_eq}
 use Rattle.std.specs.FinMap.{insert}
 use Rattle.jiff.specs.Types.{TimeZone}
 use Rattle.cal_civil.specs.headline.ZoneName.{is_utc_name}
@@ -8,6 +10,10 @@ use Rattle.cal_zone.specs.ZoneFile.{IsFileZone}
 use Rattle.cal_zone.specs.headline.ZoneMap.{ZoneMap}
 use Rattle.cal_zone.specs.headline.ZoneTable.{zone_named}
 use Rattle.cal_machine_zones.specs.LocalZone.{zone_folder}
+use Rattle.cal_machine_zones.specs.declared.fault.FileReason.{FileReason}
+use Rattle.cal_machine_zones.specs.declared.fault.FileReason.TheVariants as reasons
+use Rattle.cal_machine_zones.specs.declared.fault.ZonesFault.{ZonesFault}
+use Rattle.cal_machine_zones.specs.declared.fault.ZonesFault.TheVariants as faults
 
 abbrev pub zone_path : List ℕ → List ℕ
 zone_path name = zone_folder ++ name
@@ -27,3 +33,24 @@ pub record IsAdded (old new : ZoneMap) (name : List ℕ) (IsZone : TimeZone → 
   pub is_zone : IsZone zone
   pub other : is_utc_name name ≡ false
   pub added : new ≡ insert old name zone
+
+abbrev pub IsReasonOn : Machine → List ℕ → FileReason → Type 0
+IsReasonOn machine name reasons.NotFound = machine.file (zone_path name) ≡ None
+IsReasonOn machine name (reasons.Load fault) = ⊤
+
+-- whether loading the zone of this name can fail with this error
+abbrev pub IsLoadError : Machine → List ℕ → ZonesFault → Type 0
+IsLoadError machine name (faults.Unclear origin) = ⊥
+IsLoadError machine name (faults.Unread origin) = ⊥
+IsLoadError machine name (faults.At path reason) = (string_bytes path ≡ zone_path name) × IsReasonOn machine name reason
+IsLoadError machine name faults.NoMemory = ⊤
+
+-- The error is that of one of the names, and the files of all names before it, except UTC, are zone files.
+pub record IsFirstError (machine : Machine) (names : List (List ℕ)) (fault : ZonesFault) : Type 0 where
+  pub place : ℕ
+  pub name : List ℕ
+  pub after : List (List ℕ)
+  pub is_at : drop place names ≡ name ∷ after
+  pub is_error : IsLoadError machine name fault
+  pub earlier : (other : List ℕ) → list_any (bytes_eq other) (take place names) ≡ true → is_utc_name other ≡ false
+      → (zone : TimeZone) × IsZoneOn machine other zone

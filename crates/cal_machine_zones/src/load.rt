@@ -1,12 +1,12 @@
 //! Loading of the zones that expressions name.
 
-ghost use Rattle.std.specs.Prelude.{◌≡◌, ◌||◌, ℕ, List, IfOk, IfSome, OnOk, is_some, map, string_bytes};
+ghost use Rattle.std.specs.Prelude.{◌≡◌, ◌||◌, ℕ, List, IfErr, IfOk, OnOk, is_some, map, string_bytes};
 ghost use Rattle.std.specs.List.{list_any};
 ghost use Rattle.std.specs.Str.{bytes_eq};
 ghost use Rattle.cal_civil.specs.headline.ZoneName.{is_utc_name};
 ghost use Rattle.cal_units.specs.Machine.{Machine};
 ghost use Rattle.cal_zone.specs.headline.ZoneTable.{zone_named};
-ghost use Rattle.cal_machine_zones.specs.ZoneFiles.{HasZonesOf, IsAdded, IsZoneOn, zone_path};
+ghost use Rattle.cal_machine_zones.specs.ZoneFiles.{HasZonesOf, IsAdded, IsFirstError, IsLoadError, IsZoneOn, zone_path};
 
 use crate::fault::{FileReason, ZonesFault};
 use cal_units::{Tree, TreeFault};
@@ -27,10 +27,14 @@ pub fn load_zones<T: Tree>(
     ensures names { IfOk result (λ table. (name : List ℕ) → is_some (zone_named table name)
         ≡ (is_utc_name name || list_any (bytes_eq name) (map string_bytes names.now))) }
     ensures zones { IfOk result (λ table. (machine : Machine) → T.shows tree.now machine → HasZonesOf machine table) }
+    ensures fault { IfErr result (λ fault. (machine : Machine) → T.shows tree.now machine
+        → IsFirstError machine (map string_bytes names.now) fault) }
 {
     let mut table = ZoneTable::new(alloc);
     for name in names {
-        load_name(alloc, tree, &mut table, name.as_str())?;
+        if let Err(fault) = load_name(alloc, tree, &mut table, name.as_str()) {
+            return Err(fault);
+        }
     }
     Ok(table)
 }
@@ -46,6 +50,8 @@ fn load_name<T: Tree>(
         ≡ (is_some (zone_named table.old other) || bytes_eq other name.now)) }
     ensures zones { OnOk result ((machine : Machine) → T.shows tree.now machine
         → HasZonesOf machine table.old → HasZonesOf machine table.new) }
+    ensures fault { IfErr result (λ fault. (machine : Machine) → T.shows tree.now machine
+        → IsLoadError machine name.now fault) }
 {
     if table.find(name).is_some() {
         return Ok(());
@@ -60,8 +66,10 @@ fn add_zone<T: Tree>(
     table: &mut ZoneTable,
     name: &str,
 ) -> Result<(), ZonesFault>
-    ensures { OnOk result (IsAdded table.old table.new name.now
+    ensures added { OnOk result (IsAdded table.old table.new name.now
         (λ zone. (machine : Machine) → T.shows tree.now machine → IsZoneOn machine name.now zone)) }
+    ensures fault { IfErr result (λ fault. (machine : Machine) → T.shows tree.now machine
+        → IsLoadError machine name.now fault) }
 {
     let path = zone_path(alloc, name)?;
     let mut file = match tree.open(path.as_str()) {

@@ -4,8 +4,8 @@ use Rattle.cal_machine_zones.specs.ZoneFiles.{zone_path}
 use Rattle.cal_machine_zones.proofs.ZoneLemmas.{free_is_other, loaded_on}
 use Rattle.cal_machine_zones.proofs.load.add_zone.Goals as goal
 
-pub returns-in-Ok : goal.returns-in-Ok
-returns-in-Ok g c =
+pub returns-in-Ok-clause-added : goal.returns-in-Ok-clause-added
+returns-in-Ok-clause-added g c =
     let l = c.in-Ok.ensures.loaded in
     let opened : c.in-Ok-Some.field-0 ≡ Some c.in-Ok-Some.file = search (rules, c.in-Ok-Some.field-0-is, c.in-Ok-Some.file-is) in
     record {
