@@ -7,7 +7,7 @@ use Rattle.cal_machine_zones.proofs.load.add_zone.Goals as goal
 pub returns-in-Ok-clause-added : goal.returns-in-Ok-clause-added
 returns-in-Ok-clause-added g c =
     let l = c.in-Ok.ensures.loaded in
-    let opened : c.in-Ok-Some.field-0 ≡ Some c.in-Ok-Some.file = search (rules, c.in-Ok-Some.field-0-is, c.in-Ok-Some.file-is) in
+    let opened : c.in-Ok-Some.field-0 ≡ Some c.in-Ok-Some.file = search (rules, c.in-Ok-Some.field-0-is) in
     record {
       zone = l.zone;
       is_zone = λ machine shows.
