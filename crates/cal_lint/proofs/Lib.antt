@@ -1,3 +1,4 @@
 mod DigitLemmas
 mod DoubtsRows
+mod FindingsLemmas
 mod Systemd252Rows

@@ -56,7 +56,7 @@ pub fn find_unknown_keys(alloc: Global, first: u32, text: &str) -> Result<Vec<Se
     Ok(found)
 }
 
-fn is_unknown_key(key: &str) -> bool
+pub(crate) fn is_unknown_key(key: &str) -> bool
     ensures { result ≡ is_unknown_key key.now }
 {
     if is_among(&KNOWN_KEYS, key.as_bytes()) {

@@ -1,0 +1,12 @@
+use Rattle.std.proofs.Common.{◌≡◌, ◌++◌, length, map}
+use Rattle.std.specs.List.{flat_map}
+use Rattle.cal_lint.specs.Findings.{findings_in, reports_of, shown_finding, timer_faults}
+use Rattle.cal_lint.proofs.problems.findings.Given as goal
+
+-- the problems found so far, followed by those of the remaining settings, are all
+abbrev pub invariant-loop-found : goal.invariant-loop-found
+invariant-loop-found l =
+    map shown_finding l.found.items ++ flat_map (reports_of (timer_faults l.text)) l.settings ≡ findings_in l.text
+
+abbrev pub decreases-loop-found : goal.decreases-loop-found
+decreases-loop-found l = length l.settings

@@ -1,0 +1,97 @@
+-- All problems of a timer's settings, in the order of their lines: systemd.timer(5), Options.
+use Rattle.std.specs.Prelude.{ℕ, ◌==◌, Bool, false, not, ◌&&◌, ◌||◌, if◌then◌else◌, List, [], ◌∷◌, ◌++◌, codes, map, Option, None, Some, Result, Ok, Err}
+use Rattle.std.specs.List.{find, flat_map, list_any}
+use Rattle.std.specs.Option.{option_map, option_to_list}
+use Rattle.cal_lines.specs.headline.Lines.{logical_lines}
+use Rattle.cal_spec.specs.Expr.{expr_in}
+use Rattle.cal_spec.specs.declared.spec_fault.SpecFault.{SpecFault}
+use Rattle.cal_timer.specs.TimerFault.{line_of}
+use Rattle.cal_timer.specs.headline.Assignments.{Assignment}
+use Rattle.cal_timer.specs.headline.TimerText.{is_exception, is_expression, without_mark}
+use Rattle.cal_timer.specs.declared.fault.TimerFault.{TimerFault}
+use Rattle.cal_read.specs.Settings.{settings_in}
+use Rattle.cal_read.specs.TimerFaults.{all_faults, in_file}
+use Rattle.cal_read.specs.declared.texts.FileFault.{FileFault}
+use Rattle.cal_lint.specs.Doubts.{doubt_in}
+use Rattle.cal_lint.specs.Systemd252.{rejection_in}
+use Rattle.cal_lint.specs.UnknownKeys.{is_unknown_key}
+use Rattle.cal_lint.specs.declared.problems.Finding.{Finding}
+use Rattle.cal_lint.specs.declared.problems.Kind.{Kind}
+use Rattle.cal_lint.specs.declared.problems.Kind.TheVariants.{Error, Warning}
+use Rattle.cal_lint.specs.declared.problems.Problem.{Problem}
+use Rattle.cal_lint.specs.declared.problems.Problem.TheVariants.{Invalid, UnknownKey, Rejected, Doubtful}
+
+-- a percent sign, which begins a specifier: systemd.unit(5), Specifiers
+abbrev pub is_percent : ℕ → Bool
+is_percent b = b == 37
+
+-- whether the setting is an expression or an exception without specifiers; with specifiers, its text isn't known before
+-- systemd loads the unit
+abbrev pub is_checked : Assignment → Bool
+is_checked a = (is_expression a || is_exception a) && not (list_any is_percent a.value)
+
+abbrev pub is_at : ℕ → Option ℕ → Bool
+is_at number None = false
+is_at number (Some line) = line == number
+
+-- whether an error belongs to the line with this number
+abbrev pub is_on : ℕ → FileFault → Bool
+is_on number found = is_at number (line_of found.fault)
+
+-- the error in the line with this number
+abbrev pub fault_on : List FileFault → ℕ → Option TimerFault
+fault_on faults number = option_map (λ found. found.fault) (find (is_on number) faults)
+
+-- what a function of valid expressions returns for this one, or None if the expression is invalid
+abbrev pub if_valid : {A : Type 0} → Result (Option A) SpecFault → Option A
+if_valid (Ok x) = x
+if_valid (Err e) = None
+
+-- what is said of a value that is a valid expression: why systemd 252 rejects it, and why it may not be meant
+abbrev pub advice : List ℕ → List Problem
+advice value =
+    option_to_list (option_map Rejected (if_valid (rejection_in value)))
+    ++ option_to_list (option_map Doubtful (if_valid (doubt_in value)))
+
+abbrev pub value_problems : Option TimerFault → List ℕ → List Problem
+value_problems (Some fault) value = Invalid fault ∷ []
+value_problems None value = advice value
+
+-- the problems of a setting, given all errors of the text
+abbrev pub problems_of : List FileFault → Assignment → List Problem
+problems_of faults a =
+    if is_unknown_key a.key then UnknownKey ∷ []
+    else (if is_checked a then value_problems (fault_on faults a.number) a.value else [])
+
+abbrev pub kind_of : Problem → Kind
+kind_of (Invalid fault) = Error
+kind_of UnknownKey = Error
+kind_of (Rejected rejection) = Error
+kind_of (Doubtful doubt) = Warning
+
+-- what contracts say of a finding: its line, its kind and its problem
+pub record Report : Type 0 where
+  pub line : ℕ
+  pub kind : Kind
+  pub problem : Problem
+
+abbrev pub report_at : ℕ → Problem → Report
+report_at number problem = record { line = number; kind = kind_of problem; problem = problem }
+
+abbrev pub shown_finding : Finding → Report
+shown_finding finding = record { line = finding.line; kind = finding.kind; problem = finding.problem }
+
+abbrev pub reports_of : List FileFault → Assignment → List Report
+reports_of faults a = map (report_at a.number) (problems_of faults a)
+
+-- the settings of a timer, whose first line has the number 1
+abbrev pub timer_settings : List ℕ → List Assignment
+timer_settings text = settings_in (codes "Timer") false (logical_lines 1 (without_mark text))
+
+-- all errors of a timer, as `find_faults` returns them
+abbrev pub timer_faults : List ℕ → List FileFault
+timer_faults text = map (in_file 0) (all_faults expr_in [] (timer_settings text))
+
+-- the problems of all settings, in order
+abbrev pub findings_in : List ℕ → List Report
+findings_in text = flat_map (reports_of (timer_faults text)) (timer_settings text)

@@ -1,0 +1,327 @@
+//! All problems of a timer as data, for programs that print or mark them.
+
+ghost use Rattle.std.specs.Prelude.{◌≡◌, ◌+◌, ◌<◌, ◌^◌, ◌++◌, ◌∷◌, [], IfOk, OnOk, length, map};
+ghost use Rattle.std.specs.List.{find, list_any};
+ghost use Rattle.std.specs.Option.{option_map, option_to_list};
+ghost use Rattle.cal_read.specs.Settings.{shown_setting};
+ghost use Rattle.cal_timer.specs.AssignmentView.{shown_assignment};
+ghost use Rattle.cal_lint.specs.Doubts.{doubt_in};
+ghost use Rattle.cal_lint.specs.Systemd252.{rejection_in};
+ghost use Rattle.cal_lint.specs.Findings.{advice, fault_on, findings_in, if_valid, is_checked, is_on, is_percent, kind_of, report_at, reports_of, shown_finding, timer_faults};
+ghost use Rattle.cal_lint.specs.declared.problems.Problem.TheVariants.{Doubtful, Invalid, Rejected};
+
+use crate::doubts::{Doubt, find_doubt};
+use crate::hints::{Hint, Mistake, find_hint};
+use crate::older_systemd::{Rejection, systemd_252};
+use crate::unknown_keys::is_unknown_key;
+use cal_read::{
+    Assignment, FileFault, Setting, Settings, TimerFault, UnitText, find_faults, without_mark,
+};
+use cal_spec::{SpecFault, fault_span};
+use std::alloc::{AllocError, Global};
+
+/// How serious a problem is.
+#[derive(Clone, Copy, PartialEq, Eq, Debug)]
+pub enum Kind {
+    /// This project or systemd 252 doesn't accept the setting.
+    Error,
+    /// The setting is accepted, but may not mean what its author thinks.
+    Warning,
+}
+
+/// What is wrong with a setting.
+#[derive(Clone, Copy, PartialEq, Eq, Debug)]
+pub enum Problem {
+    /// The expression or the exception is invalid, or its list is full.
+    Invalid(TimerFault),
+    /// systemd 252 doesn't know the key.
+    UnknownKey,
+    /// systemd 252 rejects the expression, which is valid here.
+    Rejected(Rejection),
+    /// The expression is valid and rarely meant.
+    Doubtful(Doubt),
+}
+
+impl Problem {
+    /// Returns whether the problem is an error or only a warning.
+    pub fn kind(self) -> Kind
+        ensures { result ≡ kind_of self }
+    {
+        match self {
+            Problem::Doubtful(_) => Kind::Warning,
+            _ => Kind::Error,
+        }
+    }
+}
+
+/// A problem of a unit file, and where it is.
+#[derive(Debug, Drop)]
+pub struct Finding {
+    /// The number of the setting's line, from 1. A continued line has the number of its first physical line.
+    pub line: u32,
+    /// The byte of the line, counted from 1, at which the word at fault begins: the key if it is unknown, and otherwise
+    /// a word of the value. If the line is continued, this is 1.
+    pub column: u32,
+    pub kind: Kind,
+    pub problem: Problem,
+    /// What an invalid expression looks like, if that is known.
+    pub mistake: Option<Mistake>,
+    /// A valid expression to write instead, if one is known.
+    pub suggestion: Option<String>,
+}
+
+/// Returns all problems of the settings in the sections `Timer` of a unit file (systemd.timer(5), Options), in order.
+/// The first line has the number 1.
+///
+/// These are the settings with unknown keys, as [`crate::find_unknown_keys`] returns them, and the errors that
+/// [`find_faults`] returns, and of the other expressions and exceptions what [`systemd_252`] and [`find_doubt`] return.
+/// Values with a `%` are not checked, since systemd replaces specifiers when it loads the unit (systemd.unit(5),
+/// Specifiers). Fails only if allocation fails.
+pub fn findings(alloc: Global, text: &str) -> Result<Vec<Finding>, AllocError>
+    requires { 1 + length text.now < 2 ^ 32 }
+    ensures { IfOk result (λ found. map shown_finding found.items ≡ findings_in text.now) }
+{
+    let faults = faults_of(alloc, text)?;
+    let lines: Vec<&str> = without_mark(text).lines().collect(alloc)?;
+    let mut found = Vec::new(alloc);
+    let mut settings = Settings::new("Timer", 1, without_mark(text));
+    while let Some(setting) = settings.next(alloc)? {
+        add_findings(
+            alloc,
+            &mut found,
+            &faults,
+            &setting,
+            line_of(&lines, setting.number),
+        )?;
+    }
+    Ok(found)
+}
+
+/// Returns all errors in the lines of one text, whose first line has the number 1.
+fn faults_of(alloc: Global, text: &str) -> Result<Vec<FileFault>, AllocError>
+    requires { 1 + length text.now < 2 ^ 32 }
+    ensures { IfOk result (λ found. found.items ≡ timer_faults text.now) }
+{
+    find_faults(alloc, &[UnitText { first: 1, text }])
+}
+
+/// Appends the problems of a setting in this physical line.
+fn add_findings(
+    alloc: Global,
+    found: &mut Vec<Finding>,
+    faults: &[FileFault],
+    setting: &Setting,
+    line: &str,
+) -> Result<(), AllocError>
+    ensures { OnOk result (map shown_finding found.new.items
+        ≡ map shown_finding found.old.items ++ reports_of faults.now (shown_setting setting.now)) }
+{
+    if is_unknown_key(setting.key.as_str()) {
+        let column = key_column(line, setting.key.as_str());
+        found.push(plain_finding(setting.number, column, Problem::UnknownKey))?;
+        return Ok(());
+    }
+    if !is_checked(setting) {
+        return Ok(());
+    }
+    match fault_on(faults, setting.number) {
+        Some(fault) => add_invalid(alloc, found, setting, line, fault),
+        None => add_advice(alloc, found, setting, line),
+    }
+}
+
+/// Appends the error of an expression or exception.
+fn add_invalid(
+    alloc: Global,
+    found: &mut Vec<Finding>,
+    setting: &Setting,
+    line: &str,
+    fault: TimerFault,
+) -> Result<(), AllocError>
+    ensures { OnOk result (map shown_finding found.new.items
+        ≡ map shown_finding found.old.items ++ report_at setting.now.number (Invalid fault) ∷ []) }
+{
+    let value = setting.value.as_str();
+    let start = fault_start(alloc, value)?;
+    let (mistake, suggestion) = advice_for(alloc, fault, value)?;
+    found.push(Finding {
+        line: setting.number,
+        column: value_column(line, value, start),
+        kind: Kind::Error,
+        problem: Problem::Invalid(fault),
+        mistake,
+        suggestion,
+    })?;
+    Ok(())
+}
+
+/// Appends why systemd 252 rejects a valid expression, and why it may not be meant.
+fn add_advice(
+    alloc: Global,
+    found: &mut Vec<Finding>,
+    setting: &Setting,
+    line: &str,
+) -> Result<(), AllocError>
+    ensures { OnOk result (map shown_finding found.new.items ≡ map shown_finding found.old.items
+        ++ map (report_at setting.now.number) (advice (shown_setting setting.now).value)) }
+{
+    let value = setting.value.as_str();
+    let column = value_column(line, value, 0);
+    let rejected = rejection_of(alloc, value)?;
+    let doubt = doubt_of(alloc, value)?;
+    push_problem(
+        found,
+        setting.number,
+        column,
+        rejected.map(|rejection| Problem::Rejected(rejection)),
+    )?;
+    push_problem(
+        found,
+        setting.number,
+        column,
+        doubt.map(|doubt| Problem::Doubtful(doubt)),
+    )
+}
+
+/// Appends a problem without a suggestion, if there is one.
+fn push_problem(
+    found: &mut Vec<Finding>,
+    line: u32,
+    column: u32,
+    problem: Option<Problem>,
+) -> Result<(), AllocError>
+    ensures { OnOk result (map shown_finding found.new.items
+        ≡ map shown_finding found.old.items ++ map (report_at line) (option_to_list problem)) }
+{
+    if let Some(problem) = problem {
+        found.push(plain_finding(line, column, problem))?;
+    }
+    Ok(())
+}
+
+/// Returns a finding without a suggestion.
+fn plain_finding(line: u32, column: u32, problem: Problem) -> Finding
+    ensures { shown_finding result ≡ report_at line problem }
+{
+    Finding {
+        line,
+        column,
+        kind: problem.kind(),
+        problem,
+        mistake: None,
+        suggestion: None,
+    }
+}
+
+/// Returns why systemd 252 rejects a valid expression. Fails only if allocation fails.
+fn rejection_of(alloc: Global, value: &str) -> Result<Option<Rejection>, AllocError>
+    ensures { IfOk result (λ found. found ≡ if_valid (rejection_in value.now)) }
+{
+    match systemd_252(alloc, value) {
+        Ok(rejection) => Ok(rejection),
+        Err(SpecFault::NoMemory) => Err(AllocError),
+        Err(_) => Ok(None),
+    }
+}
+
+/// Returns why a valid expression may not be meant. Fails only if allocation fails.
+fn doubt_of(alloc: Global, value: &str) -> Result<Option<Doubt>, AllocError>
+    ensures { IfOk result (λ found. found ≡ if_valid (doubt_in value.now)) }
+{
+    match find_doubt(alloc, value) {
+        Ok(doubt) => Ok(doubt),
+        Err(SpecFault::NoMemory) => Err(AllocError),
+        Err(_) => Ok(None),
+    }
+}
+
+/// Returns what an invalid expression looks like, and what to write instead.
+fn advice_for(
+    alloc: Global,
+    fault: TimerFault,
+    value: &str,
+) -> Result<(Option<Mistake>, Option<String>), AllocError> {
+    match fault {
+        TimerFault::BadLine(_, _) => match find_hint(alloc, value)? {
+            Some(Hint { mistake, instead }) => Ok((Some(mistake), instead)),
+            None => Ok((None, None)),
+        },
+        _ => Ok((None, None)),
+    }
+}
+
+/// Returns whether the setting is an expression or an exception without specifiers.
+fn is_checked(setting: &Setting) -> bool
+    ensures { result ≡ is_checked (shown_setting setting.now) }
+{
+    let assignment = Assignment {
+        number: setting.number,
+        key: setting.key.as_str(),
+        value: setting.value.as_str(),
+    };
+    (assignment.is_expression() || assignment.is_exception())
+        && !setting.value.as_bytes().contains(&b'%')
+}
+
+/// Returns the error in the line with this number.
+fn fault_on(faults: &[FileFault], number: u32) -> Option<TimerFault>
+    ensures { result ≡ fault_on faults.now number }
+{
+    match first_on(faults, number) {
+        Some(found) => Some(found.fault),
+        None => None,
+    }
+}
+
+fn first_on(faults: &[FileFault], number: u32) -> Option<FileFault>
+    ensures { result ≡ find (is_on number) faults.now }
+{
+    faults.iter().copied().find(|found| is_on(number, *found))
+}
+
+fn is_on(number: u32, found: FileFault) -> bool
+    ensures { result ≡ is_on number found }
+{
+    match found.fault.line() {
+        Some(line) => line == number,
+        None => false,
+    }
+}
+
+/// Returns the byte of the value, counted from 0, at which the word at fault begins, or 0 if no word is at fault.
+fn fault_start(alloc: Global, value: &str) -> Result<usize, AllocError> {
+    match fault_span(alloc, value)? {
+        Some(word) => Ok(word.start),
+        None => Ok(0),
+    }
+}
+
+/// Returns the physical line with this number, or an empty text if there is none.
+fn line_of<'t>(lines: &[&'t str], number: u32) -> &'t str {
+    match lines.get((number as usize).saturating_sub(1)) {
+        Some(line) => *line,
+        None => "",
+    }
+}
+
+/// Returns the column of the first byte of the key.
+fn key_column(line: &str, key: &str) -> u32 {
+    match line.find(key) {
+        Some(start) => column_at(start, 0),
+        None => 1,
+    }
+}
+
+/// Returns the column of the byte of the value with this index. Returns 1 if the line doesn't contain the whole value
+/// because it is continued.
+fn value_column(line: &str, value: &str, index: usize) -> u32 {
+    match line.rfind(value) {
+        Some(start) => column_at(start, index),
+        None => 1,
+    }
+}
+
+/// Returns the column, counted from 1, of the byte `index` bytes after the byte `start`.
+fn column_at(start: usize, index: usize) -> u32 {
+    u32::try_from(start.saturating_add(index).saturating_add(1)).unwrap_or(1)
+}
