@@ -2,6 +2,8 @@
 #![tactic(auto)]
 
 #[cfg(test)]
+mod findings;
+#[cfg(test)]
 mod forms;
 #[cfg(test)]
 mod hints;
