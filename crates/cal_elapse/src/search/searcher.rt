@@ -1,7 +1,7 @@
 //! The searcher, which finds an expression's matches one after another and counts its searches. `window` calls it.
 //! Unless the next match is already stored, it calls `next_local` or `next_after` of the module `search`.
 
-ghost use Rattle.std.specs.Prelude.{◌≡◌, ◌%◌, ◌+◌, ◌-◌, ◌*◌, ◌/◌, ◌<◌, ◌≤◌, ◌≤ℤ◌, pos, true, false, max, None, IfSome, unsigned_abs, unwrap_or};
+ghost use Rattle.std.specs.Prelude.{◌≡◌, ◌+◌, ◌-◌, ◌*◌, ◌/◌, ◌<◌, ◌≤◌, ◌≤ℤ◌, pos, true, false, max, None, IfSome, unsigned_abs, unwrap_or};
 ghost use Rattle.std.specs.Option.{option_map};
 ghost use Rattle.cal_civil.specs.Local.{IsLocalSecond};
 ghost use Rattle.cal_civil.specs.headline.Local.{seconds_in_all};
@@ -18,7 +18,7 @@ ghost use Rattle.cal_elapse.specs.Months.{months_in_all, minutes_in_all};
 use crate::bits::{lowest_bit, with_bit, without_lowest};
 use crate::search::{Found, next_after, next_local};
 use crate::{Masks, match_test};
-use cal_civil::LOCAL_END;
+use cal_civil::{LOCAL_END, second_of_day};
 use cal_spec::Expr;
 
 /// The starting point of a search.
@@ -299,7 +299,7 @@ impl Searcher {
         };
         self.found = local;
         self.from = local + 1;
-        self.left = self.masks.seconds >> (second_of_minute(local) + 1);
+        self.left = self.masks.seconds >> (second_of_day(local) % 60 + 1);
         let minute = minute_of(local);
         self.minute = minute + 1;
         self.minutes = self.masks.minutes >> (minute % 60 + 1);
@@ -313,15 +313,6 @@ fn minute_of(local: i64) -> u32
     ensures { result ≡ unsigned_abs local / 60 }
 {
     (local / 60) as u32
-}
-
-/// Returns how many seconds after the start of its minute a local second is, 0 to 59.
-#[tactic(auto, using(cal_civil::proofs::LocalLemmas::local_arith))]
-fn second_of_minute(local: i64) -> u32
-    requires { IsLocalSecond local }
-    ensures { result ≡ unsigned_abs local % 60 }
-{
-    (local % 60) as u32
 }
 
 /// Returns the local second that is `second` seconds after the start of `minute`, which is counted from the start of

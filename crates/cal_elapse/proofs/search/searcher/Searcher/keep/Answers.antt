@@ -20,7 +20,8 @@ pub invariant_of-self-clause-is_left : goal.invariant_of-self-clause-is_left
 invariant_of-self-clause-is_left c =
     let found = rw c.in-Some.is at c.requires in
     let fits : FitsSigned w64 c.in-Some.local = search rules in
-    let second : c.second_of_minute.result ≡ unsigned_abs c.in-Some.local % 60 = simp to_z-of_z at c.second_of_minute.ensures in
+    let of_day : c.second_of_day.result ≡ unsigned_abs c.in-Some.local % 86_400 = simp to_z-of_z at c.second_of_day.ensures in
+    let second : c.second_of_day.result % 60 ≡ unsigned_abs c.in-Some.local % 60 = omega arith in
     rw (next_is (goal.at.invariant_of-self-clause-is_left c).In-Some, to_z-of_z w64 c.in-Some.local fits, second)
     (search (seconds_after c.args.self.now.masks (unsigned_abs c.in-Some.local) found.1))
 
