@@ -263,7 +263,7 @@ high_bits_same m k i h high =
     ∙ (bit_at_cat_high a (k + 1) (2 ^ k) i (omega arith) (omega arith)
     ∙ (sym (bit_at_cat_high a (k + 1) (2 ^ k - 1) i (omega arith) (omega arith)) ∙ ap (λ (x : ℕ). bit_at x i) (sym (less_split m k h))))
 
--- the bitwise OR of `a` and all the words in `xs` is at least `a`
+-- the bitwise OR of `a` and all the numbers in `xs` is at least `a`
 fold_least : (a : ℕ) (xs : List ℕ) → a ≤ fold_l bit_or a xs
 fold_least a [] = omega arith
 fold_least a (x ∷ xs) = omega (arith, le_or_l a x, fold_least (bit_or a x) xs)
@@ -614,8 +614,8 @@ pub none_above : (p : ℕ → Bool) (xs : List ℕ) → length xs ≤ position_o
 none_above p [] past = refl
 none_above p (x ∷ xs) past = grind (arith, none_above p xs)
 
--- if other parts follow `part`, the first line is `part`, without its last byte if this is a carriage return, and the
--- other lines are those of the other parts
+-- `part` and `parts` are the pieces of a text between line feeds. If `parts` isn't empty, the first line of the text is
+-- `part`, without its last byte if this byte is a carriage return, and the other lines are those of `parts`.
 lines_of_more : (part : List ℕ) (parts : List (List ℕ)) → 0 < length parts → lines_of_parts (part ∷ parts) ≡ strip_carriage_return part ∷ lines_of_parts parts
 lines_of_more part [] h = absurd (omega arith)
 lines_of_more part (next ∷ parts) h = refl
@@ -694,7 +694,7 @@ pub boundary_at : (text : List ℕ) (m n : ℕ) → m ≡ n → IsCharBoundary t
 boundary_at text m n e h = let P : ℕ → Type 0 = λ k. IsCharBoundary text k in subst P e h
 
 -- the byte before the longest suffix whose bytes all pass `p` doesn't pass `p`; by `in_suffix`, every byte of this
--- suffix does
+-- suffix passes `p`
 pub before_suffix : (p : ℕ → Bool) (text : List ℕ) → suffix_len p text < length text → p (get_or text (length text - suffix_len p text - 1) 0) ≡ false
 before_suffix p text within =
     let n = suffix_len p text in

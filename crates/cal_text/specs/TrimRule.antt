@@ -3,7 +3,7 @@
 use Rattle.std.specs.Prelude.{◌≡◌, ℕ, Bool, true, false, List, [], ◌∷◌, ◌++◌, reverse}
 use Rattle.std.specs.List.{AllByRecursion}
 
--- the text is empty, or its first character is not a blank
+-- the text is empty, or its first byte is not a blank
 abbrev pub StartsSolid : (ℕ → Bool) → List ℕ → Type 0
 StartsSolid is_blank [] = Unit {0}
 StartsSolid is_blank (b ∷ bs) = is_blank b ≡ false
