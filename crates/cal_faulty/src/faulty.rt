@@ -22,7 +22,8 @@ pub enum Then {
 ///
 /// It reads or writes at most `step` bytes a call and `limit` bytes in all; after that it does what its [`Then`] says.
 /// If a reader runs out of bytes before it reaches the limit, it reports the end of its input. If the buffer can't grow
-/// because allocation fails, `write` returns an error.
+/// because allocation fails, `write` returns an error. A value is meant either for reading or for writing: one count of
+/// bytes serves as the position of the reader and as the length of what was written.
 #[derive(Debug, Drop)]
 pub struct Faulty {
     bytes: Vec<u8>,
