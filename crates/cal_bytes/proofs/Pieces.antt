@@ -1,5 +1,6 @@
 -- Lemmas on writing a text in pieces: if every piece is written, all of the text is written, and if writing a piece
--- fails, a prefix of the text is written.
+-- fails, a prefix of the text is written. `Writes` says that a call has written all of a text if it succeeded, and a
+-- prefix of the text if it failed.
 use Rattle.std.proofs.Common.{◌≡◌, ℕ, List, [], ◌++◌, take, drop, Option, Result, Ok, Err, refl, sym, ap, ◌∙◌, append_assoc, subst}
 use Rattle.std.proofs.KnownBytes.{Appends-nil, Appends-trans}
 use Rattle.std.proofs.lemmas.List.{append-nil, take-append-drop}

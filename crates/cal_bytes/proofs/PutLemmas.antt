@@ -1,4 +1,5 @@
--- Lemmas on texts that several calls write: two calls one after the other, or the calls of a loop.
+-- Lemmas on texts that several calls write: two calls one after the other, or the calls of a loop. `Puts` says what a
+-- call that writes a text does to the sink, and what it returns.
 use Rattle.std.proofs.Common.{◌≡◌, ℕ, List, [], ◌++◌, Result, Ok, Err, false, sym, ◌∙◌, subst}
 use Rattle.std.proofs.KnownBytes.{Appends-nil}
 use Rattle.std.proofs.lemmas.Bool.{false≢true}
@@ -17,7 +18,8 @@ pub record PutsUpTo {W : Type 0} (sink : Ghosts W) (old new : W) (rest text : Li
 module _ {W : Type 0} {sink : Ghosts W} where
   -- Two consecutive calls
 
-  -- if the first of two calls fails, then `Puts` holds for the two texts together and any result that is an error
+  -- if the first of two calls fails, then `Puts` holds for the concatenation of both texts and any result that is an
+  -- error
   pub first_fails : {T E T' E' : Type 0} (a b : W) (first : Result T' E') (r : Result T E) (x y : List ℕ) → Puts sink a b first x → IsErr first → IsErr r → Puts sink a b r (x ++ y)
   first_fails a b (Ok u) r x y p failed is_err = absurd (false≢true failed)
   first_fails a b (Err e) r x y p failed is_err = record {
@@ -25,7 +27,8 @@ module _ {W : Type 0} {sink : Ghosts W} where
     bytes = writes_err _ _ r (x ++ y) is_err (stop _ _ _ x y (x ++ y) (start _ (x ++ y)) p.bytes);
   }
 
-  -- if the first of two calls succeeds, then `Puts` holds for the two texts together and the result of the second call
+  -- if the first of two calls succeeds, then `Puts` holds for the concatenation of both texts and the result of the
+  -- second call
   pub second_ends : {T E T' E' : Type 0} (a b c : W) (first : Result T' E') (r : Result T E) (x y : List ℕ) → Puts sink a b first x → IsOk first → Puts sink b c r y → Puts sink a c r (x ++ y)
   second_ends a b c (Err e) r x y p worked q = absurd (false≢true worked)
   second_ends a b c (Ok u) r x y p worked q = record {
