@@ -3,7 +3,8 @@
 ghost use Rattle.std.specs.Prelude.{◌≡◌, None, false, true, vec_len};
 ghost use Rattle.cal_request.specs.Request.{IsCount, is_timer, seeks_elapses};
 
-/// The verb of a request, which says what to report for each text or for a timer file (systemd-analyze(1)).
+/// The verb of a request, which says what to report for each text or for a timer file. The verb `timer` is this
+/// project's own; systemd-analyze(1) describes the others.
 #[derive(Clone, Copy, PartialEq, Eq, Debug)]
 pub enum Verb {
     /// `calendar`: the normal form of a calendar expression, and its next elapses.
