@@ -77,7 +77,8 @@ positive_taken unit units n fits = grind (arith, nat_tests, lt-ltb, le-div, size
 positive_skipped : (unit : TimeUnit) (units : List TimeUnit) (n : ℕ) → n < size_of unit → positive (counts_of (unit ∷ units) n) ≡ positive (counts_of units (n % size_of unit))
 positive_skipped unit units n below = grind (arith, nat_tests, le-ltb, div-eq_of_lt)
 
--- the counts as a loop prints them: `lead` before the first count, and a space before every other count
+-- the counts as the loop in `push_counts` prints them: `lead` before the first count, and a space before every other
+-- count
 abbrev pub led : List ℕ → List Count → List ℕ
 led lead [] = []
 led lead (c ∷ cs) = lead ++ (count_text c ++ flat_map (λ d. codes " " ++ count_text d) cs)
@@ -89,7 +90,7 @@ led_space (c ∷ cs) = refl
 led_first : (lead : List ℕ) (c : Count) (cs : List Count) → led lead (c ∷ cs) ≡ joined (lead ∷ decimal c.number ∷ unit_name c.unit ∷ []) ++ led (codes " ") cs
 led_first lead c cs = grind (arith, nat_tests, led_space, append_assoc)
 
--- the printed counts are `led` with an empty `lead`, which is how the loop begins
+-- the printed counts are `led` with an empty `lead`, which is how the loop in `push_counts` begins
 pub counts_in_row-led : (cs : List Count) → counts_in_row cs ≡ led [] cs
 unfolding counts_in_row
 counts_in_row-led [] = refl

@@ -1,5 +1,5 @@
--- Lemmas on the first pair of a time span, and on adding it to the sum. Here a number is any word of digits and decimal
--- points.
+-- Lemmas on the first pair of a time span, and on adding a pair to the sum. Here a number is any word of digits and
+-- decimal points.
 use Rattle.std.proofs.Common.{ℕ, ◌+◌, ◌<◌, ◌≤◌, ◌≡◌, true, false, min, List, [], ◌∷◌, Option, Some, None, Result, Ok, Err, MatchOption, MatchResult, refl, sym, ap, ◌∙◌, arith}
 use Rattle.std.specs.Option.{ok_or}
 use Rattle.std.proofs.lemmas.Bool.{false_from_ne_true, le-leb, lt-leb}

@@ -37,8 +37,8 @@ are_runs (s ∷ ss) = runs_first s ss (runs ss) (are_runs ss)
 pub runs_cut : (text : List ℕ) → AreRuns (characters text) (runs (characters text))
 runs_cut text = are_runs (characters text)
 
--- if neighboring runs are of different kinds, this stays so when a character of the first run's kind is joined to that
--- run
+-- if neighboring runs are of different kinds, they still are after a character of the first run's kind is joined to the
+-- first run
 apart_joined : (s w : Piece) (ws : List Piece) → is_kind s.kind w.kind ≡ true → AreApart (w ∷ ws) → AreApart (record { kind = s.kind; text = s.text ++ w.text } ∷ ws)
 apart_joined s w [] same apart = tt
 apart_joined s w (v ∷ ws) same (first, rest) = grind (arith, nat_tests, same_from_is_kind)
@@ -60,7 +60,7 @@ runs_longest text = runs_apart (characters text)
 
 -- There are no other runs
 
--- a run of kind k may stand in front of these runs: there are none, or the first of them is of another kind
+-- a run of kind k may stand in front of these runs: there are no runs, or the first run is of another kind
 abbrev pub BeginsApart : CharKind → List Piece → Type 0
 BeginsApart k [] = Unit {0}
 BeginsApart k (v ∷ ws) = is_kind k v.kind ≡ false

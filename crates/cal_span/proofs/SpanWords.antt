@@ -47,13 +47,13 @@ pub runs_first : (s : Piece) (ss : List Piece) → runs (s ∷ ss) ≡ record { 
 runs_first s [] = rw append-nil refl
 runs_first s (t ∷ ss) = grind (arith, nat_tests, runs_second, runs_first t ss)
 
--- if the first character of `rest`, the bytes from index `len` on, is of this kind, then their longest prefix of this
--- kind consists of this character and the longest prefix of the bytes after it
+-- if the first character of `rest`, the bytes from index `len` on, is of this kind, then the longest prefix of `rest`
+-- that has only characters of this kind consists of this character and the longest such prefix of the bytes after it
 pub front_more : (kind : CharKind) (bytes : List ℕ) (len width : ℕ) (rest : List ℕ) → rest ≡ drop len bytes → characters rest ≡ record { kind = kind; text = take width rest } ∷ characters (drop width rest) → front_of kind (characters (drop len bytes)) ≡ take width (drop len bytes) ++ front_of kind (characters (drop (len + width) bytes))
 front_more kind bytes len width rest at first = grind (arith, nat_tests, is_kind-same, drop-drop)
 
--- if the first character of `rest` is of this kind, the longest prefix that begins with it ends at the same place as
--- the longest prefix of the bytes after it
+-- if the first character of `rest` is of this kind, the longest prefix of `rest` that has only characters of this kind
+-- ends at the same byte as the longest such prefix of the bytes after this character
 pub after_more : (kind : CharKind) (bytes : List ℕ) (len width : ℕ) (rest : List ℕ) → rest ≡ drop len bytes → characters rest ≡ record { kind = kind; text = take width rest } ∷ characters (drop width rest) → after_front kind (characters (drop len bytes)) ≡ after_front kind (characters (drop (len + width) bytes))
 after_more kind bytes len width rest at first = grind (arith, nat_tests, is_kind-same, drop-drop)
 

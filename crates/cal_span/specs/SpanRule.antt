@@ -1,5 +1,5 @@
 -- What the value of a time span is, stated as a rule and not as a computation: systemd.time(7), Parsing Time Spans. The
--- law `one_value` says that the functions of `SpanValue` follow this rule.
+-- law `one_value`, a statement that is proved for all texts, says that the functions of `SpanValue` follow this rule.
 use Rattle.std.specs.Prelude.{ℕ, ◌⊎◌, ◌+◌, ◌<◌, ◌≤◌, ◌≡◌, ⊤, false, List, [], ◌∷◌, ◌++◌, length, Some, None, Result, Ok, Err}
 use Rattle.std.specs.List.{AllByRecursion, flat_map}
 use Rattle.cal_span.specs.declared.span.fault.SpanFault.{SpanFault}
@@ -10,8 +10,8 @@ use Rattle.cal_span.specs.SpanValue.{Piece, Pair, is_kind, worth_of}
 
 -- Runs
 
--- `w` is the run of the characters `ss`: there is at least one, all are of the kind of `w`, and their texts joined are
--- the text of `w`
+-- `w` is the run of the characters `ss`: there is at least one character, all characters are of the kind of `w`, and
+-- their texts joined are the text of `w`
 pub record IsRun (ss : List Piece) (w : Piece) : Type 0 where
   pub some : 0 < length ss
   pub kinds : AllByRecursion (λ s. s.kind ≡ w.kind) ss

@@ -53,7 +53,7 @@ characters (b ∷ c ∷ bytes) =
     if is_micro b c then record { kind = Letter; text = b ∷ c ∷ [] } ∷ characters bytes
     else record { kind = kind_of b; text = b ∷ [] } ∷ characters (c ∷ bytes)
 
--- Words (systemd.time(7), Parsing Time Spans: blanks may come before, between and after them)
+-- Words (systemd.time(7), Parsing Time Spans: blanks may come before, between and after words)
 
 -- puts a character in front of runs: if the first run is of the same kind, it is extended by the character; otherwise
 -- the character is a run of its own
@@ -134,7 +134,7 @@ unfoldable pub number_worth : List ℕ → ℕ → ℕ
 number_worth number size =
     digits_worth (before_first is_point number) (after_first is_point number) size
 
--- the value of a number in this unit, or the error if there is no such unit
+-- the value in microseconds of a number in the given unit, or the error `UnknownUnit` if no unit was found (`None`)
 abbrev pub worth_in : List ℕ → Option TimeUnit → Result ℕ SpanFault
 worth_in number None = Err UnknownUnit
 worth_in number (Some unit) = Ok (number_worth number (size_of unit))

@@ -13,6 +13,7 @@ spellings_of Hour = codes "hours" ∷ codes "hour" ∷ codes "hr" ∷ codes "h" 
 spellings_of Minute = codes "minutes" ∷ codes "minute" ∷ codes "min" ∷ codes "m" ∷ []
 spellings_of Second = codes "seconds" ∷ codes "second" ∷ codes "sec" ∷ codes "s" ∷ []
 spellings_of Millisecond = codes "msec" ∷ codes "ms" ∷ []
--- the last two begin with the micro sign, U+00B5, and the Greek letter mu, U+03BC, respectively
+-- the last two spellings of the microsecond begin with the micro sign, U+00B5, and the Greek letter mu, U+03BC,
+-- respectively
 spellings_of Microsecond =
     codes "usec" ∷ codes "us" ∷ (194 ∷ 181 ∷ codes "s") ∷ (206 ∷ 188 ∷ codes "s") ∷ []

@@ -20,7 +20,7 @@ pub enum SpanFault {
     /// The word of letters after the number is not a unit.
     #[error("unknown unit")]
     UnknownUnit = 3,
-    /// The pairs up to the invalid one add up to more than 9,223,372,036,854,775,807 microseconds.
+    /// A pair takes the sum of the pairs so far over 9,223,372,036,854,775,807 microseconds.
     #[error("time span too large")]
     TooLarge = 4,
 }

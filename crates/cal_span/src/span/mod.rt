@@ -18,7 +18,7 @@ pub struct Span {
 }
 
 impl Span {
-    /// The empty time span.
+    /// The time span of 0 microseconds.
     pub(crate) const ZERO: Span = Span { micros: 0 };
 
     const LIMIT: u64 = 9_223_372_036_854_775_807;

@@ -71,8 +71,8 @@ fn point_index(word: &[u8]) -> Option<usize>
 }
 
 /// Returns how many microseconds the digits after a decimal point add to a number whose unit has `size` microseconds.
-/// `size` is at most a year. The contribution of each digit is rounded down separately. The sum is at most `size`, so the
-/// bound `u64::MAX` of the contract is never reached.
+/// `size` is at most 31,557,600,000,000, the microseconds in a year. The contribution of each digit is rounded down
+/// separately. The sum is at most `size`, so the bound `u64::MAX` of the contract is never reached.
 pub fn fraction_of(digits: &[u8], size: u64) -> u64
     requires digits { IsTrue (list_all is_ascii_digit digits.now) }
     requires size { size ≤ size_of TimeUnit.Year }

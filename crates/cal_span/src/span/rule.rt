@@ -1,4 +1,5 @@
-//! The law that parsing a time span follows the manual.
+//! The law that parsing a time span follows the manual. A law is a function that does nothing; its contract is a
+//! statement that is proved for all arguments.
 
 ghost use Rattle.std.specs.Prelude.{◌≡◌, ℕ, List, Result, Some};
 ghost use Rattle.std.specs.List.{AllByRecursion};

@@ -22,8 +22,8 @@ use itoa::Buffer;
 pub const SPAN_ROOM: usize = 234;
 
 /// Appends a time span as it is printed: its units from the largest to the smallest, without those whose count is zero,
-/// as in `1h 30min`. The empty span is printed as `0` (systemd.time(7), Parsing Time Spans). At most [`SPAN_ROOM`]
-/// bytes are appended, and the caller guarantees that `text` has room for them.
+/// as in `1h 30min`. A span of 0 microseconds is printed as `0` (systemd.time(7), Parsing Time Spans). At most
+/// [`SPAN_ROOM`] bytes are appended, and the caller guarantees that `text` has room for them.
 pub fn push_span(text: &mut ShortText, span: Span)
     requires room { length text.old.items + SPAN_ROOM ≤ SHORT_TEXT_ROOM }
     ensures text { text.new.items ≡ text.old.items ++ span_text span.micros }
@@ -55,13 +55,15 @@ pub fn write_span<W: Sink>(out: &mut W, span: Span) -> Result<(), WriteFault>
     put_all(out, text.as_slice())
 }
 
-/// For every number of microseconds, exactly one text follows the rule `IsSpanText`, and this text is printed.
+/// For every number of microseconds, exactly one text follows the rule `IsSpanText`, and this text is printed. The
+/// function does nothing; its contract is a law, a statement that is proved for all arguments.
 pub fn one_text()
     ensures some { (n : ℕ) → IsSpanText n (span_text n) }
     ensures only { (n : ℕ) (text : List ℕ) → IsSpanText n text → text ≡ span_text n }
 {}
 
-/// Parsing a printed span gives the same span.
+/// Parsing a printed span gives the same span. Like [`one_text`], this function does nothing, and its contract is a
+/// law.
 pub fn text_reads_back()
     ensures { (n : ℕ) → n ≤ limit → span_of (span_text n) ≡ Ok n }
 {}

@@ -3,7 +3,8 @@ use Rattle.cal_span.specs.SpanValue.{characters}
 use Rattle.cal_span.specs.SpanWord.{front_of, after_front}
 use Rattle.cal_span.proofs.span.word.front_len.Given as goal
 
--- the longest prefix of this kind is the bytes so far, followed by the longest prefix of the remaining bytes
+-- the longest prefix that has only characters of the kind `kind` consists of the bytes so far and the longest such
+-- prefix of the remaining bytes
 abbrev pub invariant-loop-found : goal.invariant-loop-found
 invariant-loop-found l = record {
   in_range : l.len ≤ length l.bytes;
