@@ -1,5 +1,5 @@
--- Local seconds are integers in contracts, and natural numbers in some definitions. These lemmas show that the two
--- ranges are the same.
+-- Local seconds are integers in contracts, and natural numbers in some definitions. These lemmas show that the integers
+-- and the natural numbers have the same range.
 use Rattle.std.proofs.Common.{◌≡◌, ◌<◌, arith, nat_lt, negsuc, pos, unsigned_abs, ℕ, ℤ}
 use Rattle.std.proofs.lemmas.Int.{ints, to_z-of_z}
 use Rattle.jiff_core.proofs.SignedLemmas.{signed_arith}

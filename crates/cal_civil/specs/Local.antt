@@ -1,4 +1,5 @@
--- The ranges of local seconds, and of the seconds of Unix time that they are converted to.
+-- The ranges of local seconds, and of the seconds of Unix time that they are converted to. A local second is a second
+-- of a zone's clock, counted from 1970-01-01 00:00:00 on that clock.
 use Rattle.std.specs.Prelude.{ℤ, pos, neg_ℤ}
 use Rattle.jiff_core.specs.Calendar.{IsBetween}
 use Rattle.cal_civil.specs.headline.Local.{last_local_second}
@@ -7,7 +8,8 @@ use Rattle.cal_civil.specs.headline.Local.{last_local_second}
 abbrev pub IsLocalSecond : ℤ → Type 0
 IsLocalSecond local = IsBetween (pos 0) (pos last_local_second) local
 
--- a local second that can be converted to Unix time: in the years 1970 to 2199, or a few days before or after them
+-- a local second in the range that cal_zone converts to Unix time: the years 1970 to 2199, and about four days before
+-- and after them
 abbrev pub CanSettle : ℤ → Type 0
 CanSettle local = IsBetween (neg_ℤ (pos 300_000)) (pos 7_258_500_000) local
 

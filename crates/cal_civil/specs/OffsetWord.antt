@@ -10,7 +10,8 @@ use Rattle.cal_civil.specs.headline.OffsetWord.{begins_with_sign}
 abbrev pub begins_zone : List ℕ → Bool
 begins_zone word = begins_with_letter word || begins_with_sign word
 
--- the number that two bytes stand for, or `None` if they aren't both digits or the number is greater than `greatest`
+-- the number that two bytes stand for, or `None` if one of them isn't a digit, or if the number is greater than
+-- `greatest`
 unfoldable pub two_digits : ℕ → ℕ → ℕ → Option ℕ
 two_digits greatest tens ones =
     let number = digits_value 10 (tens ∷ ones ∷ []) in

@@ -8,6 +8,7 @@ use cal_bytes::{Fill, ShortText, padding, push_all};
 use itoa::Buffer;
 
 /// Appends a UTC offset, given in seconds, in the form `+02:00`, or `+00:53:28` if it isn't a whole number of minutes.
+/// At most 40 bytes are appended, and the caller guarantees that `text` has room for them.
 #[tactic(auto, unfolding(crate::specs::headline::OffsetText::offset_text))]
 pub fn push_offset(text: &mut ShortText, offset: i32)
     requires room { length text.old.items + 40 ≤ SHORT_TEXT_ROOM }
