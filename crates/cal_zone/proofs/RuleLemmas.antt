@@ -141,9 +141,9 @@ apart_wall low high by y d seconds order offset apart =
     let near = moment_near (rule_day y d.date) (first_nanosecond y) (last_nanosecond y) d.time seconds order offset in
     apart_near low high by (pos 93_599_000_000_000) _ _ apart near.0 near.1
 
--- Here `w` is in local time. At the start and at the end of daylight saving time there are a gap and a fold, which have
--- four ends in all. `at` and `other` are on the same side of each of these ends. By the lemma below, `jiff` then
--- reports the same for both: unambiguous, in the gap or in the fold, with the same offsets.
+-- `w` is the start and the end of daylight saving time, here in local time. At these two times there are a gap and a
+-- fold, which have four ends in all. `at` and `other` are on the same side of each of these ends. By the lemma below,
+-- `jiff` then reports the same for both: unambiguous, in the gap or in the fold, with the same offsets.
 pub record AreBeside (std dst : Offset) (w : ℤ × ℤ) (at other : ℤ) : Type 0 where
   pub start : IsBeside w.0 at other
   pub end : IsBeside w.1 at other

@@ -1,4 +1,5 @@
--- The local second whose place is a given instant: systemd.time(7), Calendar Events.
+-- The local second whose place is a given instant: systemd.time(7), Calendar Events. The place of a local second is the
+-- second of Unix time at which a zone's clock first shows it.
 use Rattle.std.specs.Prelude.{◌≡◌, Option, None, Some, ℤ}
 use Rattle.jiff.specs.Types.{TimeZone}
 use Rattle.cal_civil.specs.Local.{IsLocalSecond}

@@ -16,8 +16,8 @@ use cal_civil::DAY;
 
 /// The instants `from..to`, all on one day of a zone's clock and at one UTC offset.
 ///
-/// The text of each of these instants consists of `day` (weekday and date), the time of day (computed from the seconds
-/// since `midnight`) and `word` (the zone).
+/// The text of each of these instants consists of `day` (the weekday and the date, each followed by a space), the time
+/// of day (computed from the seconds since `midnight`) and `word` (a space and the zone).
 #[derive(Drop)]
 pub(crate) struct FormattedDay {
     pub(crate) from: i64,

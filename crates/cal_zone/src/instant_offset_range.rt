@@ -88,8 +88,8 @@ pub(crate) fn constant_offset_until(rules: &Rules, from: Instant) -> Instant
     }
 }
 
-/// Returns the end of the range that starts at `second` and has a constant UTC offset. `next` is the zone's first
-/// transition after `second`, if there is one.
+/// Returns the end of the range that starts at `second` and has a constant UTC offset: the second of `next`, the zone's
+/// first transition after `second`, if there is one, or the end of the year in UTC, whichever is earlier.
 fn instant_range_end(next: Option<Transition>, second: i64) -> i64
     requires { CanSettle second }
     ensures { IsBeforeTransitionUntil (option_map transition_view next) second result }

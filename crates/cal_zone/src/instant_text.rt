@@ -32,6 +32,8 @@ pub fn push_instant(text: &mut ShortText, zone: Zone, instant: Instant)
 }
 
 /// Writes the text of `instant`, as formatted by [`push_instant`].
+///
+/// Fails with [`WriteFault::Failed`] if and only if the sink fails; then only a prefix was written.
 pub fn write_instant<W: Sink>(out: &mut W, zone: Zone, instant: Instant) -> Result<(), WriteFault>
     requires { W.is_failed out.old ≡ false }
     ensures { Puts W.Sink out.old out.new result (instant_text zone.entry instant.secs) }

@@ -1,7 +1,7 @@
 //! Laws of local seconds, dates, zones and offsets, for the proofs of other crates.
 //!
-//! A law is a function that does nothing at run time. Its contract states a fact, and a proof uses this fact by
-//! naming the function.
+//! A law is a function that does nothing at run time. Its contract states a fact, and a proof uses this fact by naming
+//! the function. The place of a local second is the second of Unix time at which a zone's clock first shows it.
 ghost use Rattle.std.specs.Prelude.{◌≡◌, ℕ, ◌/◌, ◌<◌, ℤ, pos, ◌≤ℤ◌, ◌<ℤ◌, ◌+ℤ◌, ◌-ℤ◌, ◌*ℤ◌, List, Some, None, false};
 ghost use Rattle.std.specs.FinMap.{insert};
 ghost use Rattle.jiff.specs.Types.{Date, Fold, Gap, Offset, TimeZone, UTC, Unambiguous};
@@ -24,8 +24,8 @@ pub fn days_have_one_date()
     ensures only { (day : ℤ) (date : Date) → epoch_day date ≡ day → date_of day ≡ date }
 {}
 
-/// There are 7,258,118,400 local seconds. Each of them is in the years 1970 to 2199, and each second of a date in these
-/// years is one of them.
+/// There are 7,258,118,400 supported local seconds, from 0 on. Each of them is in the years 1970 to 2199, and each
+/// second of a date in these years is one of them.
 pub fn local_seconds_are_counted()
     ensures count { seconds_in_all ≡ 7_258_118_400 }
     ensures years { (local : ℕ) → local < seconds_in_all
@@ -51,8 +51,8 @@ pub fn places_show_their_local_time()
     ensures { (tz : TimeZone) (local place : ℤ) → place_of tz local ≡ Some place → local_shown_at tz place ≡ local }
 {}
 
-/// A local second and its place differ by the zone's UTC offset at the place, and so by at most 93,599 seconds. This is
-/// true whatever `jiff`'s conversion returns.
+/// A local second and its place differ by the zone's UTC offset at the place, and so by at most 93,599 seconds. Both
+/// statements hold whatever `jiff`'s conversion returns.
 pub fn places_are_near()
     ensures by_the_offset { (tz : TimeZone) (local place : ℤ) → place_of tz local ≡ Some place
         → local -ℤ place ≡ offset_at tz (nanos_of_seconds place) }

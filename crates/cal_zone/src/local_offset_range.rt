@@ -1,7 +1,7 @@
 //! Ranges of local seconds with a constant UTC offset.
 //!
-//! Inside such a range there is no gap and no fold, so converting a local second to its place is one subtraction.
-//! [`PlaceCache`](crate::PlaceCache) caches one range.
+//! Inside such a range there is no gap and no fold, so converting a local second to its place, the second of Unix time
+//! at which the zone's clock shows it, is one subtraction. [`PlaceCache`](crate::PlaceCache) caches one range.
 
 ghost use Rattle.std.specs.Prelude.{◌≡◌, ◌≤◌, ◌≤ℤ◌, ◌-ℤ◌, IfSome, int_le, option_map, pos, vec_len};
 ghost use Rattle.jiff.specs.Types.{Posix as ByRule};
@@ -47,7 +47,7 @@ pub(crate) fn local_range_at(zone: Zone, local: i64) -> Option<LocalOffsetRange>
     }
 }
 
-/// Returns the range of all local seconds, for a zone with a fixed offset.
+/// Returns the range of all supported local seconds, for a zone with a fixed offset.
 fn all_local_seconds(offset: i64) -> LocalOffsetRange
     ensures from { result.from ≡ pos 0 }
     ensures to { result.to ≡ pos 7_258_118_400 }
@@ -88,8 +88,9 @@ pub(crate) fn local_range_in_table(table: &Tzif, local: i64) -> Option<LocalOffs
 /// range empty.
 ///
 /// After the last transition, the table's POSIX rule decides. If there is no such rule, or if it has no daylight saving
-/// time, the range extends to [`LOCAL_END`]. The caller guarantees that the UTC offset is constant from
-/// [`TRANSITION_MARGIN`] seconds before `local` until `constant_until`.
+/// time, the range extends to [`LOCAL_END`]. Otherwise the range ends at least [`TRANSITION_MARGIN`] seconds before the
+/// rule's next transition and [`MAX_OFFSET`] seconds before `constant_until`. The caller guarantees that the UTC offset
+/// is constant from [`TRANSITION_MARGIN`] seconds before `local` until `constant_until`.
 pub(crate) fn range_end_after_table(table: &Tzif, local: i64, constant_until: Instant) -> i64
     requires local_in { IsLocalSecond local }
     requires constant { HasConstantOffset (zone_of_table table.now) (local -ℤ pos transition_margin) constant_until.secs }
@@ -110,7 +111,9 @@ pub(crate) fn range_end_after_table(table: &Tzif, local: i64, constant_until: In
 }
 
 /// Returns the end of a range of local seconds that starts at `local` and has a constant UTC offset, if the zone is a
-/// POSIX rule. For every other zone, returns `local`, which makes the range empty.
+/// POSIX rule: [`LOCAL_END`] if the rule has no daylight saving time, and otherwise a second that is at least
+/// [`TRANSITION_MARGIN`] seconds before the rule's next transition and [`MAX_OFFSET`] seconds before `constant_until`.
+/// For every other zone, returns `local`, which makes the range empty.
 ///
 /// The caller guarantees that the UTC offset is constant from [`TRANSITION_MARGIN`] seconds before `local` until
 /// `constant_until`.

@@ -1,4 +1,5 @@
-//! Conversion from instants back to local seconds.
+//! Conversion from instants back to local seconds. The place of a local second is the instant at which the zone's clock
+//! first shows it.
 
 ghost use Rattle.std.specs.Prelude.{◌≡◌};
 ghost use Rattle.cal_zone.specs.LocalAt.{IsLocalAt};

@@ -1,5 +1,5 @@
-//! Conversion of many local seconds of one zone to their places and back, with a cached range in which a conversion is
-//! one subtraction or addition.
+//! Conversion of many local seconds of one zone to their places, the seconds of Unix time at which the zone's clock
+//! shows them, and back. Within a cached range, a conversion is one subtraction or addition.
 
 ghost use Rattle.std.specs.Prelude.{◌≡◌, IfSome};
 ghost use Rattle.cal_civil.specs.Local.{IsLocalSecond};
@@ -14,8 +14,8 @@ use crate::{Instant, Zone, place};
 use cal_civil::LOCAL_END;
 use std::marker::Model;
 
-/// After a search that found no range, the next search starts at least this many local seconds later. Until then, local
-/// seconds are converted one by one, since a search costs more than a conversion.
+/// After a search that found no range, the next search is for a local second at least this many seconds later. Until
+/// then, local seconds are converted one by one, since a search costs more than a conversion.
 const SEEK_RETRY_DISTANCE: i64 = 1_000;
 
 /// A converter from local seconds of one zone to their places and back, fast for ascending local seconds.
@@ -130,8 +130,8 @@ impl<'z> PlaceCache<'z> {
         Some(local)
     }
 
-    /// Computes [`PlaceCache::place`] by the zone's rules, for a local second outside the cached range. Also caches a
-    /// range that contains `local`, if such a range is found, for the calls that follow.
+    /// Computes [`PlaceCache::place`] by the zone's rules, for a local second outside the cached range. May also cache
+    /// a range that contains `local`, for the calls that follow.
     #[cold]
     #[inline(never)]
     fn place_outside(&mut self, local: i64) -> Option<i64>

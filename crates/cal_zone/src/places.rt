@@ -1,4 +1,5 @@
-//! Conversion from local seconds to Unix time.
+//! Conversion from local seconds to Unix time. A local second is a second of a zone's clock, counted from 1970-01-01
+//! 00:00:00 on that clock.
 
 ghost use Rattle.std.specs.Prelude.{◌≡◌, ◌-ℤ◌};
 ghost use Rattle.jiff.specs.Words.{IsOffsetSeconds};

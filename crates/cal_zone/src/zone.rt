@@ -30,7 +30,8 @@ impl<'t> Zone<'t> {
     ghost use Rattle.cal_zone.specs.headline.Zone.{is_utc, utc, zone_of};
     ghost use Rattle.cal_zone.specs.headline.FixedOffsetZone.{fixed_offset_zone};
 
-    /// Returns UTC. In UTC, a local second and its place are the same number.
+    /// Returns UTC. In UTC, a local second and its place, the second of Unix time at which the clock shows it, are the
+    /// same number.
     pub fn utc() -> Zone<'static>
         ensures { result ≡ utc }
     {

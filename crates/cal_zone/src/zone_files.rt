@@ -29,7 +29,8 @@ pub enum LoadFault {
 impl LoadFault {
     ghost use Rattle.cal_zone.specs.LoadFault.{message_of};
 
-    /// Returns the message for the user. For `Zone` it is the message of the error inside.
+    /// Returns the message for the user. For `Zone`, this is the message of the error inside, which is empty if memory
+    /// ran out.
     pub fn words(&self) -> &str
         ensures { result.now ≡ message_of self.now }
     {

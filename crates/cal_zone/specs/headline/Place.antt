@@ -1,4 +1,5 @@
--- Conversion from the local seconds of a zone to Unix time.
+-- Conversion from the local seconds of a zone to Unix time. A local second is a second of a zone's clock, counted from
+-- 1970-01-01 00:00:00 on that clock.
 use Rattle.std.specs.Prelude.{◌<◌, ℕ, ℤ, ◌-ℤ◌, Option, Some, None, if◌then◌else◌}
 use Rattle.std.specs.Ordering.{int_eq}
 use Rattle.std.proofs.Common.{arith}
