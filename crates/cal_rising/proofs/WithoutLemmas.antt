@@ -1,5 +1,5 @@
--- Lists without the numbers of exceptions: which numbers they contain, what one round of the loop in `Merge::next`
--- leaves of them, and how `has_onward_in_any` tests whether any exception has a number.
+-- Lists without the numbers of other lists, the exceptions: which numbers they contain, what one round of the loop in
+-- `Merge::next` leaves of them, and how `has_onward_in_any` tests whether at least one exception has a number.
 use Rattle.std.proofs.Common.{None, IfSome, ◌≡◌, ◌≢◌, ◌↔◌, ◌||◌, ◌&&◌, ◌<◌, ◌≤◌, ◌+◌, ℕ, suc, cond, Bool, true, false, not, List, [], ◌∷◌, length, drop, slice_get, get_or, get_or-set_other, set, map, zero, Option, Some, ℤ, ◌≤ℤ◌, int_eq, refl, sym, ap, ◌∙◌, arith}
 use Rattle.std.specs.List.{AllByRecursion, list_any}
 use Rattle.std.specs.List.Sorted.{IsStrictlySortedBy}
@@ -100,7 +100,7 @@ HasAny-any : (n : ℤ) (xss : List (List ℤ)) → HasAny xss n ↔ (list_any (�
 HasAny-any n [] = grind arith
 HasAny-any n (xs ∷ xss) = grind (arith, is_member-Has xs n, Has-is_member xs n, HasAny-any n xss)
 
--- a union contains a number if and only if one of the lists does
+-- a union contains a number if and only if at least one of the lists does
 pub any-union : (n number : ℤ) (has : Bool) (now xss : List (List ℤ)) → number ≡ n → has ≡ list_any (λ xs. is_member int_eq xs number) now → now ≡ xss → has ≡ is_member int_eq (union xss) n
 any-union n number has now xss same e whole = grind (arith, ints, HasAny-any, Has-union, is_member-Has, Has-is_member)
 
@@ -139,14 +139,14 @@ pub behind_all : (n number : ℤ) (at : ℕ) (given now ss : List Peeked) → Ar
     → false ≡ list_any (λ xs. is_member int_eq xs number) (map numbers ss)
 behind_all n number at given now ss h same whole all = grind (arith, ints, any-none)
 
--- if `AreBehind` holds for the index `at`, and the source there has the number, then at least one source had it before
--- any source was read
+-- if `AreBehind` holds for the index `at`, and the source there has the number, then at least one source had the number
+-- before the loop read from the sources
 pub behind_here : (n number : ℤ) (at : ℕ) (given now ss : List Peeked) (s : Peeked) → AreBehind n at given now → n ≡ number → given ≡ ss → at < length given
     → is_member int_eq (numbers (get_or now at s)) n ≡ true → true ≡ list_any (λ xs. is_member int_eq xs number) (map numbers ss)
 behind_here n number at given now ss s h same whole lt has = grind (arith, ints, any-here)
 
--- if a source is replaced, and the old and the new one both have `n` or both lack it, then whether any source has `n`
--- stays the same
+-- if a source is replaced, and the old and the new source both have `n` or both lack it, then whether at least one
+-- source has `n` stays the same
 pub any_replaced : (n : ℤ) (ss : List Peeked) (i : ℕ) (s d : Peeked) → i < length ss → is_member int_eq (numbers s) n ≡ is_member int_eq (numbers (get_or ss i d)) n
     → list_any (λ xs. is_member int_eq xs n) (map numbers (set ss i s)) ≡ list_any (λ xs. is_member int_eq xs n) (map numbers ss)
 any_replaced n [] i s d lt h = absurd (omega arith)

@@ -1,6 +1,6 @@
 -- The merge of several strictly increasing lists into one that contains each number once and none of the numbers of
--- exceptions. It models systemd.timer(5), OnCalendar=: a timer with several expressions elapses whenever one of them
--- does.
+-- other lists, the exceptions. The merge models systemd.timer(5), OnCalendar=: a timer with several expressions elapses
+-- whenever one of them does.
 use Rattle.std.specs.Prelude.{◌≡◌, cond, Bool, List, [], ◌∷◌, Option, None, Some, ℤ, int_lt, slice_get}
 use Rattle.std.specs.Ordering.{int_cmp}
 use Rattle.std.specs.List.Sorted.{IsStrictlySortedBy}

@@ -1,4 +1,5 @@
-//! The merge of several sources into one that returns each number once and skips the numbers of exceptions.
+//! The merge of several sources into one that returns each number once and skips the numbers of other sources, the
+//! exceptions.
 
 ghost use Rattle.std.specs.Prelude.{◌≡◌, ◌++◌, ◌∷◌, [], true, false, IfErr, OnErr, OnOk, slice_get, drop};
 ghost use Rattle.cal_rising.specs.Merge.{merged};

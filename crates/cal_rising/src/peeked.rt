@@ -9,9 +9,9 @@ ghost use Rattle.cal_rising.specs.RisingList.{IsSameFrom};
 use crate::Rising;
 use std::marker::Model;
 
-/// How many times a source may answer that it lacks the number asked for before the next such answer makes it read its
-/// next number. Reading is put off this long because, if a source has few numbers, finding the next one costs far more
-/// than asking whether it has a certain number.
+/// After this many answers that a source lacks the number asked for, the next such answer causes a number to be read
+/// from the source. Reading is put off this long because, if a source has few numbers, finding the next one costs far
+/// more than asking whether it has a certain number.
 const MISSES_BEFORE_STEP: u8 = 128;
 
 /// A source whose next number may have been read ahead ("peeked"). A contract sees the number read ahead, if any, and

@@ -51,8 +51,8 @@ impl<S: Rising> Sources<S> {
         Ok(())
     }
 
-    /// Returns whether `number` is among the remaining numbers of any source. The caller promises not to ask for a
-    /// smaller number again, so numbers below `number` may be dropped.
+    /// Returns whether `number` is among the remaining numbers of at least one source. The caller promises not to ask
+    /// for a smaller number again, so numbers below `number` may be dropped.
     pub fn has_onward(&mut self, number: i64) -> bool
         ensures has { result ≡ is_member int_eq (union self.old) number }
         ensures left { IsSameFrom number (union self.new) (union self.old) }
@@ -117,8 +117,8 @@ fn advance_all_past<S: Rising>(sources: &mut Vec<Peeked<S>>, number: i64)
     }
 }
 
-/// Returns whether `number` is among the remaining numbers of any source. The caller promises not to ask for a smaller
-/// number again, so numbers below `number` may be dropped.
+/// Returns whether `number` is among the remaining numbers of at least one source. The caller promises not to ask for a
+/// smaller number again, so numbers below `number` may be dropped.
 fn has_onward_in_any<S: Rising>(sources: &mut Vec<Peeked<S>>, number: i64) -> bool
     ensures has { result ≡ list_any (λ xs. is_member int_eq xs number) (map numbers sources.old.items) }
     ensures left { (i : ℤ) → number ≤ℤ i → list_any (λ xs. is_member int_eq xs i) (map numbers sources.new.items)
