@@ -8,8 +8,8 @@ ghost use Rattle.cal_lines.specs.LineRule.{AreGroups, lines_of};
 ghost use Rattle.cal_lines.specs.headline.Lines.{Group, Line, groups, is_blank_or_return, logical_lines};
 ghost use Rattle.cal_lines.specs.LogicalRule.{AreLogical};
 
-/// Lines are grouped in exactly one way: each group ends at the first line that isn't continued, or at the end of the
-/// file.
+/// A line that ends in an odd number of backslashes is continued by the next one. Lines are grouped by continuation in
+/// exactly one way: each group ends at the first line that isn't continued, or at the end of the file.
 pub fn one_grouping()
     ensures lines { (lines : List Line) → lines_of (groups lines) ≡ lines }
     ensures some { (lines : List Line) → AreGroups (groups lines) }

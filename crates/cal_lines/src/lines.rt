@@ -183,7 +183,8 @@ pub struct LogicalLine<'t> {
 }
 
 /// Returns the first logical line of `text`, or `None` if `text` has only comments or is empty. `number` is the number
-/// of the first physical line of `text`. Fails only if allocation fails.
+/// of the first physical line of `text`; the caller guarantees that `number` plus the length of `text` is below 2^32.
+/// Fails only if allocation fails.
 pub fn first_logical(
     alloc: Global,
     number: u32,
