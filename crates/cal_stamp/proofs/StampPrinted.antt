@@ -82,8 +82,8 @@ solid_at (b ∷ bs) h = h
 no_sign : (core : List ℕ) (sign : ℕ) (means : List ℕ → Form) → 65 ≤ get_or core 0 0 → sign < 65 → (other : Form) → IsBehindSign (sign ∷ []) means core other → ⊥
 no_sign core sign means capital below other p = absurd (omega (arith, capital, below, ap (λ t. get_or t 0 0) p.1))
 
--- if the last byte of a text is at most 90 (`Z`), the text doesn't end with a blank and a word whose last byte is
--- greater
+-- if the last byte of a text is at most 90 (`Z`), and the last byte of a word is greater, then the text doesn't end
+-- with a blank followed by this word
 no_word : (core word : List ℕ) (means : List ℕ → Form) → last_byte core ≤ 90 → ((blank : ℕ) → last_byte (blank ∷ word) ≤ 90 → ⊥) → (other : Form) → IsBeforeWord word means core other → ⊥
 no_word core word means last apart other p =
     let same : last_byte core ≡ last_byte (p.1 ∷ word) = ap last_byte p.3 ∙ last_of p.0 (p.1 ∷ word) (omega arith) in
@@ -317,7 +317,7 @@ unfolding moment_of_civil_stamp
 moment_back now local secs zone date h back e =
     rw (fits date (day_of local) e) (settle_on_back zone local secs h back)
 
--- The law `printed_instants_read_back`
+-- The proof of `printed_instants_read_back` in `cal_stamp::laws`
 
 -- if the year of a line is from 1970 to 2199, its date and its time are valid, so only its zone can still be invalid
 zone_judged : (now local : ℤ) (at : Setting) (date : Date) (zone : List ℕ) → IsLastWord zone → IsBetween (pos 1_970) (pos 2_199) date.year → epoch_day date ≡ day_of local

@@ -108,7 +108,8 @@ zone_rows =
     ∷ (codes "+02:00" ∷ codes "UTC" ∷ [], Err StrayWord)
     ∷ (codes "UTC" ∷ codes "+02:00" ∷ [], Err StrayWord)
     ∷ (codes "+02:00" ∷ codes "12:00" ∷ [], Err StrayWord)
-    -- the leftmost error is reported
+    -- in the next row, the first word is not a zone and the second is one word too many; the error of the first is
+    -- reported
     ∷ (codes "Mars/One" ∷ codes "+02:00" ∷ [], Err NoSuchZone)
     ∷ []
 

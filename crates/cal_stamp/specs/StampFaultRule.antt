@@ -1,7 +1,8 @@
 -- Which error a timestamp has, stated as a rule and not as a computation: systemd.time(7), Parsing Timestamps. The
 -- words of a civil time are read from the left, and what a word can be depends on the words before it. The first word
 -- that isn't valid in its position decides the error. If all words are valid, the weekday is checked, and then the
--- range. The law `first_error` says that the functions of `Stamp` follow this rule.
+-- range. The law `first_error`, a statement that is proved for all texts, says that the functions of `Stamp` follow
+-- this rule.
 use Rattle.std.specs.Prelude.{ℕ, ◌≡◌, ◌⊎◌, ◌||◌, true, false, ℤ, List, ◌∷◌, ◌++◌, Option, None, Some, is_some, Err}
 use Rattle.std.specs.List.{list_any}
 use Rattle.std.specs.Option.{option_to_list}

@@ -1,5 +1,6 @@
 -- Which moment a timestamp resolves to, stated as a rule and not as a computation: systemd.time(7), Parsing Timestamps.
--- The laws in `cal_stamp::laws` say that the functions of `Stamp` follow this rule.
+-- The laws in `cal_stamp::laws`, statements that are proved for all texts, say that the functions of `Stamp` follow
+-- this rule.
 use Rattle.std.specs.Prelude.{ℕ, ◌≡◌, ◌+◌, ◌*◌, ◌<◌, ℤ, pos, ◌+ℤ◌, ◌-ℤ◌, ◌*ℤ◌, ◌≤ℤ◌, ◌<ℤ◌, List, Option, None, Some, Ok}
 use Rattle.std.specs.Option.{option_to_list}
 use Rattle.jiff.specs.Types.{TimeZone, Weekday}

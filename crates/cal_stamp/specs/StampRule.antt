@@ -1,6 +1,7 @@
 -- Which form a text has, stated as a rule and not as a computation: systemd.time(7), Parsing Timestamps. The law
--- `one_form` says that the functions of `StampForm` follow this rule. The seven forms are tried in the order in which
--- they are defined below; `core` is the text without leading and trailing blanks.
+-- `one_form`, a statement that is proved for all texts, says that the functions of `StampForm` follow this rule. The
+-- seven forms are tried in the order in which they are defined below; `core` is the text without leading and trailing
+-- blanks.
 use Rattle.std.specs.Prelude.{ℕ, ◌≡◌, ◌⊎◌, true, ℤ, pos, neg_ℤ, List, [], ◌∷◌, ◌++◌, codes}
 use Rattle.cal_text.specs.TrimRule.{IsTrimmed}
 use Rattle.cal_text.specs.headline.Words.{is_blank, words}

@@ -42,9 +42,11 @@ pub enum StampFault {
     BadSpan(SpanFault),
     /// A word in the position of the zone begins with a letter, but is not the name of a zone.
     NoSuchZone,
-    /// A word follows the zone, or a word in the position of the zone doesn't begin with a letter and is not an offset.
+    /// A word follows the zone, or a word in the position of the zone begins with a character other than a letter, and
+    /// is not an offset.
     StrayWord,
-    /// The time is before the first moment or after the last.
+    /// The time is before the first moment, 1970-01-01 00:00:00 UTC, or after the last, which is 7,258,211,998.999999
+    /// seconds later.
     OutOfRange,
 }
 

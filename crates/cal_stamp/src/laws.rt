@@ -59,8 +59,8 @@ pub fn spans_count_from_the_present()
 {}
 
 /// `today`, `yesterday` and `tomorrow` resolve to the midnight at which the named day begins. Today is the day that the
-/// clock of the zone shows at present (systemd.time(7), Parsing Timestamps). A midnight in a gap is moved forward by
-/// the length of the gap, and for a midnight in a fold the first occurrence is used.
+/// clock of the timestamp's zone shows at present (systemd.time(7), Parsing Timestamps). A midnight in a gap is moved
+/// forward by the length of the gap, and for a midnight in a fold the first occurrence is used.
 pub fn relative_days_begin_at_midnight()
     ensures { (now : ℤ) (at : Setting) (text : List ℕ) (shift : ℤ) (words : List (List ℕ)) (time : ℤ)
         → HasForm text (from_today shift words)
@@ -88,8 +88,8 @@ pub fn first_error()
         → ((moment_in now at text ≡ Err fault) ↔ HasError now at form fault) }
 {}
 
-/// A timestamp (systemd.time(7), Parsing Timestamps) resolves to a time from the first moment to the last. If a text
-/// stands for any other time, the error is `OutOfRange`.
+/// A timestamp (systemd.time(7), Parsing Timestamps) resolves to a time from the first moment to the last (0 to
+/// 7,258,211,998,999,999 microseconds of Unix time). If a text stands for any other time, the error is `OutOfRange`.
 pub fn moments_are_in_range()
     ensures inside { (now : ℤ) (at : Setting) (text : List ℕ) (time : ℤ) → moment_in now at text ≡ Ok time
         → IsMoment time }
@@ -99,8 +99,8 @@ pub fn moments_are_in_range()
 
 /// If, at an instant, the clock of a zone shows a year from 1970 to 2199 and its UTC offset is a whole number of
 /// minutes, then parsing the instant as it is printed in this zone gives the same instant, whatever the present, the
-/// local zone and the table are (systemd.time(7), Parsing Timestamps). In UTC, this holds for every instant of the
-/// years 1970 to 2199.
+/// local zone and the table of zones are (systemd.time(7), Parsing Timestamps). In UTC, this holds for every instant of
+/// the years 1970 to 2199.
 ///
 /// An offset that isn't a whole number of minutes is printed with seconds, and the parser rejects offsets with seconds
 /// (`StrayWord`). At the first instants, clocks west of UTC show 1969, and at the last instants most clocks show 2200;
