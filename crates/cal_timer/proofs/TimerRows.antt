@@ -1,5 +1,6 @@
--- Examples that check the definitions of timer files. In each example, either every expression is valid and is parsed
--- as its own text (`reads`), or every expression is invalid (`rejects`).
+-- Examples that check the definitions of timer files. Exceptions are expressions after `X-ExceptOnCalendar=`, at which
+-- the timer doesn't elapse. In each example, either every expression is valid and is parsed as its own text (`reads`),
+-- or every expression is invalid (`rejects`).
 use Rattle.std.proofs.Common.{◌≡◌, ℕ, List, [], ◌∷◌, ◌++◌, codes, refl, Result, Ok, Err}
 use Rattle.std.specs.Prelude.{map}
 use Rattle.std.specs.List.{flat_map}
@@ -44,19 +45,20 @@ Row = (List ℕ → Result (List ℕ) SpecFault) × List ℕ × Result (Timer (L
 
 abbrev rows : List Row
 rows =
-    -- a list that is cleared, and a line that is continued after a comment
+    -- in the next row: a list that is cleared, and a line that is continued after a comment
     (reads, file (codes "[Unit]" ∷ codes "Description=x" ∷ codes "[Timer]" ∷ codes "OnCalendar=daily" ∷ codes "OnBootSec=" ∷ continued (codes "OnCalendar=Mon ") ∷ codes "# the minutes" ∷ codes "  *:0/30" ∷ codes "OnCalendar=hourly" ∷ []), gives (entry 6 (codes "Mon  *:0/30") ∷ entry 9 (codes "hourly") ∷ []) [])
-    -- line endings, byte order marks, sections and backslashes
+    -- in the next five rows: line endings, byte order marks, sections and backslashes
     ∷ (reads, 239 ∷ 187 ∷ 191 ∷ codes "[Timer]" ++ 13 ∷ 10 ∷ codes "OnCalendar= a " ++ 13 ∷ 13 ∷ 10 ∷ [], gives (entry 2 (codes "a") ∷ []) [])
     ∷ (reads, file (codes "OnCalendar=a" ∷ codes " [Timer] " ∷ codes "OnCalendar=b" ∷ codes "[Unit]" ∷ codes "OnCalendar=" ∷ []), gives (entry 3 (codes "b") ∷ []) [])
     ∷ (reads, codes "[Timer]" ++ 10 ∷ continued (codes "OnCalendar=a"), gives (entry 2 (codes "a") ∷ []) [])
     ∷ (reads, file (codes "[Timer]" ∷ continued (continued (codes "OnCalendar=a")) ∷ codes "OnCalendar=b" ∷ []), gives (entry 2 (codes "a" ++ 92 ∷ 92 ∷ []) ∷ entry 3 (codes "b") ∷ []) [])
     ∷ (reads, file (codes "[Timer]" ∷ continued (codes "; x ") ∷ codes "OnCalendar=a=b" ∷ []), gives (entry 3 (codes "a=b") ∷ []) [])
-    -- exceptions: only `X-ExceptOnCalendar=` without a value clears the list of exceptions
+    -- in the next three rows: exceptions; only `X-ExceptOnCalendar=` without a value clears the list of exceptions, and
+    -- a file that has no expressions is invalid even if it has exceptions
     ∷ (reads, file (codes "[Timer]" ∷ codes "OnCalendar=daily" ∷ codes "X-ExceptOnCalendar=Sat,Sun 12:00" ∷ codes "OnBootSec=" ∷ codes "OnCalendar=12:00" ∷ []), gives (entry 5 (codes "12:00") ∷ []) (entry 3 (codes "Sat,Sun 12:00") ∷ []))
     ∷ (reads, file (codes "[Timer]" ∷ codes "OnCalendar=a" ∷ codes "X-ExceptOnCalendar=b" ∷ codes "X-ExceptOnCalendar=" ∷ codes "X-ExceptOnCalendar=c" ∷ []), gives (entry 2 (codes "a") ∷ []) (entry 5 (codes "c") ∷ []))
     ∷ (reads, file (codes "[Timer]" ∷ codes "X-ExceptOnCalendar=b" ∷ []), Err NothingToDo)
-    -- errors
+    -- in the remaining rows: errors
     ∷ (rejects, [], Err NothingToDo)
     ∷ (rejects, codes "[Timer]" ++ 10 ∷ codes "OnCalendar=20/4:00", Err (BadLine 2 NoRepeat))
     ∷ (rejects, file (codes "[Timer]" ∷ codes "OnCalendar=daily" ∷ (codes "x" ++ 255 ∷ []) ∷ []), Err (NotUtf8 3))

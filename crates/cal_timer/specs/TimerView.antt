@@ -1,5 +1,6 @@
--- How contracts see a timer: by the contents of its lists, not by where they are in memory. The file also defines what
--- one assignment does to the lists while a timer is read.
+-- How contracts see a timer: by the contents of its lists of expressions and exceptions, not by where the lists are in
+-- memory. An exception is an expression after `X-ExceptOnCalendar=`; when it elapses, the timer doesn't. The file also
+-- defines what one assignment does to the lists while a timer is read.
 use Rattle.std.specs.Prelude.{ℕ, nat_le, Bool, true, false, if◌then◌else◌, List, [], ◌∷◌, ◌++◌, length, Result, Ok, Err, string_bytes}
 use Rattle.cal_spec.specs.headline.Fields.{Fields}
 use Rattle.cal_spec.specs.declared.spec_fault.SpecFault.{SpecFault}
@@ -41,7 +42,8 @@ with_list (Ok es) next = next es
 with_list (Err fault) next = Err fault
 
 -- The lists after the remaining assignments, or the first error, given the lists so far. This definition follows the
--- loop of the code. The law `assignments_add_up` relates it to `entries_or_fault`.
+-- loop of the code. The law `assignments_add_up`, a statement that is proved for all assignments, relates `resumed` to
+-- `entries_or_fault`.
 unfoldable pub resumed : {E : Type 0} → (List ℕ → Result E SpecFault) → Timer E → List Assignment → Result (Timer E) TimerFault
 resumed read lists [] = Ok lists
 resumed read lists (a ∷ after) =

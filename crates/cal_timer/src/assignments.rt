@@ -1,4 +1,6 @@
-//! The assignments of a timer file, and what each of them does (systemd.syntax(7); systemd.timer(5), OnCalendar=).
+//! The assignments of a timer file, and what each of them does to the list of expressions or to the list of exceptions
+//! (systemd.syntax(7); systemd.timer(5), OnCalendar=). An exception is an expression after `X-ExceptOnCalendar=`; when
+//! it elapses, the timer doesn't.
 
 ghost use Rattle.std.specs.Prelude.{◌≡◌, MatchOption, map, true, false};
 ghost use Rattle.std.specs.List.{list_any};
@@ -22,15 +24,15 @@ const TIMER_KEYS: [&[u8]; 6] = [
     b"OnCalendar",
 ];
 
-/// The key of exceptions, which systemd itself ignores. An assignment with this key and an empty value clears the list
-/// of exceptions.
+/// The key of exceptions; systemd itself ignores this key. An assignment with this key and an empty value clears the
+/// list of exceptions.
 const EXCEPTION_KEY: &str = "X-ExceptOnCalendar";
 
 /// An assignment of a unit file: a key and its value, both without leading and trailing blanks and carriage returns.
 #[derive(Clone, Copy)]
 pub struct Assignment<'t> {
-    /// The number of the assignment's line, from 1. If the line is continued, this is the number of its first physical
-    /// line.
+    /// The number of the assignment's line, as passed to [`read_assignment`]. If the line is continued, this is the
+    /// number of its first physical line.
     pub number: u32,
     /// The key, before the first `=`.
     pub key: &'t str,

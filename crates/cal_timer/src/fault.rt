@@ -1,4 +1,5 @@
-//! The errors for timer files.
+//! The errors for timer files. An exception is an expression after `X-ExceptOnCalendar=`; when it elapses, the timer
+//! doesn't.
 
 ghost use Rattle.std.specs.Prelude.{◌≡◌};
 ghost use Rattle.cal_timer.specs.declared.fault.TimerFault.TheVariants.{NoMemory};
@@ -9,8 +10,8 @@ use std::alloc::{AllocError, AllocFailed};
 /// Why a timer file is invalid.
 ///
 /// The first error is reported: errors in reading the input come first, then invalid UTF-8, then the errors of the
-/// lines in order, and last `NothingToDo`. Lines are numbered from 1, and a logical line has the number of its first
-/// physical line.
+/// lines in order, and last `NothingToDo`. Lines are numbered from 1, or from the number that
+/// [`crate::TimerLists::take_text`] is given, and a logical line has the number of its first physical line.
 ///
 /// Each error has a number, which never changes, so that other documents can refer to it:
 ///

@@ -1,4 +1,5 @@
-//! The lists of expressions (systemd.timer(5), OnCalendar=) and of exceptions, which are built line by line.
+//! The lists of expressions (systemd.timer(5), OnCalendar=) and of exceptions, which are built line by line. An
+//! exception is an expression after `X-ExceptOnCalendar=`; when it elapses, the timer doesn't.
 
 ghost use Rattle.std.specs.Prelude.{◌≡◌, ◌≢◌, ◌+◌, ◌<◌, ◌^◌, ◌∷◌, List, Some, Ok, Err, IfErr, MatchResult, false, length, map};
 ghost use Rattle.cal_spec.specs.Expr.{expr_in};
@@ -53,9 +54,13 @@ impl TimerLists {
         }
     }
 
-    /// Applies the assignments in the section `Timer` of a text to the lists, in order. Stops at the first error and
-    /// returns it. The first line of the text has the number `first`. Lines before the first section header belong to
-    /// no section. A byte order mark is not removed. An empty list of expressions is not an error here.
+    /// Applies the assignments in the section `Timer` of a text to the lists, in order. The first line of the text has
+    /// the number `first`. Lines before the first section header belong to no section. A byte order mark is not
+    /// removed.
+    ///
+    /// Stops at the first error and returns it: [`TimerFault::TooMany`] if an assignment adds to a list that already
+    /// has 256 entries, or else [`TimerFault::BadLine`] if its expression or exception is invalid. Fails with
+    /// [`TimerFault::NoMemory`] if allocation fails. An empty list of expressions is not an error here.
     pub fn take_text(&mut self, alloc: Global, first: u32, text: &str) -> Result<(), TimerFault>
         requires { first + length text.now < 2 ^ 32 }
         ensures { MatchResult result
@@ -75,7 +80,7 @@ impl TimerLists {
     }
 
     /// Applies a logical line to the lists. `inside` says whether the section `Timer` is open before the line. Returns
-    /// whether it is open after the line.
+    /// whether this section is open after the line.
     fn take_line(
         &mut self,
         alloc: Global,
@@ -186,7 +191,8 @@ fn add_line(
     Ok(())
 }
 
-/// Parses the expression of an assignment. Fails with `BadLine` if it is invalid.
+/// Parses the expression of an assignment. Fails with `BadLine` if the expression is invalid, and with `NoMemory` if
+/// allocation fails.
 fn read_line(alloc: Global, assignment: Assignment<'_>) -> Result<TimerLine, TimerFault>
     ensures { MatchResult result
         (λ line. entry_of (shown_assignment assignment.entry) (expr_in assignment.entry.value.now) ≡ Some (shown line))

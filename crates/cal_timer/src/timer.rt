@@ -1,4 +1,5 @@
-//! The calendar expressions of a timer file (systemd.timer(5), OnCalendar=), and its exceptions.
+//! The calendar expressions of a timer (systemd.timer(5), OnCalendar=), and its exceptions. An exception is an
+//! expression after `X-ExceptOnCalendar=`; when it elapses, the timer doesn't.
 
 ghost use Rattle.std.specs.Prelude.{◌≡◌, map};
 ghost use Rattle.cal_timer.specs.TimerView.{shown};
@@ -6,11 +7,12 @@ ghost use Rattle.cal_timer.specs.TimerView.{shown};
 use cal_spec::Expr;
 use std::marker::Model;
 
-/// A calendar expression of a timer file, or an exception.
+/// A calendar expression of a timer, or an exception.
 #[derive(Debug, Drop)]
 pub struct TimerLine {
-    /// The number of the expression's line, from 1. If the line is continued, this is the number of its first physical
-    /// line.
+    /// The number of the expression's line. [`crate::read_timer`] counts lines from 1, and
+    /// [`crate::TimerLists::take_text`] counts them from the number that it is given. If the line is continued, this is
+    /// the number of its first physical line.
     pub number: u32,
     /// The expression as it is written in the file, without leading and trailing blanks and carriage returns.
     pub text: String,
@@ -18,7 +20,8 @@ pub struct TimerLine {
     pub expr: Expr,
 }
 
-/// The calendar expressions of a timer file, at least one, and its exceptions. Both lists are in the order of the file.
+/// The calendar expressions of a timer, at least one, and its exceptions. Both lists are in the order in which their
+/// lines were read.
 #[derive(Debug, Drop)]
 pub struct Timer {
     lines: Vec<TimerLine>,
@@ -46,15 +49,14 @@ impl Timer {
         Timer { lines, exceptions }
     }
 
-    /// Returns the expressions in the order of the file. This doesn't allocate.
+    /// Returns the expressions in the order of their lines. This doesn't allocate.
     pub fn lines(&self) -> &[TimerLine]
         ensures { map shown result.now ≡ self.now.expressions }
     {
         self.lines.as_slice()
     }
 
-    /// Returns the exceptions in the order of the file. When an exception elapses, the timer doesn't. This doesn't
-    /// allocate.
+    /// Returns the exceptions in the order of their lines. This doesn't allocate.
     pub fn exceptions(&self) -> &[TimerLine]
         ensures { map shown result.now ≡ self.now.exceptions }
     {
