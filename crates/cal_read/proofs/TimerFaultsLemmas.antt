@@ -1,5 +1,5 @@
--- Lemmas which say that counting the entries of the lists gives the same errors as keeping the lists, and that the
--- first of all errors is the error that `first_fault` returns.
+-- Lemmas which say that counting the entries of the lists of expressions and exceptions gives the same errors as
+-- keeping the lists, and that the first of all errors is the error that `first_fault` returns.
 use Rattle.std.proofs.Common.{◌≡◌, ◌+◌, ◌<◌, ℕ, Bool, true, false, List, [], ◌∷◌, ◌++◌, filter, refl, subst, sym, ap, ◌∙◌, arith, append_assoc, append-nil, length, length-append, map, take, Option, Some, None, Result, drop, get_or, drop-cons, add-one}
 use Rattle.std.specs.Prelude.{nat_le, min}
 use Rattle.std.specs.List.{after_last, slice_get}

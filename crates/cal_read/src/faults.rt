@@ -1,4 +1,5 @@
-//! All errors in the texts of a timer (systemd.timer(5), OnCalendar=), not only the first.
+//! All errors in the texts of a timer (systemd.timer(5), OnCalendar=), not only the first. An exception is an
+//! expression after `X-ExceptOnCalendar=`; when it elapses, the timer doesn't.
 
 ghost use Rattle.std.specs.Prelude.{◌≡◌, ◌+◌, ◌<◌, ◌≤◌, ◌^◌, ◌++◌, [], IfOk, OnOk, All, length, map};
 ghost use Rattle.std.specs.Option.{option_to_list};
@@ -13,8 +14,8 @@ use cal_spec::{SpecFault, read_expr};
 use cal_timer::{Assignment, MAX_EXPRESSIONS, TimerFault, without_mark};
 use std::alloc::{AllocError, Global};
 
-/// The lengths of the lists of expressions and exceptions, each capped at the limit. Invalid expressions and exceptions
-/// count as well.
+/// The lengths of the lists of expressions and exceptions, each capped at [`MAX_EXPRESSIONS`]. Invalid expressions and
+/// exceptions count as well.
 #[derive(Clone, Copy)]
 struct Counts {
     expressions: usize,
@@ -41,8 +42,8 @@ impl Counts {
     }
 }
 
-/// Returns the length of a list after an assignment, given the length `count` before: one more, up to the limit, if
-/// `adds` is `true`; otherwise 0 if `empties` is `true`, and `count` if not.
+/// Returns the length of a list after an assignment, given the length `count` before: one more, up to
+/// [`MAX_EXPRESSIONS`], if `adds` is `true`; otherwise 0 if `empties` is `true`, and `count` if not.
 fn count_with(count: usize, adds: bool, empties: bool) -> usize
     ensures { result ≡ count_with count adds empties }
 {
@@ -113,7 +114,7 @@ fn push_fault(
 }
 
 /// Appends the errors of the text with the index `place` to `found`, and returns the lengths that the lists of
-/// expressions and exceptions have after this text. `counts` are the lengths before it.
+/// expressions and exceptions have after this text. `counts` are the lengths before the text.
 fn take_faults(
     alloc: Global,
     found: &mut Vec<FileFault>,
@@ -142,7 +143,7 @@ fn take_faults(
 /// An expression or an exception has an error if it is invalid, or if its list already has 256 elements. Invalid
 /// expressions and exceptions, too, count as elements until the list is cleared. [`TimerFault::NothingToDo`] is not
 /// among these errors. If this function returns any errors, [`crate::read_texts`] fails with the first one, unless
-/// allocation fails.
+/// allocation fails. `find_faults` itself fails only if allocation fails.
 pub fn find_faults(alloc: Global, files: &[UnitText<'_>]) -> Result<Vec<FileFault>, AllocError>
     requires { All (λ file. file.first + length file.text.now < 2 ^ 32) files.now }
     ensures { IfOk result (λ found. found.items ≡ faults_of expr_in [] 0 files.now) }

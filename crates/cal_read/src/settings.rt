@@ -34,8 +34,8 @@ impl Setting {
     }
 }
 
-/// An iterator over the settings in all sections with a given name. Contracts see it as the list of the settings that
-/// remain.
+/// The settings in all sections with a given name, which [`Settings::next`] returns one after another. Contracts see
+/// the list of the settings that remain.
 #[derive(Debug, Drop)]
 pub struct Settings<'t> {
     section: &'t str,
@@ -60,7 +60,7 @@ impl<'t> Model for Settings<'t> {
 }
 
 impl<'t> Settings<'t> {
-    /// Creates an iterator over the settings in all sections with this name. The first line of the text has the number
+    /// Creates the `Settings` of all sections with this name in `text`. The first line of the text has the number
     /// `first`. Lines before the first section header belong to no section. A byte order mark is not removed.
     pub fn new(section: &'t str, first: u32, text: &'t str) -> Settings<'t>
         requires { first + length text.now < 2 ^ 32 }
@@ -74,7 +74,8 @@ impl<'t> Settings<'t> {
         }
     }
 
-    /// Returns the next setting, or `None` if there are no more. If allocation fails, no setting is skipped.
+    /// Returns the next setting, or `None` if there are no more. Fails only if allocation fails; then no setting is
+    /// skipped.
     pub fn next(&mut self, alloc: Global) -> Result<Option<Setting>, AllocError>
         ensures next { IfOk result (λ found. MatchOption found (self.old ≡ [])
             (λ setting. self.old ≡ shown_setting setting ∷ self.new)) }
@@ -141,7 +142,7 @@ fn setting_of(alloc: Global, assignment: Assignment<'_>) -> Result<Setting, Allo
 }
 
 /// Returns the settings in all sections with this name. The first line of the text has the number `first`. Lines before
-/// the first section header belong to no section. A byte order mark is not removed.
+/// the first section header belong to no section. A byte order mark is not removed. Fails only if allocation fails.
 pub fn read_settings(
     alloc: Global,
     section: &str,

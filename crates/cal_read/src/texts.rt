@@ -1,4 +1,5 @@
-//! Timers that are read from several texts: a unit file and its drop-ins (systemd.unit(5)).
+//! Timers that are read from several texts: a unit file and its drop-ins (systemd.unit(5)). An exception is an
+//! expression after `X-ExceptOnCalendar=`; when it elapses, the timer doesn't.
 
 ghost use Rattle.std.specs.Prelude.{◌≡◌, ◌≢◌, ◌+◌, ◌<◌, ◌^◌, Ok, Err, MatchResult, IfErr, All, length};
 ghost use Rattle.cal_spec.specs.Expr.{expr_in};
@@ -34,9 +35,9 @@ pub struct FileFault {
 /// The settings of each text follow those of the texts before it, so a drop-in can clear a list that the unit file
 /// filled. A section ends at the end of its text.
 ///
-/// The error of the first invalid line is returned, or [`TimerFault::NothingToDo`] if all lines are valid and the list
-/// of expressions is empty after the last line. Fails with [`TimerFault::NoMemory`] only if allocation fails.
-/// [`FileFault::file`] says which text an error belongs to.
+/// Fails with the error of the first invalid line, [`TimerFault::TooMany`] or [`TimerFault::BadLine`], or with
+/// [`TimerFault::NothingToDo`] if all lines are valid and the list of expressions is empty after the last line. Fails
+/// with [`TimerFault::NoMemory`] only if allocation fails. [`FileFault::file`] says which text an error belongs to.
 pub fn read_texts(alloc: Global, files: &[UnitText<'_>]) -> Result<Timer, FileFault>
     requires { All (λ file. file.first + length file.text.now < 2 ^ 32) files.now }
     ensures lists { MatchResult result
