@@ -86,8 +86,8 @@ read_options found =
       zones = zones;
     })))))
 
--- what the arguments ask for, if `clap` parses them; in that case it finds a verb with texts, so the default `usage []`
--- is never the result
+-- what the arguments ask for, or the error for the first invalid value, if `clap` parses the arguments; in that case
+-- `clap` finds a verb with texts, so the default `usage []` is never the result
 unfoldable pub asked_in : List Text → Result Ask CommandFault
 asked_in arguments = option_map_or read_options (parsed_in arguments) (Err (usage []))
 
@@ -98,7 +98,7 @@ is_of_help DisplayHelp = true
 is_of_help DisplayVersion = true
 is_of_help _ = false
 
--- `clap` parses the arguments, and `answer` is what they ask for
+-- `clap` parses the arguments, and `answer` is what they ask for, or the error for the first invalid value (`asked_in`)
 abbrev pub HasRead : List Text → Result Ask CommandFault → Type 0
 HasRead arguments answer = (faults_in arguments ≡ []) × (asked_in arguments ≡ answer)
 
@@ -115,8 +115,8 @@ IsFaultOf arguments bad_zones = HasRead arguments (Err bad_zones)
 IsFaultOf arguments bad_local = HasRead arguments (Err bad_local)
 IsFaultOf arguments no_memory = ⊤
 
--- `answer` is right for the arguments. If `clap` parses them, the right answer is what they ask for. Otherwise the
--- right answer is usage or help. The error for a failed allocation is right for all arguments.
+-- `answer` is right for the arguments. If `clap` parses them, the right answer is what `asked_in` returns for them.
+-- Otherwise the right answer is usage or help. The error for a failed allocation is right for all arguments.
 abbrev pub IsAskOf : List Text → Result Ask CommandFault → Type 0
 IsAskOf arguments (Ok ask) = HasRead arguments (Ok ask)
 IsAskOf arguments (Err fault) = IsFaultOf arguments fault

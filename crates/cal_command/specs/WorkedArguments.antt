@@ -10,12 +10,12 @@ use Rattle.clap.specs.declared.parser.matches.ValueSource.TheVariants as source
 abbrev pub daily_arguments : List (List ℕ)
 daily_arguments = codes "calendar" ∷ codes "daily" ∷ []
 
--- what `clap` finds in `calendar daily`: the verb, and one row, that of the texts
+-- what `clap` finds in `calendar daily`: the verb, the text `daily`, and one row of `clap`, the row for the texts
 abbrev pub daily_matches : VerbMatches
 daily_matches = record { verb = Calendar; texts = codes "daily" ∷ []; rows = record { id = codes "text"; values = codes "daily" ∷ []; count = None; source = Some source.CommandLine; reading = reading.AsWritten } ∷ [] }
 
--- what `calendar daily` asks for: one elapse after the present instant, which is read from the system's clock, in UTC
--- and with no zone files
+-- what `calendar daily` asks for: one elapse after the present instant, which is read from the system's clock; the
+-- local zone is UTC, and there are no zone files
 abbrev pub daily_ask : Ask
 daily_ask = record { verb = Calendar; texts = codes "daily" ∷ []; iterations = 1; base = None; now = None; local = in_utc; zones = [] }
 

@@ -26,11 +26,13 @@ pub enum CommandFault {
     Help(String),
     /// `--iterations` isn't a number from 1 to 1,000,000.
     BadIterations,
-    /// `--now` isn't `@` and the seconds of an instant.
+    /// `--now` isn't `@` followed by the seconds since 1970-01-01 00:00:00 UTC, from 0 to 7,258,211,998.
     BadNow,
-    /// `--zones` isn't a list of 1 to 64 items, each with a name and a file.
+    /// `--zones` isn't a list of 1 to 64 items `NAME=FILE` that are separated by commas, or one of the names doesn't
+    /// have the form of a zone's name, or one of the paths is empty.
     BadZones,
-    /// `--local` isn't `UTC`, a UTC offset, a POSIX rule after `posix:`, or a name that has the form of a zone's name.
+    /// `--local` isn't `UTC`, a UTC offset `+hh:mm` or `-hh:mm`, a text that begins with `posix:`, or a name that has
+    /// the form of a zone's name. The rule after `posix:` isn't parsed here.
     BadLocal,
     /// Out of memory.
     NoMemory,

@@ -32,8 +32,9 @@ impl Ask {
     ///   else is [`CommandFault::BadNow`].
     /// - `--zones=NAME=FILE,..`: 1 to 64 items, each with a name that has the form of a zone's name and a path that
     ///   isn't empty; no items by default. Anything else is [`CommandFault::BadZones`].
-    /// - `--local=Z`: `UTC`, ignoring case; `+hh:mm` or `-hh:mm` up to 25:59; `posix:` and a rule; or a name that has
-    ///   the form of a zone's name. UTC by default. Anything else is [`CommandFault::BadLocal`].
+    /// - `--local=Z`: `UTC`, ignoring case; `+hh:mm` or `-hh:mm` up to 25:59; `posix:` and any text, which is parsed as
+    ///   a rule later; or a name that has the form of a zone's name. UTC by default. Anything else is
+    ///   [`CommandFault::BadLocal`].
     ///
     /// Fails with [`CommandFault::Usage`] if `clap` can't parse the arguments, for example because an option is given
     /// twice, and with [`CommandFault::Help`] if help or the version is asked for. If several values are invalid, the

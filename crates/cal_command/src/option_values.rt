@@ -186,7 +186,8 @@ fn parts_at(text: &str, separator: char) -> Option<(&str, &str)>
     text.split_once(separator)
 }
 
-/// Parses a local zone. An offset is never mistaken for a name, since names begin with a letter.
+/// Parses a local zone. A rule after `posix:` is only copied. An offset is never mistaken for a name, since names begin
+/// with a letter.
 #[tactic(auto, unfolding(crate::specs::OptionValues::local_zone_in))]
 fn local_zone_in(alloc: Global, text: &str) -> Result<Option<LocalZone>, AllocError>
     ensures value { IfOk result (λ local. option_map shown_local local ≡ local_zone_in text.now) }
