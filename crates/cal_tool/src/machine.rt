@@ -1,4 +1,4 @@
-//! The real system, with its files and its clock. Nothing is proved about the bytes of the files and the time that the
+//! The real system, with its files and its clock. Nothing is proved about which bytes its files have and which time its
 //! clock shows.
 
 use cal_streams::Port;
