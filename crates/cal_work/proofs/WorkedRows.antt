@@ -1,4 +1,5 @@
--- The example system meets the conditions of the law `known_systems_decide`.
+-- The example system meets the conditions of the law `known_systems_decide`, which is the contract of a function that
+-- does nothing.
 use Rattle.std.proofs.Common.{refl}
 use Rattle.cal_command.proofs.WorkedRows.{daily_asked}
 use Rattle.cal_command.specs.WorkedArguments.{daily_arguments}

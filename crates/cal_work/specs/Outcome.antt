@@ -1,4 +1,5 @@
--- The outcome of the program's work in a world: a report, or the first stop.
+-- The outcome of the program's work: a report, or a stop, which is what is reported if the work ends before the run.
+-- The outcome depends on a world: the parsed arguments, the files, the zones read from them, and the clock.
 use Rattle.std.specs.Prelude.{ℕ, ℤ, pos, Bool, true, false, not, ◌&&◌, int_lt, List, [], ◌∷◌, Option, None, Some, is_some, Result, Ok, Err, if◌then◌else◌}
 use Rattle.std.specs.FinMap.{insert, empty}
 use Rattle.jiff.specs.Types.{TimeZone}

@@ -16,7 +16,7 @@ pub record Known : Type 0 where
 abbrev pub nothing_known : Known
 nothing_known = record { file = λ path. None; may_fail = λ path. true; time = None }
 
--- the clock agrees with what is known about it
+-- `came`, the time that the clock shows or `None` if it has no time, agrees with what is known about the clock
 abbrev pub GivesTime : Option (Option ℤ) → Option ℤ → Type 0
 GivesTime None came = Unit {0}
 GivesTime (Some time) came = came ≡ time

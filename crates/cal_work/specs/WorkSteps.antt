@@ -1,5 +1,6 @@
--- What each step of the code returns, compared with what the definitions in Outcome.antt return for it, in a world that
--- agrees with what is known.
+-- What each step of the code returns, compared with what the definitions in Outcome.antt return for it, in a world (all
+-- that the outcome depends on) that agrees with what is known about the system. A stop is the report if the work ends
+-- early.
 use Rattle.std.specs.Prelude.{◌≡◌, ℕ, ℤ, Bool, false, List, Option, None, Some, Result, Ok, Err, IsErr, IsSome, IfOk, IfNone}
 use Rattle.std.specs.FinMap.{empty}
 use Rattle.std.specs.Io.KnownBytes.{Appends}
@@ -35,9 +36,9 @@ abbrev pub is_err_cut : {T : Type 0} → Result T declared_stop.Stop → Bool
 is_err_cut (Ok x) = false
 is_err_cut (Err stop) = is_err_stop stop
 
--- The work ended with `stop` before the run, and this agrees with `expected`, the result of the definitions. `stop`
--- doesn't stand for a failed output. `expected` is a stop too, and it is the same stop unless `stop` stands for running
--- out of memory.
+-- The work ended with `stop` before the run, as `expected`, the result of the definitions, requires: `stop` doesn't
+-- stand for a failed output, and `expected` is a stop too, equal to `stop` unless `stop` stands for running out of
+-- memory.
 pub record StopsAs {X : Type 0} (stop : declared_stop.Stop) (expected : Result X Stop) : Type 0 where
   pub before_out : is_out_stop stop ≡ false
   pub before_err : is_err_stop stop ≡ false
@@ -110,9 +111,8 @@ abbrev pub ran : Result Status RunFault → Result Status declared_stop.Stop
 ran (Ok status) = Ok status
 ran (Err fault) = Err (Run fault)
 
--- The work ended with this stop, and this agrees with the outcome `expected`. If the stop is `Run`, a prefix of each
--- text of the outcome was written, and the exit status is 1. For any other stop, nothing was written, and `StopsAs`
--- holds.
+-- The work ended with this stop, as the outcome `expected` requires. If the stop is `Run`, a prefix of each text of the
+-- outcome was written, and the exit status is 1. For any other stop, nothing was written, and `StopsAs` holds.
 abbrev pub StopEnds : declared_stop.Stop → Result Report Stop → Option (List ℕ) → Option (List ℕ) → Option (List ℕ) → Option (List ℕ) → Type 0
 StopEnds (Run fault) expected out out' err err' =
     (ended_status {T = Unit} (Err fault) expected ≡ 1) × AppendsFront out out' (out_text expected) × AppendsFront err err' (err_text expected)

@@ -1,5 +1,5 @@
--- From the arguments to the bytes: some world agrees with all that is known about the system, and the bytes written and
--- the status are those of the outcome in that world.
+-- From the arguments to the bytes: some world (all that the outcome depends on) agrees with everything that is known
+-- about the system, and the bytes written and the status are those of the outcome in that world.
 use Rattle.std.specs.Prelude.{◌≡◌, ℕ, Bool, true, false, List, [], ◌∷◌, Option, None, Some, Result, Ok, Err, IfOk, IfNone}
 use Rattle.std.specs.FinMap.{empty}
 use Rattle.std.specs.Io.KnownBytes.{Keeps, Appends, append_known}
@@ -97,8 +97,8 @@ TellsFault old new failed (Ok all) = Keeps old new
 TellsFault old new false (Err fault) = Appends old new (fault_stop fault).err
 TellsFault old new true (Err fault) = AppendsFront old new (fault_stop fault).err
 
--- The text is written to standard error, or a prefix of the text if an output or an allocation failed. What follows it
--- is the final error line, if `TellsFault` says so.
+-- The text is written to standard error, or a prefix of the text if an output or an allocation failed. After the text
+-- or its prefix comes the final error line, as `TellsFault` says.
 pub record Tells {T : Type 0} (old new : Option (List ℕ)) (failed : Bool) (written : Result T RunFault) (text : List ℕ) : Type 0 where
   pub before : Option (List ℕ)
   pub text_bytes : Writes old before written text

@@ -1,7 +1,7 @@
 //! The program's whole work, from the arguments to the bytes on both outputs and the exit status (systemd-analyze(1)).
 //!
-//! The order is: the arguments, the zone files one after another, the local zone, the clock, opening the timer file,
-//! and the run. The first step that fails ends the work, and only its error is reported.
+//! The order is: the arguments, the zone files one after another, the local zone, the clock (unless `--now` is given),
+//! opening the timer file, and the run. The first step that fails ends the work, and later steps aren't taken.
 
 ghost use Rattle.std.specs.Prelude.{◌≡◌, ℕ, List, Option, Result, Ok, Err, Some, None, true, false, is_err, map, option_map, IfOk, IfErr};
 ghost use Rattle.cal_bytes.specs.Bytes.{Writes};
@@ -185,7 +185,8 @@ fn zone_stop(alloc: Global, name: &str, fault: LoadFault) -> Stop
     }
 }
 
-/// Parses the local zone if it is given as a POSIX rule. Returns `None` if it is given in another way.
+/// Parses the local zone if it is given as a POSIX rule. Returns `None` if it is given in another way. Fails with
+/// `Stop::LocalRule` if `jiff` can't parse the rule.
 fn read_rules(alloc: Global, local: &LocalZone) -> Result<Option<Rules>, Stop>
     ensures rules { IfOk result (HasRules (shown_local local.now)) }
     ensures refused { IfErr result (λ stop. StopsAs {X = Unit} stop (Err rule_stop) × IsBadRule (shown_local local.now)) }
@@ -199,7 +200,8 @@ fn read_rules(alloc: Global, local: &LocalZone) -> Result<Option<Rules>, Stop>
     }
 }
 
-/// Returns the local zone. If it is given as a POSIX rule, `rules` are the parsed rules.
+/// Returns the local zone. If it is given as a POSIX rule, `rules` are the parsed rules. Fails with `Stop::LocalName`
+/// if the zone is given by a name that `table` doesn't have.
 fn local_zone<'t>(
     local: &LocalZone,
     rules: &'t Option<Rules>,
@@ -294,7 +296,8 @@ fn after_run(run: Result<Status, RunFault>) -> Result<Status, Stop>
     }
 }
 
-/// Opens the timer file.
+/// Opens the timer file. Fails with `Stop::Open` if it can't be opened. That stop owns a copy of the path; if the copy
+/// can't be allocated, the stop is for running out of memory instead.
 fn open_file<S: System>(alloc: Global, system: &S, path: &str) -> Result<S::File, Stop>
     ensures opened { IfOk result (λ file. Opens ((S.tells system.now).file path.now) (Some (S.File.remaining file))) }
     ensures sure { IfOk result (λ file. S.File.may_fail file ≡ (S.tells system.now).may_fail path.now) }
@@ -337,8 +340,8 @@ fn tell<O: Sink, E: Sink>(answered: &Result<Status, Stop>, out: &mut O, err: &mu
     }
 }
 
-/// Reports a stop right away: help on `out`, other stops on `err`. If the stop has to be reported later, writes nothing
-/// and returns its error.
+/// Reports a stop right away: help on `out`, other stops on `err`. Fails if the report can't be written. If the stop
+/// has to be reported later, writes nothing and returns the error in its outlet.
 fn tell_stop<O: Sink, E: Sink>(stop: &Stop, out: &mut O, err: &mut E) -> Result<(), RunFault>
     requires out { O.is_failed out.old ≡ is_out_stop stop.now }
     requires err { E.is_failed err.old ≡ is_err_stop stop.now }

@@ -15,17 +15,17 @@ use cal_zone::{LoadFault, ZoneFault};
 pub enum Stop {
     /// The arguments are invalid, or ask only for help or the version, or memory ran out while they were parsed.
     Command(CommandFault),
-    /// The zone file with this name can't be loaded.
+    /// The file of the zone with this name, an item of `--zones`, can't be loaded.
     Zones(String, LoadFault),
     /// The POSIX rule given for the local zone is invalid.
     LocalRule,
-    /// The name given for the local zone is not in the table.
+    /// The name given for the local zone is neither `UTC` nor the name of an item of `--zones`.
     LocalName,
     /// The clock shows no time, or one outside the supported range.
     Clock,
     /// The timer file at this path can't be opened.
     Open(String),
-    /// The run ended early, or allocation failed before the run.
+    /// The run ended early because an output or an allocation failed, or allocation failed before the run.
     Run(RunFault),
 }
 

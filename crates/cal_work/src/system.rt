@@ -1,4 +1,4 @@
-//! What the program uses of the system besides its arguments: files and the clock.
+//! The system that the program runs on: its files and its clock. Arguments and outputs are passed separately.
 
 ghost use Rattle.std.specs.Prelude.{◌≡◌, false, option_map, IfSome};
 ghost use Rattle.cal_work.specs.System.{nothing_known, GivesTime, Opens, Known};
