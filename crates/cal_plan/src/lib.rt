@@ -1,4 +1,5 @@
-//! The elapses of calendar expressions and exceptions in a setting: the zone of each, and all elapses merged.
+//! The elapses of calendar expressions and exceptions (expressions whose elapses are suppressed) in a setting: the zone
+//! of each, and all elapses merged.
 #![tactic(auto)]
 
 pub mod laws;

@@ -1,4 +1,4 @@
-//! Why the elapses of expressions and exceptions can't be computed.
+//! Why the elapses of expressions and exceptions (expressions whose elapses are suppressed) can't be computed.
 
 ghost use Rattle.std.specs.Prelude.{◌≡◌};
 ghost use Rattle.cal_plan.specs.declared.plan_fault.PlanFault.TheVariants.{NoMemory};
@@ -8,7 +8,8 @@ use std::alloc::AllocError;
 /// Why the elapses of expressions and exceptions can't be computed.
 #[derive(Clone, Copy, PartialEq, Eq, Debug)]
 pub enum PlanFault {
-    /// The expression or exception on this line names a zone that isn't in the zone table.
+    /// The expression or exception on the line with this number, from 1, names a zone that is neither `UTC` nor in the
+    /// zone table.
     NoSuchZone(u32),
     /// Allocation failed.
     NoMemory,

@@ -1,4 +1,5 @@
--- `masks` holds the masks of the lines before the loop's index.
+-- `masks` holds the masks of the lines before the loop's index; the bits of a mask are the values that one field of an
+-- expression matches.
 use Rattle.std.proofs.Common.{◌≡◌, map, take}
 use Rattle.cal_elapse.specs.Masks.{sets_in}
 use Rattle.cal_timer.specs.TimerView.{shown}
