@@ -1,5 +1,5 @@
--- Lemmas for the law `headline`: what is printed for accepted expressions and timer files, and that nothing else can be
--- printed.
+-- Lemmas for the law `headline`, which is the contract of a function that does nothing: what is printed for accepted
+-- expressions and timer files, and that nothing else can be printed.
 use Rattle.std.proofs.Common.{◌≡◌, ◌<◌, ◌++◌, ◌∙◌, ℕ, ℤ, Bool, true, false, List, [], ◌∷◌, Option, None, Some, Result, Ok, map, take, length, codes, refl, sym, ap, subst, arith, append-nil}
 use Rattle.std.specs.Prelude.{is_err, nat_le, if◌then◌else◌}
 use Rattle.std.specs.Io.KnownBytes.{Appends}
@@ -74,7 +74,8 @@ is_answered one asked base e verb h =
     ∙ ap (answer_with asked base e.text) (spelled_is_read one e.text e.fields h.spelled)
     ∙ ap (answer_in asked base e.text e.fields) (zone_is_found asked e.fields.zone e.tz h.zone)
 
--- if there are no exceptions, `elapses_after` computes exactly the elapse times of an expression
+-- if there are no exceptions (expressions whose elapse times are suppressed), `elapses_after` computes exactly the
+-- elapse times of an expression
 alone_elapses : (t : Timed) (base : ℤ) → AreElapses (t ∷ []) [] base (elapses_after (t ∷ []) base)
 alone_elapses t base = subst (AreElapses (t ∷ []) [] base) (elapses_except-none (t ∷ []) base) (AreElapses-elapses_except (t ∷ []) [] base)
 

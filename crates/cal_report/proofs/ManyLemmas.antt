@@ -1,5 +1,5 @@
--- Lemmas for the law `cut_output_resumes`, on several texts: an output that was cut off consists of complete reports
--- and a prefix of the next report.
+-- Lemmas for the law `cut_output_resumes`, which is the contract of a function that does nothing, on several texts: an
+-- output that was cut off consists of complete reports and a prefix of the next report.
 use Rattle.std.proofs.Common.{◌≡◌, ◌⊎◌, ◌<◌, ◌++◌, ◌∙◌, inl, inr, ℕ, ℤ, Bool, List, [], ◌∷◌, Option, None, Some, Result, Ok, map, length, codes, refl, sym, ap, subst, arith, append-nil, append_assoc, length-append, take}
 use Rattle.std.proofs.Math.Seq.{take-append_seam}
 use Rattle.std.proofs.lemmas.List.{append_cancel_left, length-map}
@@ -38,7 +38,8 @@ cut_once (x ∷ xs) c more (y ∷ front) rest e =
       | inr past ↦ inr (past.0, ap (λ z. z ∷ front) (sym one) ∙ ap (λ zs. x ∷ zs) past.1, past.2)
     ]
 
--- `front` consists of complete lists, each followed by the separator `c`, and of a prefix of the next list
+-- `front` consists of the lists in `before`, each followed by the separator `c`, and of a prefix `last` of the next
+-- list
 pub record CutAmong {A : Type 0} (c : A) (lists : List (List A)) (front : List A) : Type 0 where
   pub before : List (List A)
   pub list : List A

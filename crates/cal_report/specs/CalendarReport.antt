@@ -26,7 +26,7 @@ report_of_elapses asked text fields elapses =
 unfoldable pub calendar_report : Request → ℤ → List ℕ → Fields → TimeZone → List ℕ
 calendar_report asked base text fields tz = report_of_elapses asked text fields (elapses_after (timed fields tz ∷ []) base)
 
--- the report of an expression in its zone, or the error message if its zone isn't in the table
+-- the report of an expression in its zone, or the error message if its zone isn't known
 abbrev pub answer_in : Request → ℤ → List ℕ → Fields → Option TimeZone → Answer
 answer_in asked base text fields None = Err (codes "no such zone")
 answer_in asked base text fields (Some tz) = Ok (calendar_report asked base text fields tz)

@@ -91,11 +91,11 @@ pub record AreAcceptedAmong (asked : Request) (texts : List (List ℕ)) (es : Li
   pub each : AllZip (IsReadAs asked) texts found
   pub kept : es ≡ filter_map (λ it. it) found
 
--- the same request with this text as the only argument
+-- the request `asked` with this text as its only argument
 abbrev pub for_text : Request → List ℕ → Request
 for_text asked text = record asked { texts = text ∷ [] }
 
--- the standard output of the same request with this expression as the only argument
+-- the standard output of the request `asked` with this expression as its only argument
 abbrev pub report_of_one : Request → Result (List ℕ) WholeFault → Expression → List ℕ
 report_of_one asked read e = (report (for_text asked e.text) read).out
 

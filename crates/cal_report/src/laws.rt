@@ -35,8 +35,9 @@ use cal_spec::laws::one_normal_form_of_fields;
 /// instant alone; an iteration count n gives the first n, and starting again at any printed instant gives exactly the
 /// rest; want of memory aside.
 ///
-/// A matching instant is the place of a local second that matches. For a timer file, an elapse of an exception is not a
-/// matching instant.
+/// A matching instant is the place of a local second that matches: the instant at which the clock of the expression's
+/// zone first shows this local second. "Rising" means in increasing order. For a timer file, an elapse of an exception,
+/// which is an expression after `X-ExceptOnCalendar=`, is not a matching instant.
 pub fn headline()
     // If every expression is accepted, the report shows each of them in order: its heading, and then its first elapse
     // times.

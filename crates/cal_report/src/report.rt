@@ -38,8 +38,8 @@ use std::alloc::Global;
 /// The elapse times shown are the first `iterations` after the base time, which is a timestamp, or after `now` if no
 /// base time is given. If the base time is invalid, one error line is written to `err`, and nothing else is done. An
 /// expression is evaluated in the zone of its zone suffix, or in the local zone if it has no zone suffix. A zone that
-/// an expression names has to be in `table`. Instants are printed in the local zone, and also in UTC if the local zone
-/// isn't UTC.
+/// an expression names has to be in `table`, unless its name is `UTC`. Instants are printed in the local zone, and also
+/// in UTC unless the local zone is [`Zone::utc`] itself.
 ///
 /// Fails with [`RunFault::OutFailed`] if and only if `out` failed in this call, and with [`RunFault::ErrFailed`] if and
 /// only if `err` did; each writer then has a prefix of what it should have received. Fails with [`RunFault::NoMemory`]

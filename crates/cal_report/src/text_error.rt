@@ -12,7 +12,7 @@ use cal_stamp::StampFault;
 pub enum TextError {
     /// Not a valid calendar expression.
     Spec(SpecFault),
-    /// A valid calendar expression whose time zone isn't in the zone table.
+    /// A valid calendar expression that names a time zone which is neither `UTC` nor in the zone table.
     NoSuchZone,
     /// Not a valid timestamp.
     Stamp(StampFault),

@@ -1,5 +1,5 @@
-//! The report of a timer file: its expressions and exceptions, and the next elapse times of the timer, each with its
-//! distance from the present (systemd.timer(5), OnCalendar=).
+//! The report of a timer file: its expressions, its exceptions (expressions whose elapse times are suppressed), and the
+//! next elapse times of the timer, each with its distance from the present (systemd.timer(5), OnCalendar=).
 
 ghost use Rattle.std.specs.Prelude.{◌≡◌, ◌≢◌, ℕ, List, Result, Ok, Err, MatchResult, false, map};
 ghost use Rattle.cal_bytes.specs.Puts.{Puts};
@@ -35,9 +35,10 @@ pub struct TimerPlan<'a> {
 /// Why a timer file is rejected.
 #[derive(Clone, Copy, PartialEq, Eq, Debug)]
 pub enum TimerError {
-    /// Reading the file failed, or the file isn't a valid timer file.
+    /// Reading the file failed, the file is too large, or it isn't a valid timer file.
     Timer(TimerFault),
-    /// The expression or exception on this line names a zone that isn't in the zone table.
+    /// The expression or exception on the line with this number, from 1, names a zone that is neither `UTC` nor in the
+    /// zone table.
     NoSuchZone(u32),
     /// Allocation failed.
     NoMemory,

@@ -117,7 +117,7 @@ pub record AreAnswered (asked : Request) (base : ℤ) (texts : List (List ℕ)) 
 abbrev pub base_text : ℤ → List ℕ
 base_text secs = codes "@" ++ decimal (unsigned_abs secs)
 
--- the same request with this instant as its base time
+-- the request `asked` with this instant as its base time
 abbrev pub started_at : Request → ℤ → Request
 started_at asked secs = record asked { base = Some (base_text secs) }
 

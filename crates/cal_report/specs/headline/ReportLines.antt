@@ -11,7 +11,8 @@ use Rattle.cal_zone.specs.declared.zone.Zone.{Zone}
 abbrev pub original_label : List ℕ
 original_label = codes "  Original form: "
 
--- the label before an exception of a timer file; the exception is shown as it is written in the file
+-- the label before an exception of a timer file (an expression whose elapse times are suppressed); the exception is
+-- shown as it is written in the file
 abbrev pub except_label : List ℕ
 except_label = codes "    Except form: "
 
@@ -19,7 +20,7 @@ except_label = codes "    Except form: "
 unfoldable pub text_line : List ℕ → List ℕ → List ℕ
 text_line label text = joined (label ∷ text ∷ codes "\nNormalized form: " ∷ [])
 
--- the line with an instant in UTC, or nothing if the local zone is UTC
+-- the line with an instant in UTC, or nothing if the local zone is UTC itself; a zone with the fixed offset 0 isn't
 unfoldable pub utc_line : Zone → ℤ → List ℕ
 utc_line local secs =
     if is_utc local then []
