@@ -1,4 +1,5 @@
--- Comparing the masks of two expressions tells whether one expression has all values of the other.
+-- Comparing the masks of two expressions, which have one bit for each value that a field matches, can show that one
+-- expression has all values of the other.
 use Rattle.std.proofs.Common.{◌≡◌, ℕ, List, arith, bit_or, get_or, length}
 use Rattle.std.proofs.lemmas.Bool.{or_right}
 use Rattle.std.proofs.Math.ListN.{get_or-eq_default}

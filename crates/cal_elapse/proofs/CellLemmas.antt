@@ -50,7 +50,7 @@ in_word cells t word same = ap (λ (w : ℕ). is_bit (get_or cells w 0) (t % 64)
 in_zero : (cells : List ℕ) (t word : ℕ) → t / 64 ≡ word → get_or cells word 0 ≡ 0 → is_bit_in cells t ≡ false
 in_zero cells t word same zero = in_word cells t word same ∙ (ap (λ (w : ℕ). is_bit w (t % 64)) zero ∙ is_bit-none (t % 64))
 
--- if the word of the cell `from` has a set bit at or after the bit of `from`, the first such bit is the bit of the
+-- if the word of the cell `from` has set bits at or after the bit of `from`, the first of these bits is the bit of the
 -- first set cell from `from` on
 pub found_here : (cells : List ℕ) (from bit cell : ℕ) → from < 187_200 → IsFirstPassing (is_bit (get_or cells (from / 64) 0)) (from % 64) 64 (Some bit)
     → cell ≡ from / 64 * 64 + bit → IsFirstPassing (is_bit_in cells) from 187_200 (Some cell)

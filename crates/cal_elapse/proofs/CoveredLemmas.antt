@@ -1,4 +1,5 @@
--- Expressions whose elapses are all elapses of exceptions, and why they can be left out.
+-- Expressions whose elapses are all elapses of exceptions (expressions whose elapses are suppressed), and why they can
+-- be left out.
 use Rattle.std.proofs.Common.{◌≡◌, ◌⊎◌, ◌↔◌, ◌++◌, ℕ, Bool, true, false, List, [], ◌∷◌, ℤ, pos, ◌-ℤ◌, ◌<ℤ◌, inl, inr, refl, sym, subst, ◌∙◌, arith, int_eq}
 use Rattle.std.proofs.lemmas.Bool.{false≢true}
 use Rattle.std.proofs.lemmas.Int.{ints}
@@ -44,8 +45,8 @@ not_left e exceptions i false lacks none p =
     let excepted = λ (x : IsElapse exceptions i). let has = is_member-Has (elapses_after exceptions base) i (((AreAbove-elapses_after exceptions base).members i).1 (below i, x)) in false≢true (sym lacks ∙ has) in
     absurd (subst (λ (xs : List ℤ). Has xs i) none (((AreElapses-elapses_except (e ∷ []) exceptions base).members i).1 (below i, (inl p, excepted))))
 
--- an expression is covered by exceptions if and only if, after any base, none of its elapses is left once the elapses
--- of the exceptions are removed
+-- an expression is covered by exceptions if and only if, whatever the base is, none of its elapses after the base is
+-- left once the elapses of the exceptions are removed
 pub elapses_of_covered : (e : Timed) (exceptions : List Timed) → IsCovered e exceptions ↔ ((base : ℤ) → elapses_except (e ∷ []) exceptions base ≡ [])
 elapses_of_covered e exceptions = (
   λ covered base.

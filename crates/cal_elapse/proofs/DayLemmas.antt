@@ -21,7 +21,8 @@ ones_are length k short =
       | inr high ↦ (let out : nat_lt k length ≡ false = grind (arith, nat_tests) in rw out (is_bit-zero (2 ^ length - 1) k (bit_at_ones_above length k high)))
     ])
 
--- in the mask of days, the bit of the day with index `k` in a month is `k` bits above the bit of the month's first day
+-- in the mask of days, which has one bit for each day that an expression matches, the bit of the day with index `k` in
+-- a month is `k` bits above the bit of the month's first day
 day_at : (days : ℕ) (from_end : Bool) (length k : ℕ) → length ≤ 31 → k < length
     → ((nat_le 1 (if from_end then length - k else k + 1) && nat_le (if from_end then length - k else k + 1) 31)
     && is_bit days (day_place from_end (if from_end then length - k else k + 1)))

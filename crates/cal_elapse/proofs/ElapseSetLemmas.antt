@@ -49,8 +49,8 @@ in_rest w i b above h =
     (λ t. is_member-Has rest i (all.1 (above, inl (h.0 t))))
     (λ t. h.1 (elim (all.0 (Has-is_member rest i t)).1 [ inl p ↦ p | inr n ↦ absurd n ]))
 
--- if `i` isn't both after the instant returned last and an elapse of the expression, the remaining elapses don't
--- contain `i`
+-- if `i` is not after the instant returned last, or if `i` is not an elapse of the expression, the remaining elapses
+-- don't contain `i`
 pub not_in_rest : (w : Window) (i : ℤ) → (w.last <ℤ i → IsPlace (timed_of w) i → ⊥) → false ≡ is_member int_eq (remaining_elapses w) i
 unfolding remaining_elapses
 not_in_rest w i h =

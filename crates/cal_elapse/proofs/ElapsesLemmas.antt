@@ -1,5 +1,5 @@
--- There is exactly one list of the elapses after a base. What follows any element of this list is the list of the
--- elapses after that element.
+-- There is exactly one list of the elapses after a base. For each element of this list, the elements that follow it are
+-- the elapses after it.
 use Rattle.std.proofs.Common.{◌≡◌, ◌⊎◌, ◌↔◌, ℕ, zero, suc, ◌+◌, ◌<◌, ◌≤◌, cond, Bool, true, List, [], ◌∷◌, ◌++◌, take, drop, inl, inr, Option, None, Some, ℤ, ◌<ℤ◌, ◌≤ℤ◌, int_lt, refl, ap, subst, arith, map}
 use Rattle.std.specs.List.{filter, filter_map, cons_option, range_with_len, slice_get}
 use Rattle.std.proofs.Math.Seq.{take-add}
@@ -110,7 +110,7 @@ AreAbove-elapses_after es b =
     }
 
 -- `elapses_except` is strictly increasing and contains exactly the elapses of `es` after `b` that aren't elapses of
--- exceptions
+-- exceptions, the expressions whose elapses are suppressed
 pub AreElapses-elapses_except : (es exceptions : List Timed) (b : ℤ) → AreElapses es exceptions b (elapses_except es exceptions b)
 unfolding elapses_except
 AreElapses-elapses_except es exceptions b =

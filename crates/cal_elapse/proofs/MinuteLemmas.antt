@@ -35,7 +35,7 @@ day_of_match sets t holds =
     let both = and_parts _ _ (sym (split_at (locals_split sets) (t / 86_400) t (omega arith) refl) ∙ holds) in
     (both.0, both.1)
 
--- Lemmas for any unit of 60: local seconds in their minute, or minutes in their hour.
+-- Lemmas for both units of 60: local seconds in their minute, and minutes in their hour.
 
 -- whether an hour, counted from the start of 1970, is before the year 2200, and has a date and an hour of the day that
 -- match

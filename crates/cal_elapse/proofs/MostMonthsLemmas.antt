@@ -1,4 +1,4 @@
--- The largest number of months that any of several searches examines, and how it changes when more searches are made.
+-- The largest number of months that one of several searches examines, and how it changes when more searches are made.
 use Rattle.std.proofs.Common.{◌≡◌, ◌∙◌, ℕ, ◌+◌, ◌<◌, ◌≤◌, Bool, true, Option, max, unwrap_or, IsSome, ◌-◌, arith, inl, inr, option_map, refl, subst, sym, unsigned_abs, ℤ}
 use Rattle.std.proofs.lemmas.Bool.{cases_lt}
 use Rattle.cal_spec.specs.headline.Match.{Sets, matches}

@@ -1,4 +1,5 @@
--- How the masks of hours, minutes and seconds tell whether a time of day matches.
+-- How the masks of hours, minutes and seconds, which have one bit for each matching value, tell whether a time of day
+-- matches.
 use Rattle.std.proofs.Common.{arith}
 use Rattle.cal_elapse.specs.Bits.{is_bit}
 use Rattle.cal_elapse.specs.Masks.{sets_in}

@@ -157,8 +157,8 @@ windowed_later e from bound last x xs w =
 too_early : (base : ℤ) (t : ℕ) (i : ℤ) → pos 0 ≤ℤ base → t < start_of base → i ≤ℤ (pos t +ℤ pos 93_599) → base <ℤ i → ⊥
 too_early base t i low early near above = grind (arith, ints)
 
--- at the start nothing is pending, because no local second before the start of the first search has a place after
--- the base
+-- at the start nothing is pending, because no local second before the start of the first search resolves to an instant
+-- after the base
 pub windowed_start : (e : Timed) (base : ℤ) → AreNear e → pos 0 ≤ℤ base → Windowed e (start_of base) (start_of base) base []
 unfolding IsStrictlySortedBy
 windowed_start e base near low = record {
@@ -253,7 +253,8 @@ put_near tz local place member at low high =
     let near = within tz local place at in
     (omega (arith, signed_arith, near), omega (arith, signed_arith, near))
 
--- if the place of a local second is after `last`, and `last` isn't negative, then the place is an instant
+-- if `place`, the number of seconds of Unix time to which a local second resolves, is after `last`, and `last` isn't
+-- negative, then `place` is an instant
 pub put_instant : (tz : TimeZone) (local place last : ℤ) → place_of tz local ≡ Some place → IsLocalSecond local → pos 0 ≤ℤ last → last <ℤ place → IsInstant place
 put_instant tz local place last at inside low above =
     let near = within tz local place at in

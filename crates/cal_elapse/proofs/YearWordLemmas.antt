@@ -1,4 +1,5 @@
--- How the four words of years and the mask of month numbers tell whether a month matches.
+-- How the four words of years and the mask of month numbers, which have one bit for each matching value, tell whether a
+-- month matches.
 use Rattle.std.proofs.Common.{◌≡◌, ℕ, ◌+◌, ◌-◌, ◌*◌, ◌/◌, ◌%◌, ◌<◌, ◌≤◌, ◌&&◌, nat_le, List, get_or, Some, subst, refl, ◌∙◌, arith}
 use Rattle.std.proofs.lemmas.Bool.Decides.{nat_tests}
 use Rattle.std.proofs.lemmas.Bool.{and_right}

@@ -1,4 +1,5 @@
--- Sets of small numbers, represented as the bits of one or several masks.
+-- Sets of small numbers, represented as the bits of masks. A mask is a word in which bit i is 1 if the set contains the
+-- number i.
 use Rattle.std.specs.Prelude.{◌==◌, ℕ, ◌/◌, ◌%◌, Bool, not, List, slice_index_or}
 use Rattle.std.specs.Int.{bit_at}
 

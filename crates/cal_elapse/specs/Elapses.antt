@@ -5,7 +5,8 @@ use Rattle.cal_civil.specs.headline.Local.{seconds_in_all}
 use Rattle.cal_rising.specs.RisingList.{union, without}
 use Rattle.cal_elapse.specs.headline.Elapses.{Timed}
 
--- the elapse set of an expression: the places of all local seconds that match
+-- the elapse set of an expression: the places of all local seconds that match; the place of a local second is the
+-- instant at which the zone's clock first shows it
 unfoldable pub places : Timed → List ℤ
 places e = filter_map e.place (filter e.matches (range_with_len 0 seconds_in_all))
 
@@ -13,6 +14,7 @@ places e = filter_map e.place (filter e.matches (range_with_len 0 seconds_in_all
 unfoldable pub elapses_after : List Timed → ℤ → List ℤ
 elapses_after es b = union (map (λ e. filter (int_lt b) (places e)) es)
 
--- the elapses after `b` of the expressions `es`, without those of the exceptions
+-- the elapses after `b` of the expressions `es`, without those of the exceptions, the expressions whose elapses are
+-- suppressed
 unfoldable pub elapses_except : List Timed → List Timed → ℤ → List ℤ
 elapses_except es exceptions b = without (elapses_after es b) (elapses_after exceptions b)

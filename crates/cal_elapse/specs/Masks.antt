@@ -1,4 +1,5 @@
--- What masks stand for: the values that each field of an expression matches (systemd.time(7), Calendar Events).
+-- What masks stand for: the values that each field of an expression matches, one bit for each value (systemd.time(7),
+-- Calendar Events).
 use Rattle.std.specs.Prelude.{◌≡◌, ℕ, ◌+◌, ◌-◌, ◌≤◌, Bool, ◌&&◌, false, nat_le, nat_lt, if◌then◌else◌, Option, None, Some}
 use Rattle.cal_elapse.specs.Bits.{is_bit, is_bit_in}
 use Rattle.cal_elapse.specs.declared.masks.Masks.{Masks}

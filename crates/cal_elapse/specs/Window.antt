@@ -59,7 +59,8 @@ abbrev pub with_place : Option ℤ → ℤ → List ℤ → List ℤ
 with_place None last xs = xs
 with_place (Some i) last xs = cond (int_lt last i) (insert_key int_cmp xs i) xs
 
--- the meaning of masks in a zone: the local seconds that match, and the instants to which they resolve
+-- the meaning of masks, the bits of the values that an expression's fields match, in a zone: the local seconds that
+-- match, and the instants to which they resolve
 unfoldable pub timed_by : Masks → Zone → Timed
 timed_by masks zone = record { matches = matches (sets_in masks); place = λ local. place_of (zone_of zone) (pos local) }
 

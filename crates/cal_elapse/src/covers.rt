@@ -1,5 +1,5 @@
 //! A comparison of two calendar expressions, field by field: whether one matches all values that the other one matches
-//! (systemd.time(7), Calendar Events).
+//! (systemd.time(7), Calendar Events). The values that a field matches are the set bits of a mask.
 
 ghost use Rattle.std.specs.Prelude.{◌≡◌, true};
 ghost use Rattle.cal_elapse.specs.Bits.{is_bit, is_bit_in};
@@ -11,7 +11,7 @@ use crate::masks::Masks;
 impl Masks {
     /// Returns `true` if `self` has every value that `others` has, field by field. Then every local second that
     /// `others` matches is also matched by `self`. Returns `false` if only one of them counts days from the end of the
-    /// month, because the two numberings aren't compared.
+    /// month, because days of the month and counts from its end aren't compared.
     pub fn covers(&self, others: &Masks) -> bool
         ensures { result ≡ true → AreAmong (sets_in others.now) (sets_in self.now) }
     {
@@ -33,8 +33,8 @@ fn has_all(mask: u64, others: u64) -> bool
     mask | others == mask
 }
 
-/// Returns whether all bits that are set in one of the four masks of `others` are set in the mask with the same index
-/// in `masks`.
+/// Returns whether each of the four masks in `masks` has all bits that are set in the mask with the same index in
+/// `others`.
 fn have_all(masks: &[u64; 4], others: &[u64; 4]) -> bool
     ensures { result ≡ true → HasAll (is_bit_in masks.now) (is_bit_in others.now) }
 {

@@ -1,5 +1,5 @@
-//! Laws about the elapses of expressions, with and without exceptions. Each law is a function with an empty body, whose
-//! contract states the law.
+//! Laws about the elapses of expressions, with and without exceptions, which are expressions whose elapses are
+//! suppressed. Each law is a function with an empty body, whose contract states the law.
 
 ghost use Rattle.std.specs.Prelude.{◌≡◌, ◌↔◌, ◌+◌, ◌++◌, ◌∷◌, [], ℕ, ℤ, pos, ◌≤ℤ◌, List, Some, map, suc, take, drop, slice_get};
 ghost use Rattle.jiff.specs.Types.{TimeZone};
@@ -25,18 +25,19 @@ pub fn elapses_are_one_list()
     ensures none { (es : List Timed) (base : ℤ) → elapses_except es [] base ≡ elapses_after es base }
 {}
 
-/// The elapses of several expressions are the union of the elapses of each, and likewise for the exceptions: removing
-/// the second union from the first yields the elapses without those of the exceptions.
+/// The elapses of several expressions are the union of the elapses of each expression, and the elapses of several
+/// exceptions are the union of the elapses of each exception. Removing the second union from the first yields the
+/// elapses without those of the exceptions.
 pub fn elapses_of_each()
     ensures { (es exceptions : List Timed) (base : ℤ) → without (union (each_after es base)) (union (each_after exceptions base))
         ≡ elapses_except es exceptions base }
 {}
 
-/// An expression is covered by exceptions if and only if, after any base, none of its elapses is left once the elapses
-/// of the exceptions are removed. In the same zone, an expression is covered by another one that matches all its
-/// values, field by field, and counts days from the same end of the month. If each elapse of the expressions left out
-/// is also an elapse of an exception or of an expression that is kept, leaving them out doesn't change which elapses
-/// remain once those of the exceptions are removed. So covered expressions may be left out.
+/// An expression is covered by exceptions if and only if, whatever the base is, none of its elapses after the base is
+/// left once the elapses of the exceptions are removed. In the same zone, an expression is covered by another one that
+/// matches all its values, field by field, and counts days from the same end of the month. If each elapse of the
+/// expressions left out is also an elapse of an exception or of an expression that is kept, leaving them out doesn't
+/// change which elapses remain once those of the exceptions are removed. So covered expressions may be left out.
 pub fn covered_are_left_out()
     ensures covered { (e : Timed) (exceptions : List Timed) → IsCovered e exceptions
         ↔ ((base : ℤ) → elapses_except (e ∷ []) exceptions base ≡ []) }
@@ -60,8 +61,8 @@ pub fn elapses_in_parts()
         ≡ take (suc k + m) (elapses_except es exceptions base) }
 {}
 
-/// Every elapse after a base of 0 or more is an instant, and can therefore be a base. This holds for any list of
-/// expressions in zones and any exceptions.
+/// Every elapse after a base of 0 or more is an instant, and can therefore be a base. The law holds for every list of
+/// expressions in zones, whatever the exceptions are.
 pub fn elapses_are_instants()
     ensures each { (list : List (Fields × TimeZone)) (exceptions : List Timed) (base elapse : ℤ) → pos 0 ≤ℤ base
         → Has (elapses_except (map (λ e. timed e.0 e.1) list) exceptions base) elapse → IsInstant elapse }

@@ -4,7 +4,8 @@ ghost use Rattle.std.specs.Prelude.{◌≡◌, ◌%◌, ◌<◌, ◌≤◌, ℕ,
 ghost use Rattle.cal_elapse.specs.Bits.{is_bit, is_bit_in};
 
 /// The values that each field of a calendar expression matches, one bit for each. The lowest bit stands for the
-/// smallest value of the field: 1970 for years, 1 for months and days.
+/// smallest value of the field: 1970 for years, 1 for months and for days of the month, Monday for weekdays, and 0 for
+/// hours, minutes and seconds.
 ///
 /// If days are counted from the end of the month, the last day has count 1. Counts are stored in reverse order, with
 /// count 31 at bit 0, so the later of two days always has the higher bit. Hours, minutes and seconds each have at least

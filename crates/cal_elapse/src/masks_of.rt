@@ -1,4 +1,5 @@
-//! Conversion of a calendar expression to masks (systemd.time(7), Calendar Events).
+//! Conversion of a calendar expression to masks, which have one bit for each value that a field matches
+//! (systemd.time(7), Calendar Events).
 
 ghost use Rattle.std.specs.Prelude.{◌≡◌, ◌==◌, ◌+◌, ◌-◌, ◌%◌, ◌<◌, ◌≤◌, ◌&&◌, ◌||◌, ◌≢◌, ℕ, false, nat_le, nat_lt, slice_index_or, if◌then◌else◌};
 ghost use Rattle.std.specs.List.{list_any};

@@ -52,7 +52,6 @@ pub(crate) fn month_of_day(day: u32) -> Month
     }
 }
 
-/// Returns the year of the month with this index.
 fn year_at(index: u32) -> i16
     requires { index < months_in_all }
     ensures { result ≡ pos (year_of index) }

@@ -44,7 +44,7 @@ impl Pending {
     ghost use Rattle.std.specs.Prelude.{◌⊎◌, ◌↔◌, ◌<ℤ◌, IsSomeAnd};
     ghost use Rattle.cal_elapse.specs.Ring.{IsOneOf};
 
-    /// Creates an empty set.
+    /// Creates an empty set. Fails with `NoMemory` if allocation fails.
     pub fn new(alloc: Global) -> Result<Pending, NoMemory>
         ensures { IfOk result (λ pending. pending ≡ []) }
     {

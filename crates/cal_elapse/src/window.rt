@@ -210,9 +210,9 @@ impl<'z> Window<'z> {
         instant
     }
 
-    /// Returns whether `instant` is an elapse of the expression, even if it has already been returned or is not after
-    /// the base. It is an elapse if the local second that the zone's clock shows at `instant` matches and resolves to
-    /// `instant`. Doesn't search.
+    /// Returns whether `instant` is an elapse of the expression, even if `instant` has already been returned or is not
+    /// after the base. It is an elapse if and only if the local second that the zone's clock shows at `instant` matches
+    /// and resolves to `instant`. Doesn't search.
     pub fn has_elapse(&mut self, instant: Instant) -> bool
         ensures has { (result ≡ true) ↔ IsPlace (timed_of self.old) instant.secs }
         ensures same { self.new ≡ self.old }

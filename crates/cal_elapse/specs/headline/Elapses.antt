@@ -23,7 +23,8 @@ abbrev pub IsElapse : List Timed → ℤ → Type 0
 IsElapse [] i = ⊥
 IsElapse (e ∷ es) i = IsPlace e i ⊎ IsElapse es i
 
--- `i` is an elapse of at least one of the expressions `es`, and not of any exception
+-- `i` is an elapse of at least one of the expressions `es`, and isn't an elapse of an exception, which is an expression
+-- whose elapses are suppressed
 abbrev pub IsElapseExcept : List Timed → List Timed → ℤ → Type 0
 IsElapseExcept es exceptions i = IsElapse es i × (IsElapse exceptions i → ⊥)
 

@@ -41,8 +41,8 @@ pub struct RestOfMinute {
     ghost last_in: { IsLocalSecond last },
 }
 
-/// The masks of an expression, the number of searches made with them, and the largest number of months that a single
-/// search examined. The fields are private, so that every search is counted.
+/// The masks of an expression (one bit for each value that a field matches), the number of searches made with them, and
+/// the largest number of months that a single search examined. The fields are private, so that every search is counted.
 ///
 /// If an expression matches often, most searches start after a match and end in the same minute or hour. Two words of
 /// bits are therefore stored: the remaining matches in the minute of the match found last, and the remaining minutes
@@ -124,7 +124,7 @@ impl Searcher {
         found
     }
 
-    /// Returns whether a local second matches. This doesn't count as a search.
+    /// Returns whether a local second matches. The call doesn't count as a search.
     pub fn is_match(&self, local: i64) -> bool
         requires { IsLocalSecond local }
         ensures { result ≡ matches (sets_in self.now.masks) (unsigned_abs local) }
@@ -188,8 +188,8 @@ impl Searcher {
         self.search(SearchStart::After(local)).local
     }
 
-    /// Returns whether the hour of `local` is known to have a later minute with matches. That is known only if `local`
-    /// is the match that was found last.
+    /// Returns whether the hour of `local` is known to have a later minute with matches. Later minutes are known only
+    /// if `local` is the match that was found last.
     pub fn has_more_in_hour(&self, local: i64) -> bool
         ensures { result ≡ true → matches (sets_in self.now.masks) (unsigned_abs local) ≡ true
             → HasMoreInHour (matches (sets_in self.now.masks)) (unsigned_abs local) }
@@ -258,9 +258,9 @@ impl Searcher {
         }
     }
 
-    /// Takes the next match from the stored bits of the hour: the first match of the next minute that has any. No bits
-    /// of the current minute may be left. Reports one month as examined, because this match is in the same month as the
-    /// one before it.
+    /// Takes the next match from the stored bits of the hour: the first match of the next minute that has matches. No
+    /// bits of the current minute may be left. Reports one month as examined, because this match is in the same month
+    /// as the one before it.
     #[inline(always)]
     fn find_in_hour(&mut self) -> Found
         requires none { self.old.left ≡ 0 }
