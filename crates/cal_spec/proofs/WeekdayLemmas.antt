@@ -1,5 +1,5 @@
 -- Computing the runs of a set of weekdays day by day returns the only list of runs that the set has. The loop that
--- prints the runs finds them one after another, which gives the same text.
+-- prints the runs finds them one after another, and prints the text of this list.
 use Rattle.std.proofs.Common.{◌≡◌, ℕ, zero, suc, ◌+◌, ◌-◌, ◌<◌, ◌≤◌, cond, Bool, true, false, ◌||◌, nat_eq, nat_le, get_or, List, [], ◌∷◌, ◌++◌, codes, length, drop, refl, sym, ap, ◌∙◌, inl, inr, arith}
 use Rattle.std.specs.List.{flat_map, list_all, prefix_len}
 use Rattle.std.proofs.lemmas.List.{drop-drop}

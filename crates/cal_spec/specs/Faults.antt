@@ -33,7 +33,7 @@ abbrev pub numbered : Slot → List ℕ → ℕ
 numbered slot text =
     if is_star text then 0 else (if is_time slot then length (pieces_of text) - 1 else length (pieces_of text))
 
--- The counted parts of an expression are numbered from 1. This is the number of a component's first part if the
+-- The counted parts of an expression are numbered from 1. The result is the number of a component's first part if the
 -- components before it have `before` counted parts. The first part of an hour, minute or second isn't counted; it gets
 -- the number `before`.
 abbrev pub first_number : Slot → ℕ → ℕ

@@ -36,8 +36,8 @@ after_joint (b ∷ []) = if b == 45 then Some [] else None
 after_joint (b ∷ c ∷ bs) =
     if b == 45 then Some (c ∷ bs) else (if (b == 46) && (c == 46) then Some bs else None)
 
--- the days from `first` to the weekday that is named by the text after `-` or `..`; None if there is no such text, or
--- if it names no weekday
+-- the days from `first` to the weekday that is named by the text after `-` or `..`; None if neither `-` nor `..`
+-- follows `first`, or if that text names no weekday
 abbrev pub days_to : Weekday → Option (List ℕ) → Option WeekdayRange
 days_to first None = None
 days_to first (Some name) = option_map (λ last. record { first = first; last = last }) (day_named name)

@@ -22,8 +22,8 @@ const MAX_COUNTED_PARTS: usize = 240;
 /// Parses a date, `year-month-day` or `month-day`. A `~` in place of the last `-` means that the day is counted from
 /// the month's end (systemd.time(7), Calendar Events).
 ///
-/// The number of components and the position of `~` are checked first. Then the components are parsed from left to
-/// right.
+/// The number of components and the position of `~` are checked first, and the call fails with `BadDate` if they are
+/// wrong. Then the components are parsed from left to right.
 #[tactic(auto, unfolding(crate::specs::DateAndTime::date_in_word))]
 pub(crate) fn read_date(alloc: Global, word: &[u8]) -> Result<DateFields, SpecFault>
     ensures { GivesUnlessNoMemory date_fields_in result (date_in_word word.now) }
@@ -37,7 +37,8 @@ pub(crate) fn read_date(alloc: Global, word: &[u8]) -> Result<DateFields, SpecFa
 /// Parses a time, `hour:minute` or `hour:minute:second` (systemd.time(7), Calendar Events). It may have at most `room`
 /// parts, not counting the first part of each component.
 ///
-/// The number of components is checked first. Then the components are parsed from left to right.
+/// The number of components is checked first, and the call fails with `BadTime` if it is wrong. Then the components are
+/// parsed from left to right.
 #[tactic(auto, unfolding(crate::specs::DateAndTime::time_in_word))]
 pub(crate) fn read_time(alloc: Global, room: usize, word: &[u8]) -> Result<TimeFields, SpecFault>
     requires { room ≤ max_counted_parts }

@@ -14,8 +14,8 @@ use std::ops::Range;
 
 /// Returns the range of bytes of the word at fault in an invalid expression.
 ///
-/// The word at fault is the first word such that the text up to its end is not a valid expression. So the text up to
-/// the end of any earlier word is valid.
+/// The word at fault is the first word for which the text up to the word's end is not a valid expression. So the text
+/// up to the end of each earlier word is valid.
 ///
 /// Returns `None` if the text is empty or has only blanks, or if it is valid without its trailing blanks. Trailing
 /// blanks can make a text invalid only by making it longer than 4,096 bytes, and then no word is at fault. Fails only

@@ -31,7 +31,7 @@ pub fn one_normal_form()
     ensures stays { (ps : List Part) → AreNormal ps → normal_parts ps ≡ ps }
 {}
 
-/// A component has exactly one normal form if no range runs backwards and no step is zero. The same is true of the
+/// A component has exactly one normal form if no range runs backwards and no step is zero. This is also true of the
 /// seconds, whose normal form differs in one case: the single part `0/1` becomes `*`.
 pub fn one_normal_component()
     ensures some { (raw : Option (List Part)) → AreParts raw → IsNormalOf raw (normal_component raw) }

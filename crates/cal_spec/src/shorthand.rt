@@ -89,7 +89,7 @@ impl Shorthand {
     }
 }
 
-/// Returns the shorthand with this name, ignoring case.
+/// Returns the shorthand with this name, ignoring case, or `None` if there is none.
 #[tactic(auto, unfolding(crate::specs::headline::Shorthand::shorthand_named))]
 pub(crate) fn find_shorthand(word: &[u8]) -> Option<Shorthand>
     ensures { result ≡ shorthand_named word.now }

@@ -24,13 +24,13 @@ pub enum SpecFault {
     /// The time doesn't have two or three components, or one of them is malformed.
     #[error("bad time")]
     BadTime = 5,
-    /// A number in the seconds has a fraction.
+    /// A number in the seconds is followed by a single point, as if by a fraction.
     #[error("fractions of a second are not supported")]
     FractionalSecond = 6,
-    /// A number is above 9,999.
+    /// A number, which can also be a step, is above 9,999.
     #[error("number above 9999")]
     NumberTooLarge = 7,
-    /// A number is out of range for its component.
+    /// The start or the end of a part is out of range for its component. Steps have no range of their own.
     #[error("value out of range")]
     OutOfField = 8,
     /// A range ends below its start.

@@ -86,7 +86,8 @@ fn after_joint(text: &[u8]) -> Option<&[u8]>
     }
 }
 
-/// Returns the weekday with this name, in full or shortened to three letters, ignoring case.
+/// Returns the weekday with this name, in full or shortened to three letters, ignoring case. Returns `None` if no
+/// weekday has this name.
 #[tactic(auto, unfolding(crate::specs::Weekdays::day_named))]
 pub fn find_day(word: &[u8]) -> Option<Weekday>
     ensures { result ≡ day_named word.now }

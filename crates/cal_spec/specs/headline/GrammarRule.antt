@@ -178,7 +178,7 @@ pub record IsExpression (text : List ℕ) (f : Fields) : Type 0 where
   pub time : IsTime roles.time f
   pub zone : IsZoneWord last f.zone
 
--- the text is an expression that isn't too long and doesn't have too many parts
+-- the text is an expression of at most 4,096 bytes, with at most `max_counted_parts` parts that count towards the limit
 pub record IsValid (text : List ℕ) (f : Fields) : Type 0 where
   pub short : length text ≤ 4096
   pub expression : IsExpression text f

@@ -1,5 +1,5 @@
--- The greatest number that an expression may contain, and the expansion of two-digit years: systemd.time(7), Calendar
--- Events.
+-- The greatest number that a part of an expression may contain, and the expansion of two-digit years: systemd.time(7),
+-- Calendar Events.
 use Rattle.std.specs.Prelude.{ℕ, ◌+◌, nat_lt, Bool, true, false, if◌then◌else◌}
 use Rattle.std.specs.Option.{option_map}
 use Rattle.cal_spec.specs.declared.part.Part.{Part}
@@ -10,7 +10,7 @@ abbrev pub is_year : Slot → Bool
 is_year Year = true
 is_year slot = false
 
--- the greatest number that an expression may contain
+-- the greatest number that a part of an expression may contain
 abbrev pub most : ℕ
 most = 9999
 
