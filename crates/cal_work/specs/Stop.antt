@@ -1,4 +1,4 @@
--- What the program reports if it stops before everything is done, and the exit status of such a stop.
+-- What the program reports if its work ends before everything is done, which is a stop, and its exit status then.
 use Rattle.std.specs.Prelude.{ℕ, Bool, true, false, List, [], ◌∷◌, string_bytes, codes}
 use Rattle.cal_bytes.specs.headline.Bytes.{joined}
 use Rattle.cal_zone.specs.declared.zone_fault.ZoneFault.{ZoneFault}
@@ -40,7 +40,7 @@ zones_line name message = joined (codes "calendar-analyze: --zones: " ∷ name �
 unfoldable pub unopened_line : List ℕ → List ℕ
 unopened_line path = joined (path ∷ codes ": cannot be read\n" ∷ [])
 
--- The stop for running out of memory. It is the same whatever the memory was for.
+-- The stop for running out of memory. It doesn't depend on what the memory was needed for.
 abbrev pub memory_stop : Stop
 memory_stop = with_line (own_line (codes "out of memory")) 1
 

@@ -42,11 +42,14 @@ pub struct Ended {
 ///
 /// Reports and the texts of help and the version go to `out`, which is flushed at the end. Error lines go to `err`.
 ///
-/// The status is 0 for success, help and the version; 1 if an expression, a timestamp, a span or the timer file is
-/// rejected, if the timer file can't be opened, if `out` fails or memory runs out, or if `err` fails while the error
-/// lines of rejected texts are written; and 2 if the arguments, a zone file, the local zone or the clock are invalid,
-/// even if `err` fails while that is reported. If an output or an allocation fails, each output has a prefix of its
-/// whole text. On `err`, the line that reports the failure follows, unless `err` is what failed.
+/// The status is 0 for success, help and the version. It is 1 if an expression, a timestamp, a span or the timer file
+/// is rejected, if the timer file can't be opened, if `out` fails or memory runs out, or if `err` fails while the error
+/// lines of rejected texts are written. It is 2 if the arguments, a zone file, the local zone or the clock are invalid,
+/// even if `err` fails while that is reported; but if [`Ended::written`] says that `out` failed, because it couldn't be
+/// flushed, the status is 1.
+///
+/// If an output or an allocation fails, each output has a prefix of its whole text. On `err`, the line that reports the
+/// failure follows, unless `err` is what failed.
 pub fn work<S: System, T: AsStr, O: Output, E: Sink>(
     alloc: Global,
     system: &S,

@@ -64,7 +64,8 @@ pub(crate) enum Outlet {
     OnOut,
     /// Standard error.
     OnErr,
-    /// Standard error, but only after the output is flushed. This is for failed outputs, and for running out of memory.
+    /// Standard error, but only after the output is flushed. Failed outputs and running out of memory are reported only
+    /// then.
     Later(RunFault),
 }
 
@@ -206,7 +207,7 @@ fn write_own<W: Sink>(out: &mut W, message: &str) -> Result<(), WriteFault>
     put_pieces(out, &[b"calendar-analyze: ", message.as_bytes(), b"\n"])
 }
 
-/// Returns the exit status of a run that could write everything: 0, or 1 if any input was rejected.
+/// Returns the exit status of a run that could write everything: 0, or 1 if at least one input was rejected.
 pub fn exit_status(status: Status) -> u8
     ensures { result ≡ exit_status status }
 {
