@@ -26,7 +26,7 @@ use std::alloc::{AllocError, Global};
 /// Creates the iterator over the elapse times of all expressions after `base`, without the elapse times of the
 /// exceptions. Each expression and each exception is evaluated in its own zone.
 ///
-/// Fails with [`PlanFault::NoSuchZone`] if one of these zones isn't in the zone table, and with
+/// Fails with [`PlanFault::NoSuchZone`] if one of these zones is neither `UTC` nor in the zone table, and with
 /// [`PlanFault::NoMemory`] if allocation fails. Calling `next` on the iterator doesn't allocate.
 pub fn merge_of<'a>(
     alloc: Global,
