@@ -61,7 +61,7 @@ texts_reported asked a b c d e failed r base is plain works status out err =
       holds = rw (is, plain) (record { status = status; had = if_ok r (HadMemory (Ok [])) nothing_had; out = out; err = err; unread = λ h. absurd (nothing_had h) });
     }
 
--- a call that wrote nothing wrote a prefix of any text
+-- a call that wrote nothing wrote a prefix of every text
 pub nothing_front : (a : Option (List ℕ)) (text : List ℕ) → AppendsFront a a text
 nothing_front a text = record { front = []; rest = text; whole = refl; written = Appends-nil a }
 

@@ -47,7 +47,7 @@ reports_text answer texts = join_by (λ report. report) (codes "\n") (flat_map (
 unfoldable pub error_lines : (List ℕ → Answer) → List (List ℕ) → List ℕ
 error_lines answer = flat_map (λ text. error_line_in text (answer text))
 
--- `Refused` if any argument is invalid, and otherwise `Fine`
+-- `Refused` if at least one argument is invalid, and otherwise `Fine`
 unfoldable pub texts_status : (List ℕ → Answer) → List (List ℕ) → Status
 texts_status answer texts = if list_any (λ text. is_err (answer text)) texts then Refused else Fine
 

@@ -133,7 +133,7 @@ pub fn cut_output_resumes()
     // If at least one of the texts of a request for `calendar` is accepted, the output can be continued after every
     // prefix `front`. `es` are the expressions of the accepted texts. The prefix consists of some complete
     // reports and of a prefix of the next report, which can be continued as if its expression had been requested alone.
-    // There is only one way to divide `front` like that (`one_place`).
+    // There is only one way to divide `front` into complete reports and a prefix of the next one (`one_place`).
     ensures several { (asked : Request) (read : Result (List ℕ) WholeFault) (base : ℤ) (es : List Expression)
         (front rest : List ℕ) → asked.verb ≡ Calendar → base_in asked ≡ Ok base → AreAcceptedAmong asked asked.texts es
         → 0 < length es → (report asked read).out ≡ front ++ rest → ResumesAmong asked base es read front }

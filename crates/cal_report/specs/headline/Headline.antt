@@ -131,8 +131,8 @@ abbrev pub assigned_in : List ℕ → List Assignment
 assigned_in bytes = assignments_in false (logical_lines 1 (without_mark bytes))
 
 -- Every assigned expression and exception is valid according to the grammar. When an expression is assigned, the list
--- of expressions still has fewer than `max_expressions` entries. When an exception is assigned, the same is true of the
--- list of exceptions.
+-- of expressions still has fewer than `max_expressions` entries. When an exception is assigned, the list of exceptions
+-- still has fewer than `max_expressions` entries.
 abbrev pub AreSpelled : List Assignment → Type 0
 AreSpelled all =
     (before : List Assignment) (a : Assignment) (after : List Assignment) → all ≡ before ++ (a ∷ after)
