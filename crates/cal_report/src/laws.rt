@@ -152,8 +152,9 @@ pub fn cut_output_resumes()
         → asked.verb ≡ Timer → base_in asked ≡ Ok base → IsFileOf bytes s → AreAllAccepted asked s
         → (report asked (Ok bytes)).out ≡ front ++ rest → Resumes asked base s (Ok bytes) front }
 
-    // The request `begun_again`, which continues a report, prints exactly the remaining elapse times. Its base time is `@`
-    // with the seconds of the last elapse time whose first line is complete, or the original base time if there is none.
+    // The request `begun_again`, which continues a report, prints exactly the remaining elapse times. Its base time is
+    // `@` with the seconds of the last elapse time whose first line is complete, or the original base time if there is
+    // none.
     ensures again { (asked : Request) (read : Result (List ℕ) WholeFault) (base : ℤ) (s : Schedule) (front : List ℕ)
         → IsInstant asked.now → base_in asked ≡ Ok base → (r : Resumes asked base s read front)
         → (report (begun_again asked r.shown r.number) read).out ≡ showing asked s (drop r.number r.shown) }
