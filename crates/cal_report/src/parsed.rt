@@ -68,7 +68,8 @@ pub fn read_text<'a>(
 
 /// Parses a calendar expression and prepares the iterator over its elapse times.
 ///
-/// Fails with [`TextError::NoSuchZone`] if the expression names a zone that isn't in the table.
+/// Fails with [`TextError::Spec`] if the expression is invalid, with [`TextError::NoSuchZone`] if it names a zone that
+/// is neither `UTC` nor in the table, and with [`TextError::NoMemory`] if allocation fails.
 #[tactic(auto, using(crate::proofs::ElapseInstants::elapses_are_instants), unfolding(crate::specs::CalendarReport::calendar_answer, crate::specs::CalendarReport::calendar_report))]
 fn read_calendar<'a>(
     alloc: Global,

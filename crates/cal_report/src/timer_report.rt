@@ -68,8 +68,8 @@ impl TimerError {
     }
 }
 
-/// Reads a timer file to its end and parses it. Everything that the report needs is allocated here, so that writing the
-/// report cannot run out of memory.
+/// Reads a timer file, which may have at most 1,048,576 bytes, to its end and parses it. Everything that the report
+/// needs is allocated here, so that writing the report cannot run out of memory.
 #[tactic(auto, unfolding(crate::specs::TimerReport::timer_answer))]
 pub fn read_plan<'a, R: Source>(
     alloc: Global,

@@ -1,5 +1,6 @@
--- If everything about a system's files and clock is known, there is only one possible outcome, unless memory runs out.
--- It depends on the system, on what `clap` makes of the arguments, and on the zones that `jiff` reads from the files.
+-- If everything about a system's files and clock is known, and `clap` accepts the arguments, there is only one possible
+-- outcome, unless memory runs out. The outcome depends on the system, on what `clap` finds in the arguments, and on the
+-- zones that `jiff` reads from the files.
 use Rattle.std.specs.Prelude.{◌≡◌, ◌⊎◌, ℕ, ℤ, Bool, true, false, List, [], ◌∷◌, length, nat_le, Option, None, Some, IsSome, Result, Ok, Err, slice_index_or}
 use Rattle.cal_zone.specs.ZoneFile.{file_limit}
 use Rattle.cal_streams.specs.declared.whole.WholeFault.{WholeFault}

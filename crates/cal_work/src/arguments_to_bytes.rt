@@ -145,7 +145,8 @@ fn answer<S: System, O: Sink, E: Sink>(
 
 // The steps of `answer`
 
-/// Reads the zone files, in order, into a new table.
+/// Reads the zone files, in order, into a new table. If a file can't be loaded, returns the stop for it, and doesn't
+/// open the files after it.
 fn read_zones<S: System>(alloc: Global, system: &S, items: &[ZoneItem]) -> Result<ZoneTable, Stop>
     ensures { ReadsZones (λ table. table) (S.tells system.now) (map shown_item items.now) result }
 {

@@ -21,7 +21,7 @@ pub enum Stop {
     LocalRule,
     /// The name given for the local zone is neither `UTC` nor the name of an item of `--zones`.
     LocalName,
-    /// The clock shows no time, or one outside the supported range.
+    /// The clock can't be read, or it shows a time outside the supported range.
     Clock,
     /// The timer file at this path can't be opened.
     Open(String),

@@ -22,7 +22,8 @@ pub trait System {
         ensures sure { IfSome result (λ file. Self.File.may_fail file ≡ (tells self.now).may_fail path.now) }
         ensures works { IfSome result (λ file. Self.File.is_failed file ≡ false) };
 
-    /// Returns the whole seconds since 1970-01-01 00:00:00 UTC, or `None` if the clock has no time.
+    /// Returns the whole seconds since 1970-01-01 00:00:00 UTC. Returns `None` if the clock can't be read; the real
+    /// system also returns `None` for a time before 1970.
     fn clock(&self) -> Option<i64>
         ensures { GivesTime (tells self.now).time result };
 }

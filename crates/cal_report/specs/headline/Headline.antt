@@ -34,8 +34,8 @@ pub record Expression : Type 0 where
 abbrev pub meaning : Expression → Timed
 meaning e = timed e.fields e.tz
 
--- `tz` is the zone for this zone suffix: the zone of that name in the table, the fixed zone with that UTC offset, or
--- the local zone if the expression has no zone suffix
+-- `tz` is the zone for this zone suffix: the zone of that name, which is UTC for `UTC` and otherwise in the table, the
+-- fixed zone with that UTC offset, or the local zone if the expression has no zone suffix
 abbrev pub IsZoneFor : Request → Option ZoneSuffix → TimeZone → Type 0
 IsZoneFor asked None tz = tz ≡ zone_of asked.local
 IsZoneFor asked (Some (of_name name)) tz = zone_named asked.zones name ≡ Some tz
