@@ -22,7 +22,7 @@ use std::alloc::AllocError;
 pub enum CommandFault {
     /// `clap` can't parse the arguments. The text is the message of `clap`, which says why, and how to get help.
     Usage(String),
-    /// Help or the version is asked for; this is the text to print.
+    /// The arguments ask for help or the version. The text is what to print.
     Help(String),
     /// `--iterations` isn't a number from 1 to 1,000,000.
     BadIterations,

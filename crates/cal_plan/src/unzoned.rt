@@ -10,7 +10,7 @@ use crate::zones::zone_for;
 use cal_timer::TimerLine;
 use cal_zone::Setting;
 
-/// Returns the number of the first of these lines that names a zone missing from the zone table, or `None` if there is
+/// Returns the number of the first line of `lines` that names a zone missing from the zone table, or `None` if there is
 /// none. The zone `UTC` is never missing.
 pub fn first_unzoned(setting: Setting<'_>, lines: &[TimerLine]) -> Option<u32>
     ensures { result ≡ first_unzoned (setting_seen setting.entry) (map shown lines.now) }
