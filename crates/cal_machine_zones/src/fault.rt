@@ -4,7 +4,7 @@ ghost use Rattle.std.specs.Prelude.{◌≡◌};
 ghost use Rattle.cal_machine_zones.specs.declared.fault.ZonesFault.TheVariants.{NoMemory};
 
 use cal_zone::LoadFault;
-use std::alloc::{AllocError, Global};
+use std::alloc::{AllocError, AllocFailed};
 
 /// What the local zone is taken from.
 #[derive(Clone, Copy, PartialEq, Eq, Debug)]
@@ -43,6 +43,14 @@ impl From<AllocError> for ZonesFault {
     ghost from_gives = { λ _ fault. fault ≡ NoMemory };
 
     fn from(_refused: AllocError) -> ZonesFault {
+        ZonesFault::NoMemory
+    }
+}
+
+impl<T: Drop> From<AllocFailed<T>> for ZonesFault {
+    ghost from_gives = { λ _ fault. fault ≡ NoMemory };
+
+    fn from(_refused: AllocFailed<T>) -> ZonesFault {
         ZonesFault::NoMemory
     }
 }

@@ -3,7 +3,7 @@
 ghost use Rattle.std.specs.Prelude.{◌≡◌};
 ghost use Rattle.cal_plan.specs.declared.plan_fault.PlanFault.TheVariants.{NoMemory};
 
-use std::alloc::AllocError;
+use std::alloc::{AllocError, AllocFailed};
 
 /// Why the elapses of expressions and exceptions can't be computed.
 #[derive(Clone, Copy, PartialEq, Eq, Debug)]
@@ -19,6 +19,14 @@ impl From<AllocError> for PlanFault {
     ghost from_gives = { λ _ fault. fault ≡ NoMemory };
 
     fn from(_refused: AllocError) -> PlanFault {
+        PlanFault::NoMemory
+    }
+}
+
+impl<T: Drop> From<AllocFailed<T>> for PlanFault {
+    ghost from_gives = { λ _ fault. fault ≡ NoMemory };
+
+    fn from(_refused: AllocFailed<T>) -> PlanFault {
         PlanFault::NoMemory
     }
 }
