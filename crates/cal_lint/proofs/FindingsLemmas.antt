@@ -1,4 +1,4 @@
--- The errors of a text whose first line has the number 1 are those of its settings.
+-- The errors of a list of one text, whose first line has the number 1, are the errors of its settings.
 use Rattle.std.proofs.Common.{◌≡◌, ◌∙◌, false, [], ◌∷◌, ap, append-nil, map, sym}
 use Rattle.cal_lines.specs.headline.Lines.{logical_lines}
 use Rattle.cal_spec.specs.Expr.{expr_in}

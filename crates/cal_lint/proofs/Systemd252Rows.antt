@@ -1,5 +1,6 @@
 -- Examples of what systemd 252 rejects, checked by computation. The script tests/systemd_252 compares such expressions
--- with systemd-analyze. The fields matter only for days from the month's end, so all other rows have those of `daily`.
+-- with systemd-analyze. The fields of an expression matter only if days are counted from the month's end, in the last
+-- two rows. So all rows before them use the fields of `daily`, whatever their text is.
 use Rattle.std.proofs.Common.{◌≡◌, ℕ, List, true, false, ◌++◌, ◌∷◌, [], codes, refl, Option, None, Some}
 use Rattle.cal_text.specs.headline.Words.{words}
 use Rattle.cal_civil.specs.headline.Weekday.{name_of}

@@ -73,7 +73,7 @@ abbrev pub has_month_day : List (List ℕ) → Bool
 has_month_day [] = false
 has_month_day (word ∷ ws) = is_month_day word
 
--- whether the expression `text` with the normal form `f` has this form
+-- whether the expression `text`, whose normal form has the fields `f`, has the form of this doubt
 abbrev pub is_doubtful : List ℕ → Fields → Doubt → Bool
 is_doubtful text f MonthDay = has_month_day (words text)
 is_doubtful text f doubt = has_hours doubt f
@@ -81,6 +81,6 @@ is_doubtful text f doubt = has_hours doubt f
 abbrev pub doubts : List Doubt
 doubts = HourRange ∷ HourList ∷ MonthDay ∷ []
 
--- the first form that a valid expression has, or the error of an invalid one
+-- the first doubt whose form a valid expression has, None if there is none, or the error of an invalid expression
 unfoldable pub doubt_in : List ℕ → Result (Option Doubt) SpecFault
 doubt_in text = expr_in text >>= λ f. Ok (find (is_doubtful text f) doubts)

@@ -1,4 +1,5 @@
--- All problems of a timer's settings, in the order of their lines: systemd.timer(5), Options.
+-- All problems of a timer's settings, in the order of their lines: systemd.timer(5), Options. Exceptions are the
+-- expressions after this project's key `X-ExceptOnCalendar=`: when one of them elapses, the timer doesn't.
 use Rattle.std.specs.Prelude.{ℕ, ◌==◌, Bool, false, not, ◌&&◌, ◌||◌, if◌then◌else◌, List, [], ◌∷◌, ◌++◌, codes, map, Option, None, Some, Result, Ok, Err}
 use Rattle.std.specs.List.{find, flat_map, list_any}
 use Rattle.std.specs.Option.{option_map, option_to_list}
@@ -38,16 +39,17 @@ is_at number (Some line) = line == number
 abbrev pub is_on : ℕ → FileFault → Bool
 is_on number found = is_at number (line_of found.fault)
 
--- the error in the line with this number
+-- the first error in the line with this number, if there is one
 abbrev pub fault_on : List FileFault → ℕ → Option TimerFault
 fault_on faults number = option_map (λ found. found.fault) (find (is_on number) faults)
 
--- what a function of valid expressions returns for this one, or None if the expression is invalid
+-- what was found in a valid expression, or None if the expression is invalid
 abbrev pub if_valid : {A : Type 0} → Result (Option A) SpecFault → Option A
 if_valid (Ok x) = x
 if_valid (Err e) = None
 
--- what is said of a value that is a valid expression: why systemd 252 rejects it, and why it may not be meant
+-- the problems of a value that is a valid expression: why systemd 252 rejects it, and why it may not mean what its
+-- author thinks; none if the value is not a valid expression
 abbrev pub advice : List ℕ → List Problem
 advice value =
     option_to_list (option_map Rejected (if_valid (rejection_in value)))
@@ -57,7 +59,7 @@ abbrev pub value_problems : Option TimerFault → List ℕ → List Problem
 value_problems (Some fault) value = Invalid fault ∷ []
 value_problems None value = advice value
 
--- the problems of a setting, given all errors of the text
+-- the problems of a setting, given all errors of the timer
 abbrev pub problems_of : List FileFault → Assignment → List Problem
 problems_of faults a =
     if is_unknown_key a.key then UnknownKey ∷ []

@@ -13,11 +13,12 @@ use Rattle.cal_lint.specs.declared.hints.Mistake.TheVariants.{Setting, Comment, 
 abbrev pub is_comment_mark : ℕ → Bool
 is_comment_mark b = (b == 35) || (b == 59)
 
--- whether the text has a letter and is a time span; numbers without a unit, which count seconds, are more likely hours
+-- whether the text has a letter and is a time span; numbers without a unit are spans too, in seconds, but are more
+-- likely meant as hours
 abbrev pub is_span : List ℕ → Bool
 is_span text = list_any is_ascii_alphabetic text && is_ok (span_of text)
 
--- the mistake in a text that is not a valid expression, if the whole text shows it
+-- the mistake in a text that is not a valid expression, if a mistake shows in the text as a whole
 unfoldable pub mistake_in : List ℕ → Option Mistake
 mistake_in text =
     if list_any is_equals text then Some Setting

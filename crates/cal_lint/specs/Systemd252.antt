@@ -38,8 +38,8 @@ is_weekday_list word = is_some (day_named (leading_letters word))
 abbrev pub is_date : List ℕ → Bool
 is_date word = not (begins_zone word) && not (list_any is_colon word)
 
--- whether one of the pieces is an additional space that isn't skipped; `skips` says whether the word before them is one
--- after which additional spaces are skipped
+-- whether one of the pieces after a word is an additional space that systemd 252 doesn't skip; `skips` says whether it
+-- skips additional spaces after this word
 abbrev pub has_extra_after : Bool → List (List ℕ) → Bool
 has_extra_after skips [] = false
 has_extra_after skips ([] ∷ pieces) = not skips || has_extra_after skips pieces
@@ -88,7 +88,7 @@ is_one_second part = is_up_to (leading_digits part) (after_digits part)
 abbrev pub max_second_step : ℕ
 max_second_step = 2147
 
--- the step among the texts between slashes, or nothing if there is none
+-- the step of a part, given the texts between its slashes: the second of them, or nothing if there is no slash
 abbrev pub step_in : List (List ℕ) → List ℕ
 step_in (start ∷ step ∷ texts) = step
 step_in texts = []
@@ -106,8 +106,8 @@ has_large_step part = is_above max_second_step (step_in (slice_split is_slash pa
 abbrev pub last_of : Part → ℕ
 last_of p = unwrap_or p.end p.start
 
--- whether a part has a number above the bound of its place: `greatest` for the first part, and 3 less for each further
--- one. (systemd 252 takes the three days that a month may lack off the bound once for each part.)
+-- whether a part has a number above the part's bound: `greatest` for the first part, and 3 less for each further one.
+-- (systemd 252 takes the three days that a month may lack off the bound once for each part.)
 abbrev pub has_late_part : ℕ → List Part → Bool
 has_late_part greatest [] = false
 has_late_part greatest (p ∷ ps) = nat_lt greatest (last_of p) || has_late_part (greatest - 3) ps
@@ -129,7 +129,7 @@ is_empty (b ∷ bs) = false
 -- All reasons
 
 -- whether this piece makes systemd 252 reject an expression for this reason; a piece is an item of a weekday list, a
--- part of the seconds, or a part of a zone's name between slashes or after the last slash
+-- part of the seconds, or a part of a zone's name, in which slashes separate the parts
 abbrev pub piece_is_rejected_for : Rejection → List ℕ → Bool
 piece_is_rejected_for PastSunday item = runs_past_sunday item
 piece_is_rejected_for OneSecond part = is_one_second part
@@ -141,7 +141,7 @@ abbrev pub has_weekday_wrap : List (List ℕ) → Bool
 has_weekday_wrap [] = false
 has_weekday_wrap (word ∷ ws) = list_any (piece_is_rejected_for PastSunday) (slice_split is_comma word)
 
--- whether the word is the name of a zone with an empty part between slashes or after the last slash
+-- whether the word is the name of a zone that ends in `/` or contains `//`
 abbrev pub has_empty_part : List ℕ → Bool
 has_empty_part word = begins_with_letter word && list_any (piece_is_rejected_for ZoneName) (slice_split is_slash word)
 
@@ -153,7 +153,7 @@ word_is_rejected_for Offset word = begins_with_sign word
 word_is_rejected_for ZoneName word = has_empty_part word
 word_is_rejected_for rejection word = false
 
--- whether systemd 252 rejects, for this reason, the expression `text` with the normal form `f`
+-- whether systemd 252 rejects, for this reason, the expression `text`, whose normal form has the fields `f`
 abbrev pub is_rejected_for : List ℕ → Fields → Rejection → Bool
 is_rejected_for text f Tab = list_any is_tab text
 is_rejected_for text f Blanks = has_extra (slice_split is_space text)

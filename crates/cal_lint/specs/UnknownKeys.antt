@@ -1,4 +1,6 @@
--- Keys in the section `Timer` of a unit file that systemd 252 doesn't know: systemd.timer(5), Options.
+-- Keys in the sections `Timer` of a unit file that neither systemd 252 nor this project knows: systemd.timer(5),
+-- Options. This project adds the key `X-ExceptOnCalendar=` for exceptions, expressions at whose elapses the timer
+-- doesn't elapse.
 use Rattle.std.specs.Prelude.{ℕ, ◌-◌, Bool, not, ◌&&◌, ◌||◌, List, [], ◌∷◌, codes, drop, length, min, nat_eq, take}
 use Rattle.std.specs.List.{list_any, starts_with}
 use Rattle.std.specs.Str.{bytes_eq, str_eq_ignore_ascii_case}
@@ -20,8 +22,8 @@ is_like_exception_key key =
     str_eq_ignore_ascii_case (take (min (length key) 8) key) (codes "X-Except")
     || str_eq_ignore_ascii_case (drop (length key - 10) key) (codes "OnCalendar")
 
--- Whether systemd 252 doesn't know a key. It ignores keys that begin with `X-`; these count as unknown only if they
--- look like a misspelled key of exceptions.
+-- Whether neither systemd 252 nor this project knows a key. systemd 252 ignores keys that begin with `X-`; these count
+-- as unknown only if they look like a misspelled key of exceptions.
 abbrev pub is_unknown_key : List ℕ → Bool
 is_unknown_key key =
     not (list_any (bytes_eq key) timer_keys) && (not (starts_with nat_eq key (codes "X-")) || is_like_exception_key key)

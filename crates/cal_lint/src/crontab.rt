@@ -2,9 +2,9 @@
 
 use std::alloc::{AllocError, Global};
 
-/// Converts the five fields of a crontab to a calendar expression, which may be invalid. Returns an empty text if both
-/// the day of the month and the weekday are restricted. Returns `None` if `text` doesn't have five words, or if one of
-/// the first four words can't be a field of a crontab.
+/// Converts the five fields of a crontab to a calendar expression, which may be invalid. Returns an empty text if
+/// neither the day of the month nor the weekday is `*`. Returns `None` if `text` doesn't have five words, or unless
+/// each of the first four words consists only of digits, `*`, `/`, `,` and `-`.
 pub(crate) fn from_crontab(alloc: Global, text: &str) -> Result<Option<String>, AllocError> {
     let mut fields = text.split_whitespace();
     let (Some(minute), Some(hour), Some(day), Some(month), Some(weekday), None) = (
@@ -20,8 +20,8 @@ pub(crate) fn from_crontab(alloc: Global, text: &str) -> Result<Option<String>, 
     if !is_field(minute) || !is_field(hour) || !is_field(day) || !is_field(month) {
         return Ok(None);
     }
-    // In this case, cron runs on each day that matches either the day of the month or the weekday, which no single
-    // expression can say.
+    // If neither the day of the month nor the weekday is `*`, cron runs on each day that matches at least one of the
+    // two. No single expression can say that.
     if weekday != "*" && day != "*" {
         return Ok(Some(String::new(alloc)));
     }
@@ -38,7 +38,7 @@ pub(crate) fn from_crontab(alloc: Global, text: &str) -> Result<Option<String>, 
     Ok(Some(expr))
 }
 
-/// Returns whether a word consists of digits, `*`, `/`, `,` and `-`, as the fields of a crontab do unless they have
+/// Returns whether a word consists of digits, `*`, `/`, `,` and `-`, as a field of a crontab does unless it contains
 /// names.
 fn is_field(word: &str) -> bool {
     word.as_bytes()
@@ -46,7 +46,8 @@ fn is_field(word: &str) -> bool {
         .all(|byte| byte.is_ascii_digit() || b"*/,-".contains(byte))
 }
 
-/// Appends a field of a crontab as a component of an expression. `least` is the least number of the component.
+/// Appends a field of a crontab as a component of an expression. `least` is the least number of the component, with
+/// which a field such as `*/2` begins.
 fn push_field(expr: &mut String, least: char, field: &str) -> Result<(), AllocError> {
     if let Some(step) = field.strip_prefix("*/") {
         expr.push(least)?;
@@ -74,8 +75,8 @@ fn push_weekdays(expr: &mut String, weekdays: &str) -> Result<(), AllocError> {
     expr.push(' ')
 }
 
-/// Appends a character of the weekdays of a crontab: the name of the weekday with this number, `..` for `-`, or the
-/// character itself.
+/// Appends a character of the weekdays of a crontab: the name of the weekday for a digit from 0 to 7, `..` for `-`, and
+/// any other character unchanged.
 fn push_weekday_sign(expr: &mut String, sign: char) -> Result<(), AllocError> {
     match sign {
         '0' | '7' => expr.push_str("Sun"),

@@ -14,14 +14,15 @@ use std::alloc::Global;
 /// Why a valid expression may not mean what its author thinks.
 #[derive(Clone, Copy, PartialEq, Eq, Debug)]
 pub enum Doubt {
-    /// The minutes are a range that starts at 0 and ends at what could be a later hour. `10:00..12:00` stands for the
-    /// minutes 0 to 12 of the hour 10, and not for the time from 10:00 to 12:00.
+    /// The hour and the second are single numbers, and the minutes are a range, without a step, from 0 to a number that
+    /// could be a later hour. `10:00..12:00` stands for the minutes 0 to 12 of the hour 10, and not for the time from
+    /// 10:00 to 12:00.
     HourRange,
-    /// The minutes are 0 and what could be a later hour. `00:00,12:00` stands for 00:00 and 00:12, and not for 00:00
-    /// and 12:00.
+    /// The hour and the second are single numbers, and the minutes are two numbers: 0 and a number that could be a
+    /// later hour. `00:00,12:00` stands for 00:00 and 00:12, and not for 00:00 and 12:00.
     HourList,
-    /// The date is a month and a day that could be a range of weekdays. `1-5 09:00` stands for January 5, and not for
-    /// Monday to Friday.
+    /// The date is a month and a day that could be meant as a range of weekdays, with 1 for Monday and 7 for Sunday.
+    /// `1-5 09:00` stands for January 5, and not for Monday to Friday.
     MonthDay,
 }
 

@@ -22,7 +22,8 @@ const SHORTHANDS: [&str; 12] = [
     "annually",
 ];
 
-/// The names of the weekdays, each in full and in lower case, and shortened to three letters.
+/// The names of the weekdays. Each is given first in full and in lower case, and then as systemd shortens it, to three
+/// letters.
 const DAYS: [(&str, &str); 7] = [
     ("monday", "Mon"),
     ("tuesday", "Tue"),
@@ -40,8 +41,8 @@ struct Rewritten {
     word: String,
 }
 
-/// Returns the text with its mistaken words replaced, and the first mistake. Returns `None` if no word is a known
-/// mistake.
+/// Returns a hint with the first mistake in a word, and with the text in which each word that is a known mistake is
+/// replaced. Returns `None` if no word is a known mistake.
 pub(crate) fn rewrite_words(alloc: Global, text: &str) -> Result<Option<Hint>, AllocError> {
     let mut joined = String::new(alloc);
     let mut mistake = None;
@@ -112,7 +113,7 @@ fn clock(
     Ok(Some(Rewritten { mistake, word }))
 }
 
-/// Parses at most two digits that are a number below `end`. Returns `None` for anything else.
+/// Parses one or two digits that are a number below `end`. Returns `None` for anything else.
 fn number_below(text: &str, end: u8) -> Option<u8> {
     if text.len() > 2 || !are_digits(text.as_bytes()) {
         return None;
@@ -121,7 +122,8 @@ fn number_below(text: &str, end: u8) -> Option<u8> {
     if number < end { Some(number) } else { None }
 }
 
-/// Parses a time on a 12-hour clock, such as `9am`, `12pm` or `9:30pm`. Returns its hour, 0 to 23, and its minute.
+/// Parses a time on a 12-hour clock, such as `9am`, `12pm` or `9:30pm`. Returns its hour, 0 to 23, and its minute, or
+/// `None` for anything else.
 fn twelve_hours(word: &str) -> Option<(u8, u8)> {
     let (time, is_afternoon) = before_noon_mark(word)?;
     let (hour, minute) = match time.split_once(':') {
@@ -135,7 +137,8 @@ fn twelve_hours(word: &str) -> Option<(u8, u8)> {
     Some((if is_afternoon { hour + 12 } else { hour }, minute))
 }
 
-/// Returns the text before `am` or `pm`, and whether it is `pm`.
+/// Returns the text before `am`, `AM`, `pm` or `PM` at the end of a word, and whether the word ends with `pm` or `PM`.
+/// Returns `None` for any other word.
 fn before_noon_mark(word: &str) -> Option<(&str, bool)> {
     if let Some(time) = word.strip_suffix("am").or(word.strip_suffix("AM")) {
         return Some((time, false));
@@ -144,7 +147,8 @@ fn before_noon_mark(word: &str) -> Option<(&str, bool)> {
     Some((time, true))
 }
 
-/// Parses a time with a point in place of the colon, such as `09.00`. Returns its hour and its minute.
+/// Parses a time with a point in place of the colon, such as `09.00`. Returns its hour and its minute, or `None` for
+/// anything else.
 fn pointed(word: &str) -> Option<(u8, u8)> {
     let (hour, minute) = word.split_once('.')?;
     if minute.len() != 2 {
@@ -153,7 +157,7 @@ fn pointed(word: &str) -> Option<(u8, u8)> {
     Some((number_below(hour, 24)?, number_below(minute, 60)?))
 }
 
-/// Rewrites a short offset or a date without a day.
+/// Rewrites a UTC offset without minutes, or a year and a month without a day. Returns `None` for any other word.
 fn rewrite_signed(alloc: Global, word: &str) -> Result<Option<Rewritten>, AllocError> {
     if let Some(hour) = word.strip_prefix('+') {
         return offset(alloc, '+', hour);
@@ -174,7 +178,7 @@ fn rewrite_signed(alloc: Global, word: &str) -> Result<Option<Rewritten>, AllocE
     }
 }
 
-/// Rewrites an offset of whole hours.
+/// Rewrites a UTC offset of whole hours. Returns `None` unless `hour` is one or two digits, for a number up to 25.
 fn offset(alloc: Global, sign: char, hour: &str) -> Result<Option<Rewritten>, AllocError> {
     let Some(hour) = number_below(hour, 26) else {
         return Ok(None);
@@ -186,7 +190,8 @@ fn offset(alloc: Global, sign: char, hour: &str) -> Result<Option<Rewritten>, Al
     }))
 }
 
-/// Returns the month in a word such as `2026-12`.
+/// Returns the month in a word such as `2026-12`: one or two digits, for a number from 0 to 12. Returns `None` for any
+/// other word.
 fn year_month(word: &str) -> Option<u8> {
     let (year, month) = word.split_once('-')?;
     if year.len() != 4 || !are_digits(year.as_bytes()) {
@@ -195,7 +200,8 @@ fn year_month(word: &str) -> Option<u8> {
     number_below(month, 13)
 }
 
-/// Rewrites a word that begins with a letter: a shorthand, or a list of weekdays.
+/// Rewrites a word that begins with a letter: a misspelled shorthand, or a list of weekdays. Returns `None` if it
+/// resembles neither.
 fn rewrite_name(alloc: Global, word: &str) -> Result<Option<Rewritten>, AllocError> {
     if let Some(name) = find_near(alloc, word)? {
         return Ok(Some(Rewritten {
@@ -212,8 +218,8 @@ fn rewrite_name(alloc: Global, word: &str) -> Result<Option<Rewritten>, AllocErr
     }
 }
 
-/// Returns the shorthand that differs from `word` in one letter: it is wrong, missing or additional, or is swapped with
-/// the next one.
+/// Returns the first shorthand that differs from `word` by one edit, ignoring case: a letter of `word` is wrong,
+/// missing or additional, or two adjacent letters are swapped.
 fn find_near(alloc: Global, word: &str) -> Result<Option<&'static str>, AllocError> {
     let mut lower = String::from_str(alloc, word)?;
     lower.make_ascii_lowercase();
@@ -225,8 +231,8 @@ fn find_near(alloc: Global, word: &str) -> Result<Option<&'static str>, AllocErr
     Ok(None)
 }
 
-/// Rewrites a list of weekdays, with each name shortened to three letters. Returns `None` if a name isn't like a
-/// weekday.
+/// Rewrites a list of weekdays, with each name shortened to three letters. Returns `None` if a name doesn't resemble a
+/// weekday, as [`find_day_like`] decides.
 fn rewrite_days(alloc: Global, word: &str) -> Result<Option<String>, AllocError> {
     let mut days = String::new(alloc);
     for item in word.split(',') {
@@ -240,7 +246,7 @@ fn rewrite_days(alloc: Global, word: &str) -> Result<Option<String>, AllocError>
     Ok(Some(days))
 }
 
-/// Appends a weekday or a range of weekdays. Returns `false` if a name isn't like a weekday.
+/// Appends a weekday or a range of weekdays. Returns `false` if a name doesn't resemble a weekday.
 fn push_days(alloc: Global, days: &mut String, item: &str) -> Result<bool, AllocError> {
     let Some((first, last)) = item.split_once("..").or(item.split_once('-')) else {
         return push_day(alloc, days, item);
@@ -262,8 +268,9 @@ fn push_day(alloc: Global, days: &mut String, name: &str) -> Result<bool, AllocE
     }
 }
 
-/// Returns the short name of a weekday whose full name begins with `name` or differs from `name` in at most one letter,
-/// ignoring case. Returns `None` if there is no such weekday, or if `name` has fewer than two letters.
+/// Returns the short name of the first weekday whose full name begins with `name`, or from whose full name `name`
+/// differs by at most one edit, as in [`find_near`], ignoring case. Returns `None` if there is no such weekday, or if
+/// `name` has fewer than two bytes.
 fn find_day_like(alloc: Global, name: &str) -> Result<Option<&'static str>, AllocError> {
     let mut lower = String::from_str(alloc, name)?;
     lower.make_ascii_lowercase();

@@ -1,6 +1,6 @@
 //! What to write instead of an invalid calendar expression.
 //!
-//! A hint comes from the form of the text alone. Its suggestion is parsed first, and left out if it isn't valid.
+//! Hints depend only on the form of the text. A suggestion that isn't a valid expression is left out.
 
 ghost use Rattle.std.specs.Prelude.{◌≡◌, IfOk, IfSome, Some, false, is_ok, string_bytes, true};
 ghost use Rattle.std.specs.List.{list_any};
@@ -19,7 +19,7 @@ use cal_spec::{SpecFault, read_expr};
 use cal_text::trim_blanks;
 use std::alloc::{AllocError, Global};
 
-/// What an invalid expression looks like.
+/// A known mistake that an invalid expression resembles.
 #[derive(Clone, Copy, PartialEq, Eq, Debug)]
 pub enum Mistake {
     /// A setting, such as `OnCalendar=daily`, in place of its value.
@@ -39,7 +39,7 @@ pub enum Mistake {
     Point,
     /// An hour without minutes, such as `9`.
     BareHour,
-    /// A UTC offset that isn't written as `+hh:mm`, such as `+2`.
+    /// A UTC offset of one or two digits without minutes, such as `+2` in place of `+02:00`.
     ShortOffset,
     /// A year and a month without a day, such as `2026-12`.
     YearMonth,
@@ -49,16 +49,16 @@ pub enum Mistake {
     Shorthand,
 }
 
-/// What an invalid expression looks like, and what to write instead.
+/// The known mistake that an invalid expression resembles, and what to write instead.
 #[derive(Debug, Drop)]
 pub struct Hint {
     pub mistake: Mistake,
-    /// A valid expression, if one is known.
+    /// A valid expression to write instead, if one is known.
     pub instead: Option<String>,
 }
 
 /// Returns a hint for an invalid expression (systemd.time(7), Calendar Events), or `None` if the text is a valid
-/// expression or doesn't look like anything that is known. Fails only if allocation fails.
+/// expression or doesn't resemble a known mistake. Fails only if allocation fails.
 pub fn find_hint(alloc: Global, text: &str) -> Result<Option<Hint>, AllocError>
     ensures invalid { IfOk result (λ found. IfSome found (λ hint. is_ok (expr_in text.now) ≡ false)) }
     ensures mistake { IfOk result (λ found. is_ok (expr_in text.now) ≡ false → (mistake : Mistake)
@@ -113,7 +113,8 @@ fn hint_for(alloc: Global, text: &str) -> Result<Option<Hint>, AllocError>
     }
 }
 
-/// Returns the mistake that the whole text shows. If it shows several, returns the first in the order of [`Mistake`].
+/// Returns the mistake that shows in the text as a whole, not in single words, if there is one. If there are several,
+/// returns the first in the order of [`Mistake`].
 #[tactic(auto, unfolding(crate::specs::Hints::mistake_in))]
 fn mistake_in(text: &str) -> Option<Mistake>
     ensures { result ≡ mistake_in text.now }
@@ -132,7 +133,7 @@ fn mistake_in(text: &str) -> Option<Mistake>
 }
 
 /// Returns a hint with this mistake. For a setting, the hint says to write only its value, and for a comment, only the
-/// text before it. For any other mistake, it doesn't say what to write.
+/// text before it, both without the mistakes in their words. For any other mistake, it doesn't say what to write.
 fn hint_with(alloc: Global, mistake: Mistake, text: &str) -> Result<Option<Hint>, AllocError>
     ensures { IfOk result (λ found. option_map (λ hint. hint.mistake) found ≡ Some mistake) }
 {
@@ -144,7 +145,8 @@ fn hint_with(alloc: Global, mistake: Mistake, text: &str) -> Result<Option<Hint>
     Ok(Some(Hint { mistake, instead }))
 }
 
-/// Returns a hint for a crontab, or for the mistakes in single words.
+/// Returns a hint for the fields of a crontab, or for mistakes in single words. Returns `None` if there are none of
+/// these.
 fn hint_for_words(alloc: Global, text: &str) -> Result<Option<Hint>, AllocError> {
     match from_crontab(alloc, text)? {
         Some(instead) => Ok(Some(Hint {
@@ -155,7 +157,7 @@ fn hint_for_words(alloc: Global, text: &str) -> Result<Option<Hint>, AllocError>
     }
 }
 
-/// Returns the text without surrounding blanks and without the mistakes in its words.
+/// Returns the text without surrounding blanks, and with each word that is a known mistake replaced.
 fn rewritten(alloc: Global, text: &str) -> Result<Option<String>, AllocError> {
     let text = trim_blanks(text);
     match rewrite_words(alloc, text)? {

@@ -18,7 +18,7 @@ use cal_text::{are_digits, decimal_value, first_word};
 use jiff_core::civil::Weekday;
 use std::alloc::Global;
 
-/// The greatest step of a range of seconds that systemd 252 accepts. It counts seconds in microseconds, in signed
+/// The greatest step of a range of seconds that systemd 252 accepts. systemd stores seconds as microseconds, in signed
 /// 32-bit numbers.
 const MAX_SECOND_STEP: u64 = 2147;
 
@@ -67,7 +67,8 @@ impl Rejection {
 /// Returns why systemd 252 rejects a calendar expression that is valid here, or `None` if it accepts the expression
 /// (systemd.time(7), Calendar Events). If there are several reasons, returns the first in the order of [`Rejection`].
 ///
-/// systemd 252 also rejects the name of a zone that the machine doesn't have. This is not taken into account.
+/// systemd 252 also rejects an expression with the name of a zone that the machine doesn't have. This function doesn't
+/// check whether the machine has the zone.
 ///
 /// Fails with the error of [`read_expr`] if `text` is not a valid expression. Fails with [`SpecFault::NoMemory`] only
 /// if allocation fails.
@@ -167,7 +168,7 @@ fn has_extra(text: &[u8]) -> bool
 }
 
 /// Returns whether `rest` has an additional space that systemd 252 doesn't skip. `skips` says whether systemd 252 skips
-/// those at the start of `rest`.
+/// additional spaces at the start of `rest`.
 fn has_extra_after(skips: bool, rest: Option<&[u8]>) -> bool
     ensures { result ≡ has_extra_after skips (pieces_after is_space (option_copied rest.entry)) }
 {
@@ -244,7 +245,7 @@ fn letters_len(word: &[u8]) -> usize
 
 // Seconds
 
-/// Returns the seconds of a time, or an empty text if it has none.
+/// Returns the seconds of a time, which follow its second colon, or an empty text if it has no seconds.
 fn seconds_in(word: &str) -> &str
     ensures { result.now ≡ seconds_in word.now }
 {
@@ -288,7 +289,7 @@ fn are_equal(a: &[u8], b: &[u8]) -> bool
     decimal_value(a) == decimal_value(b) && decimal_value(a) <= MAX_NUMBER
 }
 
-/// Returns whether the step of a part is too large for systemd 252.
+/// Returns whether a part of the seconds has a step that is too large for systemd 252.
 fn has_large_step(part: &[u8]) -> bool
     ensures { result ≡ has_large_step part.now }
 {
@@ -296,7 +297,7 @@ fn has_large_step(part: &[u8]) -> bool
     are_digits(step) && decimal_value(step) > MAX_SECOND_STEP
 }
 
-/// Returns the text between the first `/` and the next one or the end. Returns an empty text if there is no `/`.
+/// Returns the text after the first `/`, up to the next `/` or the end. Returns an empty text if there is no `/`.
 fn step_in(part: &[u8]) -> &[u8]
     ensures { result.now ≡ step_in (slice_split is_slash part.now) }
 {

@@ -1,4 +1,6 @@
-//! All problems of a timer as data, for programs that print or mark them.
+//! All problems of the settings of a timer unit as data, for programs that print them or mark them in an editor.
+//! Exceptions, here and below, are the expressions after `X-ExceptOnCalendar=`, this project's key: when one of them
+//! elapses, the timer doesn't.
 
 ghost use Rattle.std.specs.Prelude.{◌≡◌, ◌+◌, ◌<◌, ◌^◌, ◌++◌, ◌∷◌, [], IfOk, OnOk, length, map};
 ghost use Rattle.std.specs.List.{find, list_any};
@@ -34,11 +36,11 @@ pub enum Kind {
 pub enum Problem {
     /// The expression or the exception is invalid, or its list is full.
     Invalid(TimerFault),
-    /// systemd 252 doesn't know the key.
+    /// Neither systemd 252 nor this project knows the key, in the sense of [`crate::find_unknown_keys`].
     UnknownKey,
-    /// systemd 252 rejects the expression, which is valid here.
+    /// systemd 252 rejects the expression or the exception, which is valid here.
     Rejected(Rejection),
-    /// The expression is valid and rarely meant.
+    /// The expression or the exception is valid, but may not mean what its author thinks.
     Doubtful(Doubt),
 }
 
@@ -59,24 +61,25 @@ impl Problem {
 pub struct Finding {
     /// The number of the setting's line, from 1. A continued line has the number of its first physical line.
     pub line: u32,
-    /// The byte of the line, counted from 1, at which the word at fault begins: the key if it is unknown, and otherwise
-    /// a word of the value. If the line is continued, this is 1.
+    /// The byte of the line, counted from 1, at which one of these begins: an unknown key, the word at fault of an
+    /// invalid expression (see [`fault_span`]), or otherwise the value. If the line is continued and the problem is in
+    /// its value, this is 1.
     pub column: u32,
     pub kind: Kind,
     pub problem: Problem,
-    /// What an invalid expression looks like, if that is known.
+    /// The known mistake that the expression resembles, if it is invalid and resembles one.
     pub mistake: Option<Mistake>,
     /// A valid expression to write instead, if one is known.
     pub suggestion: Option<String>,
 }
 
 /// Returns all problems of the settings in the sections `Timer` of a unit file (systemd.timer(5), Options), in order.
-/// The first line has the number 1.
+/// The first line has the number 1. `text` must have fewer than 2^32 - 1 bytes.
 ///
-/// These are the settings with unknown keys, as [`crate::find_unknown_keys`] returns them, and the errors that
-/// [`find_faults`] returns, and of the other expressions and exceptions what [`systemd_252`] and [`find_doubt`] return.
-/// Values with a `%` are not checked, since systemd replaces specifiers when it loads the unit (systemd.unit(5),
-/// Specifiers). Fails only if allocation fails.
+/// The problems are unknown keys, as [`crate::find_unknown_keys`] finds them, the errors that [`find_faults`] returns,
+/// and, for expressions and exceptions without such an error, what [`systemd_252`] and [`find_doubt`] return.
+/// Expressions and exceptions with a `%` are not checked, since systemd replaces specifiers when it loads the unit
+/// (systemd.unit(5), Specifiers). Fails only if allocation fails.
 pub fn findings(alloc: Global, text: &str) -> Result<Vec<Finding>, AllocError>
     requires { 1 + length text.now < 2 ^ 32 }
     ensures { IfOk result (λ found. map shown_finding found.items ≡ findings_in text.now) }
@@ -105,7 +108,7 @@ fn faults_of(alloc: Global, text: &str) -> Result<Vec<FileFault>, AllocError>
     find_faults(alloc, &[UnitText { first: 1, text }])
 }
 
-/// Appends the problems of a setting in this physical line.
+/// Appends the problems of a setting. `line` is the setting's first physical line.
 fn add_findings(
     alloc: Global,
     found: &mut Vec<Finding>,
@@ -155,7 +158,8 @@ fn add_invalid(
     Ok(())
 }
 
-/// Appends why systemd 252 rejects a valid expression, and why it may not be meant.
+/// Appends why systemd 252 rejects `setting`'s value, and why the value may not mean what its author thinks, if it is a
+/// valid expression.
 fn add_advice(
     alloc: Global,
     found: &mut Vec<Finding>,
@@ -183,7 +187,7 @@ fn add_advice(
     )
 }
 
-/// Appends a problem without a suggestion, if there is one.
+/// Appends a finding for `problem`, if it isn't `None`. The finding has no suggestion.
 fn push_problem(
     found: &mut Vec<Finding>,
     line: u32,
@@ -199,7 +203,7 @@ fn push_problem(
     Ok(())
 }
 
-/// Returns a finding without a suggestion.
+/// Returns a finding with neither a mistake nor a suggestion.
 fn plain_finding(line: u32, column: u32, problem: Problem) -> Finding
     ensures { shown_finding result ≡ report_at line problem }
 {
@@ -213,7 +217,8 @@ fn plain_finding(line: u32, column: u32, problem: Problem) -> Finding
     }
 }
 
-/// Returns why systemd 252 rejects a valid expression. Fails only if allocation fails.
+/// Returns why systemd 252 rejects a valid expression. Returns `None` if it doesn't, or if `value` is not a valid
+/// expression. Fails only if allocation fails.
 fn rejection_of(alloc: Global, value: &str) -> Result<Option<Rejection>, AllocError>
     ensures { IfOk result (λ found. found ≡ if_valid (rejection_in value.now)) }
 {
@@ -224,7 +229,8 @@ fn rejection_of(alloc: Global, value: &str) -> Result<Option<Rejection>, AllocEr
     }
 }
 
-/// Returns why a valid expression may not be meant. Fails only if allocation fails.
+/// Returns why a valid expression may not mean what its author thinks. Returns `None` if it has none of the forms of
+/// [`Doubt`], or if `value` is not a valid expression. Fails only if allocation fails.
 fn doubt_of(alloc: Global, value: &str) -> Result<Option<Doubt>, AllocError>
     ensures { IfOk result (λ found. found ≡ if_valid (doubt_in value.now)) }
 {
@@ -235,7 +241,8 @@ fn doubt_of(alloc: Global, value: &str) -> Result<Option<Doubt>, AllocError>
     }
 }
 
-/// Returns what an invalid expression looks like, and what to write instead.
+/// Returns the known mistake that an invalid expression resembles, and a valid expression to write instead, each only
+/// if known. Returns neither if `fault` isn't that the expression is invalid.
 fn advice_for(
     alloc: Global,
     fault: TimerFault,
@@ -250,7 +257,7 @@ fn advice_for(
     }
 }
 
-/// Returns whether the setting is an expression or an exception without specifiers.
+/// Returns whether the setting is an expression or an exception, and its value has no `%`, with which specifiers begin.
 fn is_checked(setting: &Setting) -> bool
     ensures { result ≡ is_checked (shown_setting setting.now) }
 {
@@ -263,7 +270,7 @@ fn is_checked(setting: &Setting) -> bool
         && !setting.value.as_bytes().contains(&b'%')
 }
 
-/// Returns the error in the line with this number.
+/// Returns the first error in the line with this number, if there is one.
 fn fault_on(faults: &[FileFault], number: u32) -> Option<TimerFault>
     ensures { result ≡ fault_on faults.now number }
 {
@@ -296,7 +303,7 @@ fn fault_start(alloc: Global, value: &str) -> Result<usize, AllocError> {
     }
 }
 
-/// Returns the physical line with this number, or an empty text if there is none.
+/// Returns the physical line with this number, or an empty text if there is no such line.
 fn line_of<'t>(lines: &[&'t str], number: u32) -> &'t str {
     match lines.get((number as usize).saturating_sub(1)) {
         Some(line) => *line,
@@ -304,7 +311,7 @@ fn line_of<'t>(lines: &[&'t str], number: u32) -> &'t str {
     }
 }
 
-/// Returns the column of the first byte of the key.
+/// Returns the column of the first byte of the key, or 1 if the line doesn't contain the key.
 fn key_column(line: &str, key: &str) -> u32 {
     match line.find(key) {
         Some(start) => column_at(start, 0),

@@ -1,4 +1,4 @@
-//! Keys in the section `Timer` of a unit file that systemd doesn't know.
+//! Keys in the sections `Timer` of a unit file that neither systemd 252 nor this project knows.
 
 ghost use Rattle.std.specs.Prelude.{◌≡◌, ◌+◌, ◌<◌, ◌-◌, ◌^◌, IfOk, codes, drop, false, filter, length, map, nat_eq, take};
 ghost use Rattle.std.specs.List.{starts_with};
@@ -12,8 +12,8 @@ use cal_bytes::is_among;
 use cal_read::{Setting, Settings, without_mark};
 use std::alloc::{AllocError, Global};
 
-/// The keys of the section `Timer` that systemd 252 knows (systemd.timer(5), Options), and the key of this project for
-/// exceptions.
+/// The keys of the section `Timer` that systemd 252 knows (systemd.timer(5), Options), and last this project's key for
+/// exceptions, which are expressions at whose elapses the timer doesn't elapse.
 const KNOWN_KEYS: [&[u8]; 16] = [
     b"OnActiveSec",
     b"OnBootSec",
@@ -33,12 +33,13 @@ const KNOWN_KEYS: [&[u8]; 16] = [
     b"X-ExceptOnCalendar",
 ];
 
-/// Returns the settings in the sections `Timer` of a unit file whose keys systemd 252 doesn't know (systemd.timer(5),
-/// Options), in order. The first line of the text has the number `first`.
+/// Returns the settings in the sections `Timer` of a unit file whose keys neither systemd 252 (systemd.timer(5),
+/// Options) nor this project knows, in order. The first line of `text` has the number `first`; `first` plus the number
+/// of bytes must be below 2^32.
 ///
 /// systemd ignores keys that begin with `X-` (systemd.unit(5)). So a setting with such a key is left out, unless the
-/// key looks like a misspelled `X-ExceptOnCalendar`: it begins with `X-Except` or ends with `OnCalendar`, ignoring
-/// case.
+/// key looks like a misspelled `X-ExceptOnCalendar`, which is this project's key for exceptions. A key looks so if it
+/// begins with `X-Except` or ends with `OnCalendar`, ignoring case.
 ///
 /// Fails only if allocation fails.
 pub fn find_unknown_keys(alloc: Global, first: u32, text: &str) -> Result<Vec<Setting>, AllocError>
@@ -65,7 +66,7 @@ pub(crate) fn is_unknown_key(key: &str) -> bool
     !key.as_bytes().starts_with(b"X-") || is_like_exception_key(key.as_bytes())
 }
 
-/// Returns whether a key that begins with `X-` looks like `X-ExceptOnCalendar`.
+/// Returns whether a key begins with `X-Except` or ends with `OnCalendar`, ignoring case.
 fn is_like_exception_key(key: &[u8]) -> bool
     ensures { result ≡ is_like_exception_key key.now }
 {

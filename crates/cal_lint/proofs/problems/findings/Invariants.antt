@@ -3,7 +3,7 @@ use Rattle.std.specs.List.{flat_map}
 use Rattle.cal_lint.specs.Findings.{findings_in, reports_of, shown_finding, timer_faults}
 use Rattle.cal_lint.proofs.problems.findings.Given as goal
 
--- the problems found so far, followed by those of the remaining settings, are all
+-- the problems found so far, followed by those of the remaining settings, are the problems of all settings
 abbrev pub invariant-loop-found : goal.invariant-loop-found
 invariant-loop-found l =
     map shown_finding l.found.items ++ flat_map (reports_of (timer_faults l.text)) l.settings ≡ findings_in l.text
