@@ -21,7 +21,7 @@ OnCalendar=Mon \\
 OnCalendar=
 ";
 
-/// The line and the column of a finding, its problem, and the word at fault.
+/// The line and the column of a finding, its problem, and a word of the setting, which names the row if the test fails.
 type Row = (u32, u32, Problem, &'static str);
 
 static FOUND: [Row; 6] = [

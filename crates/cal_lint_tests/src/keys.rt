@@ -5,7 +5,7 @@ use cal_lint::find_unknown_keys;
 use cal_read::Setting;
 use std::test::Fail;
 
-/// A unit file with all keys that systemd 252 knows, and others.
+/// A unit file with all keys that systemd 252 knows, and keys that it doesn't know.
 const UNIT: &str = "\
 \u{FEFF}[Unit]
 Description=x

@@ -15,7 +15,7 @@ static ROWS: [(&str, Option<Rejection>); 13] = [
     ("*:*:5..5", Some(Rejection::OneSecond)),
     ("*:*:0..59/2148", Some(Rejection::SecondStep)),
     ("*~1,26", Some(Rejection::DaysFromEnd)),
-    // In the normal form, 26 is the second part of the list, and the bound of the second part is 25.
+    // In the normal form of the next row, 26 is the second part of the list, and the bound of the second part is 25.
     ("*~26,1", Some(Rejection::DaysFromEnd)),
     ("*~1,25", None),
     ("daily +02:00", Some(Rejection::Offset)),
