@@ -1,5 +1,5 @@
--- Examples that check the definitions of drop-ins. They were seen with systemd-analyze 252: it names the files of a
--- unit in the order in which it reads them if each has a line that it refuses.
+-- Examples that check the definitions of drop-ins. The expected results were taken from systemd-analyze 252: if each
+-- file of a unit has a line that it rejects, it names the files in the order in which it reads them.
 use Rattle.std.proofs.Common.{◌≡◌, ℕ, List, [], ◌∷◌, ◌++◌, codes, filter, map, refl, Some, None}
 use Rattle.std.specs.List.{list_any}
 use Rattle.std.specs.Str.{bytes_eq}
@@ -12,7 +12,7 @@ use Rattle.cal_drop_ins.specs.declared.unit_name.UnitKind.TheVariants.{Plain, Te
 abbrev File : Type 0
 File = List ℕ × List ℕ
 
--- a machine with these files, of which those with these paths are links to `/dev/null`
+-- a machine with these files; the files whose paths are in `links` are links to `/dev/null`
 abbrev machine : List File → List (List ℕ) → Disk
 machine files links =
     record {
@@ -20,7 +20,7 @@ machine files links =
       is_null = λ path. list_any (bytes_eq path) links;
     }
 
--- the drop-ins of a unit on a machine that has two folders of units
+-- the drop-ins of a unit that are read on a machine with two folders of units
 abbrev read_on : List File → List (List ℕ) → List (List ℕ) → List (List ℕ)
 read_on files links stems = drop_ins (machine files links) (codes "/etc" ∷ codes "/lib" ∷ []) stems
 
@@ -36,21 +36,23 @@ in_etc folder name = (codes "/etc/" ++ folder, name)
 
 abbrev rows : List Row
 rows =
-    -- sorted by the bytes of the names; hidden files and other suffixes are skipped
+    -- In the first row, drop-ins are sorted by the bytes of their names. Files whose names begin with a dot or don't
+    -- end in `.conf` are skipped.
     (
       in_lib (codes "foo.timer.d") (codes "a.conf") ∷ in_lib (codes "foo.timer.d") (codes "B.conf")
           ∷ in_etc (codes "timer.d") (codes "9.conf") ∷ in_lib (codes "foo.timer.d") (codes "10.conf")
           ∷ in_lib (codes "foo.timer.d") (codes ".5.conf") ∷ in_lib (codes "foo.timer.d") (codes "README") ∷ [],
       ([], (codes "foo" ∷ [], codes "/lib/foo.timer.d/10.conf" ∷ codes "/etc/timer.d/9.conf" ∷ codes "/lib/foo.timer.d/B.conf" ∷ codes "/lib/foo.timer.d/a.conf" ∷ [])),
     )
-    -- the folder of all timers loses to any other folder, below whichever root; of two folders of all timers, the one
-    -- below the more important root wins
+    -- In the second row, the folder of all timers loses to another folder, although it is below the more important
+    -- root. In the third row, of two folders of all timers, the one below the more important root wins.
     ∷ (
       in_etc (codes "timer.d") (codes "x.conf") ∷ in_lib (codes "foo-.timer.d") (codes "x.conf") ∷ [],
       ([], (codes "foo-bar" ∷ [], codes "/lib/foo-.timer.d/x.conf" ∷ [])),
     )
     ∷ (in_etc (codes "timer.d") (codes "x.conf") ∷ in_lib (codes "timer.d") (codes "x.conf") ∷ [], ([], (codes "foo" ∷ [], codes "/etc/timer.d/x.conf" ∷ [])))
-    -- otherwise the more important root wins, even with a more general folder
+    -- In the next two rows, which don't have the folder of all timers, the more important root wins, even with a more
+    -- general folder.
     ∷ (
       in_lib (codes "foo-bar.timer.d") (codes "x.conf") ∷ in_etc (codes "foo-.timer.d") (codes "x.conf") ∷ [],
       ([], (codes "foo-bar" ∷ [], codes "/etc/foo-.timer.d/x.conf" ∷ [])),
@@ -59,7 +61,8 @@ rows =
       in_lib (codes "foo@i.timer.d") (codes "x.conf") ∷ in_etc (codes "foo@.timer.d") (codes "x.conf") ∷ [],
       ([], (codes "foo@i" ∷ [], codes "/etc/foo@.timer.d/x.conf" ∷ [])),
     )
-    -- below one root: the unit's own folder, then its template's, then that of the longest prefix
+    -- In the next three rows, all folders are below one root. The unit's own folder wins over its template's, that wins
+    -- over a prefix's, and a longer prefix wins over a shorter one.
     ∷ (
       in_etc (codes "a-b@i.timer.d") (codes "x.conf") ∷ in_etc (codes "a-b@.timer.d") (codes "x.conf") ∷ [],
       ([], (codes "a-b@i" ∷ [], codes "/etc/a-b@i.timer.d/x.conf" ∷ [])),
@@ -72,12 +75,12 @@ rows =
       in_etc (codes "a-b-.timer.d") (codes "x.conf") ∷ in_etc (codes "a-.timer.d") (codes "x.conf") ∷ [],
       ([], (codes "a-b-c" ∷ [], codes "/etc/a-b-.timer.d/x.conf" ∷ [])),
     )
-    -- a link to `/dev/null` hides its name, and isn't read
+    -- In the next row, a link to `/dev/null` hides the file of the same name, and isn't read.
     ∷ (
       in_lib (codes "foo.timer.d") (codes "x.conf") ∷ in_etc (codes "foo.timer.d") (codes "x.conf") ∷ in_lib (codes "foo.timer.d") (codes "y.conf") ∷ [],
       (codes "/etc/foo.timer.d/x.conf" ∷ [], (codes "foo" ∷ [], codes "/lib/foo.timer.d/y.conf" ∷ [])),
     )
-    -- the drop-ins of an alias are read too; those of the unit's own name win over them
+    -- In the last row, the drop-ins of an alias are read too, and those of the unit's own name win over them.
     ∷ (
       in_etc (codes "also.timer.d") (codes "x.conf") ∷ in_lib (codes "foo.timer.d") (codes "x.conf") ∷ in_lib (codes "also.timer.d") (codes "y.conf") ∷ [],
       ([], (codes "also" ∷ codes "foo" ∷ [], codes "/lib/foo.timer.d/x.conf" ∷ codes "/lib/also.timer.d/y.conf" ∷ [])),
@@ -88,7 +91,7 @@ rows_read : map (λ (row : Row). read_on row.0 row.1.0 row.1.1.0) rows ≡ map (
 unfolding drop_ins chosen by_name candidates is_drop_in folders folder_stems prefixes_within template_of
 rows_read = refl
 
--- the stems whose folders apply
+-- the stems whose folders apply to the units with the stems `foo--bar`, `foo-bar@x-y`, `-x`, `foo-` and `foo@`
 stems_apply : map folder_stems (codes "foo--bar" ∷ codes "foo-bar@x-y" ∷ codes "-x" ∷ codes "foo-" ∷ codes "foo@" ∷ [])
     ≡ (codes "foo-" ∷ codes "foo--" ∷ codes "foo--bar" ∷ []) ∷ (codes "foo-" ∷ codes "foo-bar@" ∷ codes "foo-bar@x-y" ∷ []) ∷ (codes "-x" ∷ [])
     ∷ (codes "foo-" ∷ []) ∷ (codes "foo@" ∷ []) ∷ []

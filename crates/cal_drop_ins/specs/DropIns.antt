@@ -18,7 +18,7 @@ pub record Found : Type 0 where
   pub name : List ℕ
   pub path : List ℕ
 
--- whether a file of that name in a folder of drop-ins is a drop-in: the name ends in `.conf` and doesn't begin with a
+-- whether a file called `name` in a folder of drop-ins is a drop-in: the name ends in `.conf` and doesn't begin with a
 -- dot
 unfoldable pub is_drop_in : List ℕ → Bool
 is_drop_in name = ends_with nat_eq name (codes ".conf") && not (starts_with nat_eq name (codes "."))
@@ -26,12 +26,12 @@ is_drop_in name = ends_with nat_eq name (codes ".conf") && not (starts_with nat_
 abbrev pub found_in : List ℕ → List ℕ → Found
 found_in folder name = record { name = name; path = folder ++ codes "/" ++ name }
 
--- the drop-ins in a folder that has these names
+-- the drop-ins in a folder whose files are called `names`
 unfoldable pub candidates : List ℕ → List (List ℕ) → List Found
 candidates folder names = map (found_in folder) (filter is_drop_in names)
 
--- the entries, which are pairs of a name and a path, with the path of this file under its name; it replaces an earlier
--- path of the same name
+-- the entries, which are pairs of a name and a path, after the path of this file is put under its name, in place of an
+-- earlier path with this name
 abbrev pub put : List (List ℕ × List ℕ) → Found → List (List ℕ × List ℕ)
 put entries file = insert_entry (slice_cmp nat_cmp) entries file.name file.path
 
@@ -44,9 +44,10 @@ by_name found = fold put [] found
 unfoldable pub chosen : List Found → List (List ℕ)
 chosen found = map (λ entry. entry.1) (by_name found)
 
--- The drop-ins that are read, in this order. `path` has the roots of the search path, the most important first. `stems`
--- has the unit's names without `.timer`: first its aliases, last its own. A file in a more important folder hides the
--- files of the same name in other folders, even if it is a link to `/dev/null`, which itself isn't read.
+-- The drop-ins that are read, in the order in which they are read. `path` has the roots of the search path, the most
+-- important first. `stems` has the unit's names without `.timer`: first its aliases, last its own. A file in a more
+-- important folder hides the files of the same name in less important folders, even if it is a link to `/dev/null`.
+-- Such a link isn't read.
 unfoldable pub drop_ins : Disk → List (List ℕ) → List (List ℕ) → List (List ℕ)
 drop_ins disk path stems =
     filter (λ file. not (disk.is_null file))

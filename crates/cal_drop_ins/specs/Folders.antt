@@ -15,17 +15,17 @@ unfoldable pub prefixes_within : List ℕ → ℕ → List (List ℕ)
 prefixes_within base zero = []
 prefixes_within base (suc n) = prefixes_within base n ++ (if is_dash_within base n then take (n + 1) base ∷ [] else [])
 
--- the stems whose folders apply to the unit with this stem: the prefixes of the stem that end at a dash before any `@`,
--- the template of an instance, and the stem itself
+-- the stems whose folders apply to the unit with this stem: the prefixes that end at a dash, of the stem's part before
+-- any `@`, except this part itself and a dash alone; the template of an instance; and the stem itself
 unfoldable pub folder_stems : List ℕ → List (List ℕ)
 folder_stems stem =
     prefixes_within (base_of stem) (length (base_of stem)) ++ (option_to_list (template_of stem) ++ stem ∷ [])
 
--- the folder of the drop-ins of a stem
+-- the folder below `root` with the drop-ins of a stem
 abbrev pub own_folder : List ℕ → List ℕ → List ℕ
 own_folder root stem = root ++ codes "/" ++ stem ++ codes ".timer.d"
 
--- the folder of the drop-ins of all timers
+-- the folder below `root` with drop-ins that apply to all timers
 abbrev pub type_folder : List ℕ → List ℕ
 type_folder root = root ++ codes "/timer.d"
 
@@ -33,7 +33,7 @@ type_folder root = root ++ codes "/timer.d"
 abbrev pub name_folders : List (List ℕ) → List ℕ → List (List ℕ)
 name_folders roots stem = flat_map (λ root. map (own_folder root) (folder_stems stem)) roots
 
--- the folders that apply to a unit with these names, of which its own is the last: those of all timers, then those of
--- each name
+-- the folders that apply to a unit with these stems, of which its own is the last: the folders of all timers, and then
+-- the folders of each stem
 unfoldable pub folders : List (List ℕ) → List (List ℕ) → List (List ℕ)
 folders roots stems = map type_folder roots ++ flat_map (name_folders roots) stems

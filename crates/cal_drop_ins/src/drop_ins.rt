@@ -15,7 +15,7 @@ pub struct DropIn {
     pub path: String,
 }
 
-/// Returns whether a file of that name in a folder of drop-ins is a drop-in: the name ends in `.conf` and doesn't begin
+/// Returns whether a file called `name` in a folder of drop-ins is a drop-in: `name` ends in `.conf` and doesn't begin
 /// with a dot.
 #[tactic(auto, unfolding(crate::specs::DropIns::is_drop_in))]
 pub fn is_drop_in(name: &str) -> bool
@@ -25,7 +25,7 @@ pub fn is_drop_in(name: &str) -> bool
     name.ends_with(b".conf") && !name.starts_with(b".")
 }
 
-/// Appends the drop-ins in a folder that has these names.
+/// Appends the drop-ins in `folder`, whose files are called `names`.
 pub fn push_candidates(
     alloc: Global,
     found: &mut Vec<DropIn>,
@@ -51,7 +51,7 @@ pub fn choose(alloc: Global, found: Vec<DropIn>) -> Result<Vec<String>, AllocErr
     paths_of(alloc, entered)
 }
 
-/// Appends the file of that name in a folder, if it is a drop-in.
+/// Appends the file called `name` in a folder, if it is a drop-in.
 #[tactic(auto, unfolding(crate::specs::DropIns::candidates))]
 fn push_candidate(
     alloc: Global,
@@ -86,7 +86,7 @@ fn enter_all(alloc: Global, found: Vec<DropIn>) -> Result<BTreeMap<String, Strin
     Ok(entered)
 }
 
-/// Enters the path of a file under its name. This replaces an earlier path of the same name.
+/// Enters the path of a file under its name, in place of an earlier path with this name.
 fn enter(by_name: &mut BTreeMap<String, String>, file: DropIn) -> Result<(), AllocError>
     ensures { OnOk result (map shown_entry by_name.new.entries ≡ put (map shown_entry by_name.old.entries) (shown file)) }
 {
@@ -95,7 +95,7 @@ fn enter(by_name: &mut BTreeMap<String, String>, file: DropIn) -> Result<(), All
     Ok(())
 }
 
-/// Returns the paths of a map in the order of their names.
+/// Returns the paths in a map, sorted by the names under which they are.
 fn paths_of(alloc: Global, entered: BTreeMap<String, String>) -> Result<Vec<String>, AllocError>
     ensures { IfOk result (λ paths. paths.items ≡ map (λ entry. entry.1) entered.entries) }
 {

@@ -6,11 +6,11 @@ ghost use Rattle.cal_drop_ins.specs.Folders.{folder_stems, folders, is_dash_with
 use crate::unit_name::{base_of, template_of};
 use std::alloc::{AllocError, Global};
 
-/// Returns the folders that have drop-ins of a unit, from the least important one to the most important one, whether
-/// they exist or not.
+/// Returns the folders that can have drop-ins of a unit, from the least important one to the most important one,
+/// whether they exist or not.
 ///
-/// `path` is the search path, the most important folder first. `stems` are the stems of the unit's names: its aliases,
-/// and last its own.
+/// `path` is the search path, the most important folder first. `stems` are the unit's names without `.timer`: its
+/// aliases, and last its own name.
 #[tactic(auto, unfolding(crate::specs::Folders::folders))]
 pub fn folders_of(alloc: Global, path: &[String], stems: &[&str]) -> Result<Vec<String>, AllocError>
     ensures { IfOk result (λ found. map string_bytes found.items
@@ -25,8 +25,8 @@ pub fn folders_of(alloc: Global, path: &[String], stems: &[&str]) -> Result<Vec<
 }
 
 /// Returns the stems whose folders of drop-ins apply to the unit with this stem, from the least important one to the
-/// most important one: the prefixes of the stem that end at a dash before any `@`, the template of an instance, and the
-/// stem itself.
+/// most important one. First come the prefixes that end at a dash, the shortest first, of the stem's part before any
+/// `@`, except this part itself and a dash alone. Then come the template of an instance, and the stem itself.
 #[tactic(auto, unfolding(crate::specs::Folders::folder_stems))]
 pub fn folder_stems(alloc: Global, stem: &str) -> Result<Vec<&str>, AllocError>
     ensures { IfOk result (λ stems. map (λ stem. stem.now) stems.items ≡ folder_stems stem.now) }
@@ -60,7 +60,7 @@ fn all_texts(alloc: Global, path: &[String]) -> Result<Vec<&str>, AllocError>
     Ok(roots)
 }
 
-/// Returns the folders of the drop-ins of all timers.
+/// Returns the folders of drop-ins that apply to all timers, one below each root.
 fn type_folders(alloc: Global, roots: &[&str]) -> Result<Vec<String>, AllocError>
     ensures { IfOk result (λ folders. map string_bytes folders.items ≡ map type_folder (map (λ root. root.now) roots.now)) }
 {
@@ -112,7 +112,7 @@ fn push_own_folders(
     Ok(())
 }
 
-/// Appends the folder of one stem.
+/// Appends the folder of drop-ins of one stem below `root`.
 fn push_own_folder(
     alloc: Global,
     folders: &mut Vec<String>,

@@ -1,12 +1,13 @@
-//! Where units are (systemd.unit(5), Unit File Load Path).
+//! The folders in which unit files are (systemd.unit(5), Unit File Load Path), without those that only a running
+//! manager uses, such as `/run/systemd/transient`.
 
 ghost use Rattle.std.specs.Prelude.{◌≡◌, ◌++◌, IfOk, map, string_bytes};
 ghost use Rattle.cal_drop_ins.specs.SearchPath.{system_path, user_path};
 
 use std::alloc::{AllocError, Global};
 
-/// Returns the search path of the system's manager below `root`, the most important folder first. The root of the
-/// machine itself is the empty text.
+/// Returns the search path of the system's manager below `root`, the most important folder first. For the machine
+/// itself, `root` is empty.
 pub fn system_path(alloc: Global, root: &str) -> Result<Vec<String>, AllocError>
     ensures { IfOk result (λ path. map string_bytes path.items ≡ system_path root.now) }
 {
@@ -20,8 +21,8 @@ pub fn system_path(alloc: Global, root: &str) -> Result<Vec<String>, AllocError>
     all_below(alloc, root, &folders)
 }
 
-/// Returns the search path of a user's manager below `root`, the most important folder first. `home` is the user's
-/// home, such as `/home/ann`. Variables such as `XDG_CONFIG_HOME` have no effect.
+/// Returns the search path of a user's manager below `root`, the most important folder first. `home` is the user's home
+/// below `root`, such as `/home/ann`. Variables such as `XDG_CONFIG_HOME` have no effect.
 pub fn user_path(alloc: Global, root: &str, home: &str) -> Result<Vec<String>, AllocError>
     ensures { IfOk result (λ path. map string_bytes path.items ≡ user_path root.now home.now) }
 {

@@ -21,8 +21,8 @@ pub enum UnitKind {
     Instance,
 }
 
-/// Returns the stem of the timer unit that `name` stands for, which is its name without the suffix `.timer`. A name
-/// without the suffix stands for the timer of that name.
+/// Returns the stem of the timer unit that `name` stands for: the name without the suffix `.timer`. A name without this
+/// suffix is itself the stem of a timer.
 ///
 /// Returns `None` if the name isn't valid: its stem is empty, begins with `@`, has a byte that is neither a letter, a
 /// digit nor one of `:-_.\@`, or has more than 255 bytes with the suffix.
@@ -62,7 +62,7 @@ pub fn template_of(stem: &str) -> Option<&str>
     None
 }
 
-/// Returns what a stem has before its first `@`, or all of it.
+/// Returns what a stem has before its first `@`, or the whole stem if it has no `@`.
 pub(crate) fn base_of(stem: &str) -> &str
     ensures { result.now ≡ base_of stem.now }
 {
