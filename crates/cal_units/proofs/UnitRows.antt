@@ -28,11 +28,12 @@ machine =
       variable = λ name. None;
     }
 
--- the unit of that name on the machine
+-- the unit with this stem on the machine, which has two folders of units
 abbrev unit : List ℕ → Unit
 unit stem = unit_in machine (codes "/etc" ∷ codes "/lib" ∷ []) stem
 
--- a folder is not a unit; an alias of an alias has three names; a link to /dev/null and an empty file mask
+-- For `a`, the folder `/etc/a.timer` doesn't count. `b` is an alias of `a`, and `c` of `b`, so `c` has three names. `m`
+-- is masked by a link to `/dev/null`, and `e` by an empty file.
 plain_units : map unit (codes "a" ∷ codes "b" ∷ codes "c" ∷ codes "m" ∷ codes "e" ∷ codes "none" ∷ [])
     ≡ FoundAt (codes "/lib/a.timer") (codes "a" ∷ []) ∷ FoundAt (codes "/lib/a.timer") (codes "b" ∷ codes "a" ∷ [])
     ∷ FoundAt (codes "/lib/a.timer") (codes "c" ∷ codes "b" ∷ codes "a" ∷ []) ∷ MaskedBy (codes "/etc/m.timer")
@@ -40,13 +41,15 @@ plain_units : map unit (codes "a" ∷ codes "b" ∷ codes "c" ∷ codes "m" ∷ 
 unfolding unit_paths template_of alias_of stem_in after_prefix file_stem unit_stem without_suffix is_stem kind_of
 plain_units = refl
 
--- an instance's own file counts before its template's, even if it is in a less important folder
+-- For the instance `t@y`, its own file counts, although its template's file is in a more important folder. `t@x` has no
+-- file of its own.
 instances : map unit (codes "t@" ∷ codes "t@x" ∷ codes "t@y" ∷ [])
     ≡ TemplateOnly ∷ FoundAt (codes "/etc/t@.timer") (codes "t@x" ∷ []) ∷ FoundAt (codes "/lib/t@y.timer") (codes "t@y" ∷ []) ∷ []
 unfolding unit_paths template_of alias_of stem_in after_prefix file_stem unit_stem without_suffix is_stem kind_of
 instances = refl
 
--- a link out of the search path, a link to the same name, and a loop of links
+-- `l` is a link to a file outside the search path, `s` is a link to a file of the same name, and `p` and `q` are a loop
+-- of links.
 links : map unit (codes "l" ∷ codes "s" ∷ codes "p" ∷ [])
     ≡ FoundAt (codes "/etc/l.timer") (codes "l" ∷ []) ∷ FoundAt (codes "/etc/s.timer") (codes "s" ∷ []) ∷ Endless ∷ []
 unfolding unit_paths template_of alias_of stem_in after_prefix file_stem unit_stem without_suffix is_stem kind_of

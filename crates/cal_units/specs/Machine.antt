@@ -1,5 +1,5 @@
--- A machine as units see it: its folders, files and links, and the variables of the environment. Links are as in
--- symlink(7).
+-- A machine, as far as it matters for units: its folders, files and links, and the variables of the environment. Links
+-- are as in symlink(7).
 use Rattle.std.specs.Prelude.{ℕ, Bool, false, List, Option, codes, string_bytes}
 use Rattle.std.specs.Str.{bytes_eq}
 use Rattle.cal_drop_ins.specs.DropIns.{Disk}
@@ -31,7 +31,7 @@ pub record Machine : Type 0 where
 abbrev pub null_device : List ℕ
 null_device = codes "/dev/null"
 
--- whether it is a link to `/dev/null`
+-- whether what is at a path is a link to `/dev/null`
 abbrev pub is_null : Entry → Bool
 is_null (Link target) = bytes_eq target null_device
 is_null _ = false

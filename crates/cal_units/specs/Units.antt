@@ -1,5 +1,5 @@
 -- Where the file of a unit is: systemd.unit(5), Description and Unit File Load Path. Search paths have the most
--- important folder first.
+-- important folder first. A stem is a unit's name without its suffix `.timer`.
 use Rattle.std.specs.Prelude.{ℕ, zero, suc, ◌+◌, nat_eq, Bool, true, false, ◌||◌, if◌then◌else◌, List, [], ◌∷◌, ◌++◌, Option, None, Some, codes, drop, length, map, slice_get, string_bytes}
 use Rattle.std.specs.List.{ends_with, filter_map, find, flat_map, starts_with}
 use Rattle.std.specs.Option.{option_or, option_to_list}
@@ -15,13 +15,13 @@ use Rattle.cal_units.specs.declared.unit.Unit as units
 abbrev pub unit_path : List ℕ → List ℕ → List ℕ
 unit_path stem folder = folder ++ codes "/" ++ stem ++ codes ".timer"
 
--- the paths at which a unit's file can be: those of its own name before those of its template's
+-- the paths at which a unit's file can be: first the paths for its own name, then those for its template's name
 unfoldable pub unit_paths : List (List ℕ) → List ℕ → List (List ℕ)
 unit_paths path stem =
     map (unit_path stem) path
     ++ flat_map (λ template. map (unit_path template) path) (option_to_list (template_of stem))
 
--- a folder is not a unit's file
+-- whether there is a unit's file at a path, given what is there; a folder is not a unit's file
 abbrev pub is_there : Entry → Bool
 is_there Missing = false
 is_there Folder = false
@@ -35,7 +35,7 @@ first_there machine paths = find (λ path. is_there (machine.entry path)) paths
 unfoldable pub after_prefix : List ℕ → List ℕ → Option (List ℕ)
 after_prefix prefix text = if starts_with nat_eq text prefix then Some (drop (length prefix) text) else None
 
--- the stem of a timer from the name of its file
+-- the stem of a timer from the name of its file, or None if this isn't a valid name of a timer's file
 unfoldable pub file_stem : List ℕ → Option (List ℕ)
 file_stem name = if ends_with nat_eq name suffix then unit_stem name else None
 
@@ -43,13 +43,13 @@ abbrev pub and_then : Option (List ℕ) → (List ℕ → Option (List ℕ)) →
 and_then None f = None
 and_then (Some x) f = f x
 
--- the stem of the timer whose file has the path `target`, if it is in this folder
+-- the stem of the timer whose file has the path `target`, if `target` is in this folder
 unfoldable pub stem_in : List ℕ → List ℕ → Option (List ℕ)
 stem_in target folder =
     and_then (after_prefix folder target) (λ rest. and_then (after_prefix (codes "/") rest) file_stem)
 
--- The stem of the timer for which a link stands, if its target is a timer in a folder of units, or a name without a
--- folder. Any other link is to a file that is somewhere else.
+-- The stem of the timer for which a link stands, if its target is the path of a timer's file in a folder of the search
+-- path, or only the name of a timer's file. None for any other target.
 unfoldable pub alias_of : List (List ℕ) → List ℕ → Option (List ℕ)
 alias_of path target = option_or (file_stem target) (slice_get (filter_map (stem_in target) path) 0)
 
@@ -68,8 +68,8 @@ is_template_kind Instance = false
 abbrev pub is_template : List ℕ → Bool
 is_template stem = is_template_kind (kind_of stem)
 
--- A link is itself the unit's file if it leads to a file that is somewhere else, to a file of the same name or to a
--- template. Any other link is an alias of the unit to which it leads.
+-- A link is itself the unit's file if `alias_of` finds no timer for its target, or finds the unit itself or a template.
+-- Any other link is an alias of the unit to which it leads.
 abbrev pub linked : List ℕ → List ℕ → Option (List ℕ) → Place
 linked stem file None = FileAt file
 linked stem file (Some other) = if bytes_eq other stem || is_template other then FileAt file else AliasOf other
@@ -92,8 +92,8 @@ place_of machine path stem (Some file) = place_at path stem file (machine.entry 
 abbrev pub place_in : Machine → List (List ℕ) → List ℕ → Place
 place_in machine path stem = place_of machine path stem (first_there machine (unit_paths path stem))
 
--- A unit: it doesn't exist, it is a template, it is masked by a path, or it has a file and these stems, of which its
--- own is the last. `Endless` stands for too many links, as in a loop.
+-- A unit: it doesn't exist, it is a template, it is masked by what is at a path, or it has a file and these stems, of
+-- which its own is the last. `Endless` stands for too many links, as in a loop.
 pub data Unit : Type 0 where
   Unfound : Unit
   TemplateOnly : Unit
@@ -107,7 +107,8 @@ followed more aliases stem (MaskedAt file) = MaskedBy file
 followed more aliases stem (FileAt file) = FoundAt file (aliases ++ stem ∷ [])
 followed more aliases stem (AliasOf other) = more (aliases ++ stem ∷ []) other
 
--- the unit of a name, found after fewer than `n` links from unit to unit
+-- the unit with this stem, found by following fewer than `n` links from unit to unit; `aliases` are the stems from
+-- which links led to it
 abbrev pub follow : Machine → List (List ℕ) → ℕ → List (List ℕ) → List ℕ → Unit
 follow machine path zero aliases stem = Endless
 follow machine path (suc n) aliases stem = followed (follow machine path n) aliases stem (place_in machine path stem)

@@ -25,15 +25,15 @@ pub struct DropIns {
     pub unnamed: Vec<String>,
 }
 
-/// Returns the drop-ins of a unit that are read, in this order (systemd.unit(5), Description).
+/// Returns the drop-ins of a unit that are read, in the order in which they are read (systemd.unit(5), Description).
 ///
-/// `path` is the search path, the most important folder first. `stems` are the stems of the unit's names: its aliases,
-/// and last its own.
+/// `path` is the search path, the most important folder first. `stems` are the unit's names without `.timer`: its
+/// aliases, and last its own name.
 ///
-/// Fails with [`UnitFault::At`] and [`Reason::ReadFailed`] if a folder can't be listed or a link can't be read, with
-/// [`Reason::NotUtf8`] if the target of a drop-in's link is not UTF-8, and with [`Reason::TooMany`] at the folder with
-/// the 10,001st drop-in, counting those that others of the same name hide. Fails with [`UnitFault::NoMemory`] if
-/// allocation fails.
+/// Fails with [`UnitFault::At`] and [`Reason::ReadFailed`] if a folder can't be listed or a drop-in can't be looked at,
+/// with [`Reason::NotUtf8`] if the target of a drop-in's link is not UTF-8, and with [`Reason::TooMany`] at the folder
+/// with the 10,001st drop-in, counting also drop-ins that are hidden by others of the same name. Fails with
+/// [`UnitFault::NoMemory`] if allocation fails.
 #[tactic(auto, unfolding(cal_drop_ins::specs::DropIns::drop_ins))]
 pub fn find_drop_ins<T: Tree>(
     alloc: Global,
@@ -52,7 +52,7 @@ pub fn find_drop_ins<T: Tree>(
     Ok(DropIns { paths, unnamed })
 }
 
-/// Returns the drop-ins in the folders, and appends to `unnamed` the folders with names that are not UTF-8.
+/// Returns the drop-ins in the folders, and appends to `unnamed` each folder with an entry whose name is not UTF-8.
 fn find_candidates<T: Tree>(
     alloc: Global,
     tree: &T,
@@ -70,7 +70,7 @@ fn find_candidates<T: Tree>(
     Ok(found)
 }
 
-/// Appends the drop-ins in a folder to `found`, and the folder to `unnamed` if it has names that are not UTF-8.
+/// Appends the drop-ins in a folder to `found`, and the folder to `unnamed` if it has an entry whose name is not UTF-8.
 fn push_folder<T: Tree>(
     alloc: Global,
     tree: &T,
@@ -99,7 +99,7 @@ fn push_folder<T: Tree>(
     Ok(())
 }
 
-/// Returns the paths that aren't links to `/dev/null`.
+/// Returns the paths at which there isn't a link to `/dev/null`.
 fn without_masked<T: Tree>(
     alloc: Global,
     tree: &T,
@@ -116,7 +116,7 @@ fn without_masked<T: Tree>(
     Ok(kept)
 }
 
-/// Appends a path, unless it is a link to `/dev/null`.
+/// Appends a path, unless there is a link to `/dev/null` at it.
 fn keep_unmasked<T: Tree>(
     alloc: Global,
     tree: &T,

@@ -1,4 +1,4 @@
-//! The errors of units.
+//! The errors in finding and reading the files of units.
 
 ghost use Rattle.std.specs.Prelude.{◌≡◌};
 ghost use Rattle.cal_units.specs.declared.fault.UnitFault.TheVariants.{NoMemory};
@@ -9,17 +9,17 @@ use std::alloc::{AllocError, AllocFailed, Global};
 /// Why a path of a unit can't be used.
 #[derive(Clone, Copy, PartialEq, Eq, Debug)]
 pub enum Reason {
-    /// It can't be listed, opened or read.
+    /// The path can't be listed, opened or read.
     ReadFailed,
-    /// It is a link whose target is not UTF-8.
+    /// The path is a link whose target is not UTF-8.
     NotUtf8,
-    /// It is a folder, but should be a file.
+    /// The path is a folder, but should be a file.
     IsFolder,
-    /// It was in its folder, but is gone.
+    /// Nothing is at the path any more, although it was found in its folder.
     Vanished,
     /// The file has more than 1,048,576 bytes.
     TooLarge,
-    /// The folder and those before it have more than 10,000 drop-ins.
+    /// The folder and the folders listed before it have more than 10,000 drop-ins.
     TooMany,
     /// More than 8 links lead from unit to unit.
     TooManyLinks,
@@ -28,7 +28,8 @@ pub enum Reason {
 /// Why the files of a unit can't be found or read.
 #[derive(Debug, Drop)]
 pub enum UnitFault {
-    /// This path can't be used, for this reason. With [`Reason::TooManyLinks`], it is a stem instead of a path.
+    /// The path can't be used, for this reason. With [`Reason::TooManyLinks`], the text is not a path but the stem of a
+    /// unit, its name without `.timer`.
     At(String, Reason),
     /// Out of memory.
     NoMemory,
@@ -59,7 +60,7 @@ impl UnitFault {
         }
     }
 
-    /// Returns the error for a path, if a call of a `Tree` about it failed with `fault`.
+    /// Returns the error for a path if a method of a [`crate::Tree`] failed with `fault` for it.
     pub(crate) fn of_tree(alloc: Global, path: &str, fault: TreeFault) -> UnitFault {
         match fault {
             TreeFault::ReadFailed => UnitFault::at(alloc, path, Reason::ReadFailed),

@@ -22,13 +22,13 @@ pub struct UnitText {
     pub bytes: Vec<u8>,
 }
 
-/// Reads the files of a unit to their ends: the one at `path`, and then the drop-ins. A link to nothing is left out, as
-/// in systemd.
+/// Reads the files of a unit to their ends: the file at `path`, and then the drop-ins. A link to nothing is left out,
+/// as in systemd.
 ///
-/// Fails with [`UnitFault::At`] and, for the first file at fault, [`Reason::ReadFailed`] if it can't be opened or read,
-/// [`Reason::IsFolder`] if it is a folder, [`Reason::Vanished`] if nothing is there, [`Reason::NotUtf8`] if it is a
-/// link to nothing whose target is not UTF-8, or [`Reason::TooLarge`] if it has more than 1,048,576 bytes. Fails with
-/// [`UnitFault::NoMemory`] if allocation fails.
+/// Fails with [`UnitFault::At`] and one of these reasons for the first file that can't be read: [`Reason::ReadFailed`]
+/// if it can't be opened, read or looked at, [`Reason::IsFolder`] if it is a folder, [`Reason::Vanished`] if nothing is
+/// there, [`Reason::NotUtf8`] if it is a link to nothing whose target is not UTF-8, or [`Reason::TooLarge`] if it has
+/// more than 1,048,576 bytes. Fails with [`UnitFault::NoMemory`] if allocation fails.
 pub fn read_files<T: Tree>(
     alloc: Global,
     tree: &T,
@@ -46,7 +46,7 @@ pub fn read_files<T: Tree>(
     Ok(files)
 }
 
-/// Reads the file at a path and appends it.
+/// Reads the file at a path and appends it, unless there is a link to nothing.
 fn push_file<T: Tree>(
     alloc: Global,
     tree: &T,
@@ -91,7 +91,8 @@ fn unreadable<T: Tree>(alloc: Global, tree: &T, path: &str) -> UnitFault {
     }
 }
 
-/// Fails with [`Reason::Vanished`] or [`Reason::IsFolder`] unless there is a link at a path.
+/// Checks that there is a link at a path. Fails with [`Reason::IsFolder`] if there is a folder, and with
+/// [`Reason::Vanished`] if there is neither a link nor a folder.
 fn check_link<T: Tree>(alloc: Global, tree: &T, path: &str) -> Result<(), UnitFault> {
     match look(alloc, tree, path)? {
         Entry::Link(_) => Ok(()),

@@ -5,9 +5,9 @@ ghost use Rattle.cal_units.specs.Units.{after_prefix, alias_of, file_stem, stem_
 
 use cal_drop_ins::unit_stem;
 
-/// Returns the stem of the timer for which a link with this target stands, if the target is the file of a timer in a
-/// folder of the search path, or the name of such a file without a folder. Returns `None` for any other link, which
-/// leads to a file that is somewhere else.
+/// Returns the stem, which is the name without `.timer`, of the timer for which a link with this target stands. The
+/// target must be the path of a timer's file in a folder of the search path, or only the name of a timer's file.
+/// Returns `None` for any other target.
 #[tactic(auto, unfolding(crate::specs::Units::alias_of))]
 pub(crate) fn alias_of<'t>(path: &[String], target: &'t str) -> Option<&'t str>
     ensures { option_map (λ stem. stem.now) result ≡ alias_of (map string_bytes path.now) target.now }
@@ -39,7 +39,8 @@ fn after_prefix<'t>(prefix: &str, text: &'t str) -> Option<&'t str>
     text.strip_prefix(prefix)
 }
 
-/// Returns the stem of a timer from the name of its file.
+/// Returns the stem of a timer from the name of its file. Returns `None` if the name doesn't end in `.timer` or isn't a
+/// valid name.
 #[tactic(auto, unfolding(crate::specs::Units::file_stem))]
 fn file_stem(name: &str) -> Option<&str>
     ensures { option_map (λ stem. stem.now) result ≡ file_stem name.now }

@@ -1,4 +1,5 @@
-//! The paths at which the file of a unit can be (systemd.unit(5), Unit File Load Path).
+//! The paths at which the file of a unit can be (systemd.unit(5), Unit File Load Path). A stem is a unit's name without
+//! its suffix `.timer`.
 
 ghost use Rattle.std.specs.Prelude.{◌≡◌, ◌++◌, ◌∷◌, [], IfOk, IfSome, OnOk, map, string_bytes};
 ghost use Rattle.std.specs.Option.{option_map};
@@ -17,9 +18,9 @@ use std::alloc::{AllocError, Global};
 pub(crate) enum Place {
     /// Nothing.
     Nowhere,
-    /// An empty file or a link to `/dev/null`, which masks the unit.
+    /// An empty file or a link to `/dev/null` at this path, which masks the unit.
     MaskedAt(String),
-    /// The unit's file.
+    /// The unit's file at this path.
     FileAt(String),
     /// A link to the unit with this stem.
     AliasOf(String),
@@ -42,8 +43,8 @@ pub(crate) fn find_place<T: Tree>(
     }
 }
 
-/// Returns what is found under a unit's name if `file` is the first path with a unit's file, and `entry` is what is
-/// there.
+/// Returns what is found under a unit's name, given the first path that has a file of the unit, `file`, and what is
+/// there, `entry`.
 fn place_at(
     alloc: Global,
     path: &[String],
@@ -106,7 +107,7 @@ pub(crate) fn unit_paths(
     Ok(paths)
 }
 
-/// Appends the paths of one name.
+/// Appends the path of the file with this stem in each folder of the search path.
 fn push_paths(
     alloc: Global,
     paths: &mut Vec<String>,

@@ -1,4 +1,4 @@
-//! What is asked of a machine: folders, files, links and variables.
+//! Access to a machine: its folders, files and links, and the variables of the environment.
 
 ghost use Rattle.std.specs.Prelude.{◌≡◌, false, map, option_map, string_bytes, IfOk, IfSome};
 ghost use Rattle.cal_units.specs.Machine.{Machine, shown_entry};
@@ -30,10 +30,10 @@ pub struct Names {
     pub unnamed: usize,
 }
 
-/// Why a machine doesn't tell what it is asked.
+/// Why a method of a [`Tree`] failed.
 #[derive(Clone, Copy, PartialEq, Eq, Debug)]
 pub enum TreeFault {
-    /// What is asked for is there, but can't be read.
+    /// The folder, path, file or variable can't be read.
     ReadFailed,
     /// The target of a link, or the value of a variable, is not UTF-8.
     NotUtf8,
@@ -55,13 +55,13 @@ impl<T: Drop> From<AllocFailed<T>> for TreeFault {
 
 /// Access to the folders, files and links of a machine, and to the variables of the environment.
 ///
-/// A contract can use what `shows` says. It says nothing about a real machine, and everything about one that exists
-/// only in memory.
+/// Contracts can refer to a machine through `shows`. `shows` says nothing about a real machine, and everything about a
+/// machine that exists only in memory.
 pub trait Tree {
     /// An open file.
     type File: Source + Drop;
 
-    /// Whether everything that the machine tells is as in this description.
+    /// Whether all that the methods return agrees with this description of a machine.
     ghost shows: { Self → Machine → Type 0 } = { λ _ _. ⊥ };
 
     /// Returns the names in a folder. A folder that doesn't exist has none.

@@ -1,4 +1,5 @@
-//! Units by their names (systemd.unit(5), Description and Unit File Load Path).
+//! Finding a unit by its name (systemd.unit(5), Description and Unit File Load Path). A stem is a unit's name without
+//! its suffix `.timer`.
 
 ghost use Rattle.std.specs.Prelude.{◌≡◌, ◌++◌, ◌∷◌, [], IfOk, map, string_bytes};
 ghost use Rattle.cal_units.specs.Machine.{Machine};
@@ -16,9 +17,9 @@ const MAX_LINKS: usize = 8;
 /// The file of a unit, and the names for which its drop-ins are read.
 #[derive(Debug, Drop)]
 pub struct UnitFile {
-    /// The path of the file. If the name of an instance has no file of its own, it is the template's file.
+    /// The path of the file. For an instance without a file of its own, this is the path of its template's file.
     pub path: String,
-    /// The stems of the names: those of the aliases that were followed, and last the unit's own.
+    /// The stems of the unit's names: first the aliases that were followed, and last the unit's own.
     pub stems: Vec<String>,
 }
 
@@ -37,13 +38,15 @@ pub enum Unit {
 
 /// Finds the unit with this stem in the search path, which has the most important folder first.
 ///
-/// The first folder with a file of the unit's name counts. If there is none and the unit is an instance, its template's
-/// file is searched for in the same way. A link to another unit of the search path is an alias: that unit is searched
-/// for instead. A link to any other file is the unit's file, and so is a link to a template.
+/// The first folder with a file of the unit's name counts; a folder of this name doesn't. If there is none and the unit
+/// is an instance, its template's file is searched for in the same way. An empty file and a link to `/dev/null` mask
+/// the unit. A link is an alias of another unit if its target is that unit's name, or that name in a folder of the
+/// search path: that unit is searched for instead. Any other link is the unit's file, and so is a link to a template.
 ///
-/// Fails with [`UnitFault::At`] and [`Reason::ReadFailed`] or [`Reason::NotUtf8`] if a path can't be looked at. If more
-/// than 8 links lead from unit to unit, as in a loop of links, fails with [`Reason::TooManyLinks`] and the stem to
-/// which the 9th link leads. Fails with [`UnitFault::NoMemory`] if allocation fails.
+/// Fails with [`UnitFault::At`] and [`Reason::ReadFailed`] if a path can't be looked at, or [`Reason::NotUtf8`] if the
+/// target of a link is not UTF-8. If more than 8 links lead from unit to unit, as in a loop of links, fails with
+/// [`Reason::TooManyLinks`] and the stem to which the 9th link leads. Fails with [`UnitFault::NoMemory`] if allocation
+/// fails.
 pub fn find_unit<T: Tree>(
     alloc: Global,
     tree: &T,
@@ -79,7 +82,8 @@ fn find_named<T: Tree>(
     follow(alloc, tree, path, MAX_LINKS + 1, Vec::new(alloc), stem)
 }
 
-/// Finds a unit after fewer than `count` links. `aliases` are the stems that were followed to this one.
+/// Finds the unit with this stem, following fewer than `count` links. `aliases` are the stems from which links led to
+/// it.
 fn follow<T: Tree>(
     alloc: Global,
     tree: &T,
