@@ -1,4 +1,4 @@
-//! Tests of the files of units, on machines in memory. What a contract proves for all arguments is not tested again.
+//! Tests of `cal_units` on machines in memory. What a contract proves for all arguments is not tested again.
 #![tactic(auto)]
 
 pub mod memory;

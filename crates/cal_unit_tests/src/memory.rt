@@ -23,7 +23,7 @@ pub enum Item<'a> {
     Unnamed,
 }
 
-/// A machine with these items by their paths.
+/// A machine that has each of these items at its path.
 #[derive(Clone, Copy, Debug)]
 pub struct Memory<'a> {
     pub items: &'a [(&'a str, Item<'a>)],

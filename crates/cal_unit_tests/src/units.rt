@@ -1,4 +1,4 @@
-//! Units and their drop-ins, and each error with its path.
+//! Tests of units, of their drop-ins, and of errors with their paths.
 
 use crate::memory::{Item, Memory};
 use cal_drop_ins::system_path;
@@ -65,7 +65,7 @@ fn ensure(holds: bool, about: &str) -> Result<(), Fail> {
     if holds { Ok(()) } else { Err(about.into()) }
 }
 
-/// Returns whether a unit was found with the file at `path` and its own stem is `own`.
+/// Returns whether a unit was found, its file is at `path`, and its own stem, which is the last one, is `own`.
 fn is_found(unit: &Unit, path: &str, own: &str) -> bool {
     match unit {
         Unit::Found(file) => {
@@ -98,7 +98,7 @@ fn find(alloc: Global, stem: &str) -> Result<Unit, Fail> {
     }
 }
 
-/// Each kind of unit.
+/// Finds a unit of each kind.
 #[test]
 fn finds_units(rt: HostRuntime) -> Result<(), Fail> {
     let alloc = rt.alloc();
@@ -140,7 +140,7 @@ fn reports_a_loop_of_links(rt: HostRuntime) -> Result<(), Fail> {
     }
 }
 
-/// Reads a unit with an alias, and joins the bytes of its files.
+/// Reads the unit `a`, which has the alias `also`, and joins the bytes of its files, each file with a space after it.
 fn texts(alloc: Global, machine: Memory<'_>) -> Result<Vec<u8>, UnitFault> {
     let path = system_path(alloc, "")?;
     let found = find_drop_ins(alloc, &machine, path.as_slice(), &["also", "a"])?;
@@ -156,7 +156,8 @@ fn texts(alloc: Global, machine: Memory<'_>) -> Result<Vec<u8>, UnitFault> {
 
 const READ: &[u8] = b"own all ten fifteen twenty ";
 
-/// The unit, and then the drop-ins by their names; masked ones and links to nothing are left out.
+/// Checks that the unit's file is read first, and then its drop-ins in the order of their names. Masked drop-ins and
+/// links to nothing are left out.
 #[test]
 fn reads_drop_ins(rt: HostRuntime) -> Result<(), Fail> {
     match texts(rt.alloc(), machine()) {
@@ -165,7 +166,8 @@ fn reads_drop_ins(rt: HostRuntime) -> Result<(), Fail> {
     }
 }
 
-/// A folder with an entry whose name isn't UTF-8 is reported, and its other drop-ins are found.
+/// Checks that a folder with an entry whose name isn't UTF-8 is reported, and that the folder's other drop-ins are
+/// found.
 #[test]
 fn reports_other_names(rt: HostRuntime) -> Result<(), Fail> {
     let alloc = rt.alloc();
@@ -210,7 +212,7 @@ const FOLDER: &str = "/etc/systemd/system/a.timer.d";
 
 const DROP_IN: &str = "/etc/systemd/system/a.timer.d/x.conf";
 
-/// Each error names its path.
+/// Checks that errors name the path at fault.
 #[test]
 fn names_the_path_of_an_error(rt: HostRuntime) -> Result<(), Fail> {
     let alloc = rt.alloc();
