@@ -40,7 +40,7 @@ pub empty_has_none : (machine : Machine) → HasZonesOf machine empty
 unfolding zone_named
 empty_has_none machine name other = rw (other, get-empty {X = TimeZone} (slice_cmp nat_cmp) name) tt
 
--- all bytes that a file had were read
+-- the bytes that were read to the end of a file are all bytes that the file had
 pub read_all : (xs : List ℕ) (new : Option (List ℕ)) (limit : ℕ) (bytes : List ℕ) → GivesAll (Some xs) new limit bytes → xs ≡ bytes
 read_all xs None limit bytes all = absurd all.taken
 read_all xs (Some ys) limit bytes all = rw (all.taken, all.at_end) (append-nil bytes)
@@ -53,7 +53,7 @@ known_on : (file new : Option (List ℕ)) (xs : List ℕ) (before after : ZoneMa
 known_on None new xs before after name l e = absurd (none-some xs e)
 known_on (Some ys) new xs before after name l e = rw (sym (ap (λ o. unwrap_or o ys) e)) (loaded_is ys new before after name l)
 
--- what was loaded from a file of the machine
+-- the zone loaded from a file of the machine is the one in this file
 pub loaded_on : (file new contents : Option (List ℕ)) (before after : ZoneMap) (name : List ℕ) (l : IsLoaded file new before after name)
     → Some file ≡ option_map Some contents → MatchOption contents ⊥ (λ bytes. IsFileZone name bytes l.zone)
 loaded_on file new None before after name l e = absurd (none-some file (sym e))
@@ -101,7 +101,8 @@ usable_of : (machine : Machine) (other : List ℕ) (o : Option TimeZone) → is_
 usable_of machine other None there on = absurd (false≢true there)
 usable_of machine other (Some zone) there on = (zone, on)
 
--- the error of the name at a place, when the names before it are in the table
+-- the error of loading the name at the index `place` is the first error, if the table has the zones of all names before
+-- it
 pub error_at : (machine : Machine) (names : List (String Global)) (place : ℕ) (name : List ℕ) (after : List (List ℕ)) (table : ZoneMap) (fault : ZonesFault)
     → map string_bytes (drop place names) ≡ name ∷ after → IsLoadError machine name fault
     → ((other : List ℕ) → is_some (zone_named table other) ≡ (is_utc_name other || list_any (bytes_eq other) (map string_bytes (take place names))))

@@ -14,13 +14,14 @@ options : map argument_zone (codes "utc" ∷ codes "posix:CET-1" ∷ codes "Euro
 unfolding is_utc_name after_prefix is_zone_name offset_in
 options = refl
 
--- after a colon a file, without or with the folder of zones; nothing after it is UTC
+-- After a colon comes a file, without or with the folder of zones; nothing after the colon stands for UTC. The file
+-- `/etc/localtime` leaves the decision to the link, and `/a` isn't in the folder of zones.
 files : map variable_zone (codes ":" ∷ codes ":Asia/Tokyo" ∷ codes ":/usr/share/zoneinfo/Asia/Tokyo" ∷ codes ":UTC" ∷ codes ":/etc/localtime" ∷ codes ":/a" ∷ [])
     ≡ Some InUtc ∷ Some (OfName (codes "Asia/Tokyo")) ∷ Some (OfName (codes "Asia/Tokyo")) ∷ Some InUtc ∷ None ∷ Some (UnclearIn origins.Variable) ∷ []
 unfolding is_utc_name after_prefix is_zone_name
 files = refl
 
--- an absolute link and a relative one, a link to another folder, and what isn't a link
+-- an absolute link and a relative one, an absolute link to UTC, a link to another folder, a file, and nothing
 links : map link_zone (Link (codes "/usr/share/zoneinfo/Asia/Tokyo") ∷ Link (codes "../usr/share/zoneinfo/Etc/UTC") ∷ Link (codes "/usr/share/zoneinfo/UTC") ∷ Link (codes "/a/Asia/Tokyo") ∷ File ∷ Missing ∷ [])
     ≡ OfName (codes "Asia/Tokyo") ∷ OfName (codes "Etc/UTC") ∷ InUtc ∷ UnclearIn origins.Link ∷ UnclearIn origins.Link ∷ InUtc ∷ []
 unfolding is_utc_name after_prefix is_zone_name

@@ -1,5 +1,5 @@
--- Which zone the local zone of a machine is: that of the option, else that of the variable TZ (tzset(3)), else that of
--- the link /etc/localtime (localtime(5)), else UTC. The forms of the option are this project's own, except for names
+-- The local zone of a machine: the zone of the option, else that of the variable TZ (tzset(3)), else that of the link
+-- /etc/localtime (localtime(5)), else UTC. The forms of the option are this project's own, except for names
 -- (systemd.time(7), Calendar Events).
 use Rattle.std.specs.Prelude.{◌≡◌, ⊤, ℕ, ℤ, List, [], Option, None, Some, Result, Ok, Err, codes, if◌then◌else◌, is_some, string_bytes}
 use Rattle.std.specs.Option.{option_or, unwrap_or}
@@ -40,11 +40,11 @@ abbrev pub rule_or_other : List ℕ → Option (List ℕ) → LocalZone
 rule_or_other text None = name_or_offset text
 rule_or_other text (Some rule) = ByRule rule
 
--- the option: `UTC`, ignoring case, `posix:` and a rule, a name or an offset
+-- the zone of the option's value: `UTC`, ignoring case, `posix:` and a rule, a name or an offset
 abbrev pub argument_zone : List ℕ → LocalZone
 argument_zone text = if is_utc_name text then InUtc else rule_or_other text (after_prefix (codes "posix:") text)
 
--- a name in the variable or the link
+-- the zone of a name in the variable or the link
 abbrev pub name_zone : Origin → List ℕ → LocalZone
 name_zone origin name = if is_utc_name name then InUtc else if is_zone_name name then OfName name else UnclearIn origin
 
@@ -57,8 +57,8 @@ localtime = codes "/etc/localtime"
 abbrev pub without_folder : List ℕ → List ℕ
 without_folder file = unwrap_or (after_prefix zone_folder file) file
 
--- A file in the variable (tzset(3)): relative to the folder of zones, or with its absolute path. If it is empty, it is
--- UTC. The zone of the file /etc/localtime is that of the link.
+-- The zone of a file in the variable (tzset(3)), which has a path relative to the folder of zones or an absolute path.
+-- An empty path stands for UTC. For the path /etc/localtime this is None, because the link says which zone it is.
 abbrev pub file_zone : List ℕ → Option LocalZone
 file_zone file =
     if bytes_eq file localtime then None
@@ -69,7 +69,8 @@ abbrev pub value_zone : List ℕ → Option (List ℕ) → Option LocalZone
 value_zone text None = if is_some (read_whole text) then Some (ByRule text) else file_zone text
 value_zone text (Some file) = file_zone file
 
--- The variable (tzset(3)): after a colon a file, and without a colon a POSIX rule or a file.
+-- The zone of the variable's value (tzset(3)): after a colon a file, and without a colon a POSIX rule or a file. None
+-- for the path /etc/localtime.
 abbrev pub variable_zone : List ℕ → Option LocalZone
 variable_zone text = value_zone text (after_prefix (codes ":") text)
 
@@ -84,7 +85,8 @@ named_link (Some name) = name_zone origins.Link name
 abbrev pub target_zone : List ℕ → LocalZone
 target_zone target = named_link (link_name target)
 
--- what is at /etc/localtime (localtime(5)): if it is missing, the zone is UTC; it may be nothing but a link
+-- the zone for what is at /etc/localtime (localtime(5)): UTC if nothing is there, the zone to whose file a link leads,
+-- and `UnclearIn` for anything else
 abbrev pub link_zone : Entry → LocalZone
 link_zone Missing = InUtc
 link_zone Empty = UnclearIn origins.Link
@@ -92,7 +94,7 @@ link_zone File = UnclearIn origins.Link
 link_zone Folder = UnclearIn origins.Link
 link_zone (Link target) = target_zone target
 
--- The variable that isn't set leaves it to the link.
+-- the zone of the variable, or None if the variable isn't set or leaves the decision to the link
 abbrev pub set_zone : Option (List ℕ) → Option LocalZone
 set_zone None = None
 set_zone (Some text) = variable_zone text
@@ -117,7 +119,7 @@ shown_zone (zones.TheVariants.Offset seconds) = Ahead seconds
 shown_zone (zones.TheVariants.Rule rule) = ByRule (string_bytes rule)
 shown_zone (zones.TheVariants.Named name) = OfName (string_bytes name)
 
--- an offset is in the range of the library `jiff`
+-- whether the zone, if it is an offset, is in the range of offsets of the library `jiff`
 abbrev pub HasOffset : tolds.Told → Type 0
 HasOffset tolds.TheVariants.Utc = ⊤
 HasOffset (tolds.TheVariants.Offset seconds) = IsOffsetSeconds seconds
@@ -131,7 +133,7 @@ HasZoneOffset (zones.TheVariants.Offset seconds) = IsOffsetSeconds seconds
 HasZoneOffset (zones.TheVariants.Rule rule) = ⊤
 HasZoneOffset (zones.TheVariants.Named name) = ⊤
 
--- whether a zone can be missed with this error: a text is called unclear only if it is
+-- whether finding this zone can fail with this error; a text is called unclear only if it doesn't say which zone it is
 abbrev pub IsMissedBy : LocalZone → ZonesFault → Type 0
 IsMissedBy zone (faults.Unclear origin) = zone ≡ UnclearIn origin
 IsMissedBy zone (faults.Unread origin) = ⊤
@@ -142,7 +144,7 @@ abbrev pub IsTold : LocalZone → Result zones.LocalZone ZonesFault → Type 0
 IsTold zone (Ok found) = shown_zone found ≡ zone
 IsTold zone (Err fault) = IsMissedBy zone fault
 
--- the machine didn't tell what it was asked
+-- whether the error is that the variable or the link couldn't be read, or that allocation failed
 abbrev pub IsUnread : ZonesFault → Type 0
 IsUnread (faults.Unclear origin) = ⊥
 IsUnread (faults.Unread origin) = ⊤

@@ -9,27 +9,34 @@ use crate::texts::{LOCALTIME, Told, argument_zone, link_zone, variable_zone};
 use cal_units::{Tree, TreeFault};
 use std::alloc::Global;
 
-/// Which zone the local zone is.
+/// The local zone of a machine.
 #[derive(Debug, Drop)]
 pub enum LocalZone {
     /// UTC.
     Utc,
     /// An offset from UTC in seconds, from -93,540 to 93,540.
     Offset(i32),
-    /// A POSIX rule. That of the variable `TZ` is valid; that of an option isn't checked.
+    /// A POSIX rule. A rule from the variable `TZ` is valid; a rule from the option isn't checked.
     Rule(String),
-    /// The name of a zone, whose file is below `/usr/share/zoneinfo`.
+    /// The name of a zone. Its file is below `/usr/share/zoneinfo`, but may be missing.
     Named(String),
 }
 
-/// Returns which zone the local zone of a machine is, without reading its file.
+/// Returns the local zone of a machine, without reading the file of this zone.
 ///
-/// It is the zone of the option, if there is one: `UTC`, ignoring case; `+hh:mm` or `-hh:mm`; `posix:` and a rule; or a
-/// name. Else it is the zone of the variable `TZ` (tzset(3)): a POSIX rule, a name, or `:` and a name; UTC if it is
-/// empty. Else it is the zone to which the link `/etc/localtime` leads (localtime(5)), and UTC if nothing is there.
+/// If there is an option, `argument` is its value and decides: `UTC`, ignoring case; `+hh:mm` or `-hh:mm`; `posix:` and
+/// a rule; or a name.
 ///
-/// Fails with [`ZonesFault::Unclear`] if the first of these that exists doesn't say which zone it is, with
-/// [`ZonesFault::Unread`] if it can't be read or is not UTF-8, and with [`ZonesFault::NoMemory`] if allocation fails.
+/// Otherwise the variable `TZ` decides (tzset(3)), if it is set: a POSIX rule; or a name, or a path below
+/// `/usr/share/zoneinfo`, both also with a `:` before them. If the variable is empty or only `:`, the local zone is
+/// UTC.
+///
+/// Otherwise, and if the variable is the path `/etc/localtime`, the link at this path decides (localtime(5)), by the
+/// zone file to which it leads. If nothing is there, the local zone is UTC.
+///
+/// Fails with [`ZonesFault::Unclear`] if the option, variable or link that decides doesn't say which zone is the local
+/// zone, with [`ZonesFault::Unread`] if the variable or the link can't be read or is not UTF-8, and with
+/// [`ZonesFault::NoMemory`] if allocation fails.
 pub fn find_local_zone<T: Tree>(
     alloc: Global,
     tree: &T,
@@ -82,7 +89,7 @@ fn unread(origin: Origin, fault: TreeFault) -> ZonesFault
     }
 }
 
-/// Copies the text of a zone.
+/// Copies the text of a zone. Fails with [`ZonesFault::Unclear`] for [`Told::Unclear`].
 fn to_owned(alloc: Global, told: Told<'_>) -> Result<LocalZone, ZonesFault>
     requires { HasOffset told }
     ensures zone { IsTold (shown_told told.entry) result }

@@ -1,4 +1,4 @@
-//! The errors of a machine's clock.
+//! The errors in finding the local zone of a machine and in loading its zone files.
 
 ghost use Rattle.std.specs.Prelude.{◌≡◌};
 ghost use Rattle.cal_machine_zones.specs.declared.fault.ZonesFault.TheVariants.{NoMemory};
@@ -22,16 +22,17 @@ pub enum Origin {
 pub enum FileReason {
     /// There is no such file.
     NotFound,
-    /// It can't be loaded. This is never because of memory, for which there is [`ZonesFault::NoMemory`].
+    /// The file can't be loaded, for this reason. Out of memory is not among the reasons: for this, there is
+    /// [`ZonesFault::NoMemory`].
     Load(LoadFault),
 }
 
-/// Why the zones of a machine can't be had.
+/// Why the local zone of a machine can't be found, or its zone files can't be loaded.
 #[derive(Debug, Drop)]
 pub enum ZonesFault {
-    /// This doesn't say which zone it is.
+    /// This origin doesn't say which zone is the local zone.
     Unclear(Origin),
-    /// This can't be read, or is not UTF-8.
+    /// This origin can't be read, or what it says is not UTF-8.
     Unread(Origin),
     /// The zone file at this path can't be used, for this reason.
     At(String, FileReason),

@@ -13,12 +13,12 @@ use cal_units::{Tree, TreeFault};
 use cal_zone::{LoadFault, ZoneFault, ZoneTable, load_zone};
 use std::alloc::{AllocError, Global};
 
-/// Returns a table of the zones with these names, each from its file `/usr/share/zoneinfo/NAME` (RFC 8536). The table
-/// has no other zones. The name `UTC`, ignoring case, needs no file, and a name may be repeated.
+/// Returns a table of UTC and of the zones with these names, each from its file `/usr/share/zoneinfo/NAME` (RFC 8536).
+/// The name `UTC`, ignoring case, needs no file, and a name may be repeated.
 ///
 /// Fails with [`ZonesFault::At`] and the path of the first file that can't be used: with [`FileReason::NotFound`] if
-/// there is none, or with [`FileReason::Load`] and the error of [`load_zone`], as for a name that doesn't have the form
-/// of a zone's name. Fails with [`ZonesFault::NoMemory`] if allocation fails.
+/// there is no such file, or else with [`FileReason::Load`] and the error of [`load_zone`]. So an invalid name fails
+/// with `NotFound`, unless there is a file at its path. Fails with [`ZonesFault::NoMemory`] if allocation fails.
 pub fn load_zones<T: Tree>(
     alloc: Global,
     tree: &T,
@@ -39,7 +39,7 @@ pub fn load_zones<T: Tree>(
     Ok(table)
 }
 
-/// Loads a zone, unless the table has it.
+/// Loads a zone into the table, unless the table already has a zone with this name.
 fn load_name<T: Tree>(
     alloc: Global,
     tree: &T,
@@ -59,7 +59,7 @@ fn load_name<T: Tree>(
     add_zone(alloc, tree, table, name)
 }
 
-/// Loads a zone that the table doesn't have.
+/// Loads a zone into the table, which doesn't have a zone with this name.
 fn add_zone<T: Tree>(
     alloc: Global,
     tree: &T,
@@ -85,7 +85,6 @@ fn add_zone<T: Tree>(
     }
 }
 
-/// Returns the path of the file of a zone.
 fn zone_path(alloc: Global, name: &str) -> Result<String, AllocError>
     ensures { IfOk result (λ path. string_bytes path ≡ zone_path name.now) }
 {

@@ -1,4 +1,4 @@
-//! The zones that options, the variable `TZ` and the link `/etc/localtime` name.
+//! The zones that the option, the variable `TZ` and the link `/etc/localtime` name.
 
 ghost use Rattle.std.specs.Prelude.{◌≡◌, IfSome, is_some, option_map};
 ghost use Rattle.jiff.specs.Words.{read_whole};
@@ -26,12 +26,12 @@ pub(crate) enum Told<'t> {
     Rule(&'t str),
     /// A name below `/usr/share/zoneinfo`.
     Named(&'t str),
-    /// The text doesn't say which zone it is.
+    /// What comes from this origin doesn't say which zone is the local zone.
     Unclear(Origin),
 }
 
-/// Returns the zone of an option's value: `UTC`, ignoring case; `posix:` and a rule, which isn't checked; a name; or
-/// `+hh:mm` or `-hh:mm`.
+/// Returns the zone that an option's value names: `UTC`, ignoring case; `posix:` and a rule, which isn't checked; a
+/// name; or `+hh:mm` or `-hh:mm`. Returns [`Told::Unclear`] for any other value.
 pub(crate) fn argument_zone(text: &str) -> Told<'_>
     ensures zone { shown_told result ≡ argument_zone text.now }
     ensures offset { HasOffset result }
@@ -66,8 +66,8 @@ fn offset_zone(text: &str) -> Told<'_>
     }
 }
 
-/// Returns the zone of the value of `TZ` (tzset(3)). Returns `None` if the value is the file `/etc/localtime`, whose
-/// link says which zone it is.
+/// Returns the zone that the value of `TZ` names (tzset(3)). Returns `None` if the value is `/etc/localtime` or
+/// `:/etc/localtime`, because then the link at this path says which zone is the local zone.
 pub(crate) fn variable_zone(alloc: Global, text: &str) -> Option<Told<'_>>
     ensures zone { option_map shown_told result ≡ variable_zone text.now }
     ensures offset { IfSome result HasOffset }
@@ -100,7 +100,7 @@ fn file_zone(file: &str) -> Option<Told<'_>>
     Some(name_zone(Origin::Variable, without_folder(file)))
 }
 
-/// Returns the name of the zone whose file has this absolute path. Any other text is the name itself.
+/// Returns the name of the zone whose file has the absolute path `file`. Returns any other text unchanged.
 fn without_folder(file: &str) -> &str
     ensures { result.now ≡ without_folder file.now }
 {
@@ -123,7 +123,8 @@ fn name_zone(origin: Origin, name: &str) -> Told<'_>
     }
 }
 
-/// Returns the zone of what is at `/etc/localtime` (localtime(5)): UTC if there is nothing.
+/// Returns the zone that `/etc/localtime` names, given what is there (localtime(5)): UTC if nothing is there, or the
+/// zone to whose file a link leads. Returns [`Told::Unclear`] for anything else.
 pub(crate) fn link_zone(entry: &Entry) -> Told<'_>
     ensures zone { shown_told result ≡ link_zone (shown_entry entry.now) }
     ensures offset { HasOffset result }
