@@ -14,7 +14,8 @@ union_one xs h = sym (IsUnion-only (xs ∷ []) xs (record {
   members = λ i. (λ m. inl m, λ m. elim m [ inl n ↦ n | inr n ↦ absurd n ]);
 }))
 
--- a merge of one source with one exception first yields the first number that only the source has
+-- a merge of one source with one exception, a source whose numbers are skipped, first yields the first number that only
+-- the source has
 pub first_of_merge : (xs ys : List ℤ) → IsStrictlySortedBy int_cmp xs → IsStrictlySortedBy int_cmp ys → (empty some both : Merge) (first : Option ℤ) → empty ≡ record { started = false; lists = []; exceptions = [] }
     → some ≡ record { started = false; lists = empty.lists ++ xs ∷ []; exceptions = empty.exceptions }
     → both ≡ record { started = false; lists = some.lists; exceptions = some.exceptions ++ ys ∷ [] }

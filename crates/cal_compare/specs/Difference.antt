@@ -1,5 +1,5 @@
--- Where two timers differ. A timer is given as the list of the instants at which it elapses: systemd.timer(5),
--- OnCalendar=.
+-- The first instants at which only one of two timers elapses. A timer is given as the list of the instants at which it
+-- elapses: systemd.timer(5), OnCalendar=.
 use Rattle.std.specs.Prelude.{◌≡◌, ℕ, List, ℤ, Option, None, Some, slice_get}
 use Rattle.cal_rising.specs.RisingList.{without}
 use Rattle.cal_compare.specs.declared.compare_fault.CompareFault.{CompareFault}
@@ -10,13 +10,14 @@ use Rattle.cal_compare.specs.declared.difference.Difference.{Difference}
 abbrev pub first_only_in : List ℤ → List ℤ → Option ℤ
 first_only_in xs ys = slice_get (without xs ys) 0
 
--- the difference names the first number that only `xs` has, and the first number that only `ys` has
+-- whether the difference consists of the first number that only `xs` has, and the first number that only `ys` has
 pub record IsDifference (xs ys : List ℤ) (difference : Difference) : Type 0 where
   pub one : difference.only_one ≡ first_only_in xs ys
   pub other : difference.only_other ≡ first_only_in ys xs
 
--- Given the first line with an unknown zone of each of two timers, if it has one: the error names that of the first
--- timer or, if the first timer has none, that of the second. If neither timer has such a line, no error fits.
+-- Whether this is the error for two timers, given the first line of each timer with an unknown zone, or None if there
+-- is no such line. The error names the first timer's line or, if the first timer has none, the second timer's line. If
+-- neither timer has such a line, no error fits.
 abbrev pub IsUnzonedInEither : Option ℕ → Option ℕ → CompareFault → Type 0
 IsUnzonedInEither (Some line) other fault = fault ≡ NoSuchZoneInOne line
 IsUnzonedInEither None (Some line) fault = fault ≡ NoSuchZoneInOther line

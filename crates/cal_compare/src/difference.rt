@@ -17,8 +17,8 @@ use cal_timer::Timer;
 use cal_zone::{Instant, Setting};
 use std::alloc::Global;
 
-/// Where the elapses of two timers differ, in seconds of Unix time. If both fields are `None`, the timers elapse at the
-/// same instants.
+/// The first instants at which only one of two timers elapses, in seconds of Unix time. If both fields are `None`, the
+/// timers elapse at the same instants.
 #[derive(Clone, Copy, PartialEq, Eq, Debug)]
 pub struct Difference {
     /// The first instant at which the first timer elapses and the second doesn't.
@@ -27,13 +27,14 @@ pub struct Difference {
     pub only_other: Option<i64>,
 }
 
-/// Returns where the elapses of two timers after `base`, through 2199, differ.
+/// Returns the first instants after `base`, through 2199, at which only one of the timers `one` and `other` elapses.
 ///
-/// Fails with [`CompareFault::NoSuchZoneInOne`] or [`CompareFault::NoSuchZoneInOther`] if an expression or an exception
-/// of a timer names a zone that isn't in the zone table, and with [`CompareFault::NoMemory`] if allocation fails.
+/// Fails with [`CompareFault::NoSuchZoneInOne`] if an expression or exception of `one` names a zone that isn't in the
+/// zone table, or else with [`CompareFault::NoSuchZoneInOther`] if one of `other` does. (The exceptions of a timer are
+/// expressions at whose elapses it doesn't elapse.) Fails with [`CompareFault::NoMemory`] if allocation fails.
 ///
-/// All elapses before the difference are computed. This takes longest if the timers are equal: then all their elapses
-/// through 2199 are computed, once for each field of the result.
+/// All elapses of both timers up to the difference are computed. This takes longest if the timers elapse at the same
+/// instants: then all their elapses through 2199 are computed, once for each field of the result.
 pub fn first_difference(
     alloc: Global,
     setting: Setting<'_>,

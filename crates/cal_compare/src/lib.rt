@@ -1,4 +1,5 @@
-//! Several timers together: where two of them differ, which of them elapses next, and their elapses in a range.
+//! Several timers together: the first instants at which only one of two timers elapses, which timer elapses next, and
+//! their elapses in a range.
 #![tactic(auto)]
 
 mod compare_fault;

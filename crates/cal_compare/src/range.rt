@@ -12,9 +12,9 @@ use std::alloc::Global;
 /// Returns the elapses of all timers from `from` on (included) and before `before`, in increasing order, each with the
 /// index of its timer. At the same instant, timers are in the order given.
 ///
-/// Each timer is a source of its elapses, such as `cal_plan::merge_of` returns. Its base should be [`base_before`] of
-/// `from`: an earlier base takes longer, and with a later one elapses are missing. Fails with `NoMemory` if allocation
-/// fails.
+/// Each timer is a source of its elapses, such as `cal_plan::merge_of` returns. The base of its elapses should be
+/// [`base_before`] of `from`: an earlier base takes longer, and with a later base, elapses at or after `from` can be
+/// missing. Fails with `NoMemory` if allocation fails.
 pub fn between<S: Rising>(
     alloc: Global,
     timers: &mut [S],
