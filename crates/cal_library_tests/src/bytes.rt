@@ -16,15 +16,15 @@ type Reading = (&'static str, usize, Then, usize, Option<WholeFault>, u64);
 static READINGS: [Reading; 8] = [
     ("abcde", 1, Then::Zero, 5, None, 6),
     ("abcde", 3, Then::Zero, 9, None, 3),
-    // An empty source, with a limit of 0.
+    // In the next row: an empty source, with a limit of 0.
     ("", 1, Then::Zero, 0, None, 1),
-    // As many bytes as the limit allows.
+    // In the next row: as many bytes as the limit allows.
     ("0123456789", 1, Then::Zero, 10, None, 11),
-    // The source fails at its third call, before the limit is reached.
+    // In the next row, the source fails at its third call, before the limit is reached.
     ("xx", 1, Then::Error, 9, Some(WholeFault::ReadFailed), 3),
-    // The byte over the limit arrives before the source would have failed.
+    // In the next row, the byte over the limit arrives before the source would have failed.
     ("xx", 1, Then::Error, 1, Some(WholeFault::TooLarge), 2),
-    // An endless source: reading stops with the first byte over the limit.
+    // The last two sources are endless: reading stops with the first byte over the limit.
     ("", 1, Then::Endless, 10, Some(WholeFault::TooLarge), 11),
     ("xxx", 1, Then::Endless, 0, Some(WholeFault::TooLarge), 1),
 ];
@@ -103,8 +103,8 @@ fn readers_end_or_go_on(rt: HostRuntime) -> Result<(), Fail> {
     Ok(())
 }
 
-/// A sink that `abc` is written to: how many bytes it takes at most in each call and in total, what it does after that,
-/// the bytes that it should have in the end, and the expected number of calls.
+/// A sink to which `abc` is written: how many bytes it takes at most in each call and in total, what it does once it
+/// has taken the total, the bytes that it should have in the end, and the expected number of calls.
 type Writer = (usize, usize, Then, &'static str, u64);
 
 static WRITERS: [Writer; 8] = [
@@ -113,7 +113,7 @@ static WRITERS: [Writer; 8] = [
     (1, 2, Then::Error, "ab", 3),
     (3, 1, Then::Interrupted, "a", 2),
     (1, 0, Then::Interrupted, "", 1),
-    // A call that takes 0 bytes is a failure.
+    // In the next two rows, a call takes 0 bytes, which is a failure.
     (1, 0, Then::Zero, "", 1),
     (1, 2, Then::Zero, "ab", 3),
     (9, 2, Then::Endless, "ab", 2),
@@ -157,7 +157,7 @@ fn hold_back(alloc: Global, limit: usize) -> Result<((Option<usize>, bool, bool)
     Ok((answers, writer))
 }
 
-/// When a buffer is flushed, it passes on the bytes that it holds, as far as the sink takes them.
+/// Checks that a buffer, when it is flushed, passes on the bytes that it holds, as far as the sink takes them.
 #[test]
 fn held_back_until_flushed(rt: HostRuntime) -> Result<(), Fail> {
     for (limit, is_flushed, written) in &[(3, true, "abc"), (2, false, "ab")] {

@@ -41,8 +41,8 @@ pub(crate) fn elapses_of<'z>(
     elapses_from(alloc, &expr, zone, base)
 }
 
-/// Expects the next calls of `next` to return these answers, in this order. Just before `next` returns a number, `has`
-/// must not return `Some(false)` for this number.
+/// Expects the next calls of `next` to return `answers`, in this order. Just before `next` returns a number, `has` must
+/// not return `Some(false)` for this number.
 fn expect_answers(
     elapses: &mut Elapses<'_>,
     answers: &[Option<i64>],
@@ -69,13 +69,14 @@ fn expect_elapses(alloc: Global, zone: Zone<'_>, row: &Row) -> Result<(), Fail> 
 
 /// UTC offsets in seconds, each with a row for a zone at that offset.
 static AT_OFFSETS: [(i32, Row); 6] = [
-    // The last local second of 2199 at -10:00. It is the last elapse, and comes after 2199 has ended in UTC.
+    // In the first two rows, the last elapse is the last local second of 2199 at -10:00, which comes after 2199 has
+    // ended in UTC. The base of the second row is this elapse, so no elapse is left.
     (
         -36_000,
         ("23:59:59", 7_258_118_398, &[Some(7_258_154_399), None]),
     ),
     (-36_000, ("23:59:59", 7_258_154_399, &[None])),
-    // Every second, from two bases.
+    // In the next two rows, the expression matches every second.
     (
         19_800,
         (
@@ -96,8 +97,8 @@ static AT_OFFSETS: [(i32, Row); 6] = [
             &[Some(1_704_067_203), Some(1_704_067_204)],
         ),
     ),
-    // At the largest offset east, the first two local midnights are before 1970 in UTC. At the largest offset west, the
-    // last elapse is the last supported instant.
+    // In the last two rows: at the largest offset east, the first two local midnights are before 1970 in UTC; at the
+    // largest offset west, the last elapse is the last supported instant.
     (93_599, ("daily", 0, &[Some(79_201)])),
     (
         -93_599,
@@ -117,8 +118,8 @@ fn at_offsets(rt: HostRuntime) -> Result<(), Fail> {
 }
 
 /// Counts the searches for an expression that matches every second. `new` makes one search, and each of the 187,202
-/// seconds from 93,599 before the base to 93,599 after the third elapse takes one more, whatever the zone. No search
-/// examines a month other than the one that it starts in.
+/// seconds from 93,599 before the base to 93,599 after the third elapse takes one more, whatever the zone. Each search
+/// examines only the month in which it starts.
 #[test]
 fn searches_of_every_second(rt: HostRuntime) -> Result<(), Fail> {
     let mut elapses = elapses_of(rt.alloc(), "*:*:*", Zone::utc(), NEW_YEAR)?;

@@ -34,7 +34,8 @@ fn in_utc(rt: HostRuntime) -> Result<(), Fail> {
         &[
             (1_582_934_400, "Sat 2020-02-29 00:00:00 UTC"),
             (0, "Thu 1970-01-01 00:00:00 UTC"),
-            // The last second of 2199 in UTC, the last second of 2199 at -10:00, and the last supported instant.
+            // In the next three rows: the last second of 2199 in UTC, the last second of 2199 at -10:00, and the last
+            // supported instant.
             (7_258_118_399, "Tue 2199-12-31 23:59:59 UTC"),
             (7_258_154_399, "Wed 2200-01-01 09:59:59 UTC"),
             (7_258_211_998, "Thu 2200-01-02 01:59:58 UTC"),
@@ -45,13 +46,13 @@ fn in_utc(rt: HostRuntime) -> Result<(), Fail> {
 /// UTC offsets in seconds, each with an instant and how it is printed at that offset.
 static BY_OFFSET: [(i32, i64, &str); 7] = [
     (0, 0, "Thu 1970-01-01 00:00:00 +00:00"),
-    // Offsets with seconds, up to the largest ones.
+    // In the next three rows: offsets with seconds, up to the largest ones west and east of UTC.
     (3_208, 0, "Thu 1970-01-01 00:53:28 +00:53:28"),
     (-93_599, 100_000, "Thu 1970-01-01 01:46:41 -25:59:59"),
     (93_599, 79_201, "Sat 1970-01-03 00:00:00 +25:59:59"),
-    // The last second of 2199 at -10:00.
+    // In the next row: the last second of 2199 at -10:00.
     (-36_000, 7_258_154_399, "Tue 2199-12-31 23:59:59 -10:00"),
-    // Less than an hour west of UTC.
+    // In the last two rows: offsets of less than an hour west of UTC.
     (-1, 0, "Wed 1969-12-31 23:59:59 -00:00:01"),
     (-60, 0, "Wed 1969-12-31 23:59:00 -00:01"),
 ];
@@ -74,11 +75,11 @@ static IN_2024: [(i64, &str); 6] = [
     (1_711_846_800, "Sun 2024-03-31 03:00:00 +02:00"),
     (1_729_989_000, "Sun 2024-10-27 02:30:00 +02:00"),
     (1_729_992_600, "Sun 2024-10-27 02:30:00 +01:00"),
-    // In the year after the transitions that the zone file lists.
+    // The last row is in the year after the transitions that the zone file lists.
     (1_751_328_000, "Tue 2025-07-01 02:00:00 +02:00"),
 ];
 
-/// The zone is given by a POSIX rule first, and then by a zone file that lists the transitions of 2024.
+/// Tests a zone with a POSIX rule first, and then the same zone with a zone file that lists the transitions of 2024.
 #[test]
 fn by_rules(rt: HostRuntime) -> Result<(), Fail> {
     let rules = posix(rt.alloc(), SUMMER_TIME)?;

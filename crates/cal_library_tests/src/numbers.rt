@@ -1,4 +1,5 @@
-//! Sources of rising numbers and merges of them, for the modules that test merges.
+//! Sources of strictly increasing numbers, and merges of them, for the modules that test merges. A merge leaves out the
+//! numbers of its exceptions, which are sources, too.
 
 ghost use Rattle.std.specs.Prelude.{◌≡◌, false, IfOk};
 ghost use Rattle.std.specs.List.Sorted.{IsStrictlySortedBy};
@@ -38,8 +39,8 @@ pub fn add_except<S: Rising + Drop>(merge: &mut Merge<S>, exception: S) -> Resul
     }
 }
 
-/// A source that returns the numbers of another one but keeps the default `has`, which can't tell whether a number is
-/// still to come.
+/// A source that returns the numbers of another source but keeps the default `has`, which can't tell whether a number
+/// is still to come.
 #[derive(Drop)]
 pub struct Silent<S: Rising> {
     source: S,

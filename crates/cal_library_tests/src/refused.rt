@@ -43,7 +43,7 @@ fn rules_of_file(alloc: Global) -> Result<Rules, Fail> {
     Ok(Rules::file(alloc, "Test/Fixed", &bytes)?)
 }
 
-/// If `add` fails, the table is unchanged and the rules are returned to the caller.
+/// Checks that the table is unchanged and the rules are returned to the caller if `add` fails.
 #[test]
 fn a_zone_file_and_a_table(rt: HostRuntime) -> Result<(), Fail> {
     let mut table = ZoneTable::new(rt.alloc());
@@ -78,7 +78,7 @@ fn expressions(rt: HostRuntime) -> Result<(), Fail> {
     Ok(())
 }
 
-/// Once the set is created, its functions don't allocate.
+/// Once the set of pending instants is created, its functions don't allocate.
 #[test]
 fn pending_instants(rt: HostRuntime) -> Result<(), Fail> {
     let mut pending = Pending::new(rt.alloc())?;
@@ -117,7 +117,7 @@ fn add(
     }
 }
 
-/// The merge has the lists that could be added, and its `next` doesn't allocate.
+/// Checks that the merge has the lists that could be added. Its `next` doesn't allocate.
 #[test]
 fn merged_lists(rt: HostRuntime) -> Result<(), Fail> {
     let mut merge = Merge::new(rt.alloc());
@@ -136,7 +136,8 @@ fn merged_lists(rt: HostRuntime) -> Result<(), Fail> {
     }
 }
 
-/// If an exception can't be added, it is returned to the caller, and the merge is unchanged.
+/// Checks that an exception (a source whose numbers the merge leaves out) is returned to the caller if it can't be
+/// added, and that the merge is then unchanged.
 #[test]
 fn an_exception(rt: HostRuntime) -> Result<(), Fail> {
     let mut merge = merge_two(rt.alloc(), &[1, 5, 9], &[5, 7])?;
@@ -195,7 +196,7 @@ fn expect_first(setting: &Option<Setting>) -> Result<(), Fail> {
     }
 }
 
-/// If allocation fails, the setting is not skipped: the next call that succeeds returns it.
+/// Checks that a setting isn't skipped if allocation fails: the next call that succeeds returns it.
 #[test]
 fn the_next_setting(rt: HostRuntime) -> Result<(), Fail> {
     let mut settings = Settings::new("Timer", 1, SETTINGS);

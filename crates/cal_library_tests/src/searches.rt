@@ -1,5 +1,5 @@
-//! The search for the next matching local second, the set of pending instants, and the search for the first 64-bit word
-//! that is not 0. Expected results are worked out by hand.
+//! The search for the next matching local second, the set of pending instants (found, but not returned yet), and the
+//! search for the first 64-bit word that is not 0. Expected results are worked out by hand.
 
 ghost use Rattle.std.specs.Prelude.{◌≡◌, []};
 
@@ -23,16 +23,17 @@ fn found_from(expr: &Expr, from: i64) -> Option<Found> {
 type Search = (&'static str, i64, Option<i64>, u32);
 
 static SEARCHES: [Search; 8] = [
-    // Leap days: the first one, the one after it, the one in 2104 (after 2096, since 2100 is not a leap year), and none
-    // at the end of the range.
+    // The first four rows are about leap days: the first one, the one after it, the one in 2104 (after 2096, since 2100
+    // is not a leap year), and none at the end of the range.
     ("*-2-29 0:0:0", 0, Some(68_169_600), 3),
     ("*-2-29 0:0:0", 68_169_601, Some(194_400_000), 5),
     ("*-2-29 0:0:0", 3_981_398_400, Some(4_233_686_400), 8),
     ("*-2-29 0:0:0", 7_258_118_400, None, 0),
-    // A date that doesn't fall on the given weekday, and day 31 of the months that don't have one.
+    // In the next two rows: a date that doesn't fall on the given weekday, and day 31 of the months that don't have a
+    // day 31.
     ("Mon 2024-01-02", 0, None, 1),
     ("*-2,4,6,9,11-31", 0, None, 1_150),
-    // The last second of the range, and a match in the next year.
+    // In the last two rows: the last second of the range, and a match in the next year.
     ("*:*:*", 7_258_118_399, Some(7_258_118_399), 1),
     ("*-1-31 0:0:0", 2_592_001, Some(34_128_000), 2),
 ];
@@ -77,9 +78,9 @@ pub(crate) fn expect_members(pending: &mut Pending, members: &[i64]) -> Result<(
     ensure(pending.take_least().is_none(), "an instant is taken")
 }
 
-/// Pairs of instants, and the order in which the set returns them. The set is a ring of 187,200 cells. The end of the
-/// ring lies between the instants of the second pair. Those of the third pair are as far apart as instants in the set
-/// may be.
+/// Pairs of instants, and the order in which the set returns them. The set is a ring of 187,200 cells, and an instant
+/// is in the cell of its seconds modulo 187,200. The end of the ring is between the instants of the second pair. The
+/// instants of the third pair are as far apart as instants in the set may be.
 static PAIRS: [(i64, i64, [i64; 2]); 3] = [
     (100, 50, [50, 100]),
     (187_199, 187_201, [187_199, 187_201]),
@@ -96,8 +97,8 @@ fn each_once_rising(rt: HostRuntime) -> Result<(), Fail> {
     Ok(())
 }
 
-/// Tries no words at all, and as many words as the set of pending instants has: first all of them 0, and then all but
-/// the last one.
+/// Tries no words at all, and as many words as the set of pending instants has: first with all words 0, and then with
+/// all words 0 but the last one.
 #[test]
 fn first_set_word() -> Result<(), Fail> {
     let mut cells = [0; 2_925];
@@ -107,7 +108,7 @@ fn first_set_word() -> Result<(), Fail> {
     ensure(first_set(&cells) == Some(2_924), "the last word")
 }
 
-/// The only word that is not 0 is found at each index, among any number of words up to 70.
+/// Checks that the only word that is not 0 is found at each index, among any number of words up to 70.
 #[test]
 fn each_index() -> Result<(), Fail> {
     for length in 0..=70 {

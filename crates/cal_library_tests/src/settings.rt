@@ -1,11 +1,12 @@
-//! The settings of one section of a unit file.
+//! The settings in all sections of a unit file that have a given name.
 
 use crate::shared::ensure;
 use cal_read::{Setting, Settings, read_settings};
 use std::alloc::Global;
 use std::test::Fail;
 
-/// The name of a section, and its settings: the line number, the key and the value of each.
+/// The name of a section, and the settings in all sections with this name: the line number, the key and the value of
+/// each.
 type Row = (&'static str, &'static [(u32, &'static str, &'static str)]);
 
 /// The first example of systemd.syntax(7), followed by lines of our own that open `[Section A]` again. A continuation
@@ -90,7 +91,7 @@ fn sections(rt: HostRuntime) -> Result<(), Fail> {
     Ok(())
 }
 
-/// After the last setting, every call returns `None`.
+/// Checks that every call after the last setting returns `None`.
 #[test]
 fn one_after_another(rt: HostRuntime) -> Result<(), Fail> {
     let mut settings = Settings::new("Timer", 7, "Persistent=no\n[Timer]\nOnCalendar=daily\n");

@@ -1,5 +1,5 @@
-//! Constants and helpers that both test crates use. The helpers expect valid input: a test fails if its input is
-//! rejected, or if allocation fails.
+//! Constants and helpers that this crate and `cal_tests` use. The helpers expect valid input: a test fails if its input
+//! is rejected, or if allocation fails.
 
 use cal_base::{Instant, Rules};
 use cal_spec::{Expr, read_expr};
@@ -67,8 +67,8 @@ pub fn zone_file_of_2024(alloc: Global) -> Result<Vec<u8>, AllocError> {
     Ok(bytes)
 }
 
-/// A timer file with two sections. `OnBootSec=` drops the first expression, and the second one is continued after a
-/// comment.
+/// A timer file with two sections. The empty `OnBootSec=` drops the first expression, and the second expression is
+/// continued after a comment.
 pub const TIMER_FILE: &[u8] = b"\
 [Unit]
 Description=x
@@ -81,7 +81,8 @@ OnCalendar=Mon \\
 OnCalendar=hourly
 ";
 
-/// A timer file with an exception. `OnBootSec=` drops the first expression, but not the exception.
+/// A timer file with an exception: when the exception elapses, the timer doesn't. The empty `OnBootSec=` drops the
+/// first expression, but not the exception.
 pub const EXCEPT_FILE: &[u8] = b"\
 [Timer]
 OnCalendar=daily

@@ -8,21 +8,22 @@ use std::test::Fail;
 
 /// Spans, each with its length in microseconds and how this length is printed.
 static READ_AND_WRITTEN: [(&str, u64, &str); 11] = [
-    // A fraction down to the microsecond, parts without blanks between them, a number without a unit, zero, and seconds
-    // that make up whole minutes.
+    // In the first five rows: a fraction down to the microsecond, parts without blanks between them, a number without a
+    // unit, zero, and seconds that make up whole minutes.
     ("1year 0.000001s", 31_557_600_000_001, "1y 1us"),
     ("300ms20s 5day", 432_020_300_000, "5d 20s 300ms"),
     (".7", 700_000, "700ms"),
     ("0", 0, "0"),
     ("300s", 300_000_000, "5min"),
-    // A fraction with an exact value, and two fractions in which the value of each digit is rounded down.
+    // In the next three rows: a fraction with an exact value, and two fractions in which the value of each digit is
+    // rounded down.
     ("1.5h", 5_400_000_000, "1h 30min"),
     ("0.0000019s", 1, "1us"),
     ("1.0000001h", 3_600_000_360, "1h 360us"),
-    // Thirty days are not a month: a month is a twelfth of a year.
+    // In the next two rows: thirty days, which are not a month, and a month, which is a twelfth of a year.
     ("30d", 2_592_000_000_000, "4w 2d"),
     ("1M 1m", 2_629_860_000_000, "1month 1min"),
-    // The largest span.
+    // In the last row: the largest span.
     (
         "9223372036854775807us",
         9_223_372_036_854_775_807,

@@ -1,4 +1,5 @@
-//! Timer files: which expressions a file ends up with, and why a file is rejected.
+//! Timer files: which expressions and exceptions a file ends up with, and why a file is rejected. Exceptions are
+//! expressions at whose elapses the timer doesn't elapse.
 
 use crate::shared::{TIMER_FILE, ensure};
 use cal_base::Port;
@@ -17,7 +18,7 @@ mod texts;
 /// The expressions of [`TIMER_FILE`].
 pub(crate) const UNIT_LINES: Lines = &[(6, "Mon  *:0/30"), (9, "hourly")];
 
-/// The expressions of `EXCEPT_FILE`; its exceptions are `EXCEPT_EXCEPTIONS`.
+/// The expressions of `EXCEPT_FILE`, whose exceptions are [`EXCEPT_EXCEPTIONS`].
 pub(crate) const EXCEPT_LINES: Lines = &[(5, "12:00")];
 
 pub(crate) const EXCEPT_EXCEPTIONS: Lines = &[(3, "Sat,Sun 12:00")];

@@ -19,8 +19,9 @@ struct TestedRange {
     max_offset: i64,
 }
 
-/// Appends the places of the local seconds that the expression matches, as far as they are in the range. Every local
-/// second whose place could be in the range is tested.
+/// Appends the places of the local seconds that the expression matches, as far as they are in the range. (The place of
+/// a local second is the instant at which the zone's clock first shows it.) Every local second whose place could be in
+/// the range is tested.
 fn push_places(
     instants: &mut Vec<i64>,
     expr: &Expr,
@@ -88,7 +89,7 @@ const FORWARD_AND_SOON_BACK: TestedRange = TestedRange {
     max_offset: 93_599,
 };
 
-/// Expects the merged elapses of the expressions to be those that the filter finds.
+/// Expects the merged elapses of the expressions to be the instants that `by_filter` returns.
 fn agree(alloc: Global, texts: &[&str]) -> Result<(), Fail> {
     let rules = posix(alloc, FORWARD_AND_BACK)?;
     let (zone, range) = (Zone::rules(&rules), FORWARD_AND_SOON_BACK);
@@ -97,13 +98,13 @@ fn agree(alloc: Global, texts: &[&str]) -> Result<(), Fail> {
     expect_all(&mut merge, &instants, range.limit)
 }
 
-/// An expression that matches every second.
+/// Tests an expression that matches every second.
 #[test]
 fn forward_and_soon_back(rt: HostRuntime) -> Result<(), Fail> {
     agree(rt.alloc(), &["*:*:*"])
 }
 
-/// Two expressions, merged.
+/// Tests two expressions, merged.
 #[test]
 fn merged_forward_and_soon_back(rt: HostRuntime) -> Result<(), Fail> {
     agree(rt.alloc(), &["*:0/7:13", "*:*:30"])

@@ -1,4 +1,5 @@
-//! Merges of lists of numbers, and of the elapses of expressions, with and without exceptions.
+//! Merges of lists of numbers, and of the elapses of expressions, with and without exceptions. An exception is a source
+//! whose numbers a merge leaves out.
 
 ghost use Rattle.std.specs.Prelude.{◌≡◌, false};
 ghost use Rattle.std.specs.List.Sorted.{IsStrictlySortedBy};
@@ -27,7 +28,7 @@ fn expect_merged(alloc: Global, one: &[i64], two: &[i64], numbers: &[i64]) -> Re
     expect_numbers(&mut merge, numbers)
 }
 
-/// `i64::MAX` is a number like any other, and a number that is in both lists is returned once.
+/// Checks that `i64::MAX` is a number like any other, and that a number that is in both lists is returned once.
 #[test]
 fn two_lists(rt: HostRuntime) -> Result<(), Fail> {
     expect_merged(rt.alloc(), &[i64::MAX], &[1], &[1, i64::MAX])?;
@@ -51,7 +52,8 @@ fn expect_without(
     expect_numbers(&mut merge, numbers)
 }
 
-/// A merge leaves out the numbers of its exception. A number of the exception that is in no list changes nothing.
+/// Checks that a merge leaves out the numbers of its exception, and that a number of the exception that is in no list
+/// changes nothing.
 #[test]
 fn exceptions(rt: HostRuntime) -> Result<(), Fail> {
     expect_without(rt.alloc(), &[1, 5, 9], &[5, 7], &[5, 8], &[1, 7, 9])?;

@@ -5,7 +5,8 @@ use cal_spec::SpecFault::{self, *};
 use std::alloc::{AllocError, Global};
 use std::test::Fail;
 
-/// Long expressions. Each line begins with a count, and `#` in the line stands for that many copies of `piece`.
+/// Long expressions. Each line begins with a count, and `#` in the line stands for `piece`, repeated as often as the
+/// count says.
 struct Table {
     piece: &'static str,
     /// After the count, each line has an expression, an arrow and the normal form of the expression.
@@ -13,8 +14,8 @@ struct Table {
     refused: &'static [(SpecFault, &'static str)],
 }
 
-/// An expression may have up to 4,096 bytes. If it is longer, that is reported before any other error. A zone name may
-/// have up to 255 bytes.
+/// An expression may have up to 4,096 bytes. If it has more, `TextTooLong` is reported before any other error. A zone
+/// name may have up to 255 bytes.
 static BYTES: [Table; 4] = [
     Table {
         piece: " ",

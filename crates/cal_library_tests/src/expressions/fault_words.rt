@@ -28,9 +28,9 @@ static FAULT_WORDS: [Row; 22] = [
     ("20:00 ", "+26:00", ""),
     ("12:00 ", "A\u{e4}", " \u{e4}"),
     ("", "\u{c4}", ""),
-    // If both words are invalid, the first one is at fault.
+    // In the next row, both words are invalid, and the first one is at fault.
     ("", "Foo", " 25:00"),
-    // A carriage return and a line feed are not blanks.
+    // In the last two rows, the carriage return and the line feed are not blanks.
     ("", "12:00\r", ""),
     ("12:00 ", "\n", ""),
 ];

@@ -65,7 +65,7 @@ fn mondays_and_fridays(rt: HostRuntime) -> Result<(), Fail> {
     expect_shown(rt.alloc(), "mon,fri 12-1/2-3,1 *:30:45", &expected)
 }
 
-/// Parts are sorted, two-digit years are expanded, and `UTC` is in capitals.
+/// Checks that parts are sorted, two-digit years are expanded, and `UTC` is in capitals.
 #[test]
 fn each_kind_of_part(rt: HostRuntime) -> Result<(), Fail> {
     let expected = Shown {

@@ -78,7 +78,8 @@ static TIMES: [Refused; 2] = [
     ),
 ];
 
-/// Values that are too large or out of range, ranges that run backwards, and invalid repetitions.
+/// Values that are too large or out of range, ranges that run backwards, and invalid repetitions. In the expression
+/// rejected with `BadDate`, a malformed part comes before a number that is too large.
 static NUMBERS: [Refused; 6] = [
     (
         NumberTooLarge,
@@ -105,7 +106,7 @@ static NUMBERS: [Refused; 6] = [
     ),
 ];
 
-/// Expressions with several errors, grouped by the error that comes first in the documented order.
+/// Expressions with several errors, grouped by the error that comes first in the order that docs/GRAMMAR.md describes.
 static ORDER: [Refused; 11] = [
     (
         BadDate,

@@ -1,4 +1,5 @@
-//! Sections, keys, values and resets in timer files.
+//! Sections, keys, values and resets in timer files. A reset is a key with an empty value that clears the list of
+//! expressions.
 
 use super::{Lines, Row, expect_files, is_read};
 use crate::shared::ensure;
@@ -8,7 +9,7 @@ use std::alloc::Global;
 use std::test::Fail;
 
 static SECTIONS: [Row; 9] = [
-    // An empty file.
+    // The first row is an empty file.
     ("", Err(TimerFault::NothingToDo)),
     (
         "OnCalendar=hourly\n[Timer]\nOnCalendar=daily\n[Unit]\nOnCalendar=weekly",
@@ -19,12 +20,12 @@ static SECTIONS: [Row; 9] = [
         Ok(&[(2, "daily"), (6, "hourly")]),
     ),
     (" \t[Timer] \t\nOnCalendar=daily", Ok(&[(2, "daily")])),
-    // A line that only begins or only ends like a section header is not one.
+    // In the next row, lines that only begin or only end like a section header are not section headers.
     (
         "[Timer]\n[Unit\nUnit]\n[\n]\nOnCalendar=daily",
         Ok(&[(6, "daily")]),
     ),
-    // A section header may contain `=`.
+    // In the next row, a section header contains `=`.
     (
         "[Timer]\n[a=b]\nOnCalendar=hourly\n[Timer]\nOnCalendar=daily",
         Ok(&[(5, "daily")]),
@@ -38,7 +39,7 @@ static SECTIONS: [Row; 9] = [
 ];
 
 static KEYS_AND_VALUES: [Row; 8] = [
-    // A repetition that reaches no further value.
+    // In the first row, a repetition reaches no further value.
     (
         "[Timer]\nOnCalendar=20/4:00",
         Err(TimerFault::BadLine(2, SpecFault::NoRepeat)),
@@ -51,7 +52,7 @@ static KEYS_AND_VALUES: [Row; 8] = [
         "[Timer]\n\rOnCalendar\r=\rdaily\r \r\n",
         Ok(&[(2, "daily")]),
     ),
-    // Other keys, lines without `=`, and keys that only look similar.
+    // In the next two rows: keys that only look similar, lines without `=`, and other keys.
     (
         "[Timer]\noncalendar=x\nONCALENDAR=x\nOnCalendars=x\nX-OnCalendar=x\nOn Calendar=x\nOnCalendar=daily",
         Ok(&[(7, "daily")]),
@@ -68,7 +69,7 @@ static KEYS_AND_VALUES: [Row; 8] = [
         "[Timer]\nOnCalendar=fortnightly",
         Err(TimerFault::BadLine(2, SpecFault::UnknownShorthand)),
     ),
-    // The first bad line is reported, even if a later reset drops its expression.
+    // In the last row, the first invalid line is reported, although a later reset drops its expression.
     (
         "[Timer]\nOnCalendar=25:00\nOnCalendar=\nOnCalendar=7",
         Err(TimerFault::BadLine(2, SpecFault::OutOfField)),

@@ -21,7 +21,8 @@ static WRONG_BYTES: [(&[u8], u32); 13] = [
     (b"\xEF\xBB\xBF\n\xF0\x9F\x98", 2),
     // A surrogate.
     (b"\n\xED\xA0\x80", 2),
-    // Characters of two and three bytes, each with the first byte of another character in place of its last byte.
+    // In the next two rows: characters of two and three bytes, each with the first byte of another character in place
+    // of its last byte.
     (b"\n\xC3\xC3", 2),
     (b"\n\xE2\x82\xC3", 2),
     // An overlong encoding of a line feed.

@@ -16,20 +16,21 @@ pub(super) const RESET: &str = "OnCalendar=";
 /// file.
 type Counted = (&'static [(u32, &'static str)], Result<Lines, TimerFault>);
 
-/// A file may have up to 256 expressions, not counting those that a reset has dropped. The error has the line number of
-/// the first expression or exception over the limit.
+/// A file may have up to 256 expressions, not counting expressions that an empty `OnCalendar=` has dropped. The error
+/// has the line number of the first expression or exception over the limit.
 static COUNTED: [Counted; 4] = [
     (
         &[(256, DAILY), (1, RESET), (1, "OnCalendar=hourly")],
         Ok(&[(259, "hourly")]),
     ),
-    // Exceptions have a limit of their own.
+    // In the next row, there are too many exceptions, which have a limit of their own. (When an exception elapses, the
+    // timer doesn't.)
     (
         &[(257, EXCEPTION), (1, DAILY)],
         Err(TimerFault::TooMany(258)),
     ),
     (&[(257, DAILY)], Err(TimerFault::TooMany(258))),
-    // The expression over the limit is not parsed.
+    // In the last row, the expression over the limit is invalid, but isn't parsed.
     (
         &[(256, DAILY), (1, "OnCalendar=x!")],
         Err(TimerFault::TooMany(258)),

@@ -1,4 +1,5 @@
-//! Timer files with exceptions: the two lists, and why a file is rejected.
+//! Timer files with exceptions, which are expressions at whose elapses the timer doesn't elapse: the lists of
+//! expressions and of exceptions, and why a file is rejected.
 
 use super::{EXCEPT_EXCEPTIONS, EXCEPT_LINES, Lines, expect_lists, fault_of};
 use crate::shared::{EXCEPT_FILE, ensure};
@@ -9,13 +10,13 @@ use std::test::Fail;
 /// Files, each with its expressions and its exceptions.
 static READ: [(&[u8], Lines, Lines); 4] = [
     (EXCEPT_FILE, EXCEPT_LINES, EXCEPT_EXCEPTIONS),
-    // An empty `X-ExceptOnCalendar=` resets only the exceptions.
+    // In the next row, an empty `X-ExceptOnCalendar=` clears only the exceptions.
     (
         b"[Timer]\nOnCalendar=daily\nX-ExceptOnCalendar=Sat\nX-ExceptOnCalendar = \nX-ExceptOnCalendar=Sun",
         &[(2, "daily")],
         &[(5, "Sun")],
     ),
-    // The key has to match exactly, and counts only in the section `Timer`.
+    // In the next row, there are no exceptions: the key has to match exactly, and counts only in the section `Timer`.
     (
         b"[Unit]\nX-ExceptOnCalendar=x!\n[Timer]\nOnCalendar=daily\nx-exceptoncalendar=x!\nExceptOnCalendar=x!\nX-ExceptOnCalendars=x!",
         &[(4, "daily")],
@@ -30,13 +31,13 @@ static READ: [(&[u8], Lines, Lines); 4] = [
 
 /// Files, each with the error it is rejected with.
 static REFUSED: [(&str, TimerFault); 4] = [
-    // A file needs an expression: exceptions alone are not enough.
+    // In the first two rows, a file ends up with only an exception, but needs an expression.
     ("[Timer]\nX-ExceptOnCalendar=Sat", TimerFault::NothingToDo),
     (
         "[Timer]\nOnCalendar=daily\nX-ExceptOnCalendar=Sat\nOnBootSec=",
         TimerFault::NothingToDo,
     ),
-    // A file with an invalid exception is rejected, even if a later line drops the exception.
+    // In the next row, a file with an invalid exception is rejected, although a later line drops the exception.
     (
         "[Timer]\nOnCalendar=daily\nX-ExceptOnCalendar=20/4:00\nX-ExceptOnCalendar=",
         TimerFault::BadLine(3, SpecFault::NoRepeat),

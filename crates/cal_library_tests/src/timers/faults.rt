@@ -1,4 +1,5 @@
-//! Finding all errors in the texts of a timer, instead of only the first one.
+//! Finding all errors in the texts of a timer, instead of only the first one. Exceptions are expressions at whose
+//! elapses the timer doesn't elapse.
 
 use super::counts::{DAILY, EXCEPTION, RESET, counted_file};
 use super::texts::unit_texts;
@@ -13,10 +14,10 @@ type Row = (&'static [&'static str], &'static [(usize, u32, SpecFault)]);
 
 static BAD_LINES: [Row; 5] = [
     (&[], &[]),
-    // `find_faults` doesn't report that there is no expression.
+    // In the next row, there is no expression, which `find_faults` doesn't report.
     (&["[Timer]\nOnCalendar=daily", "[Timer]\nOnCalendar="], &[]),
-    // Each invalid expression and each invalid exception is reported, with the index of its text and the number of its
-    // line in this text.
+    // In the next row, each invalid expression and each invalid exception is reported, with the index of its text and
+    // the number of its line in this text.
     (
         &[
             "[Timer]\nOnCalendar=25:00\nOnCalendar=daily\nX-ExceptOnCalendar=x!",
@@ -31,7 +32,7 @@ static BAD_LINES: [Row; 5] = [
             (3, 2, SpecFault::NoRepeat),
         ],
     ),
-    // An invalid expression is reported even if a later setting clears the list.
+    // In the next row, an invalid expression is reported although a later setting clears the list.
     (
         &[
             "[Timer]\nOnCalendar=25:00",
@@ -42,7 +43,7 @@ static BAD_LINES: [Row; 5] = [
             (1, 3, SpecFault::UnknownShorthand),
         ],
     ),
-    // Other settings can have any value.
+    // In the last row, the invalid values are those of other settings, which aren't checked.
     (
         &["[Timer]\nOnBootSec=x!\nPersistent=x!\nOnCalendar=daily"],
         &[],
@@ -95,8 +96,8 @@ fn bad_lines(rt: HostRuntime) -> Result<(), Fail> {
     Ok(())
 }
 
-/// Each expression and each exception over the limit is reported. Invalid expressions count toward the limit, and a
-/// reset starts the count of the expressions again.
+/// Checks that each expression and each exception over the limit is reported, that invalid expressions count toward the
+/// limit, and that an empty `OnCalendar=` starts the count of the expressions again.
 #[test]
 fn several_too_many(rt: HostRuntime) -> Result<(), Fail> {
     let unit = counted_file(rt.alloc(), &[(255, DAILY), (256, EXCEPTION)])?;

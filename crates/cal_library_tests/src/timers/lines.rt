@@ -33,13 +33,13 @@ static COMMENTS: [Row; 6] = [
         "[Timer]\n#OnCalendar=hourly\n;OnCalendar=\nOnCalendar=daily",
         Ok(&[(4, "daily")]),
     ),
-    // A backslash at the end of a comment doesn't continue it.
+    // In the next two rows, a backslash at the end of a comment doesn't continue the comment.
     ("[Timer]\n# x \\\nOnCalendar=daily", Ok(&[(3, "daily")])),
     (
         "[Timer]\nOnCalendar=Mon \\\n; x \\\n12:00\nOnCalendar=daily",
         Ok(&[(2, "Mon  12:00"), (5, "daily")]),
     ),
-    // `#` and `;` begin a comment only at the start of a line.
+    // In the last two rows, `#` and `;` don't begin a comment, because they aren't at the start of a line.
     (
         "[Timer]\nOnCalendar=daily # x",
         Err(TimerFault::BadLine(2, SpecFault::StrayWord)),
@@ -59,19 +59,19 @@ static CONTINUED_LINES: [Row; 10] = [
         "[Timer]\nOnCalendar\\\n=\\\ndaily\nOnCalendar=hourly",
         Ok(&[(2, "daily"), (5, "hourly")]),
     ),
-    // A line with only blanks and a backslash adds a space.
+    // In the next row, a line with only blanks and a backslash adds a space.
     (
         "[Timer]\nOnCalendar=Mon\\\n \\\n12:00",
         Ok(&[(2, "Mon  12:00")]),
     ),
-    // A backslash at the end of the file becomes a space, which is trimmed.
+    // In the next row, a backslash at the end of the file becomes a space, which is trimmed.
     ("[Timer]\nOnCalendar=daily\\", Ok(&[(2, "daily")])),
     (
         "[Ti\\\nmer]\n[Timer]\nOnCalendar=daily",
         Ok(&[(4, "daily")]),
     ),
-    // A line is not continued if it ends in an even number of backslashes, or in a backslash and a blank. If it ends in
-    // an odd number of backslashes, the last one becomes a space.
+    // In the next three rows, a line ends in two backslashes, in three backslashes, or in a backslash and a blank. Only
+    // the line with three backslashes is continued, with a space in place of the last one.
     (
         "[Timer]\nOnCalendar=daily\\\\\nOnCalendar=daily",
         Err(TimerFault::BadLine(2, SpecFault::BadWeekday)),
@@ -84,7 +84,7 @@ static CONTINUED_LINES: [Row; 10] = [
         "[Timer]\nOnCalendar=daily\\ \n",
         Err(TimerFault::BadLine(2, SpecFault::BadWeekday)),
     ),
-    // The error has the number of the first of the continued lines.
+    // In the next row, the error has the number of the first of the continued lines.
     (
         "[Timer]\n\nOnCalendar=Mon \\\n\\\n25:00",
         Err(TimerFault::BadLine(3, SpecFault::OutOfField)),

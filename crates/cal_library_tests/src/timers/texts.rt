@@ -1,4 +1,5 @@
-//! Timers that are read from several texts, such as a unit file and its drop-ins.
+//! Timers that are read from several texts, such as a unit file and its drop-ins. Exceptions are expressions at whose
+//! elapses the timer doesn't elapse.
 
 ghost use Rattle.std.specs.Prelude.{◌+◌, ◌<◌, ◌^◌, All, IfOk, length};
 
@@ -14,13 +15,14 @@ use std::test::Fail;
 type Row = (&'static [&'static str], Lines, Lines);
 
 static READ: [Row; 9] = [
-    // A drop-in adds to the list of the unit file.
+    // In the first row, a drop-in adds to the list of the unit file.
     (
         &["[Timer]\nOnCalendar=daily", "[Timer]\nOnCalendar=hourly"],
         &[(2, "daily"), (2, "hourly")],
         &[],
     ),
-    // An empty value in a drop-in clears what the unit file and earlier drop-ins set.
+    // In the next two rows, an empty value clears what all earlier lines set, in the same text and in earlier texts,
+    // but nothing after it.
     (
         &[
             "[Timer]\nOnCalendar=daily",
@@ -38,19 +40,19 @@ static READ: [Row; 9] = [
         &[(3, "hourly"), (2, "daily")],
         &[],
     ),
-    // A text doesn't need an expression if another text has one.
+    // In the next row, only one of the texts has an expression, which is enough.
     (
         &["[Unit]\nDescription=x", "", "\n\n[Timer]\nOnCalendar=daily"],
         &[(4, "daily")],
         &[],
     ),
-    // A section ends with its text.
+    // In the next row, a section ends at the end of its text.
     (
         &["[Timer]\nOnCalendar=daily", "OnCalendar=x!\nOnCalendar="],
         &[(2, "daily")],
         &[],
     ),
-    // A continued line ends with its text, too, even if a comment follows the backslash.
+    // In the next row, a continued line ends at the end of its text, even if a comment follows the backslash.
     (
         &[
             "[Timer]\nOnCalendar=Mon \\",
@@ -60,7 +62,7 @@ static READ: [Row; 9] = [
         &[(2, "Mon"), (3, "Tue")],
         &[],
     ),
-    // Each text may begin with a byte order mark.
+    // In the next row, each text begins with a byte order mark.
     (
         &[
             "\u{FEFF}[Timer]\nOnCalendar=daily",
@@ -69,7 +71,7 @@ static READ: [Row; 9] = [
         &[(2, "daily"), (2, "hourly")],
         &[],
     ),
-    // Exceptions are cleared by their own key alone.
+    // In the last two rows, exceptions are cleared by an empty value of their own key, but not of another key.
     (
         &[
             "[Timer]\nOnCalendar=daily\nX-ExceptOnCalendar=Sat",
@@ -88,24 +90,24 @@ static READ: [Row; 9] = [
     ),
 ];
 
-/// Texts that are rejected, the index of the text with the error (`None` if all texts together lack an expression), and
+/// Texts that are rejected, the index of the text with the error (`None` if the texts together lack an expression), and
 /// the error.
 static REFUSED: [(&[&str], Option<usize>, TimerFault); 7] = [
     (&[], None, TimerFault::NothingToDo),
     (&["[Unit]", "[Timer]"], None, TimerFault::NothingToDo),
-    // A drop-in clears the only expression: an empty `OnBootSec=` clears `OnCalendar=` too.
+    // In the next row, a drop-in clears the only expression: an empty `OnBootSec=` clears `OnCalendar=` too.
     (
         &["[Timer]\nOnCalendar=daily", "[Timer]\nOnBootSec="],
         None,
         TimerFault::NothingToDo,
     ),
-    // The error has the index of its text, and the number of its line in this text.
+    // In the next row, the error has the index of its text, and the number of its line in this text.
     (
         &["[Timer]\nOnCalendar=daily", "\n[Timer]\nOnCalendar=25:00"],
         Some(1),
         TimerFault::BadLine(3, SpecFault::OutOfField),
     ),
-    // The first error is reported, even if a drop-in clears the list.
+    // In the next two rows, the first error is reported, even if a drop-in clears the list or has another error.
     (
         &[
             "[Timer]\nOnCalendar=25:00",
@@ -130,7 +132,7 @@ static REFUSED: [(&[&str], Option<usize>, TimerFault); 7] = [
     ),
 ];
 
-/// Returns a [`UnitText`] for each text, with its lines numbered from 1.
+/// Returns a [`UnitText`] for each text, with its lines numbered from 1. Fails if a text has more than 1,048,576 bytes.
 pub(super) fn unit_texts<'t>(alloc: Global, texts: &[&'t str]) -> Result<Vec<UnitText<'t>>, Fail>
     ensures { IfOk result (λ files. All (λ file. file.first + length file.text.now < 2 ^ 32) files.items) }
 {

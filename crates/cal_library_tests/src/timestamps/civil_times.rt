@@ -4,8 +4,8 @@ use super::{Table, expect_in_utc};
 use cal_read::StampFault::*;
 use std::test::Fail;
 
-/// Dates whose year has one to four digits, and dates that don't exist. A year below 100 stands for one of the years
-/// 1970 to 2069.
+/// Dates whose year has one to four digits, and dates that don't exist or aren't in the years 1970 to 2199. A year
+/// below 100 stands for one of the years 1970 to 2069.
 static DATES: Table = Table {
     moments: "\
 2012-11-23 -> 1353628800000000|12-11-23 -> 1353628800000000|\x202012-11-23\t -> 1353628800000000|\
@@ -47,7 +47,7 @@ static TIMES: Table = Table {
     )],
 };
 
-/// The first six digits of a fraction count, and the rest is dropped.
+/// The first six digits of a fraction count, and further digits are dropped.
 static FRACTIONS: Table = Table {
     moments: "\
 1:2:3.4 -> 1353632523400000|1:2:3.456789 -> 1353632523456789|1:2:3.4567891 -> 1353632523456789|\

@@ -54,7 +54,7 @@ today Mars/One|yesterday Fri|tomorrow today|today U!|12:00 today|2012-11-23 toda
 /// Instants in seconds of Unix time, each with what timestamps resolve to if this instant is the present. The clock
 /// skips midnight on 2024-03-10, and shows midnight on 2024-11-03 twice.
 static DAYS_OF_A_CHANGE: [(i64, Table); 2] = [
-    // The day whose midnight is skipped.
+    // In this row, the present is on the day whose midnight is skipped.
     (
         1_710_086_400,
         Table {
@@ -64,7 +64,7 @@ today -> 1710046800000000|yesterday -> 1709960400000000|tomorrow -> 171012960000
             refusals: &[],
         },
     ),
-    // The day whose midnight occurs twice.
+    // In this row, the present is on the day whose midnight occurs twice.
     (
         1_730_653_200,
         Table {

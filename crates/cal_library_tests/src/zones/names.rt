@@ -26,7 +26,7 @@ fn names() -> Result<(), Fail> {
     expect_names(NO_NAMES, false)
 }
 
-/// The longest name is valid, and one byte more is not.
+/// Checks that a name of 255 bytes is valid, and a name of 256 bytes isn't.
 #[test]
 fn lengths() -> Result<(), Fail> {
     let letters = [b'a'; 256];

@@ -1,4 +1,6 @@
-//! Converting local seconds to Unix time, around transitions and at fixed offsets.
+//! Converting local seconds to Unix time, around transitions and at fixed offsets. The place of a local second is the
+//! second of Unix time at which the zone's clock first shows it. To settle a local second is to convert it even if the
+//! clock skips it.
 
 use crate::shared::{SUMMER_TIME, posix};
 use cal_base::{PlaceCache, Zone, place, settle};
@@ -72,7 +74,8 @@ fn gap_and_fold(rt: HostRuntime) -> Result<(), Fail> {
 /// UTC offsets in seconds, each with a local second and its Unix second.
 static AT_OFFSETS: [(i32, i64, i64); 4] = [
     (0, 1_704_067_200, 1_704_067_200),
-    // The first local second at the largest offset east, and the last one at the largest offset west.
+    // In the next two rows: the first local second at the largest offset east, and the last one at the largest offset
+    // west.
     (93_599, 0, -93_599),
     (-93_599, 7_258_118_399, 7_258_211_998),
     (3_208, 3_208, 0),

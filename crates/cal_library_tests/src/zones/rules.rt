@@ -43,7 +43,7 @@ fn file_fault(alloc: Global, name: &str, bytes: &[u8]) -> Option<ZoneFault> {
     Rules::file(alloc, name, bytes).err()
 }
 
-/// The clock of the zone that the file describes is one hour ahead of UTC.
+/// Checks that the clock of the zone that the file describes is one hour ahead of UTC.
 #[test]
 fn reads_a_zone_file(rt: HostRuntime) -> Result<(), Fail> {
     let bytes = zone_file(rt.alloc())?;
@@ -63,7 +63,7 @@ fn expect_refused(alloc: Global, bytes: &[u8], rows: &[(&str, ZoneFault)]) -> Re
     Ok(())
 }
 
-/// The name is checked first, then the size, then the contents.
+/// Checks that the name is checked first, then the size, then the contents.
 #[test]
 fn refuses_zone_files(rt: HostRuntime) -> Result<(), Fail> {
     let bad_names = [("1x", ZoneFault::BadName), ("", ZoneFault::BadName)];
@@ -80,6 +80,6 @@ fn refuses_zone_files(rt: HostRuntime) -> Result<(), Fail> {
             ("Test/Fixed", ZoneFault::TooLarge),
         ],
     )?;
-    // The largest size that a zone file may have.
+    // This file has the largest size that a zone file may have, so only its contents are wrong.
     expect_refused(rt.alloc(), &too_large[1..], &bad_file)
 }
