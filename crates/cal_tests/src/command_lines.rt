@@ -29,7 +29,8 @@ fn push_answer(alloc: Global, shown: &mut String, line: &str) -> Result<(), Fail
     }
 }
 
-/// Appends the verb, the iterations, the options that were given, and the texts.
+/// Appends the verb, the iterations, the base time and the present if they were given, the local zone unless it is UTC,
+/// the zone files, and the texts.
 fn push_ask(alloc: Global, line: &mut String, ask: &Ask) -> Result<(), Fail> {
     line.push_str(match ask.request.verb {
         Verb::Calendar => "calendar",
@@ -209,7 +210,7 @@ fn arguments_that_are_no_command(rt: HostRuntime) -> Result<(), Fail> {
     Ok(())
 }
 
-/// No arguments at all, which is not the same as a single empty argument.
+/// Tests no arguments at all, which is not the same as a single empty argument.
 #[test]
 fn no_word(rt: HostRuntime) -> Result<(), Fail> {
     let is_usage = matches!(Ask::of(rt.alloc(), &[]), Err(CommandFault::Usage(_)));
@@ -303,7 +304,7 @@ fn is_narrow(text: &str) -> bool {
     text.lines().all(|row| row.len() <= 80)
 }
 
-/// Help texts and usage texts end with exactly one line feed and fit into 80 columns.
+/// Checks that help texts and usage texts end with exactly one line feed and fit into 80 columns.
 #[test]
 fn texts_fit_a_terminal(rt: HostRuntime) -> Result<(), Fail> {
     for line in HELP_OR_USAGE.lines() {

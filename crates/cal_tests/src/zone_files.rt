@@ -100,8 +100,9 @@ const CUTTING_LIMIT: usize = 9;
 /// A limit that lets a source return the whole zone file.
 const AMPLE_LIMIT: usize = 999;
 
-/// A name, the source's limit, what the source does after that, and the expected error. If there are several errors, an
-/// invalid name is reported first, then an error in reading, then invalid contents, and last a name that is taken.
+/// A name, the limit in bytes of the source, what the source does at its limit, and the expected error. If there are
+/// several errors, an invalid name is reported first, then an error in reading, then invalid contents, and last a name
+/// that is taken.
 static REFUSALS: [(&str, usize, Then, LoadFault); 8] = [
     ("1x", CUTTING_LIMIT, Then::Error, Zone(BadName)),
     ("1x", CUTTING_LIMIT, Then::Endless, Zone(BadName)),
@@ -118,7 +119,7 @@ static REFUSALS: [(&str, usize, Then, LoadFault); 8] = [
     ("Test/Fixed", AMPLE_LIMIT, Then::Error, Zone(NameTaken)),
 ];
 
-/// A file that can't be loaded leaves the table unchanged.
+/// Checks that a file that can't be loaded leaves the table unchanged.
 #[test]
 fn refusals_in_order(rt: HostRuntime) -> Result<(), Fail> {
     let bytes = zone_file(rt.alloc())?;
@@ -149,7 +150,8 @@ fn check_bytes(alloc: Global, bytes: &[u8], fault: ZoneFault) -> Result<(), Fail
     check(alloc, &[row])
 }
 
-/// The last two files have the largest size that a zone file may have, and one byte more.
+/// Tests three files that are not zone files. The last two have the largest size that a zone file may have, and one
+/// byte more.
 #[test]
 fn bytes_that_are_no_zone_file(rt: HostRuntime) -> Result<(), Fail> {
     check_bytes(rt.alloc(), b"hello", BadFile)?;

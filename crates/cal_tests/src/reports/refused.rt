@@ -1,5 +1,5 @@
-//! Reports for which `tests/refused` makes each allocation fail in turn. It checks that a test fails with `NoMemory` or
-//! `AllocError` if and only if an allocation has failed.
+//! Reports for which the script `tests/refused` makes each allocation fail in turn. The script checks that a test fails
+//! with `NoMemory` or `AllocError` if and only if an allocation has failed.
 
 use super::calendar::LEAP_DAYS;
 use super::timers::{CONTINUED_TIMER, EXCEPT_TIMER};
@@ -61,7 +61,8 @@ fn a_timer_with_an_exception(rt: HostRuntime) -> Result<(), Fail> {
     check_refused(rt.alloc(), &EXCEPT_ROW)
 }
 
-/// Reports on time spans and timestamps don't allocate: only allocations before the run can fail.
+/// Reports on time spans and timestamps, here and in the next test, don't allocate: only allocations before the run can
+/// fail.
 #[test]
 fn time_spans(rt: HostRuntime) -> Result<(), Fail> {
     check_refused(rt.alloc(), &SPAN_ROW)

@@ -1,4 +1,5 @@
-//! Reports on timer files.
+//! Reports on timer files, some of them with exceptions, which are expressions at whose elapses the timer doesn't
+//! elapse.
 
 use super::{CALENDAR, KnownZones, Local, Row, check, check_input, known_zones};
 use cal_faulty::{Faulty, Then};
@@ -44,7 +45,7 @@ Normalized form: *-*-* *:00:00
        From now: 1h left
 ";
 
-/// The report on `TIMER_FILE`, which has two expressions left after its reset.
+/// The report on `TIMER_FILE`, in which two expressions follow an empty `OnBootSec=`.
 pub(super) const CONTINUED_TIMER: Row<'static> = Row {
     about: "timer file",
     iterations: 2,
@@ -205,7 +206,8 @@ Normalized form: *-*-* *:00:00
 const TOMORROW: &str = "    Next elapse: Tue 2024-01-02 00:00:00 UTC\n       From now: 1d left\n";
 
 /// The number of lines `OnCalendar=daily`, the lines after them, the number of headings in the report, the text after
-/// the headings, and the error line. A file may have up to 256 expressions, and a reset starts the count again.
+/// the headings, and the error line. A file may have up to 256 expressions, and an empty `OnCalendar=` starts the count
+/// again.
 static MANY: [(usize, &str, usize, &str, &str); 3] = [
     (256, "", 256, TOMORROW, ""),
     (256, RESET, 0, HOURLY, ""),
@@ -234,7 +236,7 @@ fn as_many_expressions_as_there_may_be(rt: HostRuntime) -> Result<(), Fail> {
     Ok(())
 }
 
-/// How many bytes a source returns at most in each call and in total, and what it does after that.
+/// How many bytes a source returns at most in each call and in total, and what it does once it has returned the total.
 type Reader = (usize, usize, Then);
 
 /// Runs the row with its file read from this source, and expects the row's texts.
@@ -280,8 +282,7 @@ fn unread<'a>(row: &Row<'a>, err: &'a str) -> Row<'a> {
     }
 }
 
-/// If the source of a file fails, the file is reported as unreadable, even if the source has already returned all
-/// bytes.
+/// Checks that a file is reported as unreadable if its source fails, even if the source has already returned all bytes.
 #[test]
 fn failing_readers(rt: HostRuntime) -> Result<(), Fail> {
     for row in &READ {
@@ -294,7 +295,7 @@ fn failing_readers(rt: HostRuntime) -> Result<(), Fail> {
     Ok(())
 }
 
-/// An endless source is reported as a file that is too large.
+/// Checks that an endless source is reported as a file that is too large.
 #[test]
 fn endless_readers(rt: HostRuntime) -> Result<(), Fail> {
     for row in &READ {

@@ -66,8 +66,8 @@ fn expect_cut(row: &Row<'_>, cut: Cut<'_>, wanted: Cut<'_>) -> Result<(), Fail> 
     ensure(cut.2 == wanted.2, row.about)
 }
 
-/// Checks a run whose writer of reports fails after `front`, a prefix of the reports: the writer has exactly that
-/// prefix, and the run reports the failure unless nothing is missing.
+/// Checks a run whose writer of reports fails after `front`, a prefix of the reports. Expects the writer to have
+/// exactly this prefix, and the run to report the failure unless nothing is missing.
 fn check_cut_out(
     alloc: Global,
     row: &Row<'_>,
@@ -205,8 +205,9 @@ fn each_cut_is_resumed(rt: HostRuntime) -> Result<(), Fail> {
     expect_resumed(rt.alloc(), EXCEPT_TIMER.out, &EXCEPT_TIMER_RESUMED)
 }
 
-/// Checks a run whose writer of error lines fails after `front`, a prefix of the error lines: the writer has exactly
-/// that prefix, the run reports the failure unless nothing is missing, and the row's reports are written.
+/// Checks a run whose writer of error lines fails after `front`, a prefix of the error lines. Expects the writer to
+/// have exactly this prefix, the run to report the failure unless nothing is missing, and all reports of the row to be
+/// written.
 fn check_cut_err(
     alloc: Global,
     row: &Row<'_>,

@@ -106,7 +106,7 @@ Normalized form: *-*-* *:*:*
     ..CALENDAR
 };
 
-/// The last supported local second, in a zone ten hours behind UTC.
+/// A report from before the last supported local second, in a zone ten hours behind UTC.
 const BEFORE_THE_LAST_SECOND: Row<'static> = Row {
     about: "last second west",
     texts: &["*-*-* 23:59:59"],
@@ -150,7 +150,7 @@ Normalized form: *-*-* 00:00:00 Test/Fixed
        From now: 23h left
 ";
 
-/// An expression with an offset uses that offset, whatever the local zone is.
+/// An expression with an offset uses this offset, and not the local zone.
 const TWO_HOURS_EAST: &str = "  Original form: daily +02:00
 Normalized form: *-*-* 00:00:00 +02:00
     Next elapse: Mon 2024-01-01 22:00:00 UTC

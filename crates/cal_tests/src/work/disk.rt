@@ -1,5 +1,5 @@
-//! Files that fail or never end, and outputs that fail. The contracts know nothing about the file and the clock of the
-//! system that is used here.
+//! Files that fail or never end, and outputs that fail. The contracts know nothing about the file and the clock of
+//! [`Disk`], the system in these tests.
 
 use super::{check, perform};
 use cal_faulty::{Faulty, Then};

@@ -8,7 +8,7 @@ use cal_streams::Port;
 use cal_work::System;
 use std::test::Fail;
 
-/// A system with one file and a fixed time.
+/// A system with one file, and a clock that always returns `time`.
 #[derive(Clone, Copy)]
 struct Memory<'a> {
     path: &'a str,
@@ -59,7 +59,7 @@ Normalized form: *-*-* *:00:00
        From now: 1h left
 ";
 
-/// A zone file that is loaded with `--zones`, and a timer file.
+/// Tests reports with a zone file that is loaded with `--zones`, and with a timer file.
 #[test]
 fn reports(rt: HostRuntime) -> Result<(), Fail> {
     let bytes = zone_file(rt.alloc())?;
@@ -92,7 +92,7 @@ calendar|--zones=utc=f|daily -> calendar-analyze: --zones: utc: zone name taken
 calendar|--zones=A=g|daily -> calendar-analyze: --zones: A: cannot be read
 ";
 
-/// Texts, base times and files that are rejected, each with its error line.
+/// Files, expressions, base times and time spans that are rejected, each with its error line.
 const REFUSED_TEXTS: &str = "\
 timer|g -> g: cannot be read
 timer| -> : cannot be read
@@ -109,8 +109,8 @@ fn refusals(rt: HostRuntime) -> Result<(), Fail> {
     check_refused(rt.alloc(), &memory, REFUSED_TEXTS, 1)
 }
 
-/// Arguments, each with the line of the first error, which is the only one reported. The clock has no valid time, and
-/// `f` is neither a zone file nor a timer file.
+/// Arguments, each with the line of the first error, which is the only one reported. The clock has no valid time, `f`
+/// is neither a zone file nor a timer file, and there is no file `g`.
 const WITHOUT_CLOCK: &str = "\
 calendar|--now=5|--zones=A=f|daily -> calendar-analyze: bad now
 calendar|--zones=A=f|daily -> calendar-analyze: --zones: A: bad zone file
@@ -140,7 +140,7 @@ fn the_first_is_told(rt: HostRuntime) -> Result<(), Fail> {
     check_refused(rt.alloc(), &memory, WITH_CLOCK, 1)
 }
 
-/// Help goes to standard output, and usage errors go to standard error.
+/// Checks that help goes to standard output, and usage errors go to standard error.
 #[test]
 fn help_and_usage(rt: HostRuntime) -> Result<(), Fail> {
     let memory = with_file(b"");
