@@ -116,7 +116,7 @@ abbrev pub late_among : Option (List Part) → Bool
 late_among None = false
 late_among (Some ps) = has_late_part 28 ps
 
--- whether days are counted from the month's end, and one of them is too large for its place in the normal form
+-- whether days are counted from the month's end, and one of them is too large for its position in the normal form
 abbrev pub has_late_days : Fields → Bool
 has_late_days f = f.from_end && late_among f.day
 

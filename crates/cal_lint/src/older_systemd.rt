@@ -42,8 +42,8 @@ pub enum Rejection {
     OneSecond,
     /// The step of a range of seconds is greater than 2,147.
     SecondStep,
-    /// Days are counted from the month's end, and a number in the list of days is too large for its place in the normal
-    /// form: numbers in the first part may be up to 28, in the second up to 25, in the third up to 22 and so on.
+    /// Days are counted from the month's end, and a number in the list of days is too large for its position in the
+    /// normal form: numbers in the first part may be up to 28, in the second up to 25, in the third up to 22 and so on.
     DaysFromEnd,
     /// The zone is a UTC offset, such as `+02:00`.
     Offset,
@@ -309,7 +309,7 @@ fn step_in(part: &[u8]) -> &[u8]
 
 // Days
 
-/// Returns whether days are counted from the month's end, and one of them is too large for its place in the list.
+/// Returns whether days are counted from the month's end, and one of them is too large for its position in the list.
 fn has_late_days(expr: &Expr) -> bool
     ensures { result ≡ has_late_days expr.now }
 {
