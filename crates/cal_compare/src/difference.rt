@@ -58,8 +58,8 @@ pub fn first_difference(
     })
 }
 
-/// Returns the first number that `one` has yet to return and that isn't among those that `other` has yet to return.
-/// Returns `None` if there is no such number.
+/// Returns the first remaining number of `one` that isn't a remaining number of `other`. Returns `None` if there is no
+/// such number.
 ///
 /// Fails with `NoMemory` if allocation fails.
 pub fn first_only<S: Rising + Drop>(

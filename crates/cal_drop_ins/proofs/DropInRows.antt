@@ -1,5 +1,5 @@
--- Examples that check the definitions of drop-ins. The expected results were taken from systemd-analyze 252: if each
--- file of a unit has a line that it rejects, it names the files in the order in which it reads them.
+-- Examples that check the definitions of drop-ins. The expected results come from systemd-analyze 252, which names the
+-- files of a unit in the order in which it reads them if each file has an invalid line.
 use Rattle.std.proofs.Common.{◌≡◌, ℕ, List, [], ◌∷◌, ◌++◌, codes, filter, map, refl, Some, None}
 use Rattle.std.specs.List.{list_any}
 use Rattle.std.specs.Str.{bytes_eq}
@@ -61,8 +61,8 @@ rows =
       in_lib (codes "foo@i.timer.d") (codes "x.conf") ∷ in_etc (codes "foo@.timer.d") (codes "x.conf") ∷ [],
       ([], (codes "foo@i" ∷ [], codes "/etc/foo@.timer.d/x.conf" ∷ [])),
     )
-    -- In the next three rows, all folders are below one root. The unit's own folder wins over its template's, that wins
-    -- over a prefix's, and a longer prefix wins over a shorter one.
+    -- In the next three rows, all folders are below one root. The unit's own folder wins over its template's folder, a
+    -- template's folder wins over a prefix's folder, and a longer prefix wins over a shorter one.
     ∷ (
       in_etc (codes "a-b@i.timer.d") (codes "x.conf") ∷ in_etc (codes "a-b@.timer.d") (codes "x.conf") ∷ [],
       ([], (codes "a-b@i" ∷ [], codes "/etc/a-b@i.timer.d/x.conf" ∷ [])),

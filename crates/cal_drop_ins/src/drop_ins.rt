@@ -95,7 +95,7 @@ fn enter(by_name: &mut BTreeMap<String, String>, file: DropIn) -> Result<(), All
     Ok(())
 }
 
-/// Returns the paths in a map, sorted by the names under which they are.
+/// Returns the paths in a map from names to paths, sorted by name.
 fn paths_of(alloc: Global, entered: BTreeMap<String, String>) -> Result<Vec<String>, AllocError>
     ensures { IfOk result (λ paths. paths.items ≡ map (λ entry. entry.1) entered.entries) }
 {

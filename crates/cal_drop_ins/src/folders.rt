@@ -137,8 +137,8 @@ fn push_prefixes<'n>(stems: &mut Vec<&'n str>, base: &'n str) -> Result<(), Allo
     Ok(())
 }
 
-/// Appends the prefix of `base` that ends with the byte at `index`, if that is a dash and neither the first byte nor
-/// the last.
+/// Appends the prefix of `base` that ends with the byte at `index`, if this byte is a dash, and neither the first byte
+/// of `base` nor the last one.
 fn push_prefix<'n>(stems: &mut Vec<&'n str>, base: &'n str, index: usize) -> Result<(), AllocError>
     requires { index < length base.now }
     ensures { OnOk result (map (λ stem. stem.now) stems.new.items ≡ map (λ stem. stem.now) stems.old.items

@@ -38,8 +38,8 @@ is_weekday_list word = is_some (day_named (leading_letters word))
 abbrev pub is_date : List ℕ → Bool
 is_date word = not (begins_zone word) && not (list_any is_colon word)
 
--- whether one of the pieces after a word is an additional space that systemd 252 doesn't skip; `skips` says whether it
--- skips additional spaces after this word
+-- whether one of the pieces after a word is an additional space that systemd 252 doesn't skip; `skips` says whether
+-- systemd 252 skips additional spaces after this word
 abbrev pub has_extra_after : Bool → List (List ℕ) → Bool
 has_extra_after skips [] = false
 has_extra_after skips ([] ∷ pieces) = not skips || has_extra_after skips pieces
@@ -164,10 +164,11 @@ is_rejected_for text f rejection = list_any (word_is_rejected_for rejection) (wo
 abbrev pub rejections : List Rejection
 rejections = Tab ∷ Blanks ∷ PastSunday ∷ OneSecond ∷ SecondStep ∷ DaysFromEnd ∷ Offset ∷ ZoneName ∷ []
 
--- the first reason for which systemd 252 rejects an expression, or None if it accepts it
+-- the first reason for which systemd 252 rejects an expression, or None if systemd 252 accepts the expression
 abbrev pub first_rejection : List ℕ → Fields → Option Rejection
 first_rejection text f = find (is_rejected_for text f) rejections
 
--- the first reason for which systemd 252 rejects an expression, or the error of an invalid one
+-- the first reason for which systemd 252 rejects an expression, None if systemd 252 accepts it, or the error of an
+-- invalid expression
 unfoldable pub rejection_in : List ℕ → Result (Option Rejection) SpecFault
 rejection_in text = expr_in text >>= λ f. Ok (first_rejection text f)

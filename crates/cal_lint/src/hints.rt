@@ -133,7 +133,8 @@ fn mistake_in(text: &str) -> Option<Mistake>
 }
 
 /// Returns a hint with this mistake. For a setting, the hint says to write only its value, and for a comment, only the
-/// text before it, both without the mistakes in their words. For any other mistake, it doesn't say what to write.
+/// text before it; mistakes in single words of that text are replaced. For any other mistake, the hint doesn't say what
+/// to write.
 fn hint_with(alloc: Global, mistake: Mistake, text: &str) -> Result<Option<Hint>, AllocError>
     ensures { IfOk result (λ found. option_map (λ hint. hint.mistake) found ≡ Some mistake) }
 {

@@ -158,8 +158,8 @@ fn add_invalid(
     Ok(())
 }
 
-/// Appends why systemd 252 rejects `setting`'s value, and why the value may not mean what its author thinks, if it is a
-/// valid expression.
+/// If the setting's value is a valid expression, appends why systemd 252 rejects it, and why it may not mean what its
+/// author thinks.
 fn add_advice(
     alloc: Global,
     found: &mut Vec<Finding>,
@@ -217,8 +217,8 @@ fn plain_finding(line: u32, column: u32, problem: Problem) -> Finding
     }
 }
 
-/// Returns why systemd 252 rejects a valid expression. Returns `None` if it doesn't, or if `value` is not a valid
-/// expression. Fails only if allocation fails.
+/// Returns why systemd 252 rejects a valid expression. Returns `None` if systemd 252 accepts the expression, or if
+/// `value` is not a valid expression. Fails only if allocation fails.
 fn rejection_of(alloc: Global, value: &str) -> Result<Option<Rejection>, AllocError>
     ensures { IfOk result (λ found. found ≡ if_valid (rejection_in value.now)) }
 {
@@ -229,8 +229,8 @@ fn rejection_of(alloc: Global, value: &str) -> Result<Option<Rejection>, AllocEr
     }
 }
 
-/// Returns why a valid expression may not mean what its author thinks. Returns `None` if it has none of the forms of
-/// [`Doubt`], or if `value` is not a valid expression. Fails only if allocation fails.
+/// Returns why a valid expression may not mean what its author thinks. Returns `None` if the expression has none of the
+/// forms of [`Doubt`], or if `value` is not a valid expression. Fails only if allocation fails.
 fn doubt_of(alloc: Global, value: &str) -> Result<Option<Doubt>, AllocError>
     ensures { IfOk result (λ found. found ≡ if_valid (doubt_in value.now)) }
 {

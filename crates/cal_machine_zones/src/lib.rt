@@ -1,4 +1,4 @@
-//! The clock of a machine: its local zone, and the zone files of the zones that expressions name.
+//! The zones of a machine: its local zone, and the zones that expressions name, which are loaded from zone files.
 #![tactic(auto)]
 
 mod clock;
