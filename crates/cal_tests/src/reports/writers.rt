@@ -13,7 +13,7 @@ use cal_streams::Port;
 use std::alloc::{AllocError, Global};
 use std::test::Fail;
 
-/// A valid expression and an invalid one: a report and an error line.
+/// A request with a valid expression and an invalid one, for which a report and an error line are written.
 const ONE_REFUSED: Row<'static> = Row {
     about: "noon thirty and a refused text",
     texts: &["*-*-* 12:30:00", "x"],
