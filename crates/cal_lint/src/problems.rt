@@ -19,7 +19,8 @@ use crate::unknown_keys::is_unknown_key;
 use cal_read::{
     Assignment, FileFault, Setting, Settings, TimerFault, UnitText, find_faults, without_mark,
 };
-use cal_spec::{SpecFault, fault_span};
+use cal_spec::{Expr, SpecFault, fault_span, read_expr, write_expr};
+use cal_streams::Port;
 use std::alloc::{AllocError, Global};
 
 /// How serious a problem is.
@@ -173,38 +174,69 @@ fn add_advice(
     let column = value_column(line, value, 0);
     let rejected = rejection_of(alloc, value)?;
     let doubt = doubt_of(alloc, value)?;
-    push_problem(
-        found,
-        setting.number,
-        column,
-        rejected.map(|rejection| Problem::Rejected(rejection)),
-    )?;
-    push_problem(
-        found,
-        setting.number,
-        column,
-        doubt.map(|doubt| Problem::Doubtful(doubt)),
-    )
+    push_rejection(alloc, found, setting.number, column, rejected, value)?;
+    push_doubt(found, setting.number, column, doubt)
 }
 
-/// Appends a finding for `problem`, if it isn't `None`. The finding has no suggestion.
-fn push_problem(
+/// Appends why systemd 252 rejects an expression, with its normal form if systemd 252 accepts that.
+fn push_rejection(
+    alloc: Global,
     found: &mut Vec<Finding>,
     line: u32,
     column: u32,
-    problem: Option<Problem>,
+    rejected: Option<Rejection>,
+    value: &str,
 ) -> Result<(), AllocError>
     ensures { OnOk result (map shown_finding found.new.items
-        ≡ map shown_finding found.old.items ++ map (report_at line) (option_to_list problem)) }
+        ≡ map shown_finding found.old.items ++ map (report_at line) (option_to_list (option_map Rejected rejected))) }
 {
-    if let Some(problem) = problem {
-        found.push(plain_finding(line, column, problem))?;
+    if let Some(rejection) = rejected {
+        let suggestion = accepted_form(alloc, value)?;
+        let problem = Problem::Rejected(rejection);
+        found.push(finding_with(line, column, problem, suggestion))?;
     }
     Ok(())
 }
 
-/// Returns a finding with neither a mistake nor a suggestion.
-fn plain_finding(line: u32, column: u32, problem: Problem) -> Finding
+/// Appends why a valid expression may not be meant.
+fn push_doubt(
+    found: &mut Vec<Finding>,
+    line: u32,
+    column: u32,
+    doubt: Option<Doubt>,
+) -> Result<(), AllocError>
+    ensures { OnOk result (map shown_finding found.new.items
+        ≡ map shown_finding found.old.items ++ map (report_at line) (option_to_list (option_map Doubtful doubt))) }
+{
+    if let Some(doubt) = doubt {
+        found.push(plain_finding(line, column, Problem::Doubtful(doubt)))?;
+    }
+    Ok(())
+}
+
+/// Returns the normal form of a valid expression if systemd 252 accepts the normal form.
+fn accepted_form(alloc: Global, value: &str) -> Result<Option<String>, AllocError> {
+    let normal = match read_expr(alloc, value) {
+        Ok(expr) => normal_form(alloc, &expr)?,
+        Err(SpecFault::NoMemory) => return Err(AllocError),
+        Err(_) => return Ok(None),
+    };
+    match rejection_of(alloc, normal.as_str())? {
+        Some(_) => Ok(None),
+        None => Ok(Some(normal)),
+    }
+}
+
+fn normal_form(alloc: Global, expr: &Expr) -> Result<String, AllocError> {
+    let mut out = Port::new(Vec::new(alloc));
+    if write_expr(&mut out, expr).is_err() {
+        return Err(AllocError);
+    }
+    String::from_utf8_lossy(alloc, out.into_inner().as_slice())
+}
+
+/// Returns a finding without a mistake.
+fn finding_with(line: u32, column: u32, problem: Problem, suggestion: Option<String>) -> Finding
     ensures { shown_finding result ≡ report_at line problem }
 {
     Finding {
@@ -213,8 +245,15 @@ fn plain_finding(line: u32, column: u32, problem: Problem) -> Finding
         kind: problem.kind(),
         problem,
         mistake: None,
-        suggestion: None,
+        suggestion,
     }
+}
+
+/// Returns a finding with neither a mistake nor a suggestion.
+fn plain_finding(line: u32, column: u32, problem: Problem) -> Finding
+    ensures { shown_finding result ≡ report_at line problem }
+{
+    finding_with(line, column, problem, None)
 }
 
 /// Returns why systemd 252 rejects a valid expression. Returns `None` if systemd 252 accepts the expression, or if
