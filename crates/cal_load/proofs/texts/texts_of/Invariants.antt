@@ -1,0 +1,12 @@
+use Rattle.std.proofs.Common.{◌≡◌, ◌+◌, ◌<◌, ◌^◌, ◌++◌, All, drop, length, map}
+use Rattle.cal_read.specs.TimerTexts as joined
+use Rattle.cal_units.specs.Files.{shown_text}
+use Rattle.cal_load.specs.Loaded.{assignments_from, assignments_of, bytes_in}
+use Rattle.cal_load.proofs.texts.texts_of.Given as goal
+
+-- the assignments of the texts so far, and then those of the remaining files, are all assignments
+abbrev pub invariant-loop-file : goal.invariant-loop-file
+invariant-loop-file l =
+    All (λ text. text.first + length text.text.now < 2 ^ 32) l.texts.items
+    × (joined.assignments_of l.texts.items ++ assignments_from l.first (bytes_in (map shown_text (drop l.file-index l.files)))
+    ≡ assignments_of (map shown_text l.files))

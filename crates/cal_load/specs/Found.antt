@@ -1,0 +1,29 @@
+-- What was found for a target.
+use Rattle.std.specs.Prelude.{◌≡◌, ℕ, List, [], ◌∷◌, Result, Ok, Err}
+use Rattle.cal_units.specs.Machine.{Machine}
+use Rattle.cal_units.specs.Units.{unit_in}
+use Rattle.cal_units.specs.Units.Unit.{MaskedBy}
+use Rattle.cal_load.specs.Loaded.{IsFileOn, IsTimerOn, IsUnitOn}
+use Rattle.cal_load.specs.declared.fault.LoadFault.{LoadFault}
+use Rattle.cal_load.specs.declared.loaded.Found as founds
+use Rattle.cal_load.specs.declared.loaded.LoadedTimer.{LoadedTimer}
+
+abbrev pub timers_in : Result founds.Found LoadFault → List LoadedTimer
+timers_in (Ok (founds.TheVariants.Timer timer)) = timer ∷ []
+timers_in (Ok founds.TheVariants.Masked) = []
+timers_in (Err fault) = []
+
+-- what was found is the unit with this stem, or this unit is masked
+abbrev pub IsUnitFound : Machine → List (List ℕ) → List ℕ → founds.Found → Type 0
+IsUnitFound machine path stem (founds.TheVariants.Timer timer) = IsUnitOn machine path stem timer
+IsUnitFound machine path stem founds.TheVariants.Masked = (file : List ℕ) × (unit_in machine path stem ≡ MaskedBy file)
+
+-- if a timer was found, it is a unit of the machine, or a file of the machine by itself
+abbrev pub IsFound : Machine → List (List ℕ) → founds.Found → Type 0
+IsFound machine path (founds.TheVariants.Timer timer) = IsTimerOn machine path timer
+IsFound machine path founds.TheVariants.Masked = Unit {0}
+
+-- if a timer was found, it is a file of the machine
+abbrev pub IsFileFound : Machine → founds.Found → Type 0
+IsFileFound machine (founds.TheVariants.Timer timer) = IsFileOn machine timer
+IsFileFound machine founds.TheVariants.Masked = Unit {0}

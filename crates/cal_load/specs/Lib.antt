@@ -1,0 +1,4 @@
+pub mod Expressions
+pub mod Found
+pub mod Loaded
+pub mod Place

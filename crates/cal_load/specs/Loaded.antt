@@ -1,0 +1,107 @@
+-- Timers that are loaded from the files of a machine: systemd.unit(5), Description, and systemd.timer(5), OnCalendar=.
+use Rattle.std.specs.Prelude.{◌≡◌, ◌⊎◌, ◌+◌, ◌||◌, ℕ, false, List, [], ◌∷◌, ◌++◌, Some, Ok, Err, codes, is_some, length, map, string_bytes}
+use Rattle.std.specs.List.{flat_map, list_any}
+use Rattle.std.specs.Option.{option_to_list}
+use Rattle.std.specs.Str.{bytes_eq}
+use Rattle.std.specs.Str.Lines.{lines}
+use Rattle.cal_civil.specs.headline.ZoneName.{is_utc_name}
+use Rattle.cal_drop_ins.specs.DropIns.{drop_ins}
+use Rattle.cal_lines.specs.headline.Lines.{logical_lines}
+use Rattle.cal_machine_zones.specs.ZoneFiles.{HasZonesOf}
+use Rattle.cal_spec.specs.Expr.{expr_in}
+use Rattle.cal_spec.specs.ZoneSuffix.{name_in}
+use Rattle.cal_spec.specs.headline.Fields.{Fields}
+use Rattle.cal_timer.specs.headline.Assignments.{Assignment, assignments_in}
+use Rattle.cal_timer.specs.headline.TimerText.{without_mark}
+use Rattle.cal_timer.specs.TimerText.{TimerLine, lists_of}
+use Rattle.cal_timer.specs.TimerView.{shown}
+use Rattle.cal_timer.specs.declared.fault.TimerFault.TheVariants.{NothingToDo}
+use Rattle.cal_units.specs.Files.{UnitText, file_at, files_at, shown_text}
+use Rattle.cal_units.specs.Machine.{Machine, disk_of}
+use Rattle.cal_units.specs.declared.files.UnitText as texts
+use Rattle.cal_units.specs.Units.{Unit, unit_in}
+use Rattle.cal_units.specs.Units.Unit.{Unfound, TemplateOnly, MaskedBy, FoundAt, Endless}
+use Rattle.cal_zone.specs.headline.ZoneMap.{ZoneMap}
+use Rattle.cal_zone.specs.headline.ZoneTable.{zone_named}
+use Rattle.cal_load.specs.declared.calendar.Calendar as calendars
+use Rattle.cal_load.specs.declared.loaded.LoadedTimer.{LoadedTimer}
+
+-- the file is one of the machine
+abbrev pub IsStoredOn : Machine → texts.UnitText → Type 0
+IsStoredOn machine file = machine.file (string_bytes file.path) ≡ Some file.bytes.items
+
+-- the paths of a unit's files: its own file, and then its drop-ins, in the order in which they are read
+abbrev pub paths_of : Machine → List (List ℕ) → Unit → List (List ℕ)
+paths_of machine path Unfound = []
+paths_of machine path TemplateOnly = []
+paths_of machine path (MaskedBy file) = []
+paths_of machine path (FoundAt file stems) = file ∷ drop_ins (disk_of machine) path stems
+paths_of machine path Endless = []
+
+-- the files of the unit with this stem
+abbrev pub unit_files : Machine → List (List ℕ) → List ℕ → List UnitText
+unit_files machine path stem = files_at machine (paths_of machine path (unit_in machine path stem))
+
+-- The assignments in the sections `Timer` of files. The first line of the first file has the number `first`, and the
+-- numbers continue from file to file.
+unfoldable pub assignments_from : ℕ → List (List ℕ) → List Assignment
+assignments_from first [] = []
+assignments_from first (text ∷ texts) =
+    assignments_in false (logical_lines first (without_mark text)) ++ assignments_from (first + length (lines text)) texts
+
+abbrev pub bytes_in : List UnitText → List (List ℕ)
+bytes_in files = map (λ file. file.bytes) files
+
+abbrev pub assignments_of : List UnitText → List Assignment
+assignments_of files = assignments_from 1 (bytes_in files)
+
+-- the calendar has the expressions and exceptions of these assignments, or nothing if there are no expressions
+abbrev pub IsCalendarBy : List Assignment → calendars.Calendar → Type 0
+IsCalendarBy assignments calendars.TheVariants.Nothing = lists_of expr_in assignments ≡ Err NothingToDo
+IsCalendarBy assignments (calendars.TheVariants.Timer timer) = lists_of expr_in assignments ≡ Ok timer
+IsCalendarBy assignments (calendars.TheVariants.Expressions list) = ⊥
+
+abbrev pub IsCalendarOf : List UnitText → calendars.Calendar → Type 0
+IsCalendarOf files calendar = IsCalendarBy (assignments_of files) calendar
+
+abbrev pub expressions_in : calendars.Calendar → List (TimerLine Fields)
+expressions_in calendars.TheVariants.Nothing = []
+expressions_in (calendars.TheVariants.Timer timer) = timer.expressions
+expressions_in (calendars.TheVariants.Expressions list) = map shown list.items
+
+abbrev pub exceptions_in : calendars.Calendar → List (TimerLine Fields)
+exceptions_in calendars.TheVariants.Nothing = []
+exceptions_in (calendars.TheVariants.Timer timer) = timer.exceptions
+exceptions_in (calendars.TheVariants.Expressions list) = []
+
+-- the names of the zones that these expressions name
+abbrev pub zones_in : List (TimerLine Fields) → List (List ℕ)
+zones_in entries = flat_map (λ entry. option_to_list (name_in entry.expr.zone)) entries
+
+-- the table has exactly the zones with these names, and UTC
+abbrev pub HasNames : ZoneMap → List (List ℕ) → Type 0
+HasNames table names = (name : List ℕ) → is_some (zone_named table name) ≡ (is_utc_name name || list_any (bytes_eq name) names)
+
+-- the zones of a machine that a calendar names
+abbrev pub HasZones : Machine → calendars.Calendar → ZoneMap → Type 0
+HasZones machine calendar table =
+    HasNames table (zones_in (expressions_in calendar) ++ zones_in (exceptions_in calendar)) × HasZonesOf machine table
+
+-- the timer was read from these files of a machine
+pub record IsReadFrom (machine : Machine) (files : List UnitText) (timer : LoadedTimer) : Type 0 where
+  pub has_files : map shown_text timer.files.items ≡ files
+  pub has_calendar : IsCalendarOf files timer.calendar
+  pub has_zones : HasZones machine timer.calendar timer.zones
+
+-- the timer is the unit with this stem, with its drop-ins
+abbrev pub IsUnitOn : Machine → List (List ℕ) → List ℕ → LoadedTimer → Type 0
+IsUnitOn machine path stem timer =
+    (string_bytes timer.name ≡ stem ++ codes ".timer") × IsReadFrom machine (unit_files machine path stem) timer
+
+-- the timer is the file with this path by itself
+abbrev pub IsFileOn : Machine → LoadedTimer → Type 0
+IsFileOn machine timer = IsReadFrom machine (file_at machine (string_bytes timer.name)) timer
+
+-- the timer is a unit of the machine, or a file
+abbrev pub IsTimerOn : Machine → List (List ℕ) → LoadedTimer → Type 0
+IsTimerOn machine path timer = ((stem : List ℕ) × IsUnitOn machine path stem timer) ⊎ IsFileOn machine timer

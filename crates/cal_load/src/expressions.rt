@@ -1,0 +1,132 @@
+//! Timers that are made of expressions alone.
+
+ghost use Rattle.std.specs.Prelude.{◌≡◌, ◌∷◌, ◌++◌, [], ℕ, List, All, IfOk, OnOk, map};
+ghost use Rattle.cal_timer.specs.TimerView.{shown};
+ghost use Rattle.cal_units.specs.Machine.{Machine};
+ghost use Rattle.cal_load.specs.Expressions.{AreOf, IsMadeOf, IsTimerOf};
+
+use crate::calendar::Calendar;
+use crate::fault::LoadFault;
+use crate::loaded::{Loaded, LoadedTimer, push_fault};
+use crate::target_fault::TargetReason;
+use crate::zones::{first_with_zone, zones_of};
+use cal_machine_zones::{FileReason, ZonesFault};
+use cal_spec::{SpecFault, read_expr};
+use cal_timer::TimerLine;
+use cal_units::Tree;
+use cal_zone::ZoneTable;
+use std::alloc::{AllocError, Global};
+
+/// Returns the timer that has these calendar expressions and no exceptions, or the error of the first expression that
+/// is invalid or names a zone that can't be loaded (systemd.time(7), Calendar Events). Fails only if allocation fails.
+pub fn load_expressions<T: Tree>(
+    alloc: Global,
+    tree: &T,
+    expressions: &[&str],
+) -> Result<Loaded, AllocError>
+    ensures { IfOk result (λ loaded. (machine : Machine) → T.shows tree.now machine
+        → All (IsMadeOf machine (map (λ text. text.now) expressions.now)) loaded.timers.items) }
+{
+    let mut lines = Vec::new(alloc);
+    for expression in expressions {
+        if let Err(fault) = push_line(alloc, &mut lines, expression) {
+            return only_fault(alloc, expression, fault);
+        }
+    }
+    with_zones(alloc, tree, expressions, lines)
+}
+
+/// Returns that nothing was loaded because of this error.
+fn only_fault(alloc: Global, target: &str, fault: LoadFault) -> Result<Loaded, AllocError>
+    ensures { IfOk result (λ loaded. loaded.timers.items ≡ []) }
+{
+    let mut loaded = Loaded::new(alloc);
+    push_fault(alloc, &mut loaded.faults, target, fault)?;
+    Ok(loaded)
+}
+
+/// Appends an expression. Its number is the number of expressions with it.
+fn push_line(alloc: Global, lines: &mut Vec<TimerLine>, expression: &str) -> Result<(), LoadFault>
+    ensures { OnOk result ((texts : List (List ℕ)) → AreOf texts (map shown lines.old.items)
+        → AreOf (texts ++ expression.now ∷ []) (map shown lines.new.items)) }
+{
+    let expr = match read_expr(alloc, expression) {
+        Ok(expr) => expr,
+        Err(SpecFault::NoMemory) => return Err(LoadFault::NoMemory),
+        Err(fault) => return Err(LoadFault::Target(TargetReason::Expression(fault))),
+    };
+    let text = String::from_str(alloc, expression)?;
+    let number = u32::try_from(lines.len())
+        .unwrap_or(u32::MAX)
+        .saturating_add(1);
+    lines.push(TimerLine { number, text, expr })?;
+    Ok(())
+}
+
+/// Loads the zones that the lines name, and returns the timer with these lines, whose texts are the expressions.
+fn with_zones<T: Tree>(
+    alloc: Global,
+    tree: &T,
+    expressions: &[&str],
+    lines: Vec<TimerLine>,
+) -> Result<Loaded, AllocError>
+    requires { AreOf (map (λ text. text.now) expressions.now) (map shown lines.items) }
+    ensures { IfOk result (λ loaded. (machine : Machine) → T.shows tree.now machine
+        → All (IsMadeOf machine (map (λ text. text.now) expressions.now)) loaded.timers.items) }
+{
+    match zones_of(alloc, tree, lines.as_slice(), &[]) {
+        Ok(zones) => only_timer(alloc, joined(alloc, expressions)?, lines, zones),
+        Err(ZonesFault::At(zone, reason)) => only_zone_fault(alloc, lines, zone, reason),
+        // The other errors are those of the local zone, which isn't asked for here.
+        Err(_) => Err(AllocError),
+    }
+}
+
+fn only_timer(
+    alloc: Global,
+    name: String,
+    lines: Vec<TimerLine>,
+    zones: ZoneTable,
+) -> Result<Loaded, AllocError>
+    ensures { IfOk result (λ loaded. All (IsTimerOf (map shown lines.items) zones) loaded.timers.items) }
+{
+    let mut loaded = Loaded::new(alloc);
+    loaded.timers.push(LoadedTimer {
+        name,
+        files: Vec::new(alloc),
+        first_lines: Vec::new(alloc),
+        calendar: Calendar::Expressions(lines),
+        zones,
+        notes: Vec::new(alloc),
+    })?;
+    Ok(loaded)
+}
+
+/// Returns the error for the first line with the zone whose file is at the path `zone`.
+fn only_zone_fault(
+    alloc: Global,
+    lines: Vec<TimerLine>,
+    zone: String,
+    reason: FileReason,
+) -> Result<Loaded, AllocError>
+    ensures { IfOk result (λ loaded. loaded.timers.items ≡ []) }
+{
+    let target = match first_with_zone(lines.as_slice(), zone.as_str()) {
+        Some(line) => String::from_str(alloc, line.text.as_str())?,
+        None => String::new(alloc),
+    };
+    let fault = LoadFault::Target(TargetReason::ExpressionZone(zone, reason));
+    only_fault(alloc, target.as_str(), fault)
+}
+
+/// Returns the expressions, separated by commas.
+fn joined(alloc: Global, expressions: &[&str]) -> Result<String, AllocError> {
+    let mut name = String::new(alloc);
+    for expression in expressions {
+        if !name.is_empty() {
+            name.push_str(", ")?;
+        }
+        name.push_str(expression)?;
+    }
+    Ok(name)
+}

@@ -1,0 +1,62 @@
+//! The errors of one target.
+
+use crate::target_fault::TargetReason;
+use cal_units::{Reason, TreeFault, UnitFault};
+use std::alloc::{AllocError, AllocFailed, Global};
+
+/// Why a target can't be loaded.
+#[derive(Debug, Drop)]
+pub(crate) enum LoadFault {
+    /// The target is at fault. Others can still be loaded.
+    Target(TargetReason),
+    /// Out of memory.
+    NoMemory,
+}
+
+impl From<AllocError> for LoadFault {
+    fn from(_refused: AllocError) -> LoadFault {
+        LoadFault::NoMemory
+    }
+}
+
+impl<T: Drop> From<AllocFailed<T>> for LoadFault {
+    fn from(_refused: AllocFailed<T>) -> LoadFault {
+        LoadFault::NoMemory
+    }
+}
+
+impl From<UnitFault> for LoadFault {
+    fn from(fault: UnitFault) -> LoadFault {
+        match fault {
+            UnitFault::At(path, reason) => LoadFault::Target(TargetReason::Path(path, reason)),
+            UnitFault::NoMemory => LoadFault::NoMemory,
+        }
+    }
+}
+
+impl LoadFault {
+    /// Returns the error for a path.
+    pub(crate) fn at(alloc: Global, path: &str, reason: Reason) -> LoadFault {
+        match String::from_str(alloc, path) {
+            Ok(path) => LoadFault::Target(TargetReason::Path(path, reason)),
+            Err(_) => LoadFault::NoMemory,
+        }
+    }
+
+    /// Returns the error for a file that is not UTF-8.
+    pub(crate) fn not_utf8(alloc: Global, path: &str) -> LoadFault {
+        match String::from_str(alloc, path) {
+            Ok(path) => LoadFault::Target(TargetReason::NotUtf8(path)),
+            Err(_) => LoadFault::NoMemory,
+        }
+    }
+
+    /// Returns the error for a path, if a call of a `Tree` about it failed with `fault`.
+    pub(crate) fn of_tree(alloc: Global, path: &str, fault: TreeFault) -> LoadFault {
+        match fault {
+            TreeFault::ReadFailed => LoadFault::at(alloc, path, Reason::ReadFailed),
+            TreeFault::NotUtf8 => LoadFault::at(alloc, path, Reason::NotUtf8),
+            TreeFault::NoMemory => LoadFault::NoMemory,
+        }
+    }
+}

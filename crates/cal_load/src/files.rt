@@ -1,0 +1,255 @@
+//! The files that a user names.
+
+ghost use Rattle.std.specs.Prelude.{◌≡◌, ◌++◌, [], All, IfOk, OnOk};
+ghost use Rattle.cal_units.specs.Machine.{Machine};
+ghost use Rattle.cal_load.specs.Loaded.{IsStoredOn};
+
+use crate::fault::LoadFault;
+use crate::loaded::push_fault;
+use crate::names::{Wanted, files_in, names_in_path};
+use crate::paths::{Kind, is_path, kind_at, path_in, without_slashes};
+use crate::target_fault::{TargetFault, TargetReason};
+use crate::unit::drop_ins_of;
+use cal_drop_ins::unit_stem;
+use cal_units::{Tree, Unit, UnitFile, UnitText, find_unit, read_files};
+use std::alloc::{AllocError, Global};
+use std::collections::BTreeSet;
+
+/// Files that were read.
+#[derive(Debug, Drop)]
+pub struct LoadedFiles {
+    /// The files in the order in which they were named, each once. Their bytes may not be UTF-8.
+    pub files: Vec<UnitText>,
+    /// Why the others couldn't be read.
+    pub faults: Vec<TargetFault>,
+}
+
+/// Reads the files that the targets stand for, in their order, each once. Without a target, these are the files of all
+/// timers in the folders of the search path.
+///
+/// Targets are as for [`crate::load_timers`]: a timer stands for its file and its drop-ins, a folder for all its files
+/// with the suffix `.timer` or `.conf`, and any other file for itself. Masked units have no files. What can't be read
+/// is in [`LoadedFiles::faults`], and all the others are still read. Fails only if allocation fails.
+pub fn load_files<T: Tree>(
+    alloc: Global,
+    tree: &T,
+    path: &[String],
+    targets: &[&str],
+) -> Result<LoadedFiles, AllocError>
+    ensures { IfOk result (λ loaded. (machine : Machine) → T.shows tree.now machine
+        → All (IsStoredOn machine) loaded.files.items) }
+{
+    if targets.is_empty() {
+        return all_files(alloc, tree, path);
+    }
+    let mut reading = Reading::new(alloc);
+    for target in targets {
+        reading.take_target(alloc, tree, path, target)?;
+    }
+    Ok(reading.loaded)
+}
+
+/// Reads the files of all timers in the folders of the search path.
+fn all_files<T: Tree>(alloc: Global, tree: &T, path: &[String]) -> Result<LoadedFiles, AllocError>
+    ensures { IfOk result (λ loaded. (machine : Machine) → T.shows tree.now machine
+        → All (IsStoredOn machine) loaded.files.items) }
+{
+    let mut reading = Reading::new(alloc);
+    reading.take_all(alloc, tree, path)?;
+    Ok(reading.loaded)
+}
+
+/// The files so far, and all paths at which files were read or couldn't be read.
+#[derive(Drop)]
+struct Reading {
+    seen: BTreeSet<String>,
+    loaded: LoadedFiles,
+}
+
+impl Reading {
+    fn new(alloc: Global) -> Reading
+        ensures { result.loaded.files.items ≡ [] }
+    {
+        Reading {
+            seen: BTreeSet::new(alloc),
+            loaded: LoadedFiles {
+                files: Vec::new(alloc),
+                faults: Vec::new(alloc),
+            },
+        }
+    }
+
+    /// Reads the files of all timers in the folders of the search path. What is listed there, but isn't a unit, has
+    /// none.
+    fn take_all<T: Tree>(
+        &mut self,
+        alloc: Global,
+        tree: &T,
+        path: &[String],
+    ) -> Result<(), AllocError>
+        ensures { OnOk result ((machine : Machine) → T.shows tree.now machine
+            → All (IsStoredOn machine) self.old.loaded.files.items → All (IsStoredOn machine) self.new.loaded.files.items) }
+    {
+        let names = names_in_path(alloc, tree, path, &mut self.loaded.faults)?;
+        for name in names {
+            self.take_listed(alloc, tree, path, name.as_str())?;
+        }
+        Ok(())
+    }
+
+    fn take_listed<T: Tree>(
+        &mut self,
+        alloc: Global,
+        tree: &T,
+        path: &[String],
+        name: &str,
+    ) -> Result<(), AllocError>
+        ensures { OnOk result ((machine : Machine) → T.shows tree.now machine
+            → All (IsStoredOn machine) self.old.loaded.files.items → All (IsStoredOn machine) self.new.loaded.files.items) }
+    {
+        match find_named(alloc, tree, path, name) {
+            Err(LoadFault::Target(TargetReason::NotFound)) => Ok(()),
+            found => self.take_unit(alloc, tree, path, name, found),
+        }
+    }
+
+    fn take_target<T: Tree>(
+        &mut self,
+        alloc: Global,
+        tree: &T,
+        path: &[String],
+        target: &str,
+    ) -> Result<(), AllocError>
+        ensures { OnOk result ((machine : Machine) → T.shows tree.now machine
+            → All (IsStoredOn machine) self.old.loaded.files.items → All (IsStoredOn machine) self.new.loaded.files.items) }
+    {
+        if is_path(target) {
+            let target = without_slashes(target);
+            return self.take_paths(alloc, tree, target, paths_at(alloc, tree, target));
+        }
+        self.take_unit(
+            alloc,
+            tree,
+            path,
+            target,
+            find_named(alloc, tree, path, target),
+        )
+    }
+
+    /// Reads the file of a unit and its drop-ins. A masked unit has no files.
+    fn take_unit<T: Tree>(
+        &mut self,
+        alloc: Global,
+        tree: &T,
+        path: &[String],
+        target: &str,
+        found: Result<Option<UnitFile>, LoadFault>,
+    ) -> Result<(), AllocError>
+        ensures { OnOk result ((machine : Machine) → T.shows tree.now machine
+            → All (IsStoredOn machine) self.old.loaded.files.items → All (IsStoredOn machine) self.new.loaded.files.items) }
+    {
+        match found {
+            Ok(Some(file)) => {
+                let drop_ins = drop_ins_of(alloc, tree, path, &file);
+                self.take_path(alloc, tree, target, file.path)?;
+                self.take_paths(alloc, tree, target, drop_ins)
+            }
+            Ok(None) => Ok(()),
+            Err(fault) => push_fault(alloc, &mut self.loaded.faults, target, fault),
+        }
+    }
+
+    /// Reads the files at these paths.
+    fn take_paths<T: Tree>(
+        &mut self,
+        alloc: Global,
+        tree: &T,
+        target: &str,
+        paths: Result<Vec<String>, LoadFault>,
+    ) -> Result<(), AllocError>
+        ensures { OnOk result ((machine : Machine) → T.shows tree.now machine
+            → All (IsStoredOn machine) self.old.loaded.files.items → All (IsStoredOn machine) self.new.loaded.files.items) }
+    {
+        match paths {
+            Ok(paths) => {
+                for path in paths {
+                    self.take_path(alloc, tree, target, path)?;
+                }
+                Ok(())
+            }
+            Err(fault) => push_fault(alloc, &mut self.loaded.faults, target, fault),
+        }
+    }
+
+    /// Reads the file at a path, unless that has been tried before.
+    fn take_path<T: Tree>(
+        &mut self,
+        alloc: Global,
+        tree: &T,
+        target: &str,
+        path: String,
+    ) -> Result<(), AllocError>
+        ensures { OnOk result ((machine : Machine) → T.shows tree.now machine
+            → All (IsStoredOn machine) self.old.loaded.files.items → All (IsStoredOn machine) self.new.loaded.files.items) }
+    {
+        if self.seen.contains(path.as_str()) {
+            return Ok(());
+        }
+        let found = read_files(alloc, tree, path.as_str(), &[]);
+        self.seen.insert(path)?;
+        match found {
+            Ok(files) => push_files(&mut self.loaded.files, files),
+            Err(fault) => {
+                push_fault(
+                    alloc,
+                    &mut self.loaded.faults,
+                    target,
+                    LoadFault::from(fault),
+                )
+            }
+        }
+    }
+}
+
+fn push_files(all: &mut Vec<UnitText>, files: Vec<UnitText>) -> Result<(), AllocError>
+    ensures { OnOk result (all.new.items ≡ all.old.items ++ files.items) }
+{
+    for file in files {
+        all.push(file)?;
+    }
+    Ok(())
+}
+
+/// Returns the paths of the files that a path stands for.
+fn paths_at<T: Tree>(alloc: Global, tree: &T, target: &str) -> Result<Vec<String>, LoadFault> {
+    match kind_at(alloc, tree, target)? {
+        Kind::Folder => folder_paths(alloc, tree, target),
+        Kind::File | Kind::Masked => Ok(vec![in alloc; String::from_str(alloc, target)?]?),
+    }
+}
+
+fn folder_paths<T: Tree>(alloc: Global, tree: &T, folder: &str) -> Result<Vec<String>, LoadFault> {
+    let mut paths = Vec::new(alloc);
+    for name in files_in(alloc, tree, folder, Wanted::Texts)? {
+        paths.push(path_in(alloc, folder, name.as_str())?)?;
+    }
+    Ok(paths)
+}
+
+/// Finds the unit with this name. Returns `None` if it is masked.
+fn find_named<T: Tree>(
+    alloc: Global,
+    tree: &T,
+    path: &[String],
+    name: &str,
+) -> Result<Option<UnitFile>, LoadFault> {
+    let Some(stem) = unit_stem(name) else {
+        return Err(LoadFault::Target(TargetReason::NotFound));
+    };
+    match find_unit(alloc, tree, path, stem)? {
+        Unit::NotFound => Err(LoadFault::Target(TargetReason::NotFound)),
+        Unit::Template => Err(LoadFault::Target(TargetReason::Template)),
+        Unit::Masked(_) => Ok(None),
+        Unit::Found(file) => Ok(Some(file)),
+    }
+}

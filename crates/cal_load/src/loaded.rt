@@ -1,0 +1,165 @@
+//! Timers that were loaded.
+
+ghost use Rattle.std.specs.Prelude.{◌≡◌, ◌+◌, ◌++◌, [], IfSome, OnOk, map, slice_get};
+ghost use Rattle.cal_timer.specs.TimerView.{shown};
+ghost use Rattle.cal_load.specs.Loaded.{exceptions_in, expressions_in};
+ghost use Rattle.cal_load.specs.Found.{timers_in};
+ghost use Rattle.cal_load.specs.Place.{IsLastUntil, IsPlace};
+
+use crate::calendar::Calendar;
+use crate::fault::LoadFault;
+use crate::target_fault::TargetFault;
+use cal_timer::TimerLine;
+use cal_units::UnitText;
+use cal_zone::ZoneTable;
+use std::alloc::{AllocError, Global};
+
+/// A timer, and everything that its elapses depend on except the local zone.
+#[derive(Drop)]
+pub struct LoadedTimer {
+    /// The name of the unit's file, such as `backup.timer`; or the path of a file as it was given; or the expressions,
+    /// separated by commas.
+    pub name: String,
+    /// The files that were read, in this order: its own and its drop-ins.
+    pub files: Vec<UnitText>,
+    /// For each file the number of its first line. Line numbers continue from file to file.
+    pub first_lines: Vec<u32>,
+    /// The expressions and exceptions in these files.
+    pub calendar: Calendar,
+    /// The zones that the expressions and exceptions name.
+    pub zones: ZoneTable,
+    /// The other settings that start or delay the timer's unit, each as `KEY=VALUE`, in the order of the files.
+    pub notes: Vec<String>,
+}
+
+impl LoadedTimer {
+    /// Returns the calendar expressions in the order of the files. There are none if other settings start the unit.
+    pub fn lines(&self) -> &[TimerLine]
+        ensures { map shown result.now ≡ expressions_in self.now.calendar }
+    {
+        self.calendar.lines()
+    }
+
+    /// Returns the exceptions in the order of the files. When an exception elapses, the timer doesn't.
+    pub fn exceptions(&self) -> &[TimerLine]
+        ensures { map shown result.now ≡ exceptions_in self.now.calendar }
+    {
+        self.calendar.exceptions()
+    }
+
+    /// Returns the path of the file that has the line with this continued number, and the line's number in that file,
+    /// counted from 1. Returns `None` if no file begins at or before the line.
+    pub fn place(&self, number: u32) -> Option<(&str, u32)>
+        ensures { IfSome result (λ place.
+            IsPlace self.now.files.items self.now.first_lines.items number place.0.now place.1) }
+    {
+        place_in(self.files.as_slice(), self.first_lines.as_slice(), number)
+    }
+}
+
+/// Returns the path of the last file that begins at or before the line with this continued number, and the line's
+/// number in that file.
+pub(crate) fn place_in<'f>(
+    files: &'f [UnitText],
+    first_lines: &[u32],
+    number: u32,
+) -> Option<(&'f str, u32)>
+    ensures { IfSome result (λ place. IsPlace files.now first_lines.now number place.0.now place.1) }
+{
+    let index = last_until(first_lines, number)?;
+    let line = line_from(first_lines[index], number)?;
+    let file = file_at(files, index)?;
+    Some((file.path.as_str(), line))
+}
+
+/// Returns which line of a file has a continued number, counted from 1, if the file's first line has the number
+/// `first`.
+fn line_from(first: u32, number: u32) -> Option<u32>
+    ensures { IfSome result (λ line. first + line ≡ number + 1) }
+{
+    let before = number.checked_sub(first)?;
+    before.checked_add(1)
+}
+
+fn file_at(files: &[UnitText], index: usize) -> Option<&UnitText>
+    ensures { IfSome result (λ file. slice_get files.now index ≡ Some file.now) }
+{
+    files.get(index)
+}
+
+/// Returns the index of the last of these numbers that is at most `number`.
+fn last_until(numbers: &[u32], number: u32) -> Option<usize>
+    ensures { IfSome result (λ index. IsLastUntil numbers.now number index) }
+{
+    let mut found = None;
+    for (index, first) in numbers.iter().enumerate() {
+        if *first <= number {
+            found = Some(index);
+        }
+    }
+    found
+}
+
+/// What was loaded.
+#[derive(Drop)]
+pub struct Loaded {
+    /// The timers, in the order in which they were named, those of a folder by name.
+    pub timers: Vec<LoadedTimer>,
+    /// The names of the units that are masked, and the paths of the masked files that were named by their paths.
+    pub masked: Vec<String>,
+    /// Why the others couldn't be loaded.
+    pub faults: Vec<TargetFault>,
+}
+
+/// What a name of a unit, or the path of a file, stands for.
+#[derive(Drop)]
+pub(crate) enum Found {
+    Timer(LoadedTimer),
+    Masked,
+}
+
+impl Loaded {
+    pub(crate) fn new(alloc: Global) -> Loaded
+        ensures { result.timers.items ≡ [] }
+    {
+        Loaded {
+            timers: Vec::new(alloc),
+            masked: Vec::new(alloc),
+            faults: Vec::new(alloc),
+        }
+    }
+
+    /// Appends what was found for a unit's name or a path, or the reason why it can't be loaded.
+    pub(crate) fn push(
+        &mut self,
+        alloc: Global,
+        name: &str,
+        found: Result<Found, LoadFault>,
+    ) -> Result<(), AllocError>
+        ensures { OnOk result (self.new.timers.items ≡ self.old.timers.items ++ timers_in found) }
+    {
+        match found {
+            Ok(Found::Timer(timer)) => self.timers.push(timer)?,
+            Ok(Found::Masked) => self.masked.push(String::from_str(alloc, name)?)?,
+            Err(fault) => push_fault(alloc, &mut self.faults, name, fault)?,
+        }
+        Ok(())
+    }
+}
+
+/// Appends the reason why a target can't be loaded. Fails if there is no memory, also if that is the reason.
+pub(crate) fn push_fault(
+    alloc: Global,
+    faults: &mut Vec<TargetFault>,
+    target: &str,
+    fault: LoadFault,
+) -> Result<(), AllocError> {
+    match fault {
+        LoadFault::Target(reason) => {
+            let target = String::from_str(alloc, target)?;
+            faults.push(TargetFault { target, reason })?;
+            Ok(())
+        }
+        LoadFault::NoMemory => Err(AllocError),
+    }
+}

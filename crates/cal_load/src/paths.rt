@@ -1,0 +1,64 @@
+//! Targets that are paths: folders and files.
+
+use crate::fault::LoadFault;
+use crate::target_fault::TargetReason;
+use cal_units::{Entry, Tree, TreeFault};
+use std::alloc::{AllocError, Global};
+
+/// What is at a path that the user gave.
+#[derive(Clone, Copy, PartialEq, Eq, Debug)]
+pub(crate) enum Kind {
+    File,
+    /// An empty file, or a link to `/dev/null`.
+    Masked,
+    Folder,
+}
+
+/// Returns whether a target is a path: it has a `/`, or it is `.` or `..`. Any other target is the name of a unit.
+pub(crate) fn is_path(target: &str) -> bool {
+    target.as_bytes().contains(&b'/') || target == "." || target == ".."
+}
+
+/// Returns what is at a path. A link that doesn't lead to a file is treated as a folder.
+pub(crate) fn kind_at<T: Tree>(alloc: Global, tree: &T, path: &str) -> Result<Kind, LoadFault> {
+    match tree.look(alloc, path) {
+        Ok(Entry::Missing) => Err(LoadFault::Target(TargetReason::NotFound)),
+        Ok(Entry::Empty) => Ok(Kind::Masked),
+        Ok(Entry::File) => Ok(Kind::File),
+        Ok(Entry::Folder) => Ok(Kind::Folder),
+        Ok(Entry::Link(target)) => kind_of_link(alloc, tree, path, target.as_str()),
+        Err(fault) => Err(LoadFault::of_tree(alloc, path, fault)),
+    }
+}
+
+/// Returns what is at a path with a link, which has this target.
+fn kind_of_link<T: Tree>(
+    alloc: Global,
+    tree: &T,
+    path: &str,
+    target: &str,
+) -> Result<Kind, LoadFault> {
+    if target == "/dev/null" {
+        return Ok(Kind::Masked);
+    }
+    match tree.open(path) {
+        Ok(Some(_)) => Ok(Kind::File),
+        Ok(None) => Err(LoadFault::Target(TargetReason::NotFound)),
+        Err(TreeFault::ReadFailed) => Ok(Kind::Folder),
+        Err(fault) => Err(LoadFault::of_tree(alloc, path, fault)),
+    }
+}
+
+/// Removes the slashes at the end of a path. The path of the root keeps one.
+pub(crate) fn without_slashes(path: &str) -> &str {
+    let shorter = path.trim_end_matches('/');
+    if shorter.is_empty() { "/" } else { shorter }
+}
+
+/// Returns the path of a file in a folder, whose own path doesn't end in a slash unless it is the root.
+pub(crate) fn path_in(alloc: Global, folder: &str, name: &str) -> Result<String, AllocError> {
+    if folder == "/" {
+        return format!(in alloc; "/{name}");
+    }
+    format!(in alloc; "{folder}/{name}")
+}

@@ -1,0 +1,39 @@
+//! Why a timer can't be loaded.
+
+use cal_machine_zones::FileReason;
+use cal_spec::SpecFault;
+use cal_timer::TimerFault;
+use cal_units::Reason;
+
+/// Why a timer or a file can't be loaded.
+#[derive(Debug, Drop)]
+pub enum TargetReason {
+    /// There is no such unit, or nothing is at the path.
+    NotFound,
+    /// The name is that of a template, which isn't a unit.
+    Template,
+    /// The file, folder or link at this path can't be used, for this reason.
+    Path(String, Reason),
+    /// The file at this path is not UTF-8.
+    NotUtf8(String),
+    /// This line of the file at this path is invalid. The error has the same line number.
+    Line(String, u32, TimerFault),
+    /// The timer has neither a calendar expression nor another setting that starts its unit.
+    NothingToDo,
+    /// This line of the file at the first path names a zone whose file, at the second path, can't be used for this
+    /// reason.
+    Zone(String, u32, String, FileReason),
+    /// The expression, which was given by itself, is invalid.
+    Expression(SpecFault),
+    /// The expression, which was given by itself, names a zone whose file at this path can't be used for this reason.
+    ExpressionZone(String, FileReason),
+}
+
+/// A timer or a file that can't be loaded.
+#[derive(Debug, Drop)]
+pub struct TargetFault {
+    /// The unit or the expression as it was given, or the path without slashes at its end. Of a timer that wasn't given
+    /// by itself, this is the name of the unit's file, or the path of the file in the folder that was given.
+    pub target: String,
+    pub reason: TargetReason,
+}

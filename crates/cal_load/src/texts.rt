@@ -1,0 +1,70 @@
+//! The texts of a unit's files, with line numbers that continue from file to file.
+
+ghost use Rattle.std.specs.Prelude.{◌≡◌, ◌+◌, ◌<◌, ◌^◌, All, IfOk, length, map};
+ghost use Rattle.std.specs.Str.Lines.{lines};
+ghost use Rattle.cal_read.specs.TimerTexts as joined;
+ghost use Rattle.cal_units.specs.Files.{shown_text};
+ghost use Rattle.cal_load.specs.Loaded.{assignments_of};
+
+use crate::fault::LoadFault;
+use cal_read::UnitText as Text;
+use cal_units::{Reason, UnitText};
+use std::alloc::{AllocError, Global};
+
+/// Returns the texts of the files. The first line of the first file has the number 1, and the first line of any other
+/// file follows the last line of the file before it.
+///
+/// Fails with `TargetReason::NotUtf8` for the first file that is not UTF-8, and with [`Reason::TooLarge`] if the files
+/// together have too many bytes for line numbers below 2^32.
+pub(crate) fn texts_of(alloc: Global, files: &[UnitText]) -> Result<Vec<Text<'_>>, LoadFault>
+    ensures numbered { IfOk result (λ texts. All (λ text. text.first + length text.text.now < 2 ^ 32) texts.items) }
+    ensures read { IfOk result (λ list. joined.assignments_of list.items ≡ assignments_of (map shown_text files.now)) }
+{
+    let mut texts = Vec::new(alloc);
+    let mut first = 1;
+    for file in files {
+        let text = text_of(alloc, file, first)?;
+        first = next_line(alloc, file, text)?;
+        texts.push(text)?;
+    }
+    Ok(texts)
+}
+
+/// Returns the text of a file whose first line has the number `first`.
+fn text_of(alloc: Global, file: &UnitText, first: u32) -> Result<Text<'_>, LoadFault>
+    ensures numbered { IfOk result (λ text. text.first + length text.text.now < 2 ^ 32) }
+    ensures number { IfOk result (λ text. text.first ≡ first) }
+    ensures text { IfOk result (λ text. text.text.now ≡ file.now.bytes.items) }
+{
+    let Ok(text) = str::from_utf8(file.bytes.as_slice()) else {
+        return Err(LoadFault::not_utf8(alloc, file.path.as_str()));
+    };
+    if text.len() > (u32::MAX - first) as usize {
+        return Err(LoadFault::at(alloc, file.path.as_str(), Reason::TooLarge));
+    }
+    Ok(Text { first, text })
+}
+
+/// Returns the number of the line after the text of a file.
+fn next_line(alloc: Global, file: &UnitText, text: Text<'_>) -> Result<u32, LoadFault>
+    ensures { IfOk result (λ next. next ≡ text.entry.first + length (lines text.entry.text.now)) }
+{
+    match u32::try_from(line_count(text.text)) {
+        Ok(count) => match text.first.checked_add(count) {
+            Some(next) => Ok(next),
+            None => Err(LoadFault::at(alloc, file.path.as_str(), Reason::TooLarge)),
+        },
+        Err(_) => Err(LoadFault::at(alloc, file.path.as_str(), Reason::TooLarge)),
+    }
+}
+
+fn line_count(text: &str) -> usize
+    ensures { result ≡ length (lines text.now) }
+{
+    text.lines().count()
+}
+
+/// Returns the numbers of the first lines of texts.
+pub(crate) fn first_lines(alloc: Global, texts: &[Text<'_>]) -> Result<Vec<u32>, AllocError> {
+    texts.iter().map(|text| text.first).collect(alloc)
+}

@@ -1,0 +1,173 @@
+//! The timers that a user names.
+
+ghost use Rattle.std.specs.Prelude.{ℕ, List, All, IfOk, OnOk, map, string_bytes};
+ghost use Rattle.cal_units.specs.Machine.{Machine};
+ghost use Rattle.cal_load.specs.Found.{IsFileFound, IsFound};
+ghost use Rattle.cal_load.specs.Loaded.{IsTimerOn};
+
+use crate::fault::LoadFault;
+use crate::loaded::{Found, Loaded, push_fault};
+use crate::names::{Wanted, files_in, names_in_path};
+use crate::paths::{Kind, is_path, kind_at, path_in, without_slashes};
+use crate::target_fault::TargetReason;
+use crate::unit::{read_file, read_unit};
+use cal_drop_ins::unit_stem;
+use cal_units::Tree;
+use std::alloc::{AllocError, Global};
+
+/// Loads the timers that the targets stand for, in their order. Without a target, these are all timers in the folders
+/// of the search path, by name.
+///
+/// `path` is the search path, the most important folder first. A target is
+///
+/// - a path, if it has a `/` or is `.` or `..`: a folder stands for all its files with the suffix `.timer`, by name,
+///   and any other file for itself, without drop-ins;
+/// - otherwise the name of a timer, with or without `.timer`: its file is read, and then its drop-ins
+///   (systemd.unit(5)).
+///
+/// Templates are left out, unless they are named. What can't be loaded is in [`Loaded::faults`], and units that are
+/// masked are in [`Loaded::masked`]; all the others are still loaded. Fails only if allocation fails.
+pub fn load_timers<T: Tree>(
+    alloc: Global,
+    tree: &T,
+    path: &[String],
+    targets: &[&str],
+) -> Result<Loaded, AllocError>
+    ensures { IfOk result (λ loaded. (machine : Machine) → T.shows tree.now machine
+        → All (IsTimerOn machine (map string_bytes path.now)) loaded.timers.items) }
+{
+    if targets.is_empty() {
+        return load_all(alloc, tree, path);
+    }
+    let mut loaded = Loaded::new(alloc);
+    for target in targets {
+        load_target(alloc, tree, path, target, &mut loaded)?;
+    }
+    Ok(loaded)
+}
+
+/// Loads all timers in the folders of the search path.
+fn load_all<T: Tree>(alloc: Global, tree: &T, path: &[String]) -> Result<Loaded, AllocError>
+    ensures { IfOk result (λ loaded. (machine : Machine) → T.shows tree.now machine
+        → All (IsTimerOn machine (map string_bytes path.now)) loaded.timers.items) }
+{
+    let mut loaded = Loaded::new(alloc);
+    let names = names_in_path(alloc, tree, path, &mut loaded.faults)?;
+    for name in names {
+        load_listed(alloc, tree, path, name.as_str(), &mut loaded)?;
+    }
+    Ok(loaded)
+}
+
+/// Loads the timer whose file has this name in a folder of the search path. If that is a folder, it isn't a unit, and
+/// nothing is loaded.
+fn load_listed<T: Tree>(
+    alloc: Global,
+    tree: &T,
+    path: &[String],
+    name: &str,
+    loaded: &mut Loaded,
+) -> Result<(), AllocError>
+    ensures { OnOk result ((machine : Machine) → T.shows tree.now machine
+        → All (IsTimerOn machine (map string_bytes path.now)) loaded.old.timers.items
+        → All (IsTimerOn machine (map string_bytes path.now)) loaded.new.timers.items) }
+{
+    let found = read_named(alloc, tree, path, name);
+    if is_absent(&found) {
+        return Ok(());
+    }
+    loaded.push(alloc, name, found)
+}
+
+fn is_absent(found: &Result<Found, LoadFault>) -> bool {
+    matches!(found, Err(LoadFault::Target(TargetReason::NotFound)))
+}
+
+fn load_target<T: Tree>(
+    alloc: Global,
+    tree: &T,
+    path: &[String],
+    target: &str,
+    loaded: &mut Loaded,
+) -> Result<(), AllocError>
+    ensures { OnOk result ((machine : Machine) → T.shows tree.now machine
+        → All (IsTimerOn machine (map string_bytes path.now)) loaded.old.timers.items
+        → All (IsTimerOn machine (map string_bytes path.now)) loaded.new.timers.items) }
+{
+    if is_path(target) {
+        return load_path(alloc, tree, without_slashes(target), loaded);
+    }
+    let found = read_named(alloc, tree, path, target);
+    loaded.push(alloc, target, found)
+}
+
+/// Reads the timer with this name, which may have the suffix `.timer`.
+fn read_named<T: Tree>(
+    alloc: Global,
+    tree: &T,
+    path: &[String],
+    name: &str,
+) -> Result<Found, LoadFault>
+    ensures { IfOk result (λ found. (machine : Machine) → T.shows tree.now machine
+        → IsFound machine (map string_bytes path.now) found) }
+{
+    match unit_stem(name) {
+        Some(stem) => read_unit(alloc, tree, path, stem),
+        None => Err(LoadFault::Target(TargetReason::NotFound)),
+    }
+}
+
+/// Loads the timer in a file, or the timers in a folder.
+fn load_path<T: Tree>(
+    alloc: Global,
+    tree: &T,
+    target: &str,
+    loaded: &mut Loaded,
+) -> Result<(), AllocError>
+    ensures { OnOk result ((machine : Machine) (path : List (List ℕ)) → T.shows tree.now machine
+        → All (IsTimerOn machine path) loaded.old.timers.items → All (IsTimerOn machine path) loaded.new.timers.items) }
+{
+    match kind_at(alloc, tree, target) {
+        Ok(Kind::Folder) => load_folder(alloc, tree, target, loaded),
+        Ok(kind) => loaded.push(alloc, target, read_kind(alloc, tree, target, kind)),
+        Err(fault) => push_fault(alloc, &mut loaded.faults, target, fault),
+    }
+}
+
+fn load_folder<T: Tree>(
+    alloc: Global,
+    tree: &T,
+    folder: &str,
+    loaded: &mut Loaded,
+) -> Result<(), AllocError>
+    ensures { OnOk result ((machine : Machine) (path : List (List ℕ)) → T.shows tree.now machine
+        → All (IsTimerOn machine path) loaded.old.timers.items → All (IsTimerOn machine path) loaded.new.timers.items) }
+{
+    let names = match files_in(alloc, tree, folder, Wanted::Timers) {
+        Ok(names) => names,
+        Err(fault) => return push_fault(alloc, &mut loaded.faults, folder, fault),
+    };
+    for name in names {
+        let file = path_in(alloc, folder, name.as_str())?;
+        let found = read_path(alloc, tree, file.as_str());
+        loaded.push(alloc, file.as_str(), found)?;
+    }
+    Ok(())
+}
+
+/// Reads the timer in the file at a path.
+fn read_path<T: Tree>(alloc: Global, tree: &T, path: &str) -> Result<Found, LoadFault>
+    ensures { IfOk result (λ found. (machine : Machine) → T.shows tree.now machine → IsFileFound machine found) }
+{
+    let kind = kind_at(alloc, tree, path)?;
+    read_kind(alloc, tree, path, kind)
+}
+
+fn read_kind<T: Tree>(alloc: Global, tree: &T, path: &str, kind: Kind) -> Result<Found, LoadFault>
+    ensures { IfOk result (λ found. (machine : Machine) → T.shows tree.now machine → IsFileFound machine found) }
+{
+    match kind {
+        Kind::Masked => Ok(Found::Masked),
+        Kind::File | Kind::Folder => Ok(Found::Timer(read_file(alloc, tree, path)?)),
+    }
+}

@@ -1,0 +1,257 @@
+//! A timer from its files.
+
+ghost use Rattle.std.specs.Prelude.{◌≡◌, ◌+◌, ◌<◌, ◌^◌, ◌∷◌, ◌++◌, All, IfOk, codes, length, map, string_bytes};
+ghost use Rattle.cal_drop_ins.specs.DropIns.{drop_ins};
+ghost use Rattle.cal_read.specs.TimerTexts as joined;
+ghost use Rattle.cal_units.specs.Files.{files_at, shown_text};
+ghost use Rattle.cal_units.specs.Machine.{Machine, disk_of};
+ghost use Rattle.cal_load.specs.Found.{IsUnitFound};
+ghost use Rattle.cal_load.specs.Loaded.{IsCalendarBy, IsCalendarOf, IsFileOn, IsReadFrom};
+
+use crate::calendar::Calendar;
+use crate::fault::LoadFault;
+use crate::loaded::{Found, LoadedTimer, place_in};
+use crate::notes::{can_start, notes_of, shown_notes};
+use crate::target_fault::TargetReason;
+use crate::texts::{first_lines, texts_of};
+use crate::zones::{first_with_zone, zones_of};
+use cal_machine_zones::{FileReason, ZonesFault};
+use cal_read::{FileFault, TimerFault, UnitText as Text, read_texts};
+use cal_units::{Tree, Unit, UnitFile, UnitText, find_drop_ins, find_unit, read_files};
+use std::alloc::{AllocError, Global};
+
+/// What the files of a timer say.
+#[derive(Drop)]
+struct Parsed {
+    first_lines: Vec<u32>,
+    calendar: Calendar,
+    notes: Vec<String>,
+}
+
+/// Reads the timer with this stem in the search path, with its drop-ins.
+pub(crate) fn read_unit<T: Tree>(
+    alloc: Global,
+    tree: &T,
+    path: &[String],
+    stem: &str,
+) -> Result<Found, LoadFault>
+    ensures { IfOk result (λ found. (machine : Machine) → T.shows tree.now machine
+        → IsUnitFound machine (map string_bytes path.now) stem.now found) }
+{
+    let file = match find_unit(alloc, tree, path, stem)? {
+        Unit::NotFound => return Err(LoadFault::Target(TargetReason::NotFound)),
+        Unit::Template => return Err(LoadFault::Target(TargetReason::Template)),
+        Unit::Masked(_) => return Ok(Found::Masked),
+        Unit::Found(file) => file,
+    };
+    let files = unit_files(alloc, tree, path, &file)?;
+    let name = format!(in alloc; "{stem}.timer")?;
+    Ok(Found::Timer(timer_of(alloc, tree, name, files)?))
+}
+
+/// Reads the file of a unit and its drop-ins. Fails with [`TargetReason::NotFound`] if its own file is a link to
+/// nothing.
+fn unit_files<T: Tree>(
+    alloc: Global,
+    tree: &T,
+    path: &[String],
+    file: &UnitFile,
+) -> Result<Vec<UnitText>, LoadFault>
+    ensures { IfOk result (λ files. (machine : Machine) → T.shows tree.now machine
+        → map shown_text files.items ≡ files_at machine (string_bytes file.now.path
+        ∷ drop_ins (disk_of machine) (map string_bytes path.now) (map string_bytes file.now.stems.items))) }
+{
+    let drop_ins = drop_ins_of(alloc, tree, path, file)?;
+    let files = read_files(alloc, tree, file.path.as_str(), drop_ins.as_slice())?;
+    match files.first() {
+        Some(first) if first.path == file.path => Ok(files),
+        _ => Err(LoadFault::Target(TargetReason::NotFound)),
+    }
+}
+
+/// Returns the paths of a unit's drop-ins that are read, in order.
+pub(crate) fn drop_ins_of<T: Tree>(
+    alloc: Global,
+    tree: &T,
+    path: &[String],
+    file: &UnitFile,
+) -> Result<Vec<String>, LoadFault>
+    ensures { IfOk result (λ paths. (machine : Machine) → T.shows tree.now machine
+        → map string_bytes paths.items
+        ≡ drop_ins (disk_of machine) (map string_bytes path.now) (map string_bytes file.now.stems.items)) }
+{
+    let stems = texts_in(alloc, file.stems.as_slice())?;
+    let found = find_drop_ins(alloc, tree, path, stems.as_slice())?;
+    Ok(found.paths)
+}
+
+fn texts_in(alloc: Global, strings: &[String]) -> Result<Vec<&str>, AllocError>
+    ensures { IfOk result (λ list. map (λ text. text.now) list.items ≡ map string_bytes strings.now) }
+{
+    let mut list = Vec::new(alloc);
+    for string in strings {
+        list.push(string.as_str())?;
+    }
+    Ok(list)
+}
+
+/// Reads the timer in the file at a path, without drop-ins.
+pub(crate) fn read_file<T: Tree>(
+    alloc: Global,
+    tree: &T,
+    path: &str,
+) -> Result<LoadedTimer, LoadFault>
+    ensures { IfOk result (λ timer. (machine : Machine) → T.shows tree.now machine → IsFileOn machine timer) }
+{
+    let files = read_files(alloc, tree, path, &[])?;
+    let name = String::from_str(alloc, path)?;
+    timer_of(alloc, tree, name, files)
+}
+
+/// Returns the timer that these files make up.
+fn timer_of<T: Tree>(
+    alloc: Global,
+    tree: &T,
+    name: String,
+    files: Vec<UnitText>,
+) -> Result<LoadedTimer, LoadFault>
+    ensures name { IfOk result (λ timer. timer.name ≡ name) }
+    ensures read { IfOk result (λ timer. (machine : Machine) → T.shows tree.now machine
+        → IsReadFrom machine (map shown_text files.items) timer) }
+{
+    let parsed = parse(alloc, files.as_slice())?;
+    let calendar = &parsed.calendar;
+    let zones = match zones_of(alloc, tree, calendar.lines(), calendar.exceptions()) {
+        Ok(zones) => zones,
+        Err(fault) => return Err(zone_fault(alloc, files.as_slice(), &parsed, fault)),
+    };
+    let Parsed {
+        first_lines,
+        calendar,
+        notes,
+    } = parsed;
+    Ok(LoadedTimer {
+        name,
+        files,
+        first_lines,
+        calendar,
+        zones,
+        notes,
+    })
+}
+
+fn parse(alloc: Global, files: &[UnitText]) -> Result<Parsed, LoadFault>
+    ensures { IfOk result (λ parsed. IsCalendarOf (map shown_text files.now) parsed.calendar) }
+{
+    let texts = texts_of(alloc, files)?;
+    let notes = notes_of(alloc, texts.as_slice())?;
+    let starts = can_start(notes.as_slice());
+    Ok(Parsed {
+        first_lines: first_lines(alloc, texts.as_slice())?,
+        calendar: read_calendar(alloc, files, texts.as_slice(), starts)?,
+        notes: shown_notes(alloc, notes.as_slice())?,
+    })
+}
+
+/// Reads the expressions and exceptions of these texts, which are those of `files`. `starts` says whether other
+/// settings start the unit.
+fn read_calendar(
+    alloc: Global,
+    files: &[UnitText],
+    texts: &[Text<'_>],
+    starts: bool,
+) -> Result<Calendar, LoadFault>
+    requires { All (λ text. text.first + length text.text.now < 2 ^ 32) texts.now }
+    ensures { IfOk result (λ calendar. IsCalendarBy (joined.assignments_of texts.now) calendar) }
+{
+    match read_texts(alloc, texts) {
+        Ok(timer) => Ok(Calendar::Timer(timer)),
+        Err(
+            FileFault {
+                file: _,
+                fault: TimerFault::NothingToDo,
+            },
+        ) if starts => Ok(Calendar::Nothing),
+        Err(found) => Err(text_fault(alloc, files, texts, found)),
+    }
+}
+
+/// Returns the error for a target whose texts are invalid.
+fn text_fault(
+    alloc: Global,
+    files: &[UnitText],
+    texts: &[Text<'_>],
+    found: FileFault,
+) -> LoadFault {
+    match found.fault {
+        TimerFault::NoMemory => LoadFault::NoMemory,
+        TimerFault::NothingToDo => LoadFault::Target(TargetReason::NothingToDo),
+        fault => match line_fault(alloc, files, texts, found.file, fault) {
+            Ok(reason) => LoadFault::Target(reason),
+            Err(_) => LoadFault::NoMemory,
+        },
+    }
+}
+
+/// Returns the error for an invalid line in the text with this index. Lines are numbered as in its file.
+fn line_fault(
+    alloc: Global,
+    files: &[UnitText],
+    texts: &[Text<'_>],
+    index: Option<usize>,
+    fault: TimerFault,
+) -> Result<TargetReason, AllocError> {
+    let index = index.unwrap_or(0);
+    let first = texts.get(index).map_or(1, |text| text.first);
+    let path = files.get(index).map_or("", |file| file.path.as_str());
+    let line = fault
+        .line()
+        .unwrap_or(first)
+        .saturating_sub(first)
+        .saturating_add(1);
+    let path = String::from_str(alloc, path)?;
+    Ok(TargetReason::Line(path, line, with_line(fault, line)))
+}
+
+/// Returns the error with another line number.
+fn with_line(fault: TimerFault, line: u32) -> TimerFault {
+    match fault {
+        TimerFault::BadLine(_, reason) => TimerFault::BadLine(line, reason),
+        TimerFault::TooMany(_) => TimerFault::TooMany(line),
+        other => other,
+    }
+}
+
+/// Returns the error for a timer whose zones can't be loaded.
+fn zone_fault(alloc: Global, files: &[UnitText], parsed: &Parsed, fault: ZonesFault) -> LoadFault {
+    match fault {
+        ZonesFault::At(zone, reason) => match unread_zone(alloc, files, parsed, zone, reason) {
+            Ok(reason) => LoadFault::Target(reason),
+            Err(_) => LoadFault::NoMemory,
+        },
+        // The other errors are those of the local zone, which isn't asked for here.
+        _ => LoadFault::NoMemory,
+    }
+}
+
+fn unread_zone(
+    alloc: Global,
+    files: &[UnitText],
+    parsed: &Parsed,
+    zone: String,
+    reason: FileReason,
+) -> Result<TargetReason, AllocError> {
+    let calendar = &parsed.calendar;
+    let line = first_with_zone(calendar.lines(), zone.as_str()).or(first_with_zone(
+        calendar.exceptions(),
+        zone.as_str(),
+    ));
+    let number = line.map_or(1, |line| line.number);
+    match place_in(files, parsed.first_lines.as_slice(), number) {
+        Some((path, line)) => {
+            let path = String::from_str(alloc, path)?;
+            Ok(TargetReason::Zone(path, line, zone, reason))
+        }
+        None => Ok(TargetReason::ExpressionZone(zone, reason)),
+    }
+}

@@ -1,0 +1,64 @@
+//! The zones that the expressions of a timer name.
+
+ghost use Rattle.std.specs.Prelude.{◌≡◌, ◌++◌, IfOk, OnOk, map, option_copied, string_bytes};
+ghost use Rattle.std.specs.Option.{option_to_list};
+ghost use Rattle.cal_machine_zones.specs.ZoneFiles.{HasZonesOf};
+ghost use Rattle.cal_timer.specs.TimerView.{shown};
+ghost use Rattle.cal_units.specs.Machine.{Machine};
+ghost use Rattle.cal_load.specs.Loaded.{HasNames, zones_in};
+
+use cal_machine_zones::{ZonesFault, load_zones};
+use cal_timer::TimerLine;
+use cal_units::Tree;
+use cal_zone::ZoneTable;
+use std::alloc::{AllocError, Global};
+
+/// The folder of the zone files, from which [`load_zones`] reads them.
+const ZONE_FOLDER: &str = "/usr/share/zoneinfo/";
+
+/// Returns the zones that the expressions and the exceptions name.
+pub(crate) fn zones_of<T: Tree>(
+    alloc: Global,
+    tree: &T,
+    lines: &[TimerLine],
+    exceptions: &[TimerLine],
+) -> Result<ZoneTable, ZonesFault>
+    ensures names { IfOk result (λ table.
+        HasNames table (zones_in (map shown lines.now) ++ zones_in (map shown exceptions.now))) }
+    ensures zones { IfOk result (λ table. (machine : Machine) → T.shows tree.now machine → HasZonesOf machine table) }
+{
+    let mut names = Vec::new(alloc);
+    push_names(alloc, &mut names, lines)?;
+    push_names(alloc, &mut names, exceptions)?;
+    load_zones(alloc, tree, names.as_slice())
+}
+
+/// Appends the names of the zones that the lines name.
+fn push_names(alloc: Global, names: &mut Vec<String>, lines: &[TimerLine]) -> Result<(), AllocError>
+    ensures { OnOk result (map string_bytes names.new.items
+        ≡ map string_bytes names.old.items ++ zones_in (map shown lines.now)) }
+{
+    for line in lines {
+        push_name(alloc, names, line.expr.zone_name())?;
+    }
+    Ok(())
+}
+
+/// Appends a name, if there is one.
+fn push_name(alloc: Global, names: &mut Vec<String>, name: Option<&str>) -> Result<(), AllocError>
+    ensures { OnOk result (map string_bytes names.new.items
+        ≡ map string_bytes names.old.items ++ option_to_list (option_copied name.entry)) }
+{
+    if let Some(name) = name {
+        names.push(String::from_str(alloc, name)?)?;
+    }
+    Ok(())
+}
+
+/// Returns the first line that names the zone whose file is at `path`.
+pub(crate) fn first_with_zone<'l>(lines: &'l [TimerLine], path: &str) -> Option<&'l TimerLine> {
+    let zone = path.strip_prefix(ZONE_FOLDER)?;
+    lines
+        .iter()
+        .find(|line| line.expr.zone_name() == Some(zone))
+}

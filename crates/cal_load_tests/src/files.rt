@@ -1,0 +1,47 @@
+//! The files that targets stand for.
+
+use crate::shown::{check, push_faults, push_files};
+use cal_drop_ins::system_path;
+use cal_load::load_files;
+use cal_unit_tests::memory::{Item, Memory};
+use std::alloc::Global;
+use std::test::Fail;
+
+static MACHINE: [(&str, Item<'static>); 8] = [
+    ("/usr/lib/systemd/system/a.timer", Item::File(b"a")),
+    ("/usr/lib/systemd/system/b.timer", Item::File(b"b")),
+    ("/etc/systemd/system/a.timer.d/x.conf", Item::File(b"x")),
+    ("/etc/systemd/system/timer.d/y.conf", Item::Gone),
+    ("/etc/systemd/system/masked.timer", Item::Link("/dev/null")),
+    ("/etc/systemd/system/a.timer.d", Item::Folder),
+    ("/etc/systemd/system/a.timer.d/README", Item::File(b"")),
+    ("/etc/systemd/system/t@.timer", Item::File(b"t")),
+];
+
+/// Checks which files are read for these targets.
+fn reads(alloc: Global, targets: &[&str], wanted: &str) -> Result<(), Fail> {
+    let machine = Memory {
+        items: MACHINE.as_slice(),
+    };
+    let path = system_path(alloc, "")?;
+    let loaded = load_files(alloc, &machine, path.as_slice(), targets)?;
+    let mut text = String::new(alloc);
+    push_files(alloc, &mut text, loaded.files.as_slice())?;
+    push_faults(alloc, &mut text, loaded.faults.as_slice())?;
+    check(text.as_str(), wanted)
+}
+
+/// Each file is read once, also if several targets stand for it, and an unreadable one hides no other file.
+#[test]
+fn reads_files(rt: HostRuntime) -> Result<(), Fail> {
+    let alloc = rt.alloc();
+    let all = "/usr/lib/systemd/system/a.timer /etc/systemd/system/a.timer.d/x.conf \
+        /usr/lib/systemd/system/b.timer a.timer: /etc/systemd/system/timer.d/y.conf Vanished; ";
+    reads(alloc, &[], all)?;
+    reads(
+        alloc,
+        &["/etc/systemd/system/a.timer.d/", "masked", "a", "none"],
+        "/etc/systemd/system/a.timer.d/x.conf /usr/lib/systemd/system/a.timer \
+        a: /etc/systemd/system/timer.d/y.conf Vanished; none: not found; ",
+    )
+}

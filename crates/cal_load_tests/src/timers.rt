@@ -1,0 +1,149 @@
+//! Timers by unit, by file and by folder, and each error.
+
+use crate::shown::{check, shown};
+use cal_drop_ins::system_path;
+use cal_load::load_timers;
+use cal_unit_tests::memory::{Item, Memory};
+use std::alloc::Global;
+use std::test::Fail;
+
+static MACHINE: [(&str, Item<'static>); 24] = [
+    (
+        "/usr/lib/systemd/system/b.timer",
+        Item::File(b"[Timer]\nOnCalendar=daily\nOnBootSec=5min\nX-ExceptOnCalendar=Sun\n"),
+    ),
+    (
+        "/usr/lib/systemd/system/b.timer.d/10.conf",
+        Item::File(
+            b"# Clears both lists.\n[Timer]\nOnCalendar=\nOnCalendar=Mon 18:00\nRandomizedDelaySec=1h",
+        ),
+    ),
+    (
+        "/etc/systemd/system/b.timer.d/20.conf",
+        Item::File(b"[Timer]\nOnCalendar=Tue\n"),
+    ),
+    (
+        "/usr/lib/systemd/system/a.timer",
+        Item::File(b"[Timer]\nOnUnitActiveSec=1h\n"),
+    ),
+    (
+        "/etc/systemd/system/a.timer",
+        Item::File(b"[Timer]\nOnBootSec=1h\nOnClockChange=yes\n"),
+    ),
+    ("/etc/systemd/system/ä.timer", Item::File(b"[Timer]\n")),
+    ("/etc/systemd/system/x.timer", Item::Unnamed),
+    (
+        "/etc/systemd/system/t@.timer",
+        Item::File(b"[Timer]\nOnCalendar=daily\n"),
+    ),
+    (
+        "/etc/systemd/system/t@x.timer",
+        Item::File(b"[Timer]\nOnCalendar=%i\n"),
+    ),
+    ("/etc/systemd/system/masked.timer", Item::Link("/dev/null")),
+    (
+        "/etc/systemd/system/.hidden.timer",
+        Item::File(b"[Timer]\n"),
+    ),
+    ("/etc/systemd/system/folder.timer", Item::Folder),
+    (
+        "/etc/systemd/system/gone.timer",
+        Item::Link("/opt/gone.timer"),
+    ),
+    ("/etc/systemd/system/a.service", Item::File(b"[Service]\n")),
+    ("/t", Item::Folder),
+    (
+        "/t/idle.timer",
+        Item::File(b"[Timer]\nX-ExceptOnCalendar=daily\nRandomizedDelaySec=5\n"),
+    ),
+    ("/t/line.timer", Item::File(b"[Timer]\nOnCalendar=Mo\n")),
+    ("/t/locked.timer", Item::Locked),
+    ("/t/null.timer", Item::Link("/dev/null")),
+    ("/t/other.txt", Item::File(b"[Timer]\nOnCalendar=12:00\n")),
+    ("/t/t@.timer", Item::File(b"[Timer]\nOnCalendar=12:00\n")),
+    (
+        "/t/text.timer",
+        Item::File(b"[Timer]\n# \xff\nOnCalendar=12:00\n"),
+    ),
+    (
+        "/t/zone.timer",
+        Item::File(
+            b"\xef\xbb\xbf[Timer]\nOnCalendar=12:00 UTC\nOnCalendar=daily \\\n  Europe/Nowhere\n",
+        ),
+    ),
+    ("/t/link.timer", Item::Link("/t/none")),
+];
+
+fn machine() -> Memory<'static> {
+    Memory {
+        items: MACHINE.as_slice(),
+    }
+}
+
+/// Checks what is loaded for these targets.
+fn loads(alloc: Global, targets: &[&str], wanted: &str) -> Result<(), Fail> {
+    let path = system_path(alloc, "")?;
+    let loaded = load_timers(alloc, &machine(), path.as_slice(), targets)?;
+    check(shown(alloc, &loaded)?.as_str(), wanted)
+}
+
+const A: &str = "a.timer [/etc/systemd/system/a.timer ] OnBootSec=1h OnClockChange=yes; ";
+
+const B: &str =
+    "b.timer [/usr/lib/systemd/system/b.timer /usr/lib/systemd/system/b.timer.d/10.conf \
+    /etc/systemd/system/b.timer.d/20.conf ] /usr/lib/systemd/system/b.timer.d/10.conf:4 Mon 18:00, \
+    /etc/systemd/system/b.timer.d/20.conf:2 Tue, /usr/lib/systemd/system/b.timer:4 except Sun, \
+    RandomizedDelaySec=1h; ";
+
+const T: &str = "t@x.timer: /etc/systemd/system/t@x.timer:2:2 bad date; ";
+
+/// Each timer of the search path once, by name. A drop-in clears the expressions, and the continued line numbers lead
+/// back to the files.
+#[test]
+fn loads_all_timers(rt: HostRuntime) -> Result<(), Fail> {
+    let alloc = rt.alloc();
+    let wanted = format!(in alloc; "{A}{B}masked masked.timer; {T}")?;
+    loads(alloc, &[], wanted.as_str())
+}
+
+/// Timers by name, with and without the suffix, in the order of the targets.
+#[test]
+fn loads_units(rt: HostRuntime) -> Result<(), Fail> {
+    let alloc = rt.alloc();
+    let wanted = format!(in alloc; "{B}{A}")?;
+    loads(alloc, &["b.timer", "a"], wanted.as_str())?;
+    loads(alloc, &["masked"], "masked masked; ")?;
+    loads(alloc, &["t@"], "t@: template; ")?;
+    loads(
+        alloc,
+        &["none", "no name"],
+        "none: not found; no name: not found; ",
+    )
+}
+
+/// The timers of a folder by name: each error names its file and its line, and hides no other timer.
+#[test]
+fn loads_folders(rt: HostRuntime) -> Result<(), Fail> {
+    let alloc = rt.alloc();
+    let wanted = "masked /t/null.timer; \
+        /t/idle.timer: nothing to do; /t/line.timer: /t/line.timer:2:2 unknown shorthand; \
+        /t/link.timer: not found; /t/locked.timer: /t/locked.timer ReadFailed; /t/text.timer: /t/text.timer not UTF-8; \
+        /t/zone.timer: /t/zone.timer:3 /usr/share/zoneinfo/Europe/Nowhere NotFound; ";
+    loads(alloc, &["/t/"], wanted)
+}
+
+/// A file by its path has no drop-ins and needs no suffix. A path that leads nowhere is an error.
+#[test]
+fn loads_files(rt: HostRuntime) -> Result<(), Fail> {
+    let alloc = rt.alloc();
+    loads(
+        alloc,
+        &["/t/other.txt", "/t/none"],
+        "/t/other.txt [/t/other.txt ] /t/other.txt:2 12:00,; /t/none: not found; ",
+    )?;
+    loads(
+        alloc,
+        &["/usr/lib/systemd/system/a.timer"],
+        "/usr/lib/systemd/system/a.timer [/usr/lib/systemd/system/a.timer ] OnUnitActiveSec=1h; ",
+    )
+}
