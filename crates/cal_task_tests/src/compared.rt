@@ -1,0 +1,143 @@
+//! The functions of `cal_compare`, over lists of numbers and over timers.
+
+ghost use Rattle.std.specs.List.Sorted.{IsStrictlySortedBy};
+ghost use Rattle.std.specs.Ordering.{int_cmp};
+
+use crate::shared::{NOON, berlin, ensure, instant, timer};
+use cal_compare::{
+    CompareFault, Difference, TimerElapse, base_before, between, first_difference, first_only,
+    next_of_all,
+};
+use cal_rising::Listed;
+use cal_zone::{Setting, Zone, ZoneTable};
+use std::alloc::{AllocError, Global};
+use std::test::Fail;
+
+/// Returns a source of these numbers.
+fn listed(alloc: Global, numbers: &[i64]) -> Result<Listed, AllocError>
+    requires { IsStrictlySortedBy int_cmp numbers.now }
+{
+    Ok(Listed::new(Vec::from_slice(alloc, numbers)?))
+}
+
+/// Three sources, the second of which has nothing to return.
+fn three(alloc: Global) -> Result<Vec<Listed>, AllocError> {
+    let mut sources = Vec::new(alloc);
+    sources.push(listed(alloc, &[5, 7, 9])?)?;
+    sources.push(listed(alloc, &[])?)?;
+    sources.push(listed(alloc, &[3, 5, 6, 7])?)?;
+    Ok(sources)
+}
+
+/// Returns whether these are the elapses, in this order.
+fn are_elapses(found: &[TimerElapse], expected: &[(i64, usize)]) -> bool {
+    if found.len() != expected.len() {
+        return false;
+    }
+    for (elapse, (secs, timer)) in found.iter().zip(expected) {
+        if elapse.secs != *secs || elapse.timer != *timer {
+            return false;
+        }
+    }
+    true
+}
+
+#[test]
+fn next_of_three(rt: HostRuntime) -> Result<(), Fail> {
+    let mut sources = three(rt.alloc())?;
+    let next = next_of_all(rt.alloc(), sources.as_mut_slice())?;
+    ensure(are_elapses(&next.soonest, &[(3, 2), (5, 0)]), "soonest")?;
+    ensure(next.never.as_slice() == [1].as_slice(), "never")
+}
+
+/// The range has its start and not its end.
+#[test]
+fn between_two_instants(rt: HostRuntime) -> Result<(), Fail> {
+    let mut sources = three(rt.alloc())?;
+    let found = between(rt.alloc(), sources.as_mut_slice(), instant(5)?, instant(7)?)?;
+    ensure(are_elapses(&found, &[(5, 0), (5, 2), (6, 2)]), "the range")
+}
+
+/// The instant before the start of a range is its base, except for instant 0.
+#[test]
+fn bases(rt: HostRuntime) -> Result<(), Fail> {
+    let _ = rt.alloc();
+    ensure(base_before(instant(7)?).secs() == 6, "7")?;
+    ensure(base_before(instant(0)?).secs() == 0, "0")
+}
+
+#[test]
+fn only_one_of_two_lists(rt: HostRuntime) -> Result<(), Fail> {
+    let alloc = rt.alloc();
+    let found = first_only(
+        alloc,
+        listed(alloc, &[3, 5, 7])?,
+        listed(alloc, &[3, 6, 7])?,
+    )?;
+    ensure(found == Some(5), "5")?;
+    let found = first_only(alloc, listed(alloc, &[3, 7])?, listed(alloc, &[3, 6, 7])?)?;
+    ensure(found.is_none(), "none")
+}
+
+/// Two timers, and where they differ, or the error.
+type Pair = (&'static str, &'static str, Result<Difference, CompareFault>);
+
+static PAIRS: [Pair; 5] = [
+    (
+        "[Timer]\nOnCalendar=2026-12-01..03 18:00",
+        "[Timer]\nOnCalendar=2026-12-02..04 18:00",
+        Ok(Difference {
+            only_one: Some(1_796_144_400),
+            only_other: Some(1_796_403_600),
+        }),
+    ),
+    (
+        "[Timer]\nOnCalendar=2026-12-01..03 18:00\nX-ExceptOnCalendar=*-12-01",
+        "[Timer]\nOnCalendar=2026-12-01..03 18:00",
+        Ok(Difference {
+            only_one: None,
+            only_other: None,
+        }),
+    ),
+    // Elapses before the base don't count.
+    (
+        "[Timer]\nOnCalendar=2026-01-01",
+        "[Timer]\nOnCalendar=2026-01-02",
+        Ok(Difference {
+            only_one: None,
+            only_other: None,
+        }),
+    ),
+    (
+        "[Timer]\nOnCalendar=daily Nowhere",
+        "[Timer]\nOnCalendar=daily Nowhere",
+        Err(CompareFault::NoSuchZoneInOne(2)),
+    ),
+    (
+        "[Timer]\nOnCalendar=daily",
+        "[Timer]\n\nOnCalendar=daily Nowhere",
+        Err(CompareFault::NoSuchZoneInOther(3)),
+    ),
+];
+
+fn expect_pair(alloc: Global, setting: Setting<'_>, pair: &Pair) -> Result<(), Fail> {
+    let (one, other, expected) = pair;
+    let (first, second) = (timer(alloc, one)?, timer(alloc, other)?);
+    let found = first_difference(alloc, setting, setting.now, &first, &second);
+    ensure(found == *expected, one)
+}
+
+#[test]
+fn differences(rt: HostRuntime) -> Result<(), Fail> {
+    let rules = berlin(rt.alloc())?;
+    let zones = ZoneTable::new(rt.alloc());
+    let setting = Setting {
+        now: instant(NOON)?,
+        local: Zone::rules(&rules),
+        zones: &zones,
+    };
+    for pair in &PAIRS {
+        expect_pair(rt.alloc(), setting, pair)?;
+    }
+    Ok(())
+}

@@ -1,0 +1,4 @@
+pub mod IdleLemmas
+pub mod NoteLemmas
+pub mod TakeLemmas
+pub mod WhenLemmas

@@ -1,0 +1,11 @@
+-- The expressions before the loop's index that never elapse have been appended.
+use Rattle.std.proofs.Common.{◌≡◌, ◌++◌, map, take}
+use Rattle.cal_timer.specs.TimerView.{shown}
+use Rattle.cal_zone.specs.Setting.{setting_seen}
+use Rattle.cal_tasks.specs.IdleLines.{idle_as, never_elapses}
+use Rattle.cal_tasks.specs.declared.idle.IdleKind.TheVariants.{NeverElapses}
+use Rattle.cal_tasks.proofs.idle.add_never.Given as goal
+
+abbrev pub invariant-loop-line : goal.invariant-loop-line
+invariant-loop-line l =
+    l.found.items ≡ l.fn.found.items ++ idle_as NeverElapses (never_elapses (setting_seen l.setting) l.setting.now.secs) (map shown (take l.line-index l.lines))

@@ -1,0 +1,11 @@
+-- The iterators are those of the timers before the loop's index, all of whose zones are known.
+use Rattle.std.proofs.Common.{◌≡◌, map, take, drop}
+use Rattle.cal_rising.specs.Merge.{merged}
+use Rattle.cal_tasks.specs.LoadedElapses.{elapses_in, first_unzoned_line}
+use Rattle.cal_tasks.proofs.several.merges_of.Given as goal
+
+abbrev pub invariant-loop-timer : goal.invariant-loop-timer
+invariant-loop-timer l = record {
+  merges : map merged l.merges.items ≡ map (elapses_in l.at l.base.secs) (take l.timer-index l.timers);
+  zoned : first_unzoned_line l.at l.timers ≡ first_unzoned_line l.at (drop l.timer-index l.timers);
+}

@@ -1,0 +1,14 @@
+-- Notes of the expression have been appended, and the next local second to examine is a match.
+use Rattle.std.proofs.Common.{◌≡◌}
+use Rattle.std.specs.Prelude.{IfSome}
+use Rattle.cal_elapse.specs.Masks.{sets_in}
+use Rattle.cal_zone.specs.headline.Zone.{zone_of}
+use Rattle.cal_tasks.specs.ClockNotes.{AddsNotesOf, IsMatch}
+use Rattle.cal_tasks.proofs.skipped.add_notes.Given as goal
+
+abbrev pub invariant-loop : goal.invariant-loop
+invariant-loop l = record {
+  zone : l.cache ≡ l.zone;
+  found : IfSome l.found (IsMatch (sets_in l.masks));
+  notes : AddsNotesOf (zone_of l.zone) l.expr l.fn.notes.items l.notes.items;
+}

@@ -1,0 +1,10 @@
+-- Each note so far is one of an expression.
+use Rattle.std.proofs.Common.{map}
+use Rattle.std.specs.List.{All}
+use Rattle.cal_timer.specs.TimerView.{shown}
+use Rattle.cal_zone.specs.Setting.{setting_seen}
+use Rattle.cal_tasks.specs.ClockNotes.{IsNoteAmong}
+use Rattle.cal_tasks.proofs.skipped.notes_of_lines.Given as goal
+
+abbrev pub invariant-loop-line : goal.invariant-loop-line
+invariant-loop-line l = All (IsNoteAmong (setting_seen l.setting) (map shown l.lines)) l.notes.items

@@ -1,0 +1,56 @@
+-- Local times that a clock change skips or repeats: systemd.time(7), Calendar Events.
+use Rattle.std.specs.Prelude.{◌≡◌, ℕ, ◌++◌, true, List, None, Some, ℤ, ◌<ℤ◌, unsigned_abs}
+use Rattle.std.specs.List.{All, Contains}
+use Rattle.jiff.specs.Types.{TimeZone}
+use Rattle.cal_civil.specs.Local.{IsLocalSecond}
+use Rattle.cal_zone.specs.Setting.{Setting}
+use Rattle.cal_zone.specs.headline.Place.{place_of}
+use Rattle.cal_zone.specs.headline.Zone.{local_shown_at}
+use Rattle.cal_spec.specs.headline.Fields.{Fields}
+use Rattle.cal_spec.specs.headline.Match.{Sets, matches}
+use Rattle.cal_spec.specs.headline.Members.{sets_of}
+use Rattle.cal_timer.specs.TimerText.{TimerLine}
+use Rattle.cal_plan.specs.ZoneFor.{zone_for}
+use Rattle.cal_tasks.specs.declared.clock_note.ClockChange.{ClockChange}
+use Rattle.cal_tasks.specs.declared.clock_note.ClockChange.TheVariants.{Skipped, Repeated}
+use Rattle.cal_tasks.specs.declared.clock_note.ClockNote.{ClockNote}
+
+-- the maximum number of notes of a timer
+abbrev pub max_notes : ℕ
+max_notes = 16
+
+-- a local second that an expression matches; the sets have the values of its fields
+abbrev pub IsMatch : Sets → ℤ → Type 0
+IsMatch sets local = IsLocalSecond local × (matches sets (unsigned_abs local) ≡ true)
+
+-- the zone's clock shows the local second at its place, `first`, and again at a later instant
+pub record IsRepeated (tz : TimeZone) (local : ℤ) : Type 0 where
+  pub first : ℤ
+  pub second : ℤ
+  pub placed : place_of tz local ≡ Some first
+  pub later : first <ℤ second
+  pub shown : local_shown_at tz second ≡ local
+
+-- what the clock change does to the local second: a skipped one has no place, and a repeated one is shown twice
+abbrev pub IsChange : TimeZone → ℤ → ClockChange → Type 0
+IsChange tz local Skipped = place_of tz local ≡ None
+IsChange tz local Repeated = IsRepeated tz local
+
+-- the local second of the note matches the expression with these fields, and the change is right in this zone
+pub record IsNoteOf (tz : TimeZone) (fields : Fields) (note : ClockNote) : Type 0 where
+  pub is_match : IsMatch (sets_of fields) note.local
+  pub change : IsChange tz note.local note.change
+
+-- `new` is `old` with notes of an expression appended
+pub record AddsNotesOf (tz : TimeZone) (fields : Fields) (old new : List ClockNote) : Type 0 where
+  pub more : List ClockNote
+  pub are_notes : All (IsNoteOf tz fields) more
+  pub is : new ≡ old ++ more
+
+-- the note is one of an expression among these lines, in the zone of this expression
+pub record IsNoteAmong (at : Setting) (lines : List (TimerLine Fields)) (note : ClockNote) : Type 0 where
+  pub line : TimerLine Fields
+  pub among : Contains lines line
+  pub tz : TimeZone
+  pub zoned : zone_for at line.expr.zone ≡ Some tz
+  pub note_of : IsNoteOf tz line.expr note

@@ -1,0 +1,4 @@
+pub mod ClockNotes
+pub mod IdleLines
+pub mod LoadedElapses
+pub mod When

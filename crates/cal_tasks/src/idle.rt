@@ -1,0 +1,214 @@
+//! Expressions that never elapse, and exceptions that suppress nothing (systemd.timer(5), OnCalendar=).
+
+ghost use Rattle.std.specs.Prelude.{◌≡◌, ◌≢◌, ◌++◌, [], ◌∷◌, None, IfOk, MatchResult, OnOk, cond, false, map};
+ghost use Rattle.std.specs.List.{list_any};
+ghost use Rattle.std.specs.Ordering.{int_eq};
+ghost use Rattle.std.specs.Set.{is_member};
+ghost use Rattle.cal_zone.specs.Setting.{setting_seen};
+ghost use Rattle.cal_elapse.specs.RemainingElapses.{remaining_elapses};
+ghost use Rattle.cal_timer.specs.TimerView.{shown};
+ghost use Rattle.cal_plan.specs.PlanFault.{IsUnzoned};
+ghost use Rattle.cal_plan.specs.TimerElapses.{lists_shown};
+ghost use Rattle.cal_plan.specs.ZoneFor.{first_unzoned, lacks_zone};
+ghost use Rattle.cal_plan.specs.declared.plan_fault.PlanFault.TheVariants.{NoMemory};
+ghost use Rattle.cal_tasks.specs.IdleLines.{elapses_of_line, idle_as, idle_lines, never_elapses, next_elapses, suppresses_nothing};
+ghost use Rattle.cal_tasks.specs.LoadedElapses.{lists_of_loaded, setting_for, unzoned_line};
+
+use crate::clocked::Clocked;
+use crate::elapses::{merge_of_timer, setting_for, take_first};
+use cal_elapse::Elapses;
+use cal_load::LoadedTimer;
+use cal_plan::{PlanFault, merge_of, zone_for};
+use cal_rising::Rising;
+use cal_timer::TimerLine;
+use cal_zone::Setting;
+use std::alloc::{AllocError, Global};
+
+/// The number of elapses of which an exception has to suppress one.
+const MAX_ELAPSES: u32 = 10_000;
+
+/// Why a line of a timer has no effect.
+#[derive(Clone, Copy, PartialEq, Eq, Debug)]
+pub enum IdleKind {
+    /// The expression has no elapse after the present.
+    NeverElapses,
+    /// The exception suppresses none of the next 10,000 elapses that the timer has without its exceptions.
+    SuppressesNothing,
+}
+
+/// A line of a timer that has no effect.
+#[derive(Clone, Copy, PartialEq, Eq, Debug)]
+pub struct IdleLine {
+    /// The number of the line of the expression or exception.
+    pub number: u32,
+    pub kind: IdleKind,
+}
+
+/// Returns the expressions that don't elapse after the present, and then the exceptions that suppress none of the next
+/// 10,000 elapses of the timer.
+///
+/// Fails with [`PlanFault::NoSuchZone`] if an expression or an exception names a zone that wasn't loaded, and with
+/// [`PlanFault::NoMemory`] if allocation fails.
+pub fn idle_lines(
+    alloc: Global,
+    at: Clocked<'_>,
+    timer: &LoadedTimer,
+) -> Result<Vec<IdleLine>, PlanFault>
+    ensures { MatchResult result
+        (λ found. found.items
+        ≡ idle_lines (setting_for at.entry timer.now) at.entry.now.secs (lists_of_loaded timer.now.calendar))
+        (λ fault. fault ≢ NoMemory → IsUnzoned (unzoned_line at.entry timer.now) fault) }
+{
+    // Only to find a missing zone.
+    let _ = merge_of_timer(alloc, at, at.now, timer)?;
+    let setting = setting_for(at, timer);
+    let found = idle_among(alloc, setting, timer.lines(), timer.exceptions())?;
+    Ok(found)
+}
+
+/// Returns the lines without effect. The zones of all lines must be known.
+fn idle_among(
+    alloc: Global,
+    setting: Setting<'_>,
+    lines: &[TimerLine],
+    exceptions: &[TimerLine],
+) -> Result<Vec<IdleLine>, AllocError>
+    requires lines { first_unzoned (setting_seen setting) (map shown lines.now) ≡ None }
+    requires exceptions { first_unzoned (setting_seen setting) (map shown exceptions.now) ≡ None }
+    ensures { IfOk result (λ found. found.items
+        ≡ idle_lines (setting_seen setting.entry) setting.entry.now.secs (lists_shown lines.now exceptions.now)) }
+{
+    let next = next_elapses(alloc, setting, lines)?;
+    let mut found = Vec::new(alloc);
+    add_never(alloc, &mut found, setting, lines)?;
+    add_unused(alloc, &mut found, setting, exceptions, &next)?;
+    Ok(found)
+}
+
+/// Returns the next elapses of the expressions, whose zones must be known, without regard to exceptions.
+fn next_elapses(
+    alloc: Global,
+    setting: Setting<'_>,
+    lines: &[TimerLine],
+) -> Result<Vec<i64>, AllocError>
+    requires { first_unzoned (setting_seen setting) (map shown lines.now) ≡ None }
+    ensures { IfOk result (λ next. next.items
+        ≡ next_elapses (setting_seen setting.entry) setting.entry.now.secs (map shown lines.now)) }
+{
+    // The zones are known, so this can only fail if allocation does.
+    let Ok(mut merge) = merge_of(alloc, setting, setting.now, lines, &[]) else {
+        return Err(AllocError);
+    };
+    take_first(alloc, &mut merge, MAX_ELAPSES)
+}
+
+/// Appends the expressions, whose zones must be known, that don't elapse after the present.
+fn add_never(
+    alloc: Global,
+    found: &mut Vec<IdleLine>,
+    setting: Setting<'_>,
+    lines: &[TimerLine],
+) -> Result<(), AllocError>
+    requires { first_unzoned (setting_seen setting) (map shown lines.now) ≡ None }
+    ensures { OnOk result (found.new.items ≡ found.old.items
+        ++ idle_as IdleKind.NeverElapses
+        (never_elapses (setting_seen setting.entry) setting.entry.now.secs)
+        (map shown lines.now)) }
+{
+    for line in lines {
+        let never = never_elapses(alloc, setting, line)?;
+        push_if(found, never, line.number, IdleKind::NeverElapses)?;
+    }
+    Ok(())
+}
+
+/// Appends the exceptions, whose zones must be known, that have none of these elapses.
+fn add_unused(
+    alloc: Global,
+    found: &mut Vec<IdleLine>,
+    setting: Setting<'_>,
+    exceptions: &[TimerLine],
+    elapses: &[i64],
+) -> Result<(), AllocError>
+    requires { first_unzoned (setting_seen setting) (map shown exceptions.now) ≡ None }
+    ensures { OnOk result (found.new.items ≡ found.old.items
+        ++ idle_as IdleKind.SuppressesNothing
+        (suppresses_nothing (setting_seen setting.entry) setting.entry.now.secs elapses.now)
+        (map shown exceptions.now)) }
+{
+    for line in exceptions {
+        let nothing = suppresses_nothing(alloc, setting, line, elapses)?;
+        push_if(found, nothing, line.number, IdleKind::SuppressesNothing)?;
+    }
+    Ok(())
+}
+
+/// Appends a line if `is_idle` is true.
+fn push_if(
+    found: &mut Vec<IdleLine>,
+    is_idle: bool,
+    number: u32,
+    kind: IdleKind,
+) -> Result<(), AllocError>
+    ensures { OnOk result (found.new.items
+        ≡ found.old.items ++ cond is_idle (record { number = number; kind = kind } ∷ []) []) }
+{
+    if is_idle {
+        found.push(IdleLine { number, kind })?;
+    }
+    Ok(())
+}
+
+/// Returns whether the expression, whose zone must be known, doesn't elapse after the present.
+fn never_elapses(alloc: Global, setting: Setting<'_>, line: &TimerLine) -> Result<bool, AllocError>
+    requires { lacks_zone (setting_seen setting) (shown line.now) ≡ false }
+    ensures { IfOk result (λ never. never
+        ≡ never_elapses (setting_seen setting.entry) setting.entry.now.secs (shown line.now)) }
+{
+    let mut elapses = elapses_of_line(alloc, setting, line)?;
+    Ok(elapses.next().is_none())
+}
+
+/// Returns whether none of the numbers is an elapse of the exception, whose zone must be known, after the present.
+fn suppresses_nothing(
+    alloc: Global,
+    setting: Setting<'_>,
+    line: &TimerLine,
+    numbers: &[i64],
+) -> Result<bool, AllocError>
+    requires { lacks_zone (setting_seen setting) (shown line.now) ≡ false }
+    ensures { IfOk result (λ nothing. nothing
+        ≡ suppresses_nothing (setting_seen setting.entry) setting.entry.now.secs numbers.now (shown line.now)) }
+{
+    let mut elapses = elapses_of_line(alloc, setting, line)?;
+    Ok(!has_any(&mut elapses, numbers))
+}
+
+/// Returns whether one of the numbers is an elapse.
+fn has_any(elapses: &mut Elapses<'_>, numbers: &[i64]) -> bool
+    ensures { result ≡ list_any (is_member int_eq (remaining_elapses elapses.old)) numbers.now }
+{
+    for number in numbers {
+        if elapses.has(*number) == Some(true) {
+            return true;
+        }
+    }
+    false
+}
+
+/// Creates the iterator over the elapses of an expression after the present in its zone, which must be known.
+#[tactic(auto, unfolding(cal_plan::specs::TimerElapses::timed_entry))]
+fn elapses_of_line<'a>(
+    alloc: Global,
+    setting: Setting<'a>,
+    line: &TimerLine,
+) -> Result<Elapses<'a>, AllocError>
+    requires { lacks_zone (setting_seen setting) (shown line.now) ≡ false }
+    ensures { IfOk result (λ elapses. remaining_elapses elapses
+        ≡ elapses_of_line (setting_seen setting.entry) setting.entry.now.secs (shown line.now)) }
+{
+    let Some(zone) = zone_for(setting, &line.expr) else {
+        unreachable!()
+    };
+    Elapses::new(alloc, &line.expr, zone, setting.now)
+}

@@ -1,0 +1,21 @@
+//! What `calendar-timers` answers, as data: when timers elapse next or in a range of instants, and where two of them
+//! differ.
+#![tactic(auto)]
+
+mod clock_note;
+mod clocked;
+mod elapses;
+mod idle;
+mod several;
+mod shown;
+mod skipped;
+mod when;
+
+pub use cal_compare::{Difference, NextOfAll, TimerElapse};
+pub use clock_note::{ClockChange, ClockNote};
+pub use clocked::Clocked;
+pub use elapses::elapses_of;
+pub use idle::{IdleKind, IdleLine, idle_lines};
+pub use several::{difference_of, elapses_between, next_of_timers};
+pub use skipped::clock_notes;
+pub use when::read_when;

@@ -1,0 +1,133 @@
+//! Several timers together (systemd.timer(5), OnCalendar=).
+
+ghost use Rattle.std.specs.Prelude.{◌≡◌, ◌≢◌, ◌-ℤ◌, pos, IfErr, IfOk, MatchResult, IsPermutation, IsSorted, map};
+ghost use Rattle.std.specs.Int.{int_max};
+ghost use Rattle.std.specs.Option.{option_or};
+ghost use Rattle.cal_rising.specs.Merge.{merged};
+ghost use Rattle.cal_compare.specs.Difference.{IsDifference, first_only_in};
+ghost use Rattle.cal_compare.specs.SeveralTimers.{by_instant, ended, next_of_each, range_of_each};
+ghost use Rattle.cal_plan.specs.PlanFault.{IsUnzoned};
+ghost use Rattle.cal_plan.specs.declared.plan_fault.PlanFault.TheVariants.{NoMemory};
+ghost use Rattle.cal_tasks.specs.LoadedElapses.{elapses_in, first_unzoned_line, unzoned_line};
+
+use crate::clocked::Clocked;
+use crate::elapses::merge_of_timer;
+use cal_compare::{
+    Difference, NextOfAll, TimerElapse, base_before, between, first_only, next_of_all,
+};
+use cal_elapse::Elapses;
+use cal_load::LoadedTimer;
+use cal_plan::PlanFault;
+use cal_rising::Merge;
+use cal_zone::Instant;
+use std::alloc::Global;
+
+/// Returns the next elapse of each timer after the present, soonest first, and the timers that don't elapse any more.
+///
+/// Fails with [`PlanFault::NoSuchZone`] if an expression or an exception of a timer names a zone that wasn't loaded for
+/// this timer, and with [`PlanFault::NoMemory`] if allocation fails.
+pub fn next_of_timers(
+    alloc: Global,
+    at: Clocked<'_>,
+    timers: &[LoadedTimer],
+) -> Result<NextOfAll, PlanFault>
+    ensures sorted { IfOk result (λ next. IsSorted by_instant next.soonest.items) }
+    ensures soonest { IfOk result (λ next.
+        IsPermutation (next_of_each (map (elapses_in at.entry at.entry.now.secs) timers.now)) next.soonest.items) }
+    ensures never { IfOk result (λ next.
+        next.never.items ≡ ended (map (elapses_in at.entry at.entry.now.secs) timers.now)) }
+    ensures fault { IfErr result (λ fault. fault ≢ NoMemory
+        → IsUnzoned (first_unzoned_line at.entry timers.now) fault) }
+{
+    let mut merges = merges_of(alloc, at, at.now, timers)?;
+    Ok(next_of_all(alloc, merges.as_mut_slice())?)
+}
+
+/// Returns the elapses of all timers from `from` on (included) and before `before`, in increasing order, each with the
+/// index of its timer. At the same instant, timers are in the order given.
+///
+/// If `from` is 1970-01-01 00:00:00 UTC, the elapses at this instant are missing. The errors are those of
+/// [`next_of_timers`].
+pub fn elapses_between(
+    alloc: Global,
+    at: Clocked<'_>,
+    from: Instant,
+    before: Instant,
+    timers: &[LoadedTimer],
+) -> Result<Vec<TimerElapse>, PlanFault>
+    ensures sorted { IfOk result (λ found. IsSorted by_instant found.items) }
+    ensures all { IfOk result (λ found. IsPermutation
+        (range_of_each from.secs before.secs
+        (map (elapses_in at.entry (int_max (from.secs -ℤ pos 1) (pos 0))) timers.now))
+        found.items) }
+    ensures fault { IfErr result (λ fault. fault ≢ NoMemory
+        → IsUnzoned (first_unzoned_line at.entry timers.now) fault) }
+{
+    let mut merges = merges_of(alloc, at, base_before(from), timers)?;
+    Ok(between(alloc, merges.as_mut_slice(), from, before)?)
+}
+
+/// Returns where the elapses of two timers after the present, through 2199, differ.
+///
+/// All elapses before the difference are computed. This takes longest if the timers are equal: then all their elapses
+/// through 2199 are computed, once for each field of the result. The errors are those of [`next_of_timers`].
+pub fn difference_of(
+    alloc: Global,
+    at: Clocked<'_>,
+    one: &LoadedTimer,
+    other: &LoadedTimer,
+) -> Result<Difference, PlanFault>
+    ensures { MatchResult result
+        (IsDifference (elapses_in at.entry at.entry.now.secs one.now) (elapses_in at.entry at.entry.now.secs other.now))
+        (λ fault. fault ≢ NoMemory
+        → IsUnzoned (option_or (unzoned_line at.entry one.now) (unzoned_line at.entry other.now)) fault) }
+{
+    let only_one = first_only_of(alloc, at, one, other)?;
+    // The zones of both timers are known now, so this can only fail if allocation does.
+    let Ok(only_other) = first_only_of(alloc, at, other, one) else {
+        return Err(PlanFault::NoMemory);
+    };
+    Ok(Difference {
+        only_one,
+        only_other,
+    })
+}
+
+/// Returns the first instant after the present at which the timer `one` elapses and the timer `other` doesn't.
+fn first_only_of(
+    alloc: Global,
+    at: Clocked<'_>,
+    one: &LoadedTimer,
+    other: &LoadedTimer,
+) -> Result<Option<i64>, PlanFault>
+    ensures { MatchResult result
+        (λ first. first ≡ first_only_in
+        (elapses_in at.entry at.entry.now.secs one.now)
+        (elapses_in at.entry at.entry.now.secs other.now))
+        (λ fault. fault ≢ NoMemory
+        → IsUnzoned (option_or (unzoned_line at.entry one.now) (unzoned_line at.entry other.now)) fault) }
+{
+    let these = merge_of_timer(alloc, at, at.now, one)?;
+    let those = merge_of_timer(alloc, at, at.now, other)?;
+    Ok(first_only(alloc, these, those)?)
+}
+
+/// Creates the iterators over the elapses of timers after `base`.
+fn merges_of<'a>(
+    alloc: Global,
+    at: Clocked<'a>,
+    base: Instant,
+    timers: &'a [LoadedTimer],
+) -> Result<Vec<Merge<Elapses<'a>>>, PlanFault>
+    ensures { MatchResult result
+        (λ merges. map merged merges.items ≡ map (elapses_in at.entry base.secs) timers.now)
+        (λ fault. fault ≢ NoMemory → IsUnzoned (first_unzoned_line at.entry timers.now) fault) }
+{
+    let mut merges = Vec::new(alloc);
+    for timer in timers {
+        let merge = merge_of_timer(alloc, at, base, timer)?;
+        merges.reserve(1)?;
+        merges.push_reserved(merge);
+    }
+    Ok(merges)
+}

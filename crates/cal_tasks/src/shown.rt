@@ -1,0 +1,16 @@
+//! What a zone's clock shows.
+
+ghost use Rattle.std.specs.Prelude.{◌≡◌, pos, neg_ℤ};
+ghost use Rattle.jiff.specs.Words.{IsBetween};
+ghost use Rattle.cal_civil.specs.headline.Local.{max_offset};
+ghost use Rattle.cal_zone.specs.headline.Zone.{local_shown_at, zone_of};
+
+use cal_zone::{Instant, Zone, civil};
+
+/// Returns the local second that the zone's clock shows at `instant`.
+pub(crate) fn local_shown(zone: Zone<'_>, instant: Instant) -> i64
+    ensures value { result ≡ local_shown_at (zone_of zone.entry) instant.secs }
+    ensures range { IsBetween (neg_ℤ (pos max_offset)) (pos 7_258_305_597) result }
+{
+    instant.secs() + i64::from(civil(zone, instant).offset)
+}

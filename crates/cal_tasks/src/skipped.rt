@@ -1,0 +1,198 @@
+//! The search for local times that a clock change skips or repeats (systemd.time(7), Calendar Events).
+
+ghost use Rattle.std.specs.Prelude.{◌≡◌, ◌≤◌, ◌≤ℤ◌, pos, IfOk, IfSome, OnOk, Some, length, map, true};
+ghost use Rattle.cal_civil.specs.headline.Local.{seconds_in_all};
+ghost use Rattle.std.specs.List.{All};
+ghost use Rattle.cal_civil.specs.Local.{IsLocalSecond};
+ghost use Rattle.cal_elapse.specs.Masks.{sets_in};
+ghost use Rattle.cal_timer.specs.TimerView.{shown};
+ghost use Rattle.cal_zone.specs.Setting.{setting_seen};
+ghost use Rattle.cal_zone.specs.headline.Place.{place_of};
+ghost use Rattle.cal_zone.specs.headline.Zone.{zone_of};
+ghost use Rattle.cal_tasks.specs.ClockNotes.{AddsNotesOf, IsChange, IsMatch, IsNoteAmong, IsRepeated, max_notes};
+ghost use Rattle.cal_tasks.specs.LoadedElapses.{lists_of_loaded, setting_for};
+
+use crate::clock_note::{ClockChange, ClockNote};
+use crate::clocked::Clocked;
+use crate::elapses::setting_for;
+use crate::shown::local_shown;
+use cal_civil::{DAY, LOCAL_END, second_of_day};
+use cal_elapse::{Masks, next_local};
+use cal_load::LoadedTimer;
+use cal_plan::{PlanFault, zone_for};
+use cal_spec::Expr;
+use cal_timer::TimerLine;
+use cal_zone::{Instant, PlaceCache, Setting, Zone, civil};
+use std::alloc::{AllocError, Global};
+
+/// The maximum number of notes of a timer.
+const MAX_NOTES: usize = 16;
+
+/// The maximum number of local times that are examined for each expression.
+const MAX_MATCHES: u32 = 10_000;
+
+/// Returns the local times of a timer's expressions that a clock change skips or repeats: each once, earliest first,
+/// and at most 16 of them.
+///
+/// The local times are those from the beginning of the present day to one day after the last of `elapses`, both on the
+/// clock of the expression's zone, or to one day after the present if `elapses` is empty. Of each expression, the first
+/// 10,000 are examined. A local time that the clock shows twice is only found if the UTC offset at its second
+/// occurrence is still the offset one day after its first occurrence.
+///
+/// Fails with [`PlanFault::NoSuchZone`] if an expression names a zone that wasn't loaded, and with
+/// [`PlanFault::NoMemory`] if allocation fails.
+pub fn clock_notes(
+    alloc: Global,
+    at: Clocked<'_>,
+    timer: &LoadedTimer,
+    elapses: &[i64],
+) -> Result<Vec<ClockNote>, PlanFault>
+    ensures notes { IfOk result (λ notes. All
+        (IsNoteAmong (setting_for at.entry timer.now) (lists_of_loaded timer.now.calendar).expressions)
+        notes.items) }
+    ensures few { IfOk result (λ notes. length notes.items ≤ max_notes) }
+{
+    let last = last_instant(at.now, elapses);
+    let mut notes = notes_of_lines(alloc, setting_for(at, timer), timer.lines(), last)?;
+    notes.sort_unstable();
+    notes.dedup();
+    notes.truncate(MAX_NOTES);
+    Ok(notes)
+}
+
+/// Returns the last of these elapses, or the present if there are none.
+fn last_instant(now: Instant, elapses: &[i64]) -> Instant {
+    match elapses {
+        [.., last] => Instant::new(*last).unwrap_or(now),
+        [] => now,
+    }
+}
+
+/// Returns the local times of each expression that a clock change skips or repeats, expression by expression.
+fn notes_of_lines(
+    alloc: Global,
+    setting: Setting<'_>,
+    lines: &[TimerLine],
+    last: Instant,
+) -> Result<Vec<ClockNote>, PlanFault>
+    ensures { IfOk result (λ notes.
+        All (IsNoteAmong (setting_seen setting.entry) (map shown lines.now)) notes.items) }
+{
+    let mut notes = Vec::new(alloc);
+    for line in lines {
+        let Some(zone) = zone_for(setting, &line.expr) else {
+            return Err(PlanFault::NoSuchZone(line.number));
+        };
+        // A search would find nothing here, but not as fast.
+        if zone.is_utc() || line.expr.zone_offset().is_some() {
+            continue;
+        }
+        add_notes(&mut notes, &line.expr, zone, setting.now, last)?;
+    }
+    Ok(notes)
+}
+
+/// Appends the local times of an expression that a clock change in the zone skips or repeats, from the day of `now` to
+/// one day after `last`.
+fn add_notes(
+    notes: &mut Vec<ClockNote>,
+    expr: &Expr,
+    zone: Zone<'_>,
+    now: Instant,
+    last: Instant,
+) -> Result<(), AllocError>
+    ensures { OnOk result (AddsNotesOf (zone_of zone.entry) expr.now notes.old.items notes.new.items) }
+{
+    let masks = Masks::of(expr);
+    let end = local_shown(zone, last) + DAY;
+    let mut cache = PlaceCache::new(zone);
+    let mut found = first_match(&masks, start_of_day(local_shown(zone, now)));
+    for _ in 0..MAX_MATCHES {
+        let Some(local) = found else {
+            return Ok(());
+        };
+        if end < local {
+            return Ok(());
+        }
+        found = match_after(&masks, local);
+        let Some(change) = change_at(&mut cache, local) else {
+            continue;
+        };
+        notes.push(ClockNote { local, change })?;
+    }
+    Ok(())
+}
+
+/// Returns the first match at or after `from`.
+#[tactic(auto, using(cal_civil::proofs::LocalLemmas::local_arith))]
+fn first_match(masks: &Masks, from: i64) -> Option<i64>
+    requires low { pos 0 ≤ℤ from }
+    requires high { from ≤ℤ pos seconds_in_all }
+    ensures { IfSome result (IsMatch (sets_in masks.now)) }
+{
+    next_local(masks, from).local
+}
+
+/// Returns the first match after `local`.
+#[tactic(auto, using(cal_civil::proofs::LocalLemmas::local_arith))]
+fn match_after(masks: &Masks, local: i64) -> Option<i64>
+    requires { IsLocalSecond local }
+    ensures { IfSome result (IsMatch (sets_in masks.now)) }
+{
+    first_match(masks, local + 1)
+}
+
+/// Returns the first local second of the day of `local`. Returns 0 if `local` is negative, and the end of the range of
+/// local seconds if it is after 2199.
+#[tactic(auto, using(cal_civil::proofs::LocalLemmas::local_arith))]
+fn start_of_day(local: i64) -> i64
+    ensures low { pos 0 ≤ℤ result }
+    ensures high { result ≤ℤ pos seconds_in_all }
+{
+    if local < 0 {
+        return 0;
+    }
+    if local >= LOCAL_END {
+        return LOCAL_END;
+    }
+    local - i64::from(second_of_day(local))
+}
+
+/// Returns what a clock change does to `local`, if it does anything.
+fn change_at(cache: &mut PlaceCache<'_>, local: i64) -> Option<ClockChange>
+    requires { IsLocalSecond local }
+    ensures change { IfSome result (IsChange (zone_of cache.old) local) }
+    ensures zone { cache.new ≡ cache.old }
+{
+    // Most local seconds are far from any clock change and need no conversion.
+    if cache.offset_over(local, local + DAY).is_some() {
+        return None;
+    }
+    let Some(first) = cache.place(local) else {
+        return Some(ClockChange::Skipped);
+    };
+    if is_shown_again(cache.zone(), local, first) {
+        Some(ClockChange::Repeated)
+    } else {
+        None
+    }
+}
+
+/// Returns whether the clock shows `local` again after `first`, its place, at the UTC offset that the zone has one day
+/// after `first`.
+fn is_shown_again(zone: Zone<'_>, local: i64, first: i64) -> bool
+    requires local { IsLocalSecond local }
+    requires first { place_of (zone_of zone) local ≡ Some first }
+    ensures { result ≡ true → IsRepeated (zone_of zone.entry) local }
+{
+    let Some(next_day) = Instant::new(first.saturating_add(DAY)) else {
+        return false;
+    };
+    let Some(second) = Instant::new(local - i64::from(civil(zone, next_day).offset)) else {
+        return false;
+    };
+    if second.secs() <= first {
+        return false;
+    }
+    local_shown(zone, second) == local
+}
