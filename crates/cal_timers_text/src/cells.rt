@@ -1,0 +1,76 @@
+//! Pieces of lines: text without control characters, padded or cut to a width.
+
+ghost use Rattle.std.specs.Prelude.{◌≡◌, ◌++◌, OnOk, length, string_bytes, true};
+ghost use Rattle.std.specs.Char.{is_control};
+ghost use Rattle.std.specs.Str.{chars};
+ghost use Rattle.cal_timers_text.specs.Shown.{code_text, shown};
+
+use std::alloc::AllocError;
+
+/// Appends a text. Each control character in it is printed as `\x` and its code in two hexadecimal digits.
+pub(crate) fn push_shown(out: &mut String, text: &str) -> Result<(), AllocError>
+    ensures { OnOk result (string_bytes out.new ≡ string_bytes out.old ++ shown text.now) }
+{
+    for sign in text.chars() {
+        if sign.is_control() {
+            push_code(out, sign)?;
+        } else {
+            out.push(sign)?;
+        }
+    }
+    Ok(())
+}
+
+fn push_code(out: &mut String, sign: char) -> Result<(), AllocError>
+    requires { is_control sign ≡ true }
+    ensures { OnOk result (string_bytes out.new ≡ string_bytes out.old ++ code_text sign) }
+{
+    let code = u32::from(sign);
+    write!(out, "\\x{code:02x}")
+}
+
+/// Returns how many characters [`push_shown`] appends for this text.
+pub(crate) fn shown_width(text: &str) -> usize {
+    let mut width: usize = 0;
+    for sign in text.chars() {
+        width = width.saturating_add(if sign.is_control() { 4 } else { 1 });
+    }
+    width
+}
+
+/// Returns the number of characters of a text.
+pub(crate) fn width_of(text: &str) -> usize
+    ensures { result ≡ length (chars text.now) }
+{
+    text.chars().count()
+}
+
+/// Appends a text and at least one blank, so that they fill `width` characters if the text is short enough.
+pub(crate) fn push_padded(out: &mut String, text: &str, width: usize) -> Result<(), AllocError> {
+    out.push_str(text)?;
+    push_blanks(out, width.saturating_sub(width_of(text)).max(1))
+}
+
+pub(crate) fn push_blanks(out: &mut String, count: usize) -> Result<(), AllocError> {
+    push_times(out, ' ', count)
+}
+
+/// Appends a character `count` times.
+pub(crate) fn push_times(out: &mut String, sign: char, count: usize) -> Result<(), AllocError> {
+    for _ in 0..count {
+        out.push(sign)?;
+    }
+    Ok(())
+}
+
+/// Appends a text if it has at most `width` characters. Otherwise appends its first characters and `…`, which are
+/// `width` characters together, or only `…` if `width` is 0.
+pub(crate) fn push_cut(out: &mut String, text: &str, width: usize) -> Result<(), AllocError> {
+    if width_of(text) <= width {
+        return out.push_str(text);
+    }
+    for sign in text.chars().take(width.saturating_sub(1)) {
+        out.push(sign)?;
+    }
+    out.push('…')
+}

@@ -1,0 +1,92 @@
+//! The elapses of several timers in a range, and where two timers differ.
+
+use crate::cells::{push_blanks, push_shown};
+use crate::times::{instant_width, push_instant};
+use cal_load::LoadedTimer;
+use cal_tasks::{Difference, TimerElapse};
+use cal_zone::{InstantFormatter, Zone};
+use std::alloc::{AllocError, Global};
+
+/// Returns a line for each elapse: its instant and the name of its timer. Without elapses, returns an empty text.
+pub fn between_text(
+    alloc: Global,
+    local: Zone<'_>,
+    timers: &[LoadedTimer],
+    elapses: &[TimerElapse],
+) -> Result<String, AllocError> {
+    let mut out = String::new(alloc);
+    let mut formatter = InstantFormatter::new(local);
+    let width = widest(&mut formatter, elapses);
+    for elapse in elapses {
+        if let Some(timer) = timers.get(elapse.timer) {
+            push_elapse(
+                &mut out,
+                &mut formatter,
+                width,
+                elapse.secs,
+                timer.name.as_str(),
+            )?;
+        }
+    }
+    Ok(out)
+}
+
+/// Returns the width of the widest of these instants.
+fn widest(formatter: &mut InstantFormatter<'_>, elapses: &[TimerElapse]) -> usize {
+    let mut width = 0;
+    for elapse in elapses {
+        width = instant_width(formatter, elapse.secs).max(width);
+    }
+    width
+}
+
+/// Appends an instant, padded to `width` characters, and a name.
+fn push_elapse(
+    out: &mut String,
+    formatter: &mut InstantFormatter<'_>,
+    width: usize,
+    secs: i64,
+    name: &str,
+) -> Result<(), AllocError> {
+    let own_width = instant_width(formatter, secs);
+    push_instant(out, formatter, secs)?;
+    push_blanks(out, width.saturating_sub(own_width).saturating_add(2))?;
+    push_shown(out, name)?;
+    out.push('\n')
+}
+
+/// Returns where two timers differ: a line for each timer that elapses when the other doesn't, with the first such
+/// instant. If they don't differ, returns the line `same`.
+pub fn same_text(
+    alloc: Global,
+    local: Zone<'_>,
+    one: &str,
+    other: &str,
+    difference: Difference,
+) -> Result<String, AllocError> {
+    let mut out = String::new(alloc);
+    let mut formatter = InstantFormatter::new(local);
+    push_only(&mut out, &mut formatter, one, difference.only_one)?;
+    push_only(&mut out, &mut formatter, other, difference.only_other)?;
+    if out.is_empty() {
+        out.push_str("same\n")?;
+    }
+    Ok(out)
+}
+
+/// Appends a line with the first instant at which only the timer with this name elapses, if there is such an instant.
+fn push_only(
+    out: &mut String,
+    formatter: &mut InstantFormatter<'_>,
+    name: &str,
+    only: Option<i64>,
+) -> Result<(), AllocError> {
+    let Some(secs) = only else {
+        return Ok(());
+    };
+    out.push_str("only ")?;
+    push_shown(out, name)?;
+    out.push_str(": ")?;
+    push_instant(out, formatter, secs)?;
+    out.push('\n')
+}

@@ -1,0 +1,145 @@
+//! Error lines: why timers and zones can't be loaded.
+
+use crate::cells::push_shown;
+use cal_load::{TargetFault, TargetReason};
+use cal_machine_zones::{FileReason, Origin, ZonesFault};
+use cal_timer::TimerFault;
+use cal_units::Reason;
+use std::alloc::{AllocError, Global};
+
+/// Returns why a timer can't be loaded, without a line feed: what the user named, or the path and the line at fault,
+/// and the message.
+pub fn fault_text(alloc: Global, fault: &TargetFault) -> Result<String, AllocError> {
+    let mut out = String::new(alloc);
+    let target = fault.target.as_str();
+    match &fault.reason {
+        TargetReason::NotFound => push_fault(&mut out, target, not_found_words(target)),
+        TargetReason::Template => push_fault(&mut out, target, "a template needs an instance"),
+        TargetReason::Path(path, reason) => push_fault(
+            &mut out,
+            path.as_str(),
+            reason_words(*reason),
+        ),
+        TargetReason::NotUtf8(path) => push_fault(&mut out, path.as_str(), "not UTF-8"),
+        TargetReason::Line(path, line, fault) => push_line_fault(
+            &mut out,
+            path.as_str(),
+            *line,
+            fault,
+        ),
+        TargetReason::NothingToDo => push_fault(&mut out, target, "no setting starts its unit"),
+        TargetReason::Zone(path, line, zone, reason) => push_zone_line(
+            &mut out,
+            path.as_str(),
+            *line,
+            zone.as_str(),
+            *reason,
+        ),
+        TargetReason::Expression(fault) => push_fault(&mut out, target, fault.words()),
+        TargetReason::ExpressionZone(zone, reason) => push_expression_zone(
+            &mut out,
+            target,
+            zone.as_str(),
+            *reason,
+        ),
+    }?;
+    Ok(out)
+}
+
+/// Returns why the local zone can't be used, without a line feed.
+pub fn zones_text(alloc: Global, fault: &ZonesFault) -> Result<String, AllocError> {
+    let mut out = String::new(alloc);
+    match fault {
+        ZonesFault::Unclear(origin) => push_fault(&mut out, origin_name(*origin), "not a zone"),
+        ZonesFault::Unread(origin) => push_fault(&mut out, origin_name(*origin), "cannot be read"),
+        ZonesFault::At(zone, reason) => push_zone_fault(&mut out, zone.as_str(), *reason),
+        ZonesFault::NoMemory => out.push_str("out of memory"),
+    }?;
+    Ok(out)
+}
+
+fn origin_name(origin: Origin) -> &'static str {
+    match origin {
+        Origin::Argument => "--zone",
+        Origin::Variable => "TZ",
+        Origin::Link => "/etc/localtime",
+    }
+}
+
+/// Returns what to say if nothing is found for this target: a path, which contains a slash, or the name of a unit.
+fn not_found_words(target: &str) -> &'static str {
+    if target.as_bytes().contains(&b'/') {
+        "no such file or folder"
+    } else {
+        "no such timer"
+    }
+}
+
+/// Returns why the path of a unit can't be used.
+fn reason_words(reason: Reason) -> &'static str {
+    match reason {
+        Reason::ReadFailed => "cannot be read",
+        Reason::NotUtf8 => "a link to a path that is not UTF-8",
+        Reason::IsFolder => "is a folder",
+        Reason::Vanished => "no such file",
+        Reason::TooLarge => "larger than 1048576 bytes",
+        Reason::TooMany => "more than 10000 drop-ins",
+        Reason::TooManyLinks => "more than 8 links from unit to unit",
+    }
+}
+
+/// Appends what is at fault, and the message.
+fn push_fault(out: &mut String, subject: &str, message: &str) -> Result<(), AllocError> {
+    push_shown(out, subject)?;
+    out.push_str(": ")?;
+    out.push_str(message)
+}
+
+fn push_line_fault(
+    out: &mut String,
+    path: &str,
+    line: u32,
+    fault: &TimerFault,
+) -> Result<(), AllocError> {
+    push_line(out, path, line)?;
+    out.push_str(fault.words())
+}
+
+/// Appends a path and a line, each with a colon after it.
+fn push_line(out: &mut String, path: &str, line: u32) -> Result<(), AllocError> {
+    push_shown(out, path)?;
+    write!(out, ":{line}: ")
+}
+
+fn push_zone_line(
+    out: &mut String,
+    path: &str,
+    line: u32,
+    zone: &str,
+    reason: FileReason,
+) -> Result<(), AllocError> {
+    push_line(out, path, line)?;
+    push_zone_fault(out, zone, reason)
+}
+
+fn push_expression_zone(
+    out: &mut String,
+    expression: &str,
+    zone: &str,
+    reason: FileReason,
+) -> Result<(), AllocError> {
+    push_shown(out, expression)?;
+    out.push_str(": ")?;
+    push_zone_fault(out, zone, reason)
+}
+
+/// Appends why the zone file at a path can't be used.
+fn push_zone_fault(out: &mut String, zone: &str, reason: FileReason) -> Result<(), AllocError> {
+    match reason {
+        FileReason::NotFound => {
+            out.push_str("no zone file ")?;
+            push_shown(out, zone)
+        }
+        FileReason::Load(fault) => push_fault(out, zone, fault.words()),
+    }
+}

@@ -1,0 +1,133 @@
+//! Problems of timers, with the lines that have them.
+
+use crate::cells::{push_blanks, push_shown, push_times, shown_width};
+use crate::messages::{idle_words, push_message};
+use crate::style::{Emphasis, Style};
+use cal_lint::{Finding, Kind, Problem};
+use cal_load::LoadedTimer;
+use cal_tasks::IdleLine;
+use cal_text::{first_word, trim_blanks_end};
+use cal_timer::without_mark;
+use std::alloc::{AllocError, Global};
+
+/// Returns the lines about a problem of the file at `path`, which contains `text`: the place and the message, the line
+/// of the file, a caret below the word at fault, and what to write instead if that is known. A line that is continued
+/// has no caret.
+pub fn finding_text(
+    alloc: Global,
+    path: &str,
+    text: &str,
+    finding: &Finding,
+    style: Style,
+) -> Result<String, AllocError> {
+    let mut out = String::new(alloc);
+    push_place(&mut out, path, finding.line, Some(finding.column))?;
+    push_kind(&mut out, finding.kind, style)?;
+    push_message(&mut out, finding.problem, finding.mistake)?;
+    out.push('\n')?;
+    push_excerpt(&mut out, text, finding)?;
+    Ok(out)
+}
+
+/// Returns the line about an expression or an exception that does nothing.
+pub fn idle_text(
+    alloc: Global,
+    timer: &LoadedTimer,
+    idle: IdleLine,
+    style: Style,
+) -> Result<String, AllocError> {
+    let mut out = String::new(alloc);
+    let (path, line) = timer
+        .place(idle.number)
+        .unwrap_or((timer.name.as_str(), idle.number));
+    push_place(&mut out, path, line, None)?;
+    push_kind(&mut out, Kind::Warning, style)?;
+    out.push_str(idle_words(idle.kind))?;
+    out.push('\n')?;
+    Ok(out)
+}
+
+/// Appends a path, a line and a column, each with a colon after it.
+fn push_place(
+    out: &mut String,
+    path: &str,
+    line: u32,
+    column: Option<u32>,
+) -> Result<(), AllocError> {
+    push_shown(out, path)?;
+    match column {
+        Some(column) => write!(out, ":{line}:{column}: "),
+        None => write!(out, ":{line}: "),
+    }
+}
+
+fn push_kind(out: &mut String, kind: Kind, style: Style) -> Result<(), AllocError> {
+    match kind {
+        Kind::Error => {
+            style.begin(out, Emphasis::Error)?;
+            out.push_str("error:")?;
+            style.end(out)?;
+            out.push(' ')
+        }
+        Kind::Warning => out.push_str("warning: "),
+    }
+}
+
+/// Appends the line with the problem, a line with a caret, and what to write instead.
+fn push_excerpt(out: &mut String, text: &str, finding: &Finding) -> Result<(), AllocError> {
+    let line = line_of(text, finding.line);
+    push_shown(out, line)?;
+    out.push('\n')?;
+    if let Some((before, word)) = word_at_fault(line, finding) {
+        push_caret(out, before, word)?;
+    }
+    match &finding.suggestion {
+        Some(suggestion) => push_suggestion(out, suggestion.as_str()),
+        None => Ok(()),
+    }
+}
+
+fn push_suggestion(out: &mut String, suggestion: &str) -> Result<(), AllocError> {
+    out.push_str("  write instead: ")?;
+    push_shown(out, suggestion)?;
+    out.push('\n')
+}
+
+/// Appends a line with a caret below the first character of the word, and `~` below the others.
+fn push_caret(out: &mut String, before: &str, word: &str) -> Result<(), AllocError> {
+    push_blanks(out, shown_width(before))?;
+    out.push('^')?;
+    push_times(out, '~', shown_width(word).saturating_sub(1))?;
+    out.push('\n')
+}
+
+/// Returns the physical line with this number, from 1, or an empty text if there is none.
+fn line_of(text: &str, number: u32) -> &str {
+    without_mark(text)
+        .lines()
+        .nth((number as usize).saturating_sub(1))
+        .unwrap_or("")
+}
+
+/// Returns the text before the word at fault, and the word. Returns `None` if the line is continued, so that the word
+/// isn't known.
+fn word_at_fault<'t>(line: &'t str, finding: &Finding) -> Option<(&'t str, &'t str)> {
+    let is_key = matches!(finding.problem, Problem::UnknownKey);
+    if finding.column <= 1 && !is_key {
+        return None;
+    }
+    let (before, after) = line.split_at_checked((finding.column as usize).saturating_sub(1))?;
+    if is_key {
+        Some((before, key_of(after)))
+    } else {
+        Some((before, first_word(after).map_or("", |(word, _)| word)))
+    }
+}
+
+/// Returns the key of a setting.
+fn key_of(setting: &str) -> &str {
+    match setting.split_once('=') {
+        Some((key, _)) => trim_blanks_end(key),
+        None => setting,
+    }
+}

@@ -1,0 +1,24 @@
+//! What `calendar-timers` prints for people: tables, lines and messages.
+//!
+//! Control characters in names, paths and values are printed as `\xNN`, so that they can't change the terminal. Widths
+//! count characters.
+#![tactic(auto)]
+
+mod cells;
+mod elapse_lines;
+mod fault_lines;
+mod finding_lines;
+mod list;
+mod messages;
+mod show;
+mod style;
+mod times;
+
+pub use elapse_lines::{between_text, same_text};
+pub use fault_lines::{fault_text, zones_text};
+pub use finding_lines::{finding_text, idle_text};
+pub use list::list_text;
+pub use messages::{idle_words, message_of, mistake_words};
+pub use show::show_text;
+pub use style::Style;
+pub use times::{instant_text, left_text, normal_text};

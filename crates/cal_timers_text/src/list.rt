@@ -1,0 +1,254 @@
+//! The table of timers.
+
+use crate::cells::{push_cut, push_padded, push_shown, width_of};
+use crate::style::{Emphasis, Style};
+use crate::times::{NO_INSTANT, push_instant, push_left};
+use cal_load::{Calendar, Loaded, LoadedTimer};
+use cal_tasks::{Clocked, NextOfAll, TimerElapse};
+use cal_zone::InstantFormatter;
+use std::alloc::{AllocError, Global};
+
+/// The number of blanks between columns.
+const GAP: usize = 2;
+
+/// The least width of the notes: that of `masked`, the longest note that this crate adds.
+const NOTES_WIDTH: usize = 6;
+
+/// The headings of the columns.
+const HEADINGS: [&str; 4] = ["NEXT", "LEFT", "UNIT", "NOTES"];
+
+/// A row of the table, without control characters.
+#[derive(Drop)]
+struct Row {
+    next: String,
+    left: String,
+    unit: String,
+    notes: String,
+}
+
+/// The width of each column except the notes, including the blanks after it, and the width of the terminal.
+#[derive(Clone, Copy)]
+struct Widths {
+    next: usize,
+    left: usize,
+    unit: usize,
+    terminal: usize,
+}
+
+/// Returns a table of timers: those with a next elapse, soonest first, then those that never elapse, and last those
+/// that are masked. Each row has the next elapse, how long it is until then, the unit and its notes. Notes that don't
+/// fit into the width of the terminal are cut. Without timers, returns the line `no timers`.
+pub fn list_text(
+    alloc: Global,
+    at: Clocked<'_>,
+    loaded: &Loaded,
+    next: &NextOfAll,
+    style: Style,
+) -> Result<String, AllocError> {
+    let mut rows = Vec::new(alloc);
+    push_soonest(alloc, &mut rows, at, &loaded.timers, &next.soonest)?;
+    push_never(alloc, &mut rows, &loaded.timers, &next.never)?;
+    push_masked(alloc, &mut rows, &loaded.masked)?;
+    table_text(alloc, &rows, style)
+}
+
+fn push_soonest(
+    alloc: Global,
+    rows: &mut Vec<Row>,
+    at: Clocked<'_>,
+    timers: &[LoadedTimer],
+    soonest: &[TimerElapse],
+) -> Result<(), AllocError> {
+    let mut formatter = InstantFormatter::new(at.local);
+    for elapse in soonest {
+        if let Some(timer) = timers.get(elapse.timer) {
+            let row = elapse_row(alloc, at, &mut formatter, timer, elapse.secs)?;
+            rows.push(row)?;
+        }
+    }
+    Ok(())
+}
+
+fn push_masked(alloc: Global, rows: &mut Vec<Row>, masked: &[String]) -> Result<(), AllocError> {
+    for unit in masked {
+        let row = plain_row(alloc, unit.as_str(), "masked")?;
+        rows.push(row)?;
+    }
+    Ok(())
+}
+
+fn push_never(
+    alloc: Global,
+    rows: &mut Vec<Row>,
+    timers: &[LoadedTimer],
+    never: &[usize],
+) -> Result<(), AllocError> {
+    for index in never {
+        if let Some(timer) = timers.get(*index) {
+            let row = never_row(alloc, timer)?;
+            rows.push(row)?;
+        }
+    }
+    Ok(())
+}
+
+/// Returns the row of a timer whose next elapse is at `secs`.
+fn elapse_row(
+    alloc: Global,
+    at: Clocked<'_>,
+    formatter: &mut InstantFormatter<'_>,
+    timer: &LoadedTimer,
+    secs: i64,
+) -> Result<Row, AllocError> {
+    let mut row = plain_row(alloc, timer.name.as_str(), "")?;
+    row.next = String::new(alloc);
+    row.left = String::new(alloc);
+    push_instant(&mut row.next, formatter, secs)?;
+    push_left(&mut row.left, at.now, secs)?;
+    push_notes(&mut row.notes, &timer.notes)?;
+    Ok(row)
+}
+
+/// Returns the row of a timer without a next elapse. A timer with no calendar expressions isn't said to elapse never,
+/// since its notes tell what starts it.
+fn never_row(alloc: Global, timer: &LoadedTimer) -> Result<Row, AllocError> {
+    let note = match &timer.calendar {
+        Calendar::Nothing => "",
+        _ => "never",
+    };
+    let mut row = plain_row(alloc, timer.name.as_str(), note)?;
+    push_notes(&mut row.notes, &timer.notes)?;
+    Ok(row)
+}
+
+/// Returns a row without a next elapse.
+fn plain_row(alloc: Global, unit: &str, note: &str) -> Result<Row, AllocError> {
+    let mut name = String::new(alloc);
+    push_shown(&mut name, unit)?;
+    Ok(Row {
+        next: String::from_str(alloc, NO_INSTANT)?,
+        left: String::from_str(alloc, NO_INSTANT)?,
+        unit: name,
+        notes: String::from_str(alloc, note)?,
+    })
+}
+
+/// Appends notes, with two blanks between them.
+fn push_notes(out: &mut String, notes: &[String]) -> Result<(), AllocError> {
+    for note in notes {
+        if !out.is_empty() {
+            out.push_str("  ")?;
+        }
+        push_shown(out, note.as_str())?;
+    }
+    Ok(())
+}
+
+fn table_text(alloc: Global, rows: &[Row], style: Style) -> Result<String, AllocError> {
+    let mut out = String::new(alloc);
+    if rows.is_empty() {
+        out.push_str("no timers\n")?;
+        return Ok(out);
+    }
+    let widths = widths_of(rows, style);
+    push_headings(&mut out, rows, widths, style)?;
+    push_rows(&mut out, rows, widths)?;
+    Ok(out)
+}
+
+/// Returns how wide the columns are. A column is as wide as its widest entry, but units that leave too little room for
+/// notes don't widen theirs.
+fn widths_of(rows: &[Row], style: Style) -> Widths {
+    let [next, left, unit, _] = HEADINGS;
+    let mut widths = Widths {
+        next: next.len(),
+        left: left.len(),
+        unit: unit.len(),
+        terminal: style.width,
+    };
+    for row in rows {
+        widths.next = widths.next.max(width_of(row.next.as_str()));
+        widths.left = widths.left.max(width_of(row.left.as_str()));
+    }
+    widths.next = widths.next.saturating_add(GAP);
+    widths.left = widths.left.saturating_add(GAP);
+    let most = room_for_unit(widths);
+    for row in rows {
+        let width = width_of(row.unit.as_str());
+        if width <= most {
+            widths.unit = widths.unit.max(width);
+        }
+    }
+    widths.unit = widths.unit.saturating_add(GAP);
+    widths
+}
+
+/// Returns the width of the longest unit with room for notes after it.
+fn room_for_unit(widths: Widths) -> usize {
+    widths
+        .terminal
+        .saturating_sub(widths.next)
+        .saturating_sub(widths.left)
+        .saturating_sub(GAP)
+        .saturating_sub(NOTES_WIDTH)
+}
+
+/// Appends the headings of the columns. The notes have one only if there are notes.
+fn push_headings(
+    out: &mut String,
+    rows: &[Row],
+    widths: Widths,
+    style: Style,
+) -> Result<(), AllocError> {
+    let [next, left, unit, notes] = HEADINGS;
+    let has_notes = rows.iter().any(|row| !row.notes.is_empty());
+    style.begin(out, Emphasis::Heading)?;
+    push_cells(
+        out,
+        [next, left, unit, if has_notes { notes } else { "" }],
+        widths,
+    )?;
+    style.end(out)?;
+    out.push('\n')
+}
+
+fn push_rows(out: &mut String, rows: &[Row], widths: Widths) -> Result<(), AllocError> {
+    for row in rows {
+        push_cells(
+            out,
+            [
+                row.next.as_str(),
+                row.left.as_str(),
+                row.unit.as_str(),
+                row.notes.as_str(),
+            ],
+            widths,
+        )?;
+        out.push('\n')?;
+    }
+    Ok(())
+}
+
+/// Appends a line of the table, without a line feed.
+fn push_cells(out: &mut String, cells: [&str; 4], widths: Widths) -> Result<(), AllocError> {
+    let [next, left, unit, notes] = cells;
+    push_padded(out, next, widths.next)?;
+    push_padded(out, left, widths.left)?;
+    if notes.is_empty() {
+        return out.push_str(unit);
+    }
+    let unit_width = widths.unit.max(width_of(unit).saturating_add(GAP));
+    push_padded(out, unit, unit_width)?;
+    push_cut(out, notes, room_for_notes(widths, unit_width))
+}
+
+/// Returns the width to which the notes are cut: what is left of the line if the unit and the blanks after it have
+/// `unit_width` characters, but at least [`NOTES_WIDTH`].
+fn room_for_notes(widths: Widths, unit_width: usize) -> usize {
+    widths
+        .terminal
+        .saturating_sub(widths.next)
+        .saturating_sub(widths.left)
+        .saturating_sub(unit_width)
+        .max(NOTES_WIDTH)
+}

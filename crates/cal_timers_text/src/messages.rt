@@ -1,0 +1,97 @@
+//! Messages about the settings of a timer.
+
+use cal_lint::{Doubt, Mistake, Problem, Rejection};
+use cal_tasks::IdleKind;
+use cal_timer::TimerFault;
+use std::alloc::{AllocError, Global};
+
+/// Returns the message about a problem. If the expression is invalid, the message says why: by `mistake`, which is what
+/// the expression looks like, or else by the error.
+pub fn message_of(
+    alloc: Global,
+    problem: Problem,
+    mistake: Option<Mistake>,
+) -> Result<String, AllocError> {
+    let mut message = String::new(alloc);
+    push_message(&mut message, problem, mistake)?;
+    Ok(message)
+}
+
+/// Appends the message that [`message_of`] returns.
+pub(crate) fn push_message(
+    out: &mut String,
+    problem: Problem,
+    mistake: Option<Mistake>,
+) -> Result<(), AllocError> {
+    match problem {
+        Problem::Invalid(fault) => push_invalid(out, fault, mistake),
+        Problem::UnknownKey => out.push_str("unknown key in section [Timer]"),
+        Problem::Rejected(rejection) => {
+            out.push_str("systemd 252 doesn't accept ")?;
+            out.push_str(rejection_words(rejection))
+        }
+        Problem::Doubtful(doubt) => out.push_str(doubt_words(doubt)),
+    }
+}
+
+fn push_invalid(
+    out: &mut String,
+    fault: TimerFault,
+    mistake: Option<Mistake>,
+) -> Result<(), AllocError> {
+    if matches!(fault, TimerFault::BadLine(_, _)) {
+        out.push_str("not a valid calendar expression: ")?;
+    }
+    match mistake {
+        Some(mistake) => out.push_str(mistake_words(mistake)),
+        None => out.push_str(fault.words()),
+    }
+}
+
+/// Returns what an invalid expression looks like, or what it lacks, for the end of a message.
+pub fn mistake_words(mistake: Mistake) -> &'static str {
+    match mistake {
+        Mistake::Setting => "a setting, not only its value",
+        Mistake::Comment => "a comment has to be on a line of its own",
+        Mistake::Now => "'now' is a timestamp",
+        Mistake::Span => "a time span, which belongs in a setting such as OnUnitActiveSec=",
+        Mistake::Crontab => "the fields of a crontab",
+        Mistake::TwelveHours => "hours are counted from 0 to 23, without am and pm",
+        Mistake::Point => "hours and minutes are separated by a colon",
+        Mistake::BareHour => "an hour without minutes",
+        Mistake::ShortOffset => "a UTC offset is written +hh:mm or -hh:mm",
+        Mistake::YearMonth => "a year and a month without a day",
+        Mistake::Weekday => "unknown weekday",
+        Mistake::Shorthand => "unknown shorthand",
+    }
+}
+
+/// Returns what systemd 252 doesn't accept, for the end of a message.
+fn rejection_words(rejection: Rejection) -> &'static str {
+    match rejection {
+        Rejection::Tab => "tabs in an expression",
+        Rejection::Blanks => "spaces at the start or the end of an expression, or two in a row",
+        Rejection::PastSunday => "a range of weekdays that runs past Sunday",
+        Rejection::OneSecond => "a range of seconds that ends where it starts",
+        Rejection::SecondStep => "a step above 2147 in a range of seconds",
+        Rejection::DaysFromEnd => "days so far from the end of the month",
+        Rejection::Offset => "a UTC offset as the zone",
+        Rejection::ZoneName => "a zone whose name ends in / or contains //",
+    }
+}
+
+fn doubt_words(doubt: Doubt) -> &'static str {
+    match doubt {
+        Doubt::HourRange => "this is an hour and a range of minutes, not a range of times",
+        Doubt::HourList => "this is an hour and a list of minutes, not a list of times",
+        Doubt::MonthDay => "this is a month and a day, not a range of weekdays",
+    }
+}
+
+/// Returns the message about an expression or an exception that does nothing.
+pub fn idle_words(kind: IdleKind) -> &'static str {
+    match kind {
+        IdleKind::NeverElapses => "the expression never elapses",
+        IdleKind::SuppressesNothing => "the exception suppresses none of the next 10,000 elapses",
+    }
+}

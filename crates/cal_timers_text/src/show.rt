@@ -1,0 +1,170 @@
+//! A timer in detail.
+
+use crate::cells::{push_padded, push_shown};
+use crate::style::{Emphasis, Style};
+use crate::times::{instant_width, normal_text, push_instant, push_left};
+use cal_load::{Calendar, LoadedTimer};
+use cal_tasks::{ClockChange, ClockNote, Clocked};
+use cal_timer::TimerLine;
+use cal_units::UnitText;
+use cal_zone::{Civil, Instant, InstantFormatter, Zone, civil};
+use std::alloc::{AllocError, Global};
+
+/// The width of a label, including the blanks before and after it.
+const LABEL_WIDTH: usize = 13;
+
+/// Returns the name of a timer, its files, its expressions and exceptions in normal form, the other settings that start
+/// or delay its unit, its next elapses, and the local times that clock changes skip or repeat. Each has lines of its
+/// own.
+pub fn show_text(
+    alloc: Global,
+    at: Clocked<'_>,
+    timer: &LoadedTimer,
+    elapses: &[i64],
+    notes: &[ClockNote],
+    style: Style,
+) -> Result<String, AllocError> {
+    let mut out = String::new(alloc);
+    push_name(&mut out, timer.name.as_str(), style)?;
+    push_settings(alloc, &mut out, timer)?;
+    if !matches!(timer.calendar, Calendar::Nothing) {
+        push_elapses(&mut out, at, elapses)?;
+    }
+    push_clock_notes(&mut out, notes)?;
+    Ok(out)
+}
+
+fn push_name(out: &mut String, name: &str, style: Style) -> Result<(), AllocError> {
+    style.begin(out, Emphasis::Heading)?;
+    push_shown(out, name)?;
+    style.end(out)?;
+    out.push('\n')
+}
+
+fn push_settings(alloc: Global, out: &mut String, timer: &LoadedTimer) -> Result<(), AllocError> {
+    push_files(out, &timer.files)?;
+    push_lines(alloc, out, "  Calendar:", timer.lines())?;
+    push_lines(alloc, out, "  Except:", timer.exceptions())?;
+    push_also(out, &timer.notes)
+}
+
+fn push_files(out: &mut String, files: &[UnitText]) -> Result<(), AllocError> {
+    let mut label = "  File:";
+    for file in files {
+        push_field(out, label, file.path.as_str())?;
+        label = "";
+    }
+    Ok(())
+}
+
+fn push_lines(
+    alloc: Global,
+    out: &mut String,
+    first_label: &str,
+    lines: &[TimerLine],
+) -> Result<(), AllocError> {
+    let mut label = first_label;
+    for line in lines {
+        let normal = normal_text(alloc, &line.expr)?;
+        push_field(out, label, normal.as_str())?;
+        label = "";
+    }
+    Ok(())
+}
+
+fn push_also(out: &mut String, notes: &[String]) -> Result<(), AllocError> {
+    let mut label = "  Also:";
+    for note in notes {
+        push_field(out, label, note.as_str())?;
+        label = "";
+    }
+    Ok(())
+}
+
+/// Appends a line of a label, which may be empty, and a value.
+fn push_field(out: &mut String, label: &str, value: &str) -> Result<(), AllocError> {
+    push_padded(out, label, LABEL_WIDTH)?;
+    push_shown(out, value)?;
+    out.push('\n')
+}
+
+fn push_elapses(out: &mut String, at: Clocked<'_>, elapses: &[i64]) -> Result<(), AllocError> {
+    let mut label = "  Next:";
+    if elapses.is_empty() {
+        return push_field(out, label, "never");
+    }
+    let mut formatter = InstantFormatter::new(at.local);
+    let width = widest(&mut formatter, elapses);
+    for secs in elapses {
+        push_padded(out, label, LABEL_WIDTH)?;
+        push_elapse(out, &mut formatter, width, at.now, *secs)?;
+        label = "";
+    }
+    Ok(())
+}
+
+/// Returns the width of the widest of these instants.
+fn widest(formatter: &mut InstantFormatter<'_>, elapses: &[i64]) -> usize {
+    let mut width = 0;
+    for secs in elapses {
+        width = instant_width(formatter, *secs).max(width);
+    }
+    width
+}
+
+/// Appends an instant, padded to `width` characters, and how long it is until then.
+fn push_elapse(
+    out: &mut String,
+    formatter: &mut InstantFormatter<'_>,
+    width: usize,
+    now: Instant,
+    secs: i64,
+) -> Result<(), AllocError> {
+    let own_width = instant_width(formatter, secs);
+    push_instant(out, formatter, secs)?;
+    push_padded(out, "", width.saturating_sub(own_width).saturating_add(2))?;
+    if secs > now.secs() {
+        out.push_str("in ")?;
+    }
+    push_left(out, now, secs)?;
+    out.push('\n')
+}
+
+fn push_clock_notes(out: &mut String, notes: &[ClockNote]) -> Result<(), AllocError> {
+    let mut label = "  Clock:";
+    for note in notes {
+        push_padded(out, label, LABEL_WIDTH)?;
+        push_clock_note(out, note)?;
+        label = "";
+    }
+    Ok(())
+}
+
+/// Appends what a clock change does to a local time, and a line feed. A local time that clocks never show is printed
+/// as that of a clock in UTC, which shows all of them.
+fn push_clock_note(out: &mut String, note: &ClockNote) -> Result<(), AllocError> {
+    let Some(instant) = Instant::new(note.local) else {
+        return out.push('\n');
+    };
+    let shown = civil(Zone::utc(), instant);
+    push_time(out, &shown)?;
+    match note.change {
+        ClockChange::Skipped => out.push_str(" is skipped on ")?,
+        ClockChange::Repeated => out.push_str(" occurs twice on ")?,
+    }
+    push_date(out, &shown)?;
+    match note.change {
+        ClockChange::Skipped => out.push('\n'),
+        ClockChange::Repeated => out.push_str("; the first counts\n"),
+    }
+}
+
+fn push_time(out: &mut String, shown: &Civil) -> Result<(), AllocError> {
+    let (hour, minute, second) = (shown.hour, shown.minute, shown.second);
+    write!(out, "{hour:02}:{minute:02}:{second:02}")
+}
+
+fn push_date(out: &mut String, shown: &Civil) -> Result<(), AllocError> {
+    let (year, month, day) = (shown.year, shown.month, shown.day);
+    write!(out, "{year}-{month:02}-{day:02}")
+}

@@ -1,0 +1,91 @@
+//! Timers in memory, and the present.
+
+use cal_load::{Calendar, LoadedTimer};
+use cal_streams::Port;
+use cal_tasks::Clocked;
+use cal_timer::read_timer;
+use cal_units::UnitText;
+use cal_zone::{Instant, Zone, ZoneTable};
+use std::alloc::{AllocError, Global};
+use std::test::Fail;
+
+/// 2026-11-26 19:48:00 UTC.
+pub const NOW: i64 = 1_795_722_480;
+
+/// The day after [`NOW`], 00:00:00 UTC: 4 h 12 min later.
+pub const MIDNIGHT: i64 = 1_795_737_600;
+
+/// A timer whose calendar expressions are those of a timer file. Without any, it has no calendar expressions.
+#[derive(Clone, Copy, Debug)]
+pub struct Made<'a> {
+    pub name: &'a str,
+    pub text: &'a str,
+    pub paths: &'a [&'a str],
+    pub notes: &'a [&'a str],
+}
+
+impl Made<'_> {
+    /// Returns the timer. Each of its files has 3 lines.
+    pub fn timer(&self, alloc: Global) -> Result<LoadedTimer, Fail> {
+        let calendar = calendar_of(alloc, self.text)?;
+        Ok(LoadedTimer {
+            name: String::from_str(alloc, self.name)?,
+            files: files_of(alloc, self.paths)?,
+            first_lines: vec![in alloc; 1, 4, 7]?,
+            calendar,
+            zones: ZoneTable::new(alloc),
+            notes: strings(alloc, self.notes)?,
+        })
+    }
+}
+
+fn calendar_of(alloc: Global, text: &str) -> Result<Calendar, Fail> {
+    if text.is_empty() {
+        return Ok(Calendar::Nothing);
+    }
+    match read_timer(alloc, &mut Port::new(text.as_bytes())) {
+        Ok(timer) => Ok(Calendar::Timer(timer)),
+        Err(fault) => Err(fault.into()),
+    }
+}
+
+fn files_of(alloc: Global, paths: &[&str]) -> Result<Vec<UnitText>, AllocError> {
+    let mut files = Vec::new(alloc);
+    for path in paths {
+        files.push(UnitText {
+            path: String::from_str(alloc, path)?,
+            bytes: Vec::new(alloc),
+        })?;
+    }
+    Ok(files)
+}
+
+/// Copies texts.
+pub fn strings(alloc: Global, texts: &[&str]) -> Result<Vec<String>, AllocError> {
+    let mut copies = Vec::new(alloc);
+    for text in texts {
+        copies.push(String::from_str(alloc, text)?)?;
+    }
+    Ok(copies)
+}
+
+/// Copies timers.
+pub fn timers(alloc: Global, made: &[Made<'_>]) -> Result<Vec<LoadedTimer>, Fail> {
+    let mut timers = Vec::new(alloc);
+    for timer in made {
+        let timer = timer.timer(alloc)?;
+        timers.push(timer)?;
+    }
+    Ok(timers)
+}
+
+/// Returns [`NOW`] in UTC.
+pub fn now() -> Result<Clocked<'static>, Fail> {
+    match Instant::new(NOW) {
+        Some(now) => Ok(Clocked {
+            now,
+            local: Zone::utc(),
+        }),
+        None => Err("NOW".into()),
+    }
+}
