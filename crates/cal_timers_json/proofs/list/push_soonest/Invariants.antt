@@ -1,0 +1,8 @@
+use Rattle.std.proofs.Common.{◌≡◌, ◌++◌, Some, map, take}
+use Rattle.cal_timers_json.proofs.list.push_soonest.Given as goal
+
+-- the rows so far are those of the elapses before the loop's index
+abbrev pub invariant-loop-elapse : goal.invariant-loop-elapse
+invariant-loop-elapse l =
+    map (λ row. row.unix) l.rows.items
+    ≡ map (λ row. row.unix) l.fn.rows.items ++ map (λ elapse. Some elapse.secs) (take l.elapse-index l.soonest)

@@ -1,0 +1,32 @@
+//! The document of `lint`: the problems of files.
+
+ghost use Rattle.std.specs.Prelude.{IfOk, string_bytes};
+ghost use Rattle.cal_timers_json.specs.Document.{IsDocument};
+
+use crate::document::document;
+use serde::Serialize;
+use std::alloc::{AllocError, Global};
+
+/// A problem of a file.
+#[derive(Clone, Copy, PartialEq, Eq, Debug, Serialize)]
+pub struct LintRow<'a> {
+    /// The path of the file.
+    pub file: &'a str,
+    /// The number of the line, from 1.
+    pub line: u32,
+    /// The byte of the line, counted from 1, at which the word at fault begins, if a word is at fault.
+    pub column: Option<u32>,
+    /// `error` or `warning`.
+    pub kind: &'a str,
+    pub message: &'a str,
+    /// What to write instead, if that is known.
+    pub suggestion: Option<&'a str>,
+}
+
+/// Returns the document of `lint`: an array with an object for each problem, in the order given. Fails only if
+/// allocation fails.
+pub fn lint_json(alloc: Global, found: &[LintRow<'_>]) -> Result<String, AllocError>
+    ensures { IfOk result (λ text. IsDocument (string_bytes text)) }
+{
+    document(alloc, &found)
+}

@@ -1,0 +1,85 @@
+//! The document of `same`: where two timers differ.
+
+ghost use Rattle.std.specs.Prelude.{◌≡◌, ◌↔◌, ◌++◌, IfOk, IsTrue, OnOk, None, map, string_bytes};
+ghost use Rattle.std.specs.Option.{option_to_list};
+ghost use Rattle.cal_timers_json.specs.Document.{IsDocument};
+
+use crate::document::document;
+use crate::texts::local_text;
+use cal_tasks::Difference;
+use cal_zone::Zone;
+use serde::Serialize;
+use std::alloc::{AllocError, Global};
+
+/// Whether two timers elapse at the same instants.
+#[derive(Drop, Serialize)]
+pub(crate) struct SameRow<'a> {
+    pub(crate) same: bool,
+    /// The first elapse of each timer at which the other doesn't elapse.
+    pub(crate) only: Vec<OnlyRow<'a>>,
+}
+
+/// An elapse of one of two timers at which the other doesn't elapse.
+#[derive(Drop, Serialize)]
+pub(crate) struct OnlyRow<'a> {
+    /// The name of the timer that elapses.
+    pub(crate) of: &'a str,
+    /// The elapse as local clocks show it.
+    pub(crate) local: String,
+    /// The elapse in seconds of Unix time.
+    pub(crate) unix: i64,
+}
+
+/// Returns the document of `same`: an object. `one` and `other` are the names of the timers. Fails only if allocation
+/// fails.
+pub fn same_json(
+    alloc: Global,
+    local: Zone<'_>,
+    one: &str,
+    other: &str,
+    difference: Difference,
+) -> Result<String, AllocError>
+    ensures { IfOk result (λ text. IsDocument (string_bytes text)) }
+{
+    let row = same_row(alloc, local, one, other, difference)?;
+    document(alloc, &row)
+}
+
+fn same_row<'a>(
+    alloc: Global,
+    local: Zone<'_>,
+    one: &'a str,
+    other: &'a str,
+    difference: Difference,
+) -> Result<SameRow<'a>, AllocError>
+    ensures same { IfOk result (λ row. IsTrue row.same
+        ↔ ((difference.only_one ≡ None) × (difference.only_other ≡ None))) }
+    ensures only { IfOk result (λ row. map (λ only. only.unix) row.only.items
+        ≡ option_to_list difference.only_one ++ option_to_list difference.only_other) }
+{
+    let mut only = Vec::new(alloc);
+    push_only(alloc, &mut only, local, one, difference.only_one)?;
+    push_only(alloc, &mut only, local, other, difference.only_other)?;
+    Ok(SameRow {
+        same: only.is_empty(),
+        only,
+    })
+}
+
+/// Appends the elapse of a timer at which the other doesn't elapse, if there is one.
+fn push_only<'a>(
+    alloc: Global,
+    rows: &mut Vec<OnlyRow<'a>>,
+    zone: Zone<'_>,
+    of: &'a str,
+    elapse: Option<i64>,
+) -> Result<(), AllocError>
+    ensures { OnOk result (map (λ only. only.unix) rows.new.items
+        ≡ map (λ only. only.unix) rows.old.items ++ option_to_list elapse) }
+{
+    if let Some(unix) = elapse {
+        let local = local_text(alloc, zone, unix)?;
+        rows.push(OnlyRow { of, local, unix })?;
+    }
+    Ok(())
+}

@@ -1,0 +1,195 @@
+//! The document of `show` and `next`: what a timer is made of, and when it elapses.
+
+ghost use Rattle.std.specs.Prelude.{◌≡◌, IfOk, map, length, string_bytes};
+ghost use Rattle.cal_spec.specs.headline.ExprText.{expr_text};
+ghost use Rattle.cal_timers_json.specs.Document.{IsDocument};
+
+use crate::document::document;
+use crate::texts::{clock_text, left_text, local_text, normal_text};
+use cal_load::LoadedTimer;
+use cal_tasks::{ClockChange, ClockNote, Clocked};
+use cal_timer::TimerLine;
+use serde::Serialize;
+use std::alloc::{AllocError, Global};
+
+/// A timer to show.
+#[derive(Clone, Copy)]
+pub struct ShownTimer<'a> {
+    pub timer: &'a LoadedTimer,
+    /// Its next elapses, in seconds of Unix time.
+    pub elapses: &'a [i64],
+    /// The local times that clock changes skip or repeat.
+    pub clock: &'a [ClockNote],
+}
+
+/// A timer.
+#[derive(Drop, Serialize)]
+pub(crate) struct ShowRow<'a> {
+    pub(crate) unit: &'a str,
+    /// The paths of the files that were read, in this order.
+    pub(crate) files: Vec<&'a str>,
+    pub(crate) expressions: Vec<LineRow<'a>>,
+    pub(crate) exceptions: Vec<LineRow<'a>>,
+    pub(crate) elapses: Vec<ElapseRow>,
+    pub(crate) notes: &'a [String],
+    pub(crate) clock: Vec<ClockRow>,
+}
+
+/// An expression or an exception.
+#[derive(Drop, Serialize)]
+pub(crate) struct LineRow<'a> {
+    /// The expression as it is written.
+    pub(crate) text: &'a str,
+    /// Its normal form.
+    pub(crate) normal: String,
+    /// The path of its file, or `None` if it was given by itself.
+    pub(crate) file: Option<&'a str>,
+    /// The number of its line there, from 1.
+    pub(crate) line: Option<u32>,
+}
+
+/// An elapse.
+#[derive(Drop, Serialize)]
+pub(crate) struct ElapseRow {
+    /// The elapse as local clocks show it.
+    pub(crate) local: String,
+    /// The elapse in seconds of Unix time.
+    pub(crate) unix: i64,
+    /// The time span until then.
+    pub(crate) left: String,
+}
+
+/// A local time that a clock change skips or repeats.
+#[derive(Drop, Serialize)]
+pub(crate) struct ClockRow {
+    pub(crate) local: String,
+    pub(crate) change: &'static str,
+}
+
+/// Returns the document of `show` and `next`: an array with an object for each timer.
+///
+/// If an expression was given by itself, the list of files is empty, and `file` and `line` are `null`. Fails only if
+/// allocation fails.
+pub fn show_json(
+    alloc: Global,
+    at: Clocked<'_>,
+    shown: &[ShownTimer<'_>],
+) -> Result<String, AllocError>
+    ensures { IfOk result (λ text. IsDocument (string_bytes text)) }
+{
+    let mut rows = Vec::new(alloc);
+    for timer in shown {
+        rows.push(show_row(alloc, at, *timer)?)?;
+    }
+    document(alloc, &rows)
+}
+
+fn show_row<'a>(
+    alloc: Global,
+    at: Clocked<'_>,
+    shown: ShownTimer<'a>,
+) -> Result<ShowRow<'a>, AllocError>
+    ensures { IfOk result (λ row. map (λ elapse. elapse.unix) row.elapses.items ≡ shown.entry.elapses.now) }
+{
+    let timer = shown.timer;
+    Ok(ShowRow {
+        unit: timer.name.as_str(),
+        files: paths_of(alloc, timer)?,
+        expressions: line_rows(alloc, timer, timer.lines())?,
+        exceptions: line_rows(alloc, timer, timer.exceptions())?,
+        elapses: elapse_rows(alloc, at, shown.elapses)?,
+        notes: timer.notes.as_slice(),
+        clock: clock_rows(alloc, shown.clock)?,
+    })
+}
+
+fn paths_of<'a>(alloc: Global, timer: &'a LoadedTimer) -> Result<Vec<&'a str>, AllocError> {
+    let mut paths = Vec::new(alloc);
+    for file in &timer.files {
+        paths.push(file.path.as_str())?;
+    }
+    Ok(paths)
+}
+
+/// Returns a row for each expression or exception of a timer.
+fn line_rows<'a>(
+    alloc: Global,
+    timer: &'a LoadedTimer,
+    lines: &'a [TimerLine],
+) -> Result<Vec<LineRow<'a>>, AllocError>
+    ensures { IfOk result (λ rows. map (λ row. string_bytes row.normal) rows.items
+        ≡ map (λ line. expr_text line.expr) lines.now) }
+{
+    let mut rows = Vec::new(alloc);
+    for line in lines {
+        rows.push(line_row(alloc, timer, line)?)?;
+    }
+    Ok(rows)
+}
+
+fn line_row<'a>(
+    alloc: Global,
+    timer: &'a LoadedTimer,
+    line: &'a TimerLine,
+) -> Result<LineRow<'a>, AllocError>
+    ensures { IfOk result (λ row. string_bytes row.normal ≡ expr_text line.now.expr) }
+{
+    let normal = normal_text(alloc, &line.expr)?;
+    let (file, number) = match timer.place(line.number) {
+        Some((file, number)) => (Some(file), Some(number)),
+        None => (None, None),
+    };
+    Ok(LineRow {
+        text: line.text.as_str(),
+        normal,
+        file,
+        line: number,
+    })
+}
+
+fn elapse_rows(
+    alloc: Global,
+    at: Clocked<'_>,
+    elapses: &[i64],
+) -> Result<Vec<ElapseRow>, AllocError>
+    ensures { IfOk result (λ rows. map (λ row. row.unix) rows.items ≡ elapses.now) }
+{
+    let mut rows = Vec::new(alloc);
+    for secs in elapses {
+        rows.push(elapse_row(alloc, at, *secs)?)?;
+    }
+    Ok(rows)
+}
+
+fn elapse_row(alloc: Global, at: Clocked<'_>, secs: i64) -> Result<ElapseRow, AllocError>
+    ensures { IfOk result (λ row. row.unix ≡ secs) }
+{
+    let local = local_text(alloc, at.local, secs)?;
+    let left = left_text(alloc, at.now, secs)?;
+    Ok(ElapseRow {
+        local,
+        unix: secs,
+        left,
+    })
+}
+
+fn clock_rows(alloc: Global, clock: &[ClockNote]) -> Result<Vec<ClockRow>, AllocError>
+    ensures { IfOk result (λ rows. length rows.items ≡ length clock.now) }
+{
+    let mut rows = Vec::new(alloc);
+    for note in clock {
+        let local = clock_text(alloc, note.local)?;
+        rows.push(ClockRow {
+            local,
+            change: name_of(note.change),
+        })?;
+    }
+    Ok(rows)
+}
+
+fn name_of(change: ClockChange) -> &'static str {
+    match change {
+        ClockChange::Skipped => "skipped",
+        ClockChange::Repeated => "repeated",
+    }
+}

@@ -1,0 +1,84 @@
+//! The texts in rows: instants, local times, time spans and calendar expressions as this project prints them.
+
+ghost use Rattle.std.specs.Prelude.{◌≡◌, IfOk, string_bytes};
+ghost use Rattle.cal_zone.specs.Instant.{IsInstant};
+ghost use Rattle.cal_zone.specs.headline.InstantText.{instant_text};
+ghost use Rattle.cal_spec.specs.headline.ExprText.{expr_text};
+
+use cal_bytes::ShortText;
+use cal_span::{Span, format_span};
+use cal_spec::{Expr, write_expr};
+use cal_streams::Port;
+use cal_zone::{Instant, Zone, push_instant};
+use std::alloc::{AllocError, Global};
+
+/// Returns an instant as clocks in the zone show it, such as `Fri 2026-11-27 18:00:00 +01:00`.
+///
+/// `secs` is an instant in seconds of Unix time, as all elapses are. For a number that isn't one, this returns the text
+/// of the nearest instant.
+pub(crate) fn local_text(alloc: Global, zone: Zone<'_>, secs: i64) -> Result<String, AllocError>
+    ensures { IsInstant secs → IfOk result (λ text. string_bytes text ≡ instant_text zone.entry secs) }
+{
+    let mut text = ShortText::new();
+    push_instant(&mut text, zone, instant_near(secs));
+    copy_of(alloc, text.as_slice())
+}
+
+/// Returns a local time, such as `Sun 2027-03-28 02:30:00`. `local` is in seconds since 1970-01-01 00:00:00 of the same
+/// clock, so its text in UTC without the zone is the text of the local time.
+pub(crate) fn clock_text(alloc: Global, local: i64) -> Result<String, AllocError> {
+    let mut text = ShortText::new();
+    push_instant(&mut text, Zone::utc(), instant_near(local));
+    let bytes = text.as_slice();
+    copy_of(alloc, bytes.strip_suffix(b" UTC").unwrap_or(bytes))
+}
+
+/// Returns the time span from the present to an instant, such as `22h 12min`, or `0` if the instant has passed.
+pub(crate) fn left_text(alloc: Global, now: Instant, secs: i64) -> Result<String, AllocError> {
+    let text = format_span(span_until(now, instant_near(secs)));
+    copy_of(alloc, text.as_slice())
+}
+
+/// Returns the normal form of an expression.
+pub(crate) fn normal_text(alloc: Global, expr: &Expr) -> Result<String, AllocError>
+    ensures { IfOk result (λ text. string_bytes text ≡ expr_text expr.now) }
+{
+    let mut out = Port::new(Vec::new(alloc));
+    if write_expr(&mut out, expr).is_err() {
+        return Err(AllocError);
+    }
+    match String::from_utf8(out.into_inner()) {
+        Ok(text) => Ok(text),
+        Err(_) => Err(AllocError),
+    }
+}
+
+/// Returns the instant nearest to `secs`, in seconds of Unix time.
+fn instant_near(secs: i64) -> Instant
+    ensures { IsInstant secs → result.secs ≡ secs }
+{
+    match Instant::new(secs.clamp(0, Instant::LAST)) {
+        Some(instant) => instant,
+        None => unreachable!(),
+    }
+}
+
+/// Returns the time span from one instant to a later one, or the empty span if the second isn't later.
+fn span_until(now: Instant, then: Instant) -> Span {
+    let secs = u64::try_from(then.secs() - now.secs()).unwrap_or(0);
+    match Span::new(secs * 1_000_000) {
+        Some(span) => span,
+        None => unreachable!(),
+    }
+}
+
+/// Returns a copy of a printed text. All of them are ASCII, but their contracts don't say so. So the bytes are checked
+/// here.
+fn copy_of(alloc: Global, bytes: &[u8]) -> Result<String, AllocError>
+    ensures { IfOk result (λ text. string_bytes text ≡ bytes.now) }
+{
+    match str::from_utf8(bytes) {
+        Ok(text) => String::from_str(alloc, text),
+        Err(_) => Err(AllocError),
+    }
+}
