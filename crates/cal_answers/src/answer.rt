@@ -1,0 +1,192 @@
+//! The answer to a question: what goes to both outputs, and the exit status.
+
+ghost use Rattle.std.specs.Prelude.{◌≤◌, IfOk};
+
+use crate::between::between;
+use crate::compare::same;
+use crate::lint::lint;
+use crate::local_clock::LocalClock;
+use crate::timers::{list, next, show};
+use cal_drop_ins::{system_path, user_path};
+use cal_load::TargetFault;
+use cal_plan::PlanFault;
+use cal_tasks::Clocked;
+use cal_timers_command::{Question, Verb};
+use cal_timers_text::{Style, fault_text, zones_text};
+use cal_units::{Entry, Tree, TreeFault};
+use cal_zone::Instant;
+use std::alloc::{AllocError, Global};
+
+/// The exit status if something that was asked about is invalid.
+pub(crate) const INVALID: u8 = 1;
+
+/// The exit status if the arguments, the root or the local zone can't be used.
+const UNUSABLE: u8 = 2;
+
+/// The number of elapses that are shown if the arguments don't say how many.
+const DEFAULT_COUNT: u32 = 5;
+
+/// What goes to both outputs, and the exit status.
+#[derive(Debug, Drop)]
+pub struct Answer {
+    /// What goes to standard output.
+    pub out: String,
+    /// The error lines, which go to standard error.
+    pub err: String,
+    /// 0 if all is fine; 1 if a timer is invalid, `lint` found an error or two timers differ; 2 if the arguments or the
+    /// local zone can't be used.
+    pub status: u8,
+}
+
+/// A question with what it needs to know of the machine.
+#[derive(Clone, Copy)]
+pub(crate) struct Asked<'a> {
+    pub targets: &'a [&'a str],
+    /// The search path of units.
+    pub path: &'a [String],
+    pub at: Clocked<'a>,
+    /// The number of elapses to show.
+    pub count: u32,
+    pub is_json: bool,
+    pub style: Style,
+}
+
+/// Answers a question about the timers of a machine.
+///
+/// `clock` is what the machine's clock shows, in seconds of Unix time; it doesn't count if the question has a present
+/// of its own. Fails with [`PlanFault::NoMemory`] if allocation fails.
+pub fn answer_question<T: Tree>(
+    alloc: Global,
+    tree: &T,
+    question: &Question,
+    clock: Option<i64>,
+    style: Style,
+) -> Result<Answer, PlanFault>
+    ensures { IfOk result (λ answer. answer.status ≤ 2) }
+{
+    let Some(now) = present(question.now, clock) else {
+        return stopped(alloc, "the clock shows a time before 1970 or after 2199");
+    };
+    if !has_root(alloc, tree, question.root.as_str())? {
+        return stopped(alloc, "--root: not a folder");
+    }
+    let local = match LocalClock::find(
+        alloc,
+        tree,
+        question.zone.as_ref().map(|zone| zone.as_str()),
+    ) {
+        Ok(local) => local,
+        Err(fault) => return stopped(alloc, zones_text(alloc, &fault)?.as_str()),
+    };
+    let Some(zone) = local.zone() else {
+        return stopped(alloc, "the local zone isn't known");
+    };
+    answer_at(alloc, tree, question, Clocked { now, local: zone }, style)
+}
+
+/// Returns the present: that of the question, or else that of the clock.
+fn present(given: Option<i64>, clock: Option<i64>) -> Option<Instant> {
+    Instant::new(given.or(clock)?)
+}
+
+/// Returns whether the root of the tree is a folder, if the question names a root.
+fn has_root<T: Tree>(alloc: Global, tree: &T, root: &str) -> Result<bool, AllocError> {
+    if root.is_empty() {
+        return Ok(true);
+    }
+    match tree.look(alloc, "/") {
+        Ok(entry) => Ok(matches!(entry, Entry::Folder)),
+        Err(TreeFault::NoMemory) => Err(AllocError),
+        Err(_) => Ok(false),
+    }
+}
+
+/// Returns the answer if a question can't be answered at all.
+pub(crate) fn stopped(alloc: Global, reason: &str) -> Result<Answer, PlanFault>
+    ensures { IfOk result (λ answer. answer.status ≤ 2) }
+{
+    Ok(Answer {
+        out: String::new(alloc),
+        err: format!(in alloc; "calendar-timers: {reason}\n")?,
+        status: UNUSABLE,
+    })
+}
+
+/// Answers a question at a present and in a local zone.
+fn answer_at<T: Tree>(
+    alloc: Global,
+    tree: &T,
+    question: &Question,
+    at: Clocked<'_>,
+    style: Style,
+) -> Result<Answer, PlanFault>
+    ensures { IfOk result (λ answer. answer.status ≤ 2) }
+{
+    let Some(path) = search_path(alloc, tree, question.is_user)? else {
+        return stopped(alloc, "the variable HOME isn't set or can't be read");
+    };
+    let targets: Vec<&str> = question
+        .targets
+        .iter()
+        .map(|target| target.as_str())
+        .collect(alloc)?;
+    let asked = Asked {
+        targets: targets.as_slice(),
+        path: path.as_slice(),
+        at,
+        count: question.count.unwrap_or(DEFAULT_COUNT),
+        is_json: question.is_json,
+        style,
+    };
+    match question.verb {
+        Verb::List => list(alloc, tree, asked),
+        Verb::Show => show(alloc, tree, asked),
+        Verb::Lint => lint(alloc, tree, asked),
+        Verb::Between => between(alloc, tree, asked),
+        Verb::Same => same(alloc, tree, asked),
+        Verb::Next => next(alloc, tree, asked),
+    }
+}
+
+/// Returns the search path of the system's units or of the user's, or `None` if the user's home isn't known.
+fn search_path<T: Tree>(
+    alloc: Global,
+    tree: &T,
+    is_user: bool,
+) -> Result<Option<Vec<String>>, AllocError> {
+    if !is_user {
+        return Ok(Some(system_path(alloc, "")?));
+    }
+    match tree.variable(alloc, "HOME") {
+        Ok(Some(home)) => Ok(Some(user_path(alloc, "", home.as_str())?)),
+        Err(TreeFault::NoMemory) => Err(AllocError),
+        _ => Ok(None),
+    }
+}
+
+/// Returns the error lines of the timers that couldn't be loaded.
+pub(crate) fn fault_lines(alloc: Global, faults: &[TargetFault]) -> Result<String, AllocError> {
+    let mut lines = String::new(alloc);
+    for fault in faults {
+        let line = fault_text(alloc, fault)?;
+        lines.push_str(line.as_str())?;
+        lines.push('\n')?;
+    }
+    Ok(lines)
+}
+
+/// Returns the exit status of an answer without other reasons to fail.
+pub(crate) fn status_of(faults: &[TargetFault]) -> u8
+    ensures { result ≤ 1 }
+{
+    if faults.is_empty() { 0 } else { INVALID }
+}
+
+/// Appends a line for each masked unit.
+pub(crate) fn push_masked(text: &mut String, masked: &[String]) -> Result<(), AllocError> {
+    for name in masked {
+        text.push_str(name.as_str())?;
+        text.push_str(": masked\n")?;
+    }
+    Ok(())
+}

@@ -1,0 +1,68 @@
+//! The verb `between`: all elapses of several timers in a range of time.
+
+ghost use Rattle.std.specs.Prelude.{◌≤◌, IfOk};
+
+use crate::answer::{Answer, Asked, fault_lines, status_of, stopped};
+use cal_load::{Loaded, load_timers};
+use cal_plan::PlanFault;
+use cal_read::StampFault;
+use cal_tasks::{elapses_between, read_when};
+use cal_timers_json::between_json;
+use cal_timers_text::between_text;
+use cal_units::Tree;
+use cal_zone::Instant;
+use std::alloc::Global;
+
+/// Lists the elapses of the timers from one instant on and before another. The first two targets are these instants.
+pub(crate) fn between<T: Tree>(
+    alloc: Global,
+    tree: &T,
+    asked: Asked<'_>,
+) -> Result<Answer, PlanFault>
+    ensures { IfOk result (λ answer. answer.status ≤ 2) }
+{
+    let [from, before, targets @ ..] = asked.targets else {
+        return stopped(alloc, "FROM and TO are missing");
+    };
+    let from = match read_when(alloc, asked.at, asked.at.now, from) {
+        Ok(instant) => instant,
+        Err(fault) => return bad_time(alloc, from, fault),
+    };
+    let before = match read_when(alloc, asked.at, from, before) {
+        Ok(instant) => instant,
+        Err(fault) => return bad_time(alloc, before, fault),
+    };
+    let loaded = load_timers(alloc, tree, asked.path, targets)?;
+    range_of(alloc, asked, &loaded, from, before)
+}
+
+fn bad_time(alloc: Global, text: &str, fault: StampFault) -> Result<Answer, PlanFault>
+    ensures { IfOk result (λ answer. answer.status ≤ 2) }
+{
+    let words = fault.words();
+    let reason = format!(in alloc; "{text}: {words}")?;
+    stopped(alloc, reason.as_str())
+}
+
+fn range_of(
+    alloc: Global,
+    asked: Asked<'_>,
+    loaded: &Loaded,
+    from: Instant,
+    before: Instant,
+) -> Result<Answer, PlanFault>
+    ensures { IfOk result (λ answer. answer.status ≤ 2) }
+{
+    let timers = loaded.timers.as_slice();
+    let elapses = elapses_between(alloc, asked.at, from, before, timers)?;
+    let out = if asked.is_json {
+        between_json(alloc, asked.at.local, timers, elapses.as_slice())?
+    } else {
+        between_text(alloc, asked.at.local, timers, elapses.as_slice())?
+    };
+    Ok(Answer {
+        out,
+        err: fault_lines(alloc, loaded.faults.as_slice())?,
+        status: status_of(loaded.faults.as_slice()),
+    })
+}

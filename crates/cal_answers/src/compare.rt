@@ -1,0 +1,87 @@
+//! The verb `same`: whether two timers elapse at the same instants.
+
+ghost use Rattle.std.specs.Prelude.{◌≤◌, IfOk};
+
+use crate::answer::{Answer, Asked, INVALID, fault_lines, push_masked, stopped};
+use cal_load::{Loaded, LoadedTimer, TargetReason, load_expressions, load_timers};
+use cal_plan::PlanFault;
+use cal_tasks::difference_of;
+use cal_timers_json::same_json;
+use cal_timers_text::same_text;
+use cal_units::Tree;
+use std::alloc::{AllocError, Global};
+
+/// Compares two timers. Each is a unit, a file or an expression.
+pub(crate) fn same<T: Tree>(alloc: Global, tree: &T, asked: Asked<'_>) -> Result<Answer, PlanFault>
+    ensures { IfOk result (λ answer. answer.status ≤ 2) }
+{
+    let [one, other] = asked.targets else {
+        return stopped(alloc, "two timers are needed");
+    };
+    let first = load_one(alloc, tree, asked, one)?;
+    let second = load_one(alloc, tree, asked, other)?;
+    match (first.timers.first(), second.timers.first()) {
+        (Some(these), Some(those)) => compared(alloc, asked, these, those),
+        _ => unloaded(alloc, &first, &second),
+    }
+}
+
+/// Loads a unit or a file or, if there is no such unit, an expression.
+fn load_one<T: Tree>(
+    alloc: Global,
+    tree: &T,
+    asked: Asked<'_>,
+    target: &str,
+) -> Result<Loaded, AllocError> {
+    let loaded = load_timers(alloc, tree, asked.path, &[target])?;
+    match loaded.faults.first() {
+        Some(fault) if matches!(fault.reason, TargetReason::NotFound) => {
+            let expression = load_expressions(alloc, tree, &[target])?;
+            if expression.timers.is_empty() {
+                Ok(loaded)
+            } else {
+                Ok(expression)
+            }
+        }
+        _ => Ok(loaded),
+    }
+}
+
+fn compared(
+    alloc: Global,
+    asked: Asked<'_>,
+    one: &LoadedTimer,
+    other: &LoadedTimer,
+) -> Result<Answer, PlanFault>
+    ensures { IfOk result (λ answer. answer.status ≤ 2) }
+{
+    let difference = difference_of(alloc, asked.at, one, other)?;
+    let (first, second) = (one.name.as_str(), other.name.as_str());
+    let out = if asked.is_json {
+        same_json(alloc, asked.at.local, first, second, difference)?
+    } else {
+        same_text(alloc, asked.at.local, first, second, difference)?
+    };
+    let is_same = difference.only_one.is_none() && difference.only_other.is_none();
+    Ok(Answer {
+        out,
+        err: String::new(alloc),
+        status: if is_same { 0 } else { INVALID },
+    })
+}
+
+/// Returns the errors of the timers that couldn't be loaded. A masked unit has no error of its own, and is named too.
+fn unloaded(alloc: Global, first: &Loaded, second: &Loaded) -> Result<Answer, PlanFault>
+    ensures { IfOk result (λ answer. answer.status ≤ 2) }
+{
+    let mut err = fault_lines(alloc, first.faults.as_slice())?;
+    let others = fault_lines(alloc, second.faults.as_slice())?;
+    err.push_str(others.as_str())?;
+    push_masked(&mut err, first.masked.as_slice())?;
+    push_masked(&mut err, second.masked.as_slice())?;
+    Ok(Answer {
+        out: String::new(alloc),
+        err,
+        status: INVALID,
+    })
+}

@@ -1,0 +1,209 @@
+//! The verb `lint`: every problem of the files of timers.
+
+ghost use Rattle.std.specs.Prelude.{◌≤◌, IfOk};
+
+use crate::answer::{Answer, Asked, INVALID, fault_lines};
+use cal_lint::{Finding, Kind, findings};
+use cal_load::{Loaded, LoadedTimer, TargetFault, TargetReason, load_files, load_timers};
+use cal_plan::PlanFault;
+use cal_tasks::{IdleLine, idle_lines};
+use cal_timers_json::{LintRow, lint_json};
+use cal_timers_text::{Style, fault_text, finding_text, idle_text, idle_words, message_of};
+use cal_units::Tree;
+use std::alloc::{AllocError, Global};
+
+/// The maximum size of a text, in bytes. A file has at most 1,048,576, each of which may have been replaced by three.
+const MAX_TEXT: usize = 3 * 1_048_576;
+
+/// A problem of a file, and what is printed of it.
+#[derive(Debug, Drop)]
+struct Problem {
+    file: String,
+    line: u32,
+    column: Option<u32>,
+    is_error: bool,
+    message: String,
+    suggestion: Option<String>,
+    /// The lines for people.
+    text: String,
+}
+
+/// Prints every problem of the files of the timers, and of the timers as a whole.
+pub(crate) fn lint<T: Tree>(alloc: Global, tree: &T, asked: Asked<'_>) -> Result<Answer, PlanFault>
+    ensures { IfOk result (λ answer. answer.status ≤ 2) }
+{
+    let mut problems = Vec::new(alloc);
+    let mut err = add_files(alloc, tree, asked, &mut problems)?;
+    let loaded = load_whole_timers(alloc, tree, asked)?;
+    add_idle(alloc, asked, loaded.timers.as_slice(), &mut problems)?;
+    add_faults(alloc, loaded.faults.as_slice(), &mut err)?;
+    let status = if err.is_empty() && !has_error(problems.as_slice()) {
+        0
+    } else {
+        INVALID
+    };
+    let out = if asked.is_json {
+        problems_json(alloc, problems.as_slice())?
+    } else {
+        problems_text(alloc, problems.as_slice())?
+    };
+    Ok(Answer { out, err, status })
+}
+
+/// Adds the problems of each file by itself, and returns the error lines of the files that can't be read.
+fn add_files<T: Tree>(
+    alloc: Global,
+    tree: &T,
+    asked: Asked<'_>,
+    problems: &mut Vec<Problem>,
+) -> Result<String, AllocError> {
+    let loaded = load_files(alloc, tree, asked.path, asked.targets)?;
+    for file in &loaded.files {
+        // systemd doesn't mind comments that aren't UTF-8.
+        let text = String::from_utf8_lossy(alloc, file.bytes.as_slice())?;
+        add_findings(
+            alloc,
+            file.path.as_str(),
+            text.as_str(),
+            asked.style,
+            problems,
+        )?;
+    }
+    fault_lines(alloc, loaded.faults.as_slice())
+}
+
+/// Adds the problems of a file, unless it is far larger than a file of a unit may be.
+fn add_findings(
+    alloc: Global,
+    path: &str,
+    text: &str,
+    style: Style,
+    problems: &mut Vec<Problem>,
+) -> Result<(), AllocError> {
+    if text.len() > MAX_TEXT {
+        return Ok(());
+    }
+    for finding in findings(alloc, text)? {
+        let shown = finding_text(alloc, path, text, &finding, style)?;
+        problems.push(problem_of(alloc, path, finding, shown)?)?;
+    }
+    Ok(())
+}
+
+fn problem_of(
+    alloc: Global,
+    path: &str,
+    finding: Finding,
+    text: String,
+) -> Result<Problem, AllocError> {
+    Ok(Problem {
+        file: String::from_str(alloc, path)?,
+        line: finding.line,
+        column: Some(finding.column),
+        is_error: matches!(finding.kind, Kind::Error),
+        message: message_of(alloc, finding.problem, finding.mistake)?,
+        suggestion: finding.suggestion,
+        text,
+    })
+}
+
+/// Loads the timers that the targets stand for. A drop-in that is named by its path is not a timer by itself.
+fn load_whole_timers<T: Tree>(
+    alloc: Global,
+    tree: &T,
+    asked: Asked<'_>,
+) -> Result<Loaded, AllocError> {
+    let timers: Vec<&str> = asked
+        .targets
+        .iter()
+        .copied()
+        .filter(|target| !target.ends_with(".conf"))
+        .collect(alloc)?;
+    if timers.is_empty() && !asked.targets.is_empty() {
+        return Ok(Loaded {
+            timers: Vec::new(alloc),
+            masked: Vec::new(alloc),
+            faults: Vec::new(alloc),
+        });
+    }
+    load_timers(alloc, tree, asked.path, timers.as_slice())
+}
+
+/// Adds the expressions that never elapse, and the exceptions that suppress nothing.
+fn add_idle(
+    alloc: Global,
+    asked: Asked<'_>,
+    timers: &[LoadedTimer],
+    problems: &mut Vec<Problem>,
+) -> Result<(), PlanFault> {
+    for timer in timers {
+        for idle in idle_lines(alloc, asked.at, timer)? {
+            let text = idle_text(alloc, timer, idle, asked.style)?;
+            problems.push(idle_problem(alloc, timer, idle, text)?)?;
+        }
+    }
+    Ok(())
+}
+
+fn idle_problem(
+    alloc: Global,
+    timer: &LoadedTimer,
+    idle: IdleLine,
+    text: String,
+) -> Result<Problem, AllocError> {
+    let (path, line) = timer
+        .place(idle.number)
+        .unwrap_or((timer.name.as_str(), idle.number));
+    Ok(Problem {
+        file: String::from_str(alloc, path)?,
+        line,
+        column: None,
+        is_error: false,
+        message: String::from_str(alloc, idle_words(idle.kind))?,
+        suggestion: None,
+        text,
+    })
+}
+
+/// Appends the error lines of timers that couldn't be loaded. Invalid lines are left out, since they are among the
+/// problems of their files.
+fn add_faults(alloc: Global, faults: &[TargetFault], err: &mut String) -> Result<(), AllocError> {
+    for fault in faults {
+        if matches!(
+            fault.reason,
+            TargetReason::Zone(..) | TargetReason::NothingToDo
+        ) {
+            let line = fault_text(alloc, fault)?;
+            err.push_str(line.as_str())?;
+            err.push('\n')?;
+        }
+    }
+    Ok(())
+}
+
+fn has_error(problems: &[Problem]) -> bool {
+    problems.iter().any(|problem| problem.is_error)
+}
+
+fn problems_text(alloc: Global, problems: &[Problem]) -> Result<String, AllocError> {
+    let mut text = String::new(alloc);
+    for problem in problems {
+        text.push_str(problem.text.as_str())?;
+    }
+    Ok(text)
+}
+
+fn problems_json(alloc: Global, problems: &[Problem]) -> Result<String, AllocError> {
+    let mut rows = Vec::new(alloc);
+    for problem in problems {
+        rows.push(LintRow {
+            file: problem.file.as_str(),
+            line: problem.line,
+            column: problem.column,
+            kind: if problem.is_error { "error" } else { "warning" },
+            message: problem.message.as_str(),
+            suggestion: problem.suggestion.as_ref().map(|text| text.as_str()),
+        })?;
+    }
+    lint_json(alloc, rows.as_slice())
+}

@@ -1,0 +1,59 @@
+//! The local zone of the machine, with what the zone borrows from.
+
+use cal_machine_zones::{LocalZone, Origin, ZonesFault, find_local_zone, load_zones};
+use cal_units::Tree;
+use cal_zone::{Rules, Zone, ZoneFault, ZoneTable};
+use std::alloc::Global;
+
+/// The local zone of the machine.
+#[derive(Drop)]
+pub(crate) enum LocalClock {
+    /// UTC, or a fixed offset from it.
+    Fixed(Zone<'static>),
+    /// The zone with these rules.
+    Ruled(Rules),
+    /// The zone with this name in this table.
+    Named(String, ZoneTable),
+}
+
+impl LocalClock {
+    /// Finds the local zone and reads its file. `option` is the value of the option `--zone`.
+    ///
+    /// Fails like [`find_local_zone`] and [`load_zones`]. An invalid rule is [`ZonesFault::Unclear`].
+    pub(crate) fn find<T: Tree>(
+        alloc: Global,
+        tree: &T,
+        option: Option<&str>,
+    ) -> Result<LocalClock, ZonesFault> {
+        match find_local_zone(alloc, tree, option) {
+            Ok(LocalZone::Utc) => Ok(LocalClock::Fixed(Zone::utc())),
+            Ok(LocalZone::Offset(seconds)) => Ok(LocalClock::Fixed(Zone::offset(seconds))),
+            Ok(LocalZone::Rule(rule)) => ruled(alloc, rule.as_str()),
+            Ok(LocalZone::Named(name)) => named(alloc, tree, name),
+            Err(fault) => Err(fault),
+        }
+    }
+
+    /// Returns the zone. `None` stands for a name that isn't in its table.
+    pub(crate) fn zone(&self) -> Option<Zone<'_>> {
+        match self {
+            LocalClock::Fixed(zone) => Some(*zone),
+            LocalClock::Ruled(rules) => Some(Zone::rules(rules)),
+            LocalClock::Named(name, table) => table.find(name.as_str()),
+        }
+    }
+}
+
+fn ruled(alloc: Global, rule: &str) -> Result<LocalClock, ZonesFault> {
+    match Rules::posix(alloc, rule) {
+        Ok(rules) => Ok(LocalClock::Ruled(rules)),
+        Err(ZoneFault::NoMemory) => Err(ZonesFault::NoMemory),
+        Err(_) => Err(ZonesFault::Unclear(Origin::Argument)),
+    }
+}
+
+fn named<T: Tree>(alloc: Global, tree: &T, name: String) -> Result<LocalClock, ZonesFault> {
+    let names = vec![in alloc; name.clone()?]?;
+    let table = load_zones(alloc, tree, names.as_slice())?;
+    Ok(LocalClock::Named(name, table))
+}

@@ -1,0 +1,124 @@
+//! The verbs that show the next elapses: `list`, `show` and `next`.
+
+ghost use Rattle.std.specs.Prelude.{◌≤◌, IfOk};
+
+use crate::answer::{Answer, Asked, fault_lines, push_masked, status_of};
+use cal_load::{Loaded, LoadedTimer, load_expressions, load_timers};
+use cal_plan::PlanFault;
+use cal_tasks::{ClockNote, clock_notes, elapses_of, next_of_timers};
+use cal_timers_json::{ShownTimer, list_json, show_json};
+use cal_timers_text::{list_text, show_text};
+use cal_units::Tree;
+use std::alloc::{AllocError, Global};
+
+/// What is shown of a timer.
+#[derive(Debug, Drop)]
+struct Elapsing {
+    elapses: Vec<i64>,
+    clock: Vec<ClockNote>,
+}
+
+/// Lists the next elapse of each timer, soonest first.
+pub(crate) fn list<T: Tree>(alloc: Global, tree: &T, asked: Asked<'_>) -> Result<Answer, PlanFault>
+    ensures { IfOk result (λ answer. answer.status ≤ 2) }
+{
+    let loaded = load_timers(alloc, tree, asked.path, asked.targets)?;
+    let next = next_of_timers(alloc, asked.at, loaded.timers.as_slice())?;
+    let out = if asked.is_json {
+        list_json(alloc, asked.at, &loaded, &next)?
+    } else {
+        list_text(alloc, asked.at, &loaded, &next, asked.style)?
+    };
+    with_faults(alloc, &loaded, out)
+}
+
+/// Shows each timer with its files and its next elapses.
+pub(crate) fn show<T: Tree>(alloc: Global, tree: &T, asked: Asked<'_>) -> Result<Answer, PlanFault>
+    ensures { IfOk result (λ answer. answer.status ≤ 2) }
+{
+    let loaded = load_timers(alloc, tree, asked.path, asked.targets)?;
+    show_loaded(alloc, asked, &loaded)
+}
+
+/// Shows the next elapses of expressions that were given by themselves.
+pub(crate) fn next<T: Tree>(alloc: Global, tree: &T, asked: Asked<'_>) -> Result<Answer, PlanFault>
+    ensures { IfOk result (λ answer. answer.status ≤ 2) }
+{
+    let loaded = load_expressions(alloc, tree, asked.targets)?;
+    show_loaded(alloc, asked, &loaded)
+}
+
+fn show_loaded(alloc: Global, asked: Asked<'_>, loaded: &Loaded) -> Result<Answer, PlanFault>
+    ensures { IfOk result (λ answer. answer.status ≤ 2) }
+{
+    let elapsing = elapsing_of(alloc, asked, loaded.timers.as_slice())?;
+    let out = if asked.is_json {
+        shown_json(alloc, asked, loaded.timers.as_slice(), elapsing.as_slice())?
+    } else {
+        shown_text(alloc, asked, loaded, elapsing.as_slice())?
+    };
+    with_faults(alloc, loaded, out)
+}
+
+/// Returns the next elapses of each timer, and what clock changes do to it meanwhile.
+fn elapsing_of(
+    alloc: Global,
+    asked: Asked<'_>,
+    timers: &[LoadedTimer],
+) -> Result<Vec<Elapsing>, PlanFault> {
+    let mut all = Vec::new(alloc);
+    for timer in timers {
+        let elapses = elapses_of(alloc, asked.at, timer, asked.count)?;
+        let clock = clock_notes(alloc, asked.at, timer, elapses.as_slice())?;
+        all.push(Elapsing { elapses, clock })?;
+    }
+    Ok(all)
+}
+
+fn shown_json(
+    alloc: Global,
+    asked: Asked<'_>,
+    timers: &[LoadedTimer],
+    elapsing: &[Elapsing],
+) -> Result<String, AllocError> {
+    let mut shown = Vec::new(alloc);
+    for (timer, found) in timers.iter().zip(elapsing) {
+        shown.push(ShownTimer {
+            timer,
+            elapses: found.elapses.as_slice(),
+            clock: found.clock.as_slice(),
+        })?;
+    }
+    show_json(alloc, asked.at, shown.as_slice())
+}
+
+/// Returns the text of each timer, with an empty line between two, and then the masked units.
+fn shown_text(
+    alloc: Global,
+    asked: Asked<'_>,
+    loaded: &Loaded,
+    elapsing: &[Elapsing],
+) -> Result<String, AllocError> {
+    let mut text = String::new(alloc);
+    for (timer, found) in loaded.timers.iter().zip(elapsing) {
+        if !text.is_empty() {
+            text.push('\n')?;
+        }
+        let (elapses, clock) = (found.elapses.as_slice(), found.clock.as_slice());
+        let shown = show_text(alloc, asked.at, timer, elapses, clock, asked.style)?;
+        text.push_str(shown.as_str())?;
+    }
+    push_masked(&mut text, loaded.masked.as_slice())?;
+    Ok(text)
+}
+
+/// Adds the errors of the timers that couldn't be loaded.
+fn with_faults(alloc: Global, loaded: &Loaded, out: String) -> Result<Answer, PlanFault>
+    ensures { IfOk result (λ answer. answer.status ≤ 2) }
+{
+    Ok(Answer {
+        out,
+        err: fault_lines(alloc, loaded.faults.as_slice())?,
+        status: status_of(loaded.faults.as_slice()),
+    })
+}

@@ -1,0 +1,172 @@
+//! The real system: its folders, files, links and variables. Nothing is proved about what they contain.
+
+use cal_streams::Port;
+use cal_units::{Entry, Names, Tree, TreeFault};
+use std::alloc::Global;
+use std::fs::DirEntry;
+use std::io::{Error, ErrorKind};
+use std::rt::{Env, Files};
+use std::time::{Clock, SystemTime, UNIX_EPOCH};
+use std::{env, fs, io};
+
+/// The maximum number of links from path to path below a root.
+const MAX_LINKS: usize = 40;
+
+/// The system that the program runs on, or a tree of folders in it.
+#[derive(Clone, Copy)]
+pub struct Machine<'a, R> {
+    /// The runtime, through which everything is read.
+    pub rt: &'a R,
+    /// The folder to which absolute paths and the targets of links refer, or the empty text for the system's own root.
+    pub root: &'a str,
+}
+
+impl<'a, R: Clock> Machine<'a, R> {
+    /// Returns what the clock shows, in seconds of Unix time.
+    pub fn clock(&self) -> Option<i64> {
+        let now = SystemTime::now(self.rt).ok()?;
+        let since = now.duration_since(UNIX_EPOCH).ok()?;
+        i64::try_from(since.as_secs()).ok()
+    }
+}
+
+impl<'a, R: Files + Env + AllocGlobal + Clone + Drop> Machine<'a, R> {
+    /// Returns the path on the system. Relative paths are not below the root.
+    fn path_of(&self, alloc: Global, path: &str) -> Result<String, TreeFault> {
+        let root = if path.starts_with('/') { self.root } else { "" };
+        Ok(format!(in alloc; "{root}{path}")?)
+    }
+
+    /// Returns the path on the system to which a path leads. Below a root, links are followed here, since the system
+    /// would look for their absolute targets in its own root.
+    fn followed(&self, alloc: Global, path: &str) -> Result<String, TreeFault> {
+        let mut path = self.path_of(alloc, path)?;
+        if self.root.is_empty() {
+            return Ok(path);
+        }
+        for _ in 0..MAX_LINKS {
+            let Some(next) = self.next_path(alloc, path.as_str())? else {
+                return Ok(path);
+            };
+            path = next;
+        }
+        Err(TreeFault::ReadFailed)
+    }
+
+    /// Returns the path to which a link leads, or `None` if there is no link at this path.
+    fn next_path(&self, alloc: Global, path: &str) -> Result<Option<String>, TreeFault> {
+        let Ok(link) = fs::read_link(self.rt, path) else {
+            return Ok(None);
+        };
+        let Some(target) = link.as_path().to_str() else {
+            return Err(TreeFault::NotUtf8);
+        };
+        if target.starts_with('/') {
+            return Ok(Some(self.path_of(alloc, target)?));
+        }
+        let folder = path.rsplit_once('/').map_or("", |parts| parts.0);
+        Ok(Some(format!(in alloc; "{folder}/{target}")?))
+    }
+}
+
+impl<'a, R: Files + Env + AllocGlobal + Clone + Drop> Tree for Machine<'a, R> {
+    type File = Port<R::File>;
+
+    fn names(&self, alloc: Global, folder: &str) -> Result<Names, TreeFault> {
+        let path = self.followed(alloc, folder)?;
+        let mut found = Names {
+            names: Vec::new(alloc),
+            unnamed: 0,
+        };
+        let entries = match fs::read_dir(self.rt, path.as_str()) {
+            Ok(entries) => entries,
+            Err(error) if is_missing(&error) => return Ok(found),
+            Err(error) => return Err(fault_of(&error)),
+        };
+        for entry in entries {
+            push_entry(alloc, &mut found, entry)?;
+        }
+        Ok(found)
+    }
+
+    fn look(&self, alloc: Global, path: &str) -> Result<Entry, TreeFault> {
+        let path = self.path_of(alloc, path)?;
+        let metadata = match fs::symlink_metadata(self.rt, path.as_str()) {
+            Ok(metadata) => metadata,
+            Err(error) if is_missing(&error) => return Ok(Entry::Missing),
+            Err(error) => return Err(fault_of(&error)),
+        };
+        if metadata.is_symlink() {
+            return look_at_link(self.rt, alloc, path.as_str());
+        }
+        if metadata.is_dir() {
+            return Ok(Entry::Folder);
+        }
+        Ok(if metadata.len() == 0 {
+            Entry::Empty
+        } else {
+            Entry::File
+        })
+    }
+
+    fn open(&self, path: &str) -> Result<Option<Port<R::File>>, TreeFault> {
+        let path = self.followed(self.rt.alloc(), path)?;
+        match fs::open(self.rt, path.as_str()) {
+            Ok(file) => Ok(Some(Port::new(file))),
+            Err(error) if is_missing(&error) => Ok(None),
+            Err(error) => Err(fault_of(&error)),
+        }
+    }
+
+    fn variable(&self, _alloc: Global, name: &str) -> Result<Option<String>, TreeFault> {
+        match env::var(self.rt, name) {
+            Ok(value) => Ok(Some(value)),
+            Err(env::VarError::NotPresent) => Ok(None),
+            Err(env::VarError::NotUnicode) => Err(TreeFault::NotUtf8),
+            Err(env::VarError::OutOfMemory) => Err(TreeFault::NoMemory),
+        }
+    }
+}
+
+/// Appends the name of an entry of a folder, or counts it if its name isn't UTF-8.
+fn push_entry<R: Files + Drop>(
+    alloc: Global,
+    found: &mut Names,
+    entry: io::Result<DirEntry<R, Global>>,
+) -> Result<(), TreeFault> {
+    match entry {
+        Ok(entry) => found
+            .names
+            .push(String::from_str(alloc, entry.file_name())?)?,
+        Err(error) if error.kind() == ErrorKind::InvalidFilename => {
+            found.unnamed = found.unnamed.saturating_add(1);
+        }
+        Err(error) => return Err(fault_of(&error)),
+    }
+    Ok(())
+}
+
+fn look_at_link<R: Files + AllocGlobal>(
+    rt: &R,
+    alloc: Global,
+    path: &str,
+) -> Result<Entry, TreeFault> {
+    match fs::read_link(rt, path) {
+        Ok(link) => match link.as_path().to_str() {
+            Some(target) => Ok(Entry::Link(String::from_str(alloc, target)?)),
+            None => Err(TreeFault::NotUtf8),
+        },
+        Err(error) => Err(fault_of(&error)),
+    }
+}
+
+fn is_missing(error: &Error) -> bool {
+    matches!(error.kind(), ErrorKind::NotFound | ErrorKind::NotADirectory)
+}
+
+fn fault_of(error: &Error) -> TreeFault {
+    match error.kind() {
+        ErrorKind::OutOfMemory => TreeFault::NoMemory,
+        _ => TreeFault::ReadFailed,
+    }
+}
