@@ -1,5 +1,6 @@
-# Prints what zsh offers at the end of a line, one word in each line. tests/completions calls this with the folder of the
-# completions and the line. A second shell, on a terminal of its own, gets the line and a tab. There `compadd` prints the words.
+# Prints what zsh offers at the end of a line, one word in each line. tests/completions calls this with the folder of
+# the completions and the line. The units of calendar-timers are those in `../system`. A second shell, on a terminal of
+# its own, gets the line and a tab. There `compadd` prints the words.
 zmodload zsh/zpty
 zpty shell zsh -f -i
 zpty -w shell "PROMPT=; fpath=(${(q)1} \$fpath); autoload -U compinit; compinit -u -D; bindkey '^I' complete-word
@@ -8,6 +9,7 @@ compadd () {
     if [[ \${@[1,(i)(-|--)]} == *-(O|A|D)\\ * ]]; then builtin compadd \"\$@\"; return; fi
     local -a offered; builtin compadd -A offered \"\$@\"; builtin compadd \"\$@\"; [[ -n \$offered ]] && print -lr -- \$offered
 }
+_calendar-timers-folders () { reply=(../system) }
 print is''ready"
 repeat 100; do zpty -r -t shell text && [[ $text == *isready* ]] && break; sleep 0.05; done
 zpty -w -n shell "$2"$'\t'

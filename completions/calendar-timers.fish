@@ -1,0 +1,99 @@
+# Completion of calendar-timers for fish: verbs, options with the form of their values, units and files.
+
+function __calendar_timers_folders
+    # Prints the folders that have the units of the system or, after --user, of the user.
+    if contains -- --user (commandline -opc)
+        string join \n ~/.config/systemd/user /etc/xdg/systemd/user /etc/systemd/user /run/systemd/user \
+            ~/.local/share/systemd/user /usr/local/share/systemd/user /usr/share/systemd/user \
+            /usr/local/lib/systemd/user /usr/lib/systemd/user
+    else
+        string join \n /etc/systemd/system /run/systemd/system /usr/local/lib/systemd/system /usr/lib/systemd/system \
+            /lib/systemd/system
+    end
+end
+
+function __calendar_timers_targets
+    # Prints units and folders, or timer files and folders if the word has a slash, since it is a path then.
+    if string match -q -- '*/*' (commandline -ct)
+        __fish_complete_suffix .timer
+        return
+    end
+    for folder in (__calendar_timers_folders)
+        set -l units $folder/*.timer
+        string replace -r -- '.*/' '' $units | string match -v -- '*@.timer'
+    end
+    __fish_complete_directories (commandline -ct) folder
+end
+
+function __calendar_timers_zones
+    # Prints values of --zone. Prints nothing after `posix:`, because the user types a rule there.
+    string match -q -- '*posix:*' (commandline -ct); and return
+    string join \n UTC posix:
+end
+
+function __calendar_timers_words
+    # Prints the words that are neither options nor values of options, without the name of the program.
+    set -l words (commandline -opc)
+    set -l option
+    for word in $words[2..-1]
+        if test -n "$option"
+            set option
+        else if contains -- $word --zone --count -n --now --root
+            set option $word
+        else if not string match -q -- '-*' $word
+            echo $word
+        end
+    end
+end
+
+function __calendar_timers_verb_is
+    # Returns whether the verb is one of these. It is `none` before the first word that is not an option. If that word
+    # is not the name of a verb, the verb is `list`.
+    set -l words (__calendar_timers_words)
+    set -l verb none
+    if set -q words[1]
+        set verb list
+        contains -- $words[1] show lint between same next help; and set verb $words[1]
+    end
+    contains -- $verb $argv
+end
+
+function __calendar_timers_has
+    # Returns whether there are this many words that are not options, the verb among them.
+    test (count (__calendar_timers_words)) $argv
+end
+
+set -l none '__calendar_timers_verb_is none'
+set -l all '__calendar_timers_verb_is none list show lint between same next'
+set -l times 'now today yesterday tomorrow'
+set -l folders '(__fish_complete_directories (commandline -ct) folder)'
+set -l expressions 'minutely hourly daily weekly monthly quarterly semiannually yearly'
+
+complete -c calendar-timers -f
+complete -c calendar-timers -n $none -a list -d 'list the next elapse of each timer, soonest first'
+complete -c calendar-timers -n $none -a show -d 'show the files of timers, their expressions and next elapses'
+complete -c calendar-timers -n $none -a lint -d 'check timer files for errors and likely mistakes'
+complete -c calendar-timers -n $none -a between -d 'list all elapses of timers in a time range'
+complete -c calendar-timers -n $none -a same -d 'check whether two timers elapse at the same instants'
+complete -c calendar-timers -n $none -a next -d 'show when calendar expressions next elapse'
+complete -c calendar-timers -n $none -a help -d 'print help, or the help of a verb'
+complete -c calendar-timers -n $none -s V -l version -d 'print the version'
+complete -c calendar-timers -n $all -s h -l help -d 'print help'
+complete -c calendar-timers -n $all -l zone -x -a '(__calendar_timers_zones)' -d 'local zone'
+complete -c calendar-timers -n $all -l utc -d 'use UTC as the local zone'
+complete -c calendar-timers -n $all -l now -x -a '@' -d 'present time in Unix seconds'
+complete -c calendar-timers -n $all -l root -x -a $folders -d 'look for units and zones below this folder'
+complete -c calendar-timers -n $all -l json -d 'print JSON'
+complete -c calendar-timers -n '__calendar_timers_verb_is none list show lint between same' -l user \
+    -d 'look for the units of the user, not of the system'
+complete -c calendar-timers -n '__calendar_timers_verb_is show next' -s n -l count -x \
+    -d 'show at most N elapses, 1 to 1000000'
+complete -c calendar-timers -n '__calendar_timers_verb_is none list show lint' -a '(__calendar_timers_targets)'
+complete -c calendar-timers -n '__calendar_timers_verb_is between; and __calendar_timers_has -lt 3' -a $times
+complete -c calendar-timers -n '__calendar_timers_verb_is between; and __calendar_timers_has -ge 3' \
+    -a '(__calendar_timers_targets)'
+complete -c calendar-timers -n '__calendar_timers_verb_is same; and __calendar_timers_has -lt 3' \
+    -a '(__calendar_timers_targets)'
+complete -c calendar-timers -n '__calendar_timers_verb_is next' -a $expressions
+complete -c calendar-timers -n '__calendar_timers_verb_is help; and __calendar_timers_has -eq 1' \
+    -a 'list show lint between same next'
