@@ -110,7 +110,7 @@ AreAbove-elapses_after es b =
     }
 
 -- `elapses_except` is strictly increasing and contains exactly the elapses of `es` after `b` that aren't elapses of
--- exceptions, the expressions whose elapses are suppressed
+-- exceptions, the expressions at whose elapses a timer doesn't elapse
 pub AreElapses-elapses_except : (es exceptions : List Timed) (b : ℤ) → AreElapses es exceptions b (elapses_except es exceptions b)
 unfolding elapses_except
 AreElapses-elapses_except es exceptions b =

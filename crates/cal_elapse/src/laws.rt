@@ -1,5 +1,5 @@
-//! Laws about the elapses of expressions, with and without exceptions, which are expressions whose elapses are
-//! suppressed. Each law is a function with an empty body, whose contract states the law.
+//! Laws about the elapses of expressions, with and without exceptions, which are expressions at whose elapses a timer
+//! doesn't elapse. Each law is a function with an empty body, whose contract states the law.
 
 ghost use Rattle.std.specs.Prelude.{◌≡◌, ◌↔◌, ◌+◌, ◌++◌, ◌∷◌, [], ℕ, ℤ, pos, ◌≤ℤ◌, List, Some, map, suc, take, drop, slice_get};
 ghost use Rattle.jiff.specs.Types.{TimeZone};

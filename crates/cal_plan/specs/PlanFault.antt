@@ -1,5 +1,5 @@
--- The error for expressions and exceptions (expressions whose elapses are suppressed) that name a zone missing from the
--- zone table.
+-- The error for expressions and exceptions (expressions at whose elapses a timer doesn't elapse) that name a zone
+-- missing from the zone table.
 use Rattle.std.specs.Prelude.{◌≡◌, ℕ, Option, None, Some}
 use Rattle.cal_plan.specs.declared.plan_fault.PlanFault.{PlanFault}
 use Rattle.cal_plan.specs.declared.plan_fault.PlanFault.TheVariants.{NoSuchZone}

@@ -1,5 +1,5 @@
--- The elapse times of expressions and of exceptions (expressions whose elapse times are suppressed), each in its zone,
--- and the merge that yields them: systemd.timer(5), OnCalendar=.
+-- The elapse times of expressions and of exceptions (expressions at whose elapse times a timer doesn't elapse), each in
+-- its zone, and the merge that yields them: systemd.timer(5), OnCalendar=.
 use Rattle.std.specs.Prelude.{◌≡◌, ◌++◌, ℤ, false, map, List, None, Some}
 use Rattle.std.specs.Option.{unwrap_or}
 use Rattle.jiff.specs.Types.{TimeZone, UTC}

@@ -1,5 +1,5 @@
-//! The elapses of calendar expressions and exceptions (expressions whose elapses are suppressed) in a setting: the zone
-//! of each, and all elapses merged.
+//! The elapses of calendar expressions and exceptions (expressions at whose elapses a timer doesn't elapse) in a
+//! setting: the zone of each, and all elapses merged.
 #![tactic(auto)]
 
 pub mod laws;

@@ -1,4 +1,4 @@
-//! The first expression or exception (an expression whose elapses are suppressed) whose zone isn't known.
+//! The first expression or exception (an expression at whose elapses a timer doesn't elapse) whose zone isn't known.
 
 ghost use Rattle.std.specs.Prelude.{◌≡◌, map};
 ghost use Rattle.cal_zone.specs.Setting.{setting_seen};

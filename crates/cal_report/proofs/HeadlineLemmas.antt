@@ -74,8 +74,8 @@ is_answered one asked base e verb h =
     ∙ ap (answer_with asked base e.text) (spelled_is_read one e.text e.fields h.spelled)
     ∙ ap (answer_in asked base e.text e.fields) (zone_is_found asked e.fields.zone e.tz h.zone)
 
--- if there are no exceptions (expressions whose elapse times are suppressed), `elapses_after` computes exactly the
--- elapse times of an expression
+-- if there are no exceptions (expressions at whose elapse times a timer doesn't elapse), `elapses_after` computes
+-- exactly the elapse times of an expression
 alone_elapses : (t : Timed) (base : ℤ) → AreElapses (t ∷ []) [] base (elapses_after (t ∷ []) base)
 alone_elapses t base = subst (AreElapses (t ∷ []) [] base) (elapses_except-none (t ∷ []) base) (AreElapses-elapses_except (t ∷ []) [] base)
 

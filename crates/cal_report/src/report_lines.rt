@@ -14,8 +14,8 @@ use cal_zone::{Instant, MICROS_PER_SECOND, Moment};
 /// The label before an expression or a timestamp, which is shown as the user gave it.
 pub const ORIGINAL_LABEL: &[u8] = b"  Original form: ";
 
-/// The label before an exception of a timer file, which is an expression whose elapse times are suppressed. The
-/// exception is shown as it is written in the file.
+/// The label before an exception of a timer file, which is an expression at whose elapse times a timer doesn't elapse.
+/// The exception is shown as it is written in the file.
 pub const EXCEPT_LABEL: &[u8] = b"    Except form: ";
 
 /// Writes a line with `label` and `text`, and begins the next line with the label `Normalized form:`.

@@ -24,7 +24,7 @@ IsElapse [] i = ⊥
 IsElapse (e ∷ es) i = IsPlace e i ⊎ IsElapse es i
 
 -- `i` is an elapse of at least one of the expressions `es`, and isn't an elapse of an exception, which is an expression
--- whose elapses are suppressed
+-- at whose elapses a timer doesn't elapse
 abbrev pub IsElapseExcept : List Timed → List Timed → ℤ → Type 0
 IsElapseExcept es exceptions i = IsElapse es i × (IsElapse exceptions i → ⊥)
 

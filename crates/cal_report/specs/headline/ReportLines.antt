@@ -11,8 +11,8 @@ use Rattle.cal_zone.specs.declared.zone.Zone.{Zone}
 abbrev pub original_label : List ℕ
 original_label = codes "  Original form: "
 
--- the label before an exception of a timer file (an expression whose elapse times are suppressed); the exception is
--- shown as it is written in the file
+-- the label before an exception of a timer file (an expression at whose elapse times a timer doesn't elapse); the
+-- exception is shown as it is written in the file
 abbrev pub except_label : List ℕ
 except_label = codes "    Except form: "
 
