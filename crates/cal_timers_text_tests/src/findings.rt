@@ -41,6 +41,7 @@ OnCalendar=25:00
         "a.timer:2:12: error: systemd 252 doesn't accept tabs in an expression
 OnCalendar=Sat..Mon\\x0918:00
            ^~~~~~~~
+  write instead: Mon,Sat,Sun *-*-* 18:00:00
 ",
     ),
     (
