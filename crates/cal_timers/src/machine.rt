@@ -55,8 +55,10 @@ impl<'a, R: Files + Env + AllocGlobal + Clone + Drop> Machine<'a, R> {
 
     /// Returns the path to which a link leads, or `None` if there is no link at this path.
     fn next_path(&self, alloc: Global, path: &str) -> Result<Option<String>, TreeFault> {
-        let Ok(link) = fs::read_link(self.rt, path) else {
-            return Ok(None);
+        let link = match fs::read_link(self.rt, path) {
+            Ok(link) => link,
+            Err(error) if error.kind() == ErrorKind::OutOfMemory => return Err(TreeFault::NoMemory),
+            Err(_) => return Ok(None),
         };
         let Some(target) = link.as_path().to_str() else {
             return Err(TreeFault::NotUtf8);
