@@ -1,8 +1,8 @@
--- A lemma on the first numbers of a source, which are taken one by one.
+-- A lemma about taking the first numbers of a source one by one.
 use Rattle.std.proofs.Common.{◌≡◌, ℕ, suc, ◌+◌, ◌-◌, ◌<◌, ◌++◌, List, [], ◌∷◌, Some, ℤ, slice_get, take, drop, sym, ap, ◌∙◌, append_assoc, arith}
 use Rattle.cal_text.proofs.General.{list-first}
 
--- after the next number of the source is taken, what was taken and what is still to be taken is the same as before
+-- taking one more number doesn't change `whole`, which is the numbers taken so far, followed by those still to be taken
 pub taken_more : (first new whole rest left : List ℤ) (count i : ℕ) (x : ℤ) → i < count → slice_get rest 0 ≡ Some x → left ≡ drop 1 rest → first ++ take (count - i) rest ≡ whole → new ≡ first ++ x ∷ []
     → new ++ take (count - (i + 1)) left ≡ whole
 taken_more first new whole rest left count i x more given left_is was now =

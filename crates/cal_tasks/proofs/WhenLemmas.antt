@@ -1,4 +1,4 @@
--- A lemma on the first instant at which a weekday with a time elapses.
+-- A lemma about the first elapse of a weekday with a time.
 use Rattle.std.proofs.Common.{◌≡◌, [], ◌∷◌, Option, None, Some, ℤ, slice_get, sym, ap, ◌∙◌}
 use Rattle.std.specs.Prelude.{IfSome}
 use Rattle.jiff.specs.Types.{TimeZone}

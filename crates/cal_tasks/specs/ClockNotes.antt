@@ -15,15 +15,15 @@ use Rattle.cal_tasks.specs.declared.clock_note.ClockChange.{ClockChange}
 use Rattle.cal_tasks.specs.declared.clock_note.ClockChange.TheVariants.{Skipped, Repeated}
 use Rattle.cal_tasks.specs.declared.clock_note.ClockNote.{ClockNote}
 
--- the maximum number of notes of a timer
+-- the maximum number of notes for one timer
 abbrev pub max_notes : ℕ
 max_notes = 16
 
--- a local second that an expression matches; the sets have the values of its fields
+-- `local` is a local second that an expression matches; `sets` are the values that the fields of the expression match
 abbrev pub IsMatch : Sets → ℤ → Type 0
 IsMatch sets local = IsLocalSecond local × (matches sets (unsigned_abs local) ≡ true)
 
--- the zone's clock shows the local second at its place, `first`, and again at a later instant
+-- the zone's clock shows `local` at the instant `first`, its place, and again at the later instant `second`
 pub record IsRepeated (tz : TimeZone) (local : ℤ) : Type 0 where
   pub first : ℤ
   pub second : ℤ
@@ -31,23 +31,25 @@ pub record IsRepeated (tz : TimeZone) (local : ℤ) : Type 0 where
   pub later : first <ℤ second
   pub shown : local_shown_at tz second ≡ local
 
--- what the clock change does to the local second: a skipped one has no place, and a repeated one is shown twice
+-- the zone's clock skips or repeats `local`, whichever the clock change says: a skipped local second has no place, and
+-- a repeated local second is shown twice
 abbrev pub IsChange : TimeZone → ℤ → ClockChange → Type 0
 IsChange tz local Skipped = place_of tz local ≡ None
 IsChange tz local Repeated = IsRepeated tz local
 
--- the local second of the note matches the expression with these fields, and the change is right in this zone
+-- the expression with these fields matches the local second of the note, and the zone's clock skips or repeats this
+-- local second, as the note says
 pub record IsNoteOf (tz : TimeZone) (fields : Fields) (note : ClockNote) : Type 0 where
   pub is_match : IsMatch (sets_of fields) note.local
   pub change : IsChange tz note.local note.change
 
--- `new` is `old` with notes of an expression appended
+-- `new` is `old` with notes about one expression appended
 pub record AddsNotesOf (tz : TimeZone) (fields : Fields) (old new : List ClockNote) : Type 0 where
   pub more : List ClockNote
   pub are_notes : All (IsNoteOf tz fields) more
   pub is : new ≡ old ++ more
 
--- the note is one of an expression among these lines, in the zone of this expression
+-- the note is about the expression on one of these lines, in the zone of this expression
 pub record IsNoteAmong (at : Setting) (lines : List (TimerLine Fields)) (note : ClockNote) : Type 0 where
   pub line : TimerLine Fields
   pub among : Contains lines line

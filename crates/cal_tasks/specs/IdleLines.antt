@@ -12,7 +12,7 @@ use Rattle.cal_tasks.specs.declared.idle.IdleKind.{IdleKind}
 use Rattle.cal_tasks.specs.declared.idle.IdleKind.TheVariants.{NeverElapses, SuppressesNothing}
 use Rattle.cal_tasks.specs.declared.idle.IdleLine.{IdleLine}
 
--- the number of elapses of which an exception has to suppress one
+-- the number of elapses that an exception is compared with
 abbrev pub max_elapses : ℕ
 max_elapses = 10_000
 
@@ -24,18 +24,18 @@ elapses_of_line at base line = elapses_after (timed_entry at line ∷ []) base
 abbrev pub never_elapses : Setting → ℤ → TimerLine Fields → Bool
 never_elapses at base line = is_none (slice_get (elapses_of_line at base line) 0)
 
--- whether one of these numbers is an elapse of the expression on this line after the base time
+-- whether at least one of these numbers is an elapse of the expression on this line after the base time
 abbrev pub has_any : Setting → ℤ → List ℤ → TimerLine Fields → Bool
 has_any at base numbers line = list_any (is_member int_eq (elapses_of_line at base line)) numbers
 
--- the next elapses of the expressions, without regard to exceptions
+-- the first `max_elapses` elapses of the expressions after the base time, as if there were no exceptions
 abbrev pub next_elapses : Setting → ℤ → List (TimerLine Fields) → List ℤ
 next_elapses at base lines = take max_elapses (elapses_of_lists at base (record { expressions = lines; exceptions = [] }))
 
 abbrev pub idle_line : IdleKind → TimerLine Fields → IdleLine
 idle_line kind line = record { number = line.number; kind = kind }
 
--- the lines that pass the test, each with the reason why it has no effect
+-- the lines for which `test` is true, each with `kind` as the reason why it has no effect
 abbrev pub idle_as : IdleKind → (TimerLine Fields → Bool) → List (TimerLine Fields) → List IdleLine
 idle_as kind test lines = map (idle_line kind) (filter test lines)
 
@@ -43,8 +43,8 @@ idle_as kind test lines = map (idle_line kind) (filter test lines)
 abbrev pub suppresses_nothing : Setting → ℤ → List ℤ → TimerLine Fields → Bool
 suppresses_nothing at base numbers line = not (has_any at base numbers line)
 
--- the expressions that have no elapse after the base time, and then the exceptions that suppress none of the next
--- elapses
+-- the lines that have no effect: first the expressions that have no elapse after the base time, and then the exceptions
+-- that suppress none of the `next_elapses` of the expressions
 abbrev pub idle_lines : Setting → ℤ → Timer Fields → List IdleLine
 idle_lines at base lists =
     idle_as NeverElapses (never_elapses at base) lists.expressions

@@ -1,4 +1,4 @@
--- The elapses of loaded timers, each with the zones that were loaded for it: systemd.timer(5), OnCalendar=.
+-- The elapses of loaded timers, computed with the zones that were loaded for each timer: systemd.timer(5), OnCalendar=.
 use Rattle.std.specs.Prelude.{ℕ, List, [], ◌∷◌, ℤ, Option, None}
 use Rattle.std.specs.Option.{option_or}
 use Rattle.cal_zone.specs.Setting.{Setting}
@@ -17,7 +17,7 @@ use Rattle.cal_tasks.specs.declared.clocked.Clocked.{Clocked}
 abbrev pub lists_of_loaded : Calendar → Timer Fields
 lists_of_loaded calendar = record { expressions = expressions_in calendar; exceptions = exceptions_in calendar }
 
--- the zones that the expressions of a timer can refer to: the local zone, and the zones that were loaded for the timer
+-- the zones of a timer's expressions: the local zone, and the zones that were loaded for the timer, by name
 abbrev pub setting_for : Clocked → LoadedTimer → Setting
 setting_for at timer = record { local = zone_of at.local; find = zone_named timer.zones }
 
@@ -25,11 +25,12 @@ setting_for at timer = record { local = zone_of at.local; find = zone_named time
 abbrev pub elapses_in : Clocked → ℤ → LoadedTimer → List ℤ
 elapses_in at base timer = elapses_of_lists (setting_for at timer) base (lists_of_loaded timer.calendar)
 
--- the number of the first line of a timer that names a zone that wasn't loaded
+-- the number of the first line of a timer on which an expression or an exception names a zone that wasn't loaded, or
+-- `None` if there is no such line
 abbrev pub unzoned_line : Clocked → LoadedTimer → Option ℕ
 unzoned_line at timer = unzoned (setting_for at timer) (lists_of_loaded timer.calendar)
 
--- the number of this line for the first timer that has such a line
+-- `unzoned_line` of the first timer that names a zone that wasn't loaded for it, or `None` if there is no such timer
 abbrev pub first_unzoned_line : Clocked → List LoadedTimer → Option ℕ
 first_unzoned_line at [] = None
 first_unzoned_line at (timer ∷ timers) = option_or (unzoned_line at timer) (first_unzoned_line at timers)

@@ -1,5 +1,5 @@
--- The instants between which elapses are listed: a weekday with a time, or a timestamp (systemd.time(7), Parsing
--- Timestamps).
+-- The two ways to write the start or the end of a range of instants: as a weekday with a time, or as a timestamp
+-- (systemd.time(7), Parsing Timestamps).
 use Rattle.std.specs.Prelude.{◌≡◌, ℕ, ◌/◌, Bool, false, true, List, [], ◌∷◌, None, Some, is_some, Ok, ℤ, pos, slice_get, unsigned_abs}
 use Rattle.std.specs.FinMap as map
 use Rattle.jiff.specs.Types.{TimeZone}
@@ -17,16 +17,16 @@ use Rattle.cal_plan.specs.ZoneFor.{zone_for}
 use Rattle.cal_stamp.specs.Stamp.{moment_in}
 use Rattle.cal_tasks.specs.declared.clocked.Clocked.{Clocked}
 
--- the zones that a text can refer to: the local zone, and UTC by its name
+-- the zones that such a text can refer to: the local zone by default, and `UTC`, the only zone that can be named
 abbrev pub setting_without_names : Clocked → Setting
 setting_without_names at = record { local = zone_of at.local; find = zone_named map.empty }
 
--- whether the first word begins with the name of a weekday
+-- whether the letters at the beginning of the first word are the name of a weekday
 abbrev pub begin_with_weekday : List (List ℕ) → Bool
 begin_with_weekday [] = false
 begin_with_weekday (word ∷ more) = is_some (day_named (leading_letters word))
 
--- the calendar expression in this text, which begins with the name of a weekday and has no date
+-- the text is a calendar expression with these fields; it begins with the name of a weekday and has no date
 pub record IsWeekdayTime (text : List ℕ) (fields : Fields) : Type 0 where
   pub weekday : begin_with_weekday (words text) ≡ true
   pub read : expr_in text ≡ Ok fields
@@ -40,13 +40,13 @@ pub record IsFirstElapse (at : Setting) (after : ℤ) (fields : Fields) (secs : 
   pub zoned : zone_for at fields.zone ≡ Some tz
   pub next : slice_get (elapses_after (timed fields tz ∷ []) after) 0 ≡ Some secs
 
--- the text is a weekday with a time, and `secs` is the first instant after `after` at which it elapses
+-- the text is a weekday with a time, and `secs` is its first elapse after `after`
 pub record IsNextWeekdayTime (at : Setting) (after : ℤ) (text : List ℕ) (secs : ℤ) : Type 0 where
   pub fields : Fields
   pub is_time : IsWeekdayTime text fields
   pub first : IsFirstElapse at after fields secs
 
--- the text is a timestamp, and `secs` is its moment, rounded down to whole seconds
+-- the text is a timestamp, and `secs` is its moment, rounded down to a whole second
 abbrev pub IsStampSecond : ℤ → Setting → List ℕ → ℤ → Type 0
 IsStampSecond now at text secs =
     (micros : ℤ) × (moment_in now at text ≡ Ok micros) × (secs ≡ pos (unsigned_abs micros / micros_per_second))

@@ -2,11 +2,11 @@
 
 use cal_zone::{Instant, Zone};
 
-/// The present and the local zone.
+/// The present and the local zone. The elapses of a timer depend on both.
 #[derive(Clone, Copy)]
 pub struct Clocked<'a> {
-    /// The present.
+    /// The present instant.
     pub now: Instant,
-    /// The local zone.
+    /// The local zone: the zone of expressions that don't end in a zone or a UTC offset.
     pub local: Zone<'a>,
 }

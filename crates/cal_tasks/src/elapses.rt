@@ -33,7 +33,7 @@ pub fn elapses_of(
     Ok(take_first(alloc, &mut merge, count)?)
 }
 
-/// Creates the iterator over the elapses of a timer after `base`.
+/// Creates the iterator over the elapses of a timer after `base`. Fails like [`elapses_of`].
 pub(crate) fn merge_of_timer<'a>(
     alloc: Global,
     at: Clocked<'a>,
@@ -53,7 +53,7 @@ pub(crate) fn merge_of_timer<'a>(
     )
 }
 
-/// Returns the present and the zones that the expressions of a timer can refer to.
+/// Returns the present, the local zone, and the zones that the expressions of a timer can name.
 pub(crate) fn setting_for<'a>(at: Clocked<'a>, timer: &'a LoadedTimer) -> Setting<'a>
     ensures seen { setting_seen result ≡ setting_for at.entry timer.now }
     ensures now { result.now ≡ at.entry.now }
@@ -65,7 +65,7 @@ pub(crate) fn setting_for<'a>(at: Clocked<'a>, timer: &'a LoadedTimer) -> Settin
     }
 }
 
-/// Takes the first `count` numbers of a source, or all of them if there are fewer.
+/// Takes the first `count` numbers from a source, or all of them if there are fewer.
 pub(crate) fn take_first<S: Rising>(
     alloc: Global,
     source: &mut S,

@@ -24,28 +24,29 @@ use cal_timer::TimerLine;
 use cal_zone::Setting;
 use std::alloc::{AllocError, Global};
 
-/// The number of elapses of which an exception has to suppress one.
+/// The number of elapses that an exception is compared with. An exception that suppresses none of them is reported.
 const MAX_ELAPSES: u32 = 10_000;
 
 /// Why a line of a timer has no effect.
 #[derive(Clone, Copy, PartialEq, Eq, Debug)]
 pub enum IdleKind {
-    /// The expression has no elapse after the present.
+    /// The expression doesn't elapse after the present.
     NeverElapses,
-    /// The exception suppresses none of the next 10,000 elapses that the timer has without its exceptions.
+    /// The exception suppresses none of the next 10,000 elapses that the timer would have without its exceptions.
     SuppressesNothing,
 }
 
-/// A line of a timer that has no effect.
+/// An expression or an exception that has no effect.
 #[derive(Clone, Copy, PartialEq, Eq, Debug)]
 pub struct IdleLine {
-    /// The number of the line of the expression or exception.
+    /// The line number of the expression or exception, from which [`LoadedTimer::place`] finds its file.
     pub number: u32,
     pub kind: IdleKind,
 }
 
-/// Returns the expressions that don't elapse after the present, and then the exceptions that suppress none of the next
-/// 10,000 elapses of the timer.
+/// Returns the lines of a timer that have no effect: first the expressions that don't elapse after the present, and
+/// then the exceptions that suppress nothing. For an exception, only the next 10,000 elapses that the timer would have
+/// without its exceptions are checked.
 ///
 /// Fails with [`PlanFault::NoSuchZone`] if an expression or an exception names a zone that wasn't loaded, and with
 /// [`PlanFault::NoMemory`] if allocation fails.
@@ -59,14 +60,15 @@ pub fn idle_lines(
         ≡ idle_lines (setting_for at.entry timer.now) at.entry.now.secs (lists_of_loaded timer.now.calendar))
         (λ fault. fault ≢ NoMemory → IsUnzoned (unzoned_line at.entry timer.now) fault) }
 {
-    // Only to find a missing zone.
+    // This fails if a zone is missing. The iterator itself isn't used.
     let _ = merge_of_timer(alloc, at, at.now, timer)?;
     let setting = setting_for(at, timer);
     let found = idle_among(alloc, setting, timer.lines(), timer.exceptions())?;
     Ok(found)
 }
 
-/// Returns the lines without effect. The zones of all lines must be known.
+/// Returns the lines that have no effect, as [`idle_lines`] does. Every zone that a line names must be known: it is
+/// `UTC`, or it was loaded.
 fn idle_among(
     alloc: Global,
     setting: Setting<'_>,
@@ -85,7 +87,8 @@ fn idle_among(
     Ok(found)
 }
 
-/// Returns the next elapses of the expressions, whose zones must be known, without regard to exceptions.
+/// Returns the next [`MAX_ELAPSES`] elapses of the expressions, or all of them if there are fewer, as if there were no
+/// exceptions. Every zone that an expression names must be known.
 fn next_elapses(
     alloc: Global,
     setting: Setting<'_>,
@@ -95,14 +98,14 @@ fn next_elapses(
     ensures { IfOk result (λ next. next.items
         ≡ next_elapses (setting_seen setting.entry) setting.entry.now.secs (map shown lines.now)) }
 {
-    // The zones are known, so this can only fail if allocation does.
+    // No zone is missing, so this fails only if allocation fails.
     let Ok(mut merge) = merge_of(alloc, setting, setting.now, lines, &[]) else {
         return Err(AllocError);
     };
     take_first(alloc, &mut merge, MAX_ELAPSES)
 }
 
-/// Appends the expressions, whose zones must be known, that don't elapse after the present.
+/// Appends the expressions that don't elapse after the present. Every zone that an expression names must be known.
 fn add_never(
     alloc: Global,
     found: &mut Vec<IdleLine>,
@@ -122,7 +125,7 @@ fn add_never(
     Ok(())
 }
 
-/// Appends the exceptions, whose zones must be known, that have none of these elapses.
+/// Appends the exceptions that suppress none of `elapses`. Every zone that an exception names must be known.
 fn add_unused(
     alloc: Global,
     found: &mut Vec<IdleLine>,
@@ -143,7 +146,7 @@ fn add_unused(
     Ok(())
 }
 
-/// Appends a line if `is_idle` is true.
+/// Appends the line with this number to `found` if `is_idle` is `true`.
 fn push_if(
     found: &mut Vec<IdleLine>,
     is_idle: bool,
@@ -159,7 +162,7 @@ fn push_if(
     Ok(())
 }
 
-/// Returns whether the expression, whose zone must be known, doesn't elapse after the present.
+/// Returns whether the expression on `line` has no elapse after the present. The zone of the expression must be known.
 fn never_elapses(alloc: Global, setting: Setting<'_>, line: &TimerLine) -> Result<bool, AllocError>
     requires { lacks_zone (setting_seen setting) (shown line.now) ≡ false }
     ensures { IfOk result (λ never. never
@@ -169,7 +172,8 @@ fn never_elapses(alloc: Global, setting: Setting<'_>, line: &TimerLine) -> Resul
     Ok(elapses.next().is_none())
 }
 
-/// Returns whether none of the numbers is an elapse of the exception, whose zone must be known, after the present.
+/// Returns whether none of `numbers` is an elapse after the present of the exception on `line`. The zone of the
+/// exception must be known.
 fn suppresses_nothing(
     alloc: Global,
     setting: Setting<'_>,
@@ -184,7 +188,7 @@ fn suppresses_nothing(
     Ok(!has_any(&mut elapses, numbers))
 }
 
-/// Returns whether one of the numbers is an elapse.
+/// Returns whether at least one of `numbers` is an elapse that `elapses` has yet to return.
 fn has_any(elapses: &mut Elapses<'_>, numbers: &[i64]) -> bool
     ensures { result ≡ list_any (is_member int_eq (remaining_elapses elapses.old)) numbers.now }
 {
@@ -196,7 +200,8 @@ fn has_any(elapses: &mut Elapses<'_>, numbers: &[i64]) -> bool
     false
 }
 
-/// Creates the iterator over the elapses of an expression after the present in its zone, which must be known.
+/// Creates the iterator over the elapses after the present of the expression on `line`. The zone of the expression must
+/// be known.
 #[tactic(auto, unfolding(cal_plan::specs::TimerElapses::timed_entry))]
 fn elapses_of_line<'a>(
     alloc: Global,

@@ -1,5 +1,5 @@
-//! What `calendar-timers` answers, as data: when timers elapse next or in a range of instants, and where two of them
-//! differ.
+//! The answers of `calendar-timers`, as data: the next elapses of timers, their elapses in a range of instants, the
+//! first instants at which two timers differ, and the expressions and exceptions that have no effect.
 #![tactic(auto)]
 
 mod clock_note;

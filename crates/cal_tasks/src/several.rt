@@ -1,4 +1,5 @@
-//! Several timers together (systemd.timer(5), OnCalendar=).
+//! Several timers together: the next elapse of each, all elapses in a range, and how two timers differ
+//! (systemd.timer(5), OnCalendar=).
 
 ghost use Rattle.std.specs.Prelude.{◌≡◌, ◌≢◌, ◌-ℤ◌, pos, IfErr, IfOk, MatchResult, IsPermutation, IsSorted, map};
 ghost use Rattle.std.specs.Int.{int_max};
@@ -43,11 +44,10 @@ pub fn next_of_timers(
     Ok(next_of_all(alloc, merges.as_mut_slice())?)
 }
 
-/// Returns the elapses of all timers from `from` on (included) and before `before`, in increasing order, each with the
-/// index of its timer. At the same instant, timers are in the order given.
+/// Returns all elapses of the timers that are at or after `from` and before `before`, in increasing order, each with
+/// the index of its timer. Elapses at the same instant are in the order of their timers.
 ///
-/// If `from` is 1970-01-01 00:00:00 UTC, the elapses at this instant are missing. The errors are those of
-/// [`next_of_timers`].
+/// If `from` is 1970-01-01 00:00:00 UTC, elapses at this instant are missing. Fails like [`next_of_timers`].
 pub fn elapses_between(
     alloc: Global,
     at: Clocked<'_>,
@@ -67,10 +67,10 @@ pub fn elapses_between(
     Ok(between(alloc, merges.as_mut_slice(), from, before)?)
 }
 
-/// Returns where the elapses of two timers after the present, through 2199, differ.
+/// Returns the first instants after the present, through 2199, at which only one of two timers elapses.
 ///
-/// All elapses before the difference are computed. This takes longest if the timers are equal: then all their elapses
-/// through 2199 are computed, once for each field of the result. The errors are those of [`next_of_timers`].
+/// The call computes elapses until it finds these instants. It takes longest if the timers elapse at the same instants:
+/// then it computes all their elapses through 2199, once for each field of the result. Fails like [`next_of_timers`].
 pub fn difference_of(
     alloc: Global,
     at: Clocked<'_>,
@@ -83,7 +83,7 @@ pub fn difference_of(
         → IsUnzoned (option_or (unzoned_line at.entry one.now) (unzoned_line at.entry other.now)) fault) }
 {
     let only_one = first_only_of(alloc, at, one, other)?;
-    // The zones of both timers are known now, so this can only fail if allocation does.
+    // The call above found the zones of both timers, so this one fails only if allocation fails.
     let Ok(only_other) = first_only_of(alloc, at, other, one) else {
         return Err(PlanFault::NoMemory);
     };
@@ -93,7 +93,8 @@ pub fn difference_of(
     })
 }
 
-/// Returns the first instant after the present at which the timer `one` elapses and the timer `other` doesn't.
+/// Returns the first instant after the present at which the timer `one` elapses and the timer `other` doesn't, or
+/// `None` if there is no such instant.
 fn first_only_of(
     alloc: Global,
     at: Clocked<'_>,
@@ -112,7 +113,7 @@ fn first_only_of(
     Ok(first_only(alloc, these, those)?)
 }
 
-/// Creates the iterators over the elapses of timers after `base`.
+/// Creates one iterator for each timer, over the timer's elapses after `base`.
 fn merges_of<'a>(
     alloc: Global,
     at: Clocked<'a>,

@@ -1,4 +1,4 @@
-//! What a zone's clock shows.
+//! Conversion of an instant to the local time of a zone.
 
 ghost use Rattle.std.specs.Prelude.{◌≡◌, pos, neg_ℤ};
 ghost use Rattle.jiff.specs.Words.{IsBetween};

@@ -25,19 +25,19 @@ use cal_timer::TimerLine;
 use cal_zone::{Instant, PlaceCache, Setting, Zone, civil};
 use std::alloc::{AllocError, Global};
 
-/// The maximum number of notes of a timer.
+/// The maximum number of notes for one timer.
 const MAX_NOTES: usize = 16;
 
 /// The maximum number of local times that are examined for each expression.
 const MAX_MATCHES: u32 = 10_000;
 
-/// Returns the local times of a timer's expressions that a clock change skips or repeats: each once, earliest first,
-/// and at most 16 of them.
+/// Returns the local times that an expression of the timer matches and that a clock change skips or repeats: each once,
+/// earliest first, and at most 16 of them.
 ///
-/// The local times are those from the beginning of the present day to one day after the last of `elapses`, both on the
-/// clock of the expression's zone, or to one day after the present if `elapses` is empty. Of each expression, the first
-/// 10,000 are examined. A local time that the clock shows twice is only found if the UTC offset at its second
-/// occurrence is still the offset one day after its first occurrence.
+/// The search for each expression goes, on the clock of the expression's zone, from the beginning of the present day to
+/// one day after the last of `elapses`, or to one day after the present if `elapses` is empty. It examines at most
+/// 10,000 matching local times. It finds a local time that the clock shows twice only if the UTC offset at the second
+/// occurrence is also the UTC offset one day after the first occurrence.
 ///
 /// Fails with [`PlanFault::NoSuchZone`] if an expression names a zone that wasn't loaded, and with
 /// [`PlanFault::NoMemory`] if allocation fails.
@@ -60,7 +60,7 @@ pub fn clock_notes(
     Ok(notes)
 }
 
-/// Returns the last of these elapses, or the present if there are none.
+/// Returns the last of `elapses`, or `now` if there are none.
 fn last_instant(now: Instant, elapses: &[i64]) -> Instant {
     match elapses {
         [.., last] => Instant::new(*last).unwrap_or(now),
@@ -68,7 +68,8 @@ fn last_instant(now: Instant, elapses: &[i64]) -> Instant {
     }
 }
 
-/// Returns the local times of each expression that a clock change skips or repeats, expression by expression.
+/// Returns the notes about all expressions, in the order of the expressions. Each search goes from the day of the
+/// present to one day after `last`.
 fn notes_of_lines(
     alloc: Global,
     setting: Setting<'_>,
@@ -83,7 +84,7 @@ fn notes_of_lines(
         let Some(zone) = zone_for(setting, &line.expr) else {
             return Err(PlanFault::NoSuchZone(line.number));
         };
-        // A search would find nothing here, but not as fast.
+        // UTC and fixed offsets have no clock changes, so there is nothing to find.
         if zone.is_utc() || line.expr.zone_offset().is_some() {
             continue;
         }
@@ -92,8 +93,8 @@ fn notes_of_lines(
     Ok(notes)
 }
 
-/// Appends the local times of an expression that a clock change in the zone skips or repeats, from the day of `now` to
-/// one day after `last`.
+/// Appends the notes about an expression in its zone: the matching local times that a clock change skips or repeats,
+/// from the beginning of the day of `now` to one day after `last`.
 fn add_notes(
     notes: &mut Vec<ClockNote>,
     expr: &Expr,
@@ -123,7 +124,7 @@ fn add_notes(
     Ok(())
 }
 
-/// Returns the first match at or after `from`.
+/// Returns the first matching local second at or after `from`.
 #[tactic(auto, using(cal_civil::proofs::LocalLemmas::local_arith))]
 fn first_match(masks: &Masks, from: i64) -> Option<i64>
     requires low { pos 0 ≤ℤ from }
@@ -133,7 +134,7 @@ fn first_match(masks: &Masks, from: i64) -> Option<i64>
     next_local(masks, from).local
 }
 
-/// Returns the first match after `local`.
+/// Returns the first matching local second after `local`.
 #[tactic(auto, using(cal_civil::proofs::LocalLemmas::local_arith))]
 fn match_after(masks: &Masks, local: i64) -> Option<i64>
     requires { IsLocalSecond local }
@@ -142,8 +143,8 @@ fn match_after(masks: &Masks, local: i64) -> Option<i64>
     first_match(masks, local + 1)
 }
 
-/// Returns the first local second of the day of `local`. Returns 0 if `local` is negative, and the end of the range of
-/// local seconds if it is after 2199.
+/// Returns the first local second of the day that contains `local`. Returns 0 if `local` is negative, and [`LOCAL_END`]
+/// if `local` is after 2199.
 #[tactic(auto, using(cal_civil::proofs::LocalLemmas::local_arith))]
 fn start_of_day(local: i64) -> i64
     ensures low { pos 0 ≤ℤ result }
@@ -158,13 +159,14 @@ fn start_of_day(local: i64) -> i64
     local - i64::from(second_of_day(local))
 }
 
-/// Returns what a clock change does to `local`, if it does anything.
+/// Returns `Skipped` if the clock skips `local`, `Repeated` if the clock shows `local` twice, and otherwise `None`.
+/// Some repeated local seconds aren't found; see [`clock_notes`].
 fn change_at(cache: &mut PlaceCache<'_>, local: i64) -> Option<ClockChange>
     requires { IsLocalSecond local }
     ensures change { IfSome result (IsChange (zone_of cache.old) local) }
     ensures zone { cache.new ≡ cache.old }
 {
-    // Most local seconds are far from any clock change and need no conversion.
+    // Most local seconds are far from any clock change, so their UTC offset is known to stay constant for a day.
     if cache.offset_over(local, local + DAY).is_some() {
         return None;
     }
@@ -178,8 +180,8 @@ fn change_at(cache: &mut PlaceCache<'_>, local: i64) -> Option<ClockChange>
     }
 }
 
-/// Returns whether the clock shows `local` again after `first`, its place, at the UTC offset that the zone has one day
-/// after `first`.
+/// Returns whether the clock shows `local` again after `first`, at the UTC offset that the zone has one day after
+/// `first`. `first` is the instant at which the clock first shows `local`.
 fn is_shown_again(zone: Zone<'_>, local: i64, first: i64) -> bool
     requires local { IsLocalSecond local }
     requires first { place_of (zone_of zone) local ≡ Some first }

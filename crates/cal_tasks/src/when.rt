@@ -1,4 +1,4 @@
-//! Parsing of the instants between which elapses are listed.
+//! Parsing of the two instants between which the verb `between` lists elapses.
 
 ghost use Rattle.std.specs.Prelude.{◌≡◌, ◌⊎◌, None, IfErr, IfOk, IfSome, Err, ◌≤◌, false, length};
 ghost use Rattle.std.specs.List.{position_or_len};
@@ -18,15 +18,16 @@ use cal_text::first_word;
 use cal_zone::{Instant, Setting, ZoneTable};
 use std::alloc::Global;
 
-/// Parses an instant: a weekday with a time, or else a timestamp (systemd.time(7), Parsing Timestamps).
+/// Parses an instant: a weekday with a time, or a timestamp (systemd.time(7), Parsing Timestamps).
 ///
-/// A weekday with a time, such as `Fri 18:00`, stands for the first instant after `after` that the clock shows then.
-/// It can be any calendar expression that begins with the name of a weekday and has no date: several weekdays, as in
-/// `Mon..Fri 9:00`, no time, which is midnight, or a UTC offset. In a timestamp the weekday would have to be that of
-/// the present day.
+/// A weekday with a time, such as `Fri 18:00`, is a calendar expression that begins with the name of a weekday and has
+/// no date. It resolves to its first elapse after `after`. It may name several weekdays, as in `Mon..Fri 9:00`, leave
+/// out the time, which is then midnight, and end in `UTC` or a UTC offset. As a timestamp, such a text would be
+/// accepted only if the present day is the weekday that it names.
 ///
-/// A timestamp is rounded down to whole seconds. No zone but `UTC` has a name here. If the text is neither, or if
-/// memory for the calendar expression can't be allocated, the error is that of the timestamp.
+/// All other texts are parsed as timestamps, and so is a weekday with a time that doesn't elapse after `after` or for
+/// which allocation fails. The moment of a timestamp is rounded down to a whole second. The only zone that can be named
+/// is `UTC`. All errors are those of timestamps.
 pub fn read_when(
     alloc: Global,
     at: Clocked<'_>,
@@ -52,8 +53,8 @@ pub fn read_when(
     Ok(moment.instant())
 }
 
-/// Returns the first instant after `after` at which a weekday with a time elapses. Returns `None` if the text isn't a
-/// weekday with a time, if its zone has a name other than `UTC`, if it doesn't elapse, or if allocation fails.
+/// Parses a weekday with a time, and returns its first elapse after `after`. Returns `None` if the text isn't a weekday
+/// with a time, if it names a zone other than `UTC`, if it doesn't elapse after `after`, or if allocation fails.
 fn next_weekday_time(
     alloc: Global,
     setting: Setting<'_>,
@@ -67,7 +68,8 @@ fn next_weekday_time(
     first_elapse(alloc, setting, after, &expr)
 }
 
-/// Returns the first instant after `after` at which an expression elapses in its zone.
+/// Returns the first elapse of an expression after `after`. Returns `None` if the zone of the expression isn't known,
+/// if the expression doesn't elapse after `after`, or if allocation fails.
 fn first_elapse(alloc: Global, setting: Setting<'_>, after: Instant, expr: &Expr) -> Option<Instant>
     ensures { IfSome result (λ instant. IsFirstElapse (setting_seen setting.entry) after.secs expr.now instant.secs) }
 {
@@ -83,7 +85,8 @@ fn first_elapse(alloc: Global, setting: Setting<'_>, after: Instant, expr: &Expr
     Instant::new(secs)
 }
 
-/// Parses a calendar expression that begins with the name of a weekday and has no date.
+/// Parses a calendar expression that begins with the name of a weekday and has no date. Returns `None` for any other
+/// text, or if allocation fails.
 fn read_weekday_time(alloc: Global, text: &str) -> Option<Expr>
     ensures { IfSome result (IsWeekdayTime text.now) }
 {
@@ -94,7 +97,7 @@ fn read_weekday_time(alloc: Global, text: &str) -> Option<Expr>
     if has_date(&expr) { None } else { Some(expr) }
 }
 
-/// Returns whether the first word begins with the name of a weekday.
+/// Returns whether the letters at the beginning of the first word are the name of a weekday.
 fn begins_with_weekday(text: &str) -> bool
     ensures { result ≡ begin_with_weekday (words text.now) }
 {

@@ -1,4 +1,4 @@
--- The numbers taken so far, followed by those still to be taken, are those that have to be taken.
+-- The numbers taken so far, followed by those still to be taken, are the first `count` numbers that the source had.
 use Rattle.std.proofs.Common.{◌≡◌, ◌-◌, ◌++◌, take}
 use Rattle.cal_tasks.proofs.elapses.take_first.Given as goal
 

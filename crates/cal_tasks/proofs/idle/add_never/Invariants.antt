@@ -1,4 +1,4 @@
--- The expressions before the loop's index that never elapse have been appended.
+-- Of the expressions before the loop's index, those that never elapse have been appended.
 use Rattle.std.proofs.Common.{◌≡◌, ◌++◌, map, take}
 use Rattle.cal_timer.specs.TimerView.{shown}
 use Rattle.cal_zone.specs.Setting.{setting_seen}

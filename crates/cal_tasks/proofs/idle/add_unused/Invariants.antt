@@ -1,4 +1,4 @@
--- The exceptions before the loop's index that have none of the elapses have been appended.
+-- Of the exceptions before the loop's index, those that suppress none of the elapses have been appended.
 use Rattle.std.proofs.Common.{◌≡◌, ◌++◌, map, take}
 use Rattle.cal_timer.specs.TimerView.{shown}
 use Rattle.cal_zone.specs.Setting.{setting_seen}

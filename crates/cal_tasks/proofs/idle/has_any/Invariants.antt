@@ -1,4 +1,4 @@
--- The numbers before the loop's index are not elapses.
+-- None of the numbers before the loop's index is an elapse.
 use Rattle.std.proofs.Common.{◌≡◌, drop}
 use Rattle.std.specs.List.{list_any}
 use Rattle.std.specs.Ordering.{int_eq}

@@ -1,4 +1,5 @@
--- The iterators are those of the timers before the loop's index, all of whose zones are known.
+-- There is an iterator for each timer before the loop's index, and none of these timers names a zone that wasn't
+-- loaded.
 use Rattle.std.proofs.Common.{◌≡◌, map, take, drop}
 use Rattle.cal_rising.specs.Merge.{merged}
 use Rattle.cal_tasks.specs.LoadedElapses.{elapses_in, first_unzoned_line}

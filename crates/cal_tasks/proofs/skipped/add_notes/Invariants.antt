@@ -1,4 +1,4 @@
--- Notes of the expression have been appended, and the next local second to examine is a match.
+-- Only notes about the expression have been appended, and the next local second to examine, if there is one, matches.
 use Rattle.std.proofs.Common.{◌≡◌}
 use Rattle.std.specs.Prelude.{IfSome}
 use Rattle.cal_elapse.specs.Masks.{sets_in}

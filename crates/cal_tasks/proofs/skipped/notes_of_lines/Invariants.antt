@@ -1,4 +1,4 @@
--- Each note so far is one of an expression.
+-- Each note so far is about one of the expressions.
 use Rattle.std.proofs.Common.{map}
 use Rattle.std.specs.List.{All}
 use Rattle.cal_timer.specs.TimerView.{shown}
