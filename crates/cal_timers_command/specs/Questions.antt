@@ -1,17 +1,19 @@
--- What the arguments of `calendar-timers` may ask.
+-- Limits on what the arguments of `calendar-timers` can ask: the number of elapses, and the number of targets of each
+-- verb.
 use Rattle.std.specs.Prelude.{ℕ, ◌≤◌, ◌==◌, Bool, true, nat_le}
 use Rattle.cal_timers_command.specs.declared.question.Verb.{Verb}
 use Rattle.cal_timers_command.specs.declared.question.Verb.TheVariants.{List, Show, Lint, Between, Same, Next}
 
--- the maximum of `--count`
+-- the maximum value of `--count`
 abbrev pub max_count : ℕ
 max_count = 1_000_000
 
--- a number of elapses that may be asked for
+-- `count` is a valid value of `--count`
 abbrev pub IsCount : ℕ → Type 0
 IsCount count = (1 ≤ count) × (count ≤ max_count)
 
--- whether the verb may have this number of arguments that are not options
+-- whether the verb accepts this number of targets, which are the arguments other than the verb, the options and their
+-- values
 abbrev pub fits_verb : Verb → ℕ → Bool
 fits_verb List count = true
 fits_verb Show count = nat_le 1 count

@@ -1,17 +1,18 @@
-//! Why arguments ask no question.
+//! Why the arguments can't be parsed as a question.
 
 ghost use Rattle.std.specs.Prelude.{◌≡◌};
 ghost use Rattle.cal_timers_command.specs.declared.command_fault.CommandFault.TheVariants.{NoMemory};
 
 use std::alloc::AllocError;
 
-/// Why arguments ask no question: they are invalid, they ask for help or the version, or memory ran out.
+/// Why the arguments can't be parsed as a [`Question`](crate::Question): they are invalid, they ask for help or the
+/// version, or allocation failed.
 #[derive(Debug, Drop)]
 pub enum CommandFault {
-    /// The arguments are invalid. The text is the message for standard error, with a line feed at its end. It says
-    /// what is wrong and how to get help.
+    /// The arguments are invalid. The text is for standard error: it says what is wrong and how to get help, and ends
+    /// with a line feed.
     Usage(String),
-    /// Help or the version is asked for. The text is for standard output, with a line feed at its end.
+    /// The arguments ask for help or the version. The text is for standard output, and ends with a line feed.
     Help(String),
     /// Out of memory.
     NoMemory,

@@ -1,4 +1,4 @@
-//! The `clap` command, with a subcommand for each verb.
+//! The command line as `clap` parses it: a command with a subcommand for each verb.
 
 ghost use Rattle.std.specs.Prelude.{◌<◌, IfErr, IfSome, length, string_bytes};
 ghost use Rattle.cal_timers_command.specs.Faults.{HasText};
@@ -10,15 +10,17 @@ use clap::error::ErrorKind;
 use clap::{Arg, ArgAction, ArgMatches, Command, Error};
 use std::alloc::{AllocError, Global};
 
-/// The first and the second argument of `between` and of `same`.
+/// The name by which `clap` stores the first argument of `between` or `same`.
 pub(crate) const FIRST: &str = "first";
 
+/// The name by which `clap` stores the second argument of `between` or `same`.
 pub(crate) const SECOND: &str = "second";
 
-/// The other arguments that are not options.
+/// The name by which `clap` stores all targets except the first and the second argument of `between` or `same`.
 pub(crate) const TARGET: &str = "target";
 
-/// Parses the arguments, of which the first is the verb, with `clap`.
+/// Parses the arguments with `clap`. The first argument is the verb, unless the arguments ask for the help or the
+/// version of the program.
 pub(crate) fn parse<'a>(
     alloc: Global,
     arguments: &'a [&'a str],
@@ -31,7 +33,7 @@ pub(crate) fn parse<'a>(
     }
 }
 
-/// Converts an error of `clap`, which also reports help and the version as errors.
+/// Converts an error of `clap`. `clap` reports requests for help or the version as errors, too.
 fn convert_error(alloc: Global, error: &Error) -> CommandFault
     ensures { HasText result }
 {
@@ -48,7 +50,7 @@ fn convert_error(alloc: Global, error: &Error) -> CommandFault
     }
 }
 
-/// Returns the text of an error of `clap`. If the text doesn't end with a line feed, adds one. Returns `None` if
+/// Returns the text of an error of `clap`, with a line feed added if it doesn't end with one. Returns `None` if
 /// allocation fails.
 fn error_text(alloc: Global, error: &Error) -> Option<String>
     ensures { IfSome result (λ text. 0 < length (string_bytes text)) }
@@ -62,8 +64,9 @@ fn error_text(alloc: Global, error: &Error) -> Option<String>
     Some(text)
 }
 
-/// Builds the command of the program. It has the options of the verbs only so that its help shows them: an option is
-/// never before the verb.
+/// Builds the command of the program. It has the options that most verbs share, so that its help lists them and
+/// `--help` may come after them. In all other cases the verb is the first argument, and the options are those of the
+/// verb.
 fn build_program<'a>(alloc: Global) -> Result<Command<'a>, AllocError> {
     let command = Command::new(alloc, "calendar-timers")
         .version("0.1.0")
@@ -78,7 +81,7 @@ fn build_program<'a>(alloc: Global) -> Result<Command<'a>, AllocError> {
     with_range_verbs(alloc, with_file_verbs(alloc, command)?)
 }
 
-/// Adds the verbs about the timers that the arguments name.
+/// Adds the verbs `list`, `show` and `lint`.
 fn with_file_verbs<'a>(alloc: Global, command: Command<'a>) -> Result<Command<'a>, AllocError> {
     command
         .subcommand(build_list(alloc)?)?
@@ -86,7 +89,7 @@ fn with_file_verbs<'a>(alloc: Global, command: Command<'a>) -> Result<Command<'a
         .subcommand(build_lint(alloc)?)
 }
 
-/// Adds the other verbs.
+/// Adds the verbs `between`, `same` and `next`.
 fn with_range_verbs<'a>(alloc: Global, command: Command<'a>) -> Result<Command<'a>, AllocError> {
     command
         .subcommand(build_between(alloc)?)?
@@ -160,7 +163,7 @@ fn build_next<'a>(alloc: Global) -> Result<Command<'a>, AllocError> {
         .arg(targets_arg(alloc, "EXPRESSION", help).required(true))
 }
 
-/// Adds the options of all verbs that read units.
+/// Adds the options that all verbs except `next` share.
 fn with_options<'a>(alloc: Global, command: Command<'a>) -> Result<Command<'a>, AllocError> {
     with_unit_options(alloc, with_clock_options(alloc, command)?)
 }
@@ -192,7 +195,7 @@ fn json_arg<'a>(alloc: Global) -> Arg<'a> {
     flag_arg(alloc, "json", "Print JSON")
 }
 
-/// Creates an option that takes one value and may be given once.
+/// Creates an option that takes one value and may be given at most once.
 fn value_arg<'a>(alloc: Global, option: ValueOption) -> Arg<'a> {
     Arg::new(alloc, option.name)
         .long(option.name)
@@ -216,7 +219,7 @@ fn required_arg<'a>(alloc: Global, id: &'a str, value: &'a str, help: &'a str) -
         .required(true)
 }
 
-/// Creates the positional argument for any number of units, files or expressions.
+/// Creates the positional argument for any number of units, files, folders or expressions.
 fn targets_arg<'a>(alloc: Global, value: &'a str, help: &'a str) -> Arg<'a> {
     Arg::new(alloc, TARGET)
         .value_name(value)

@@ -1,4 +1,4 @@
-//! The reading of what `clap` found in the arguments.
+//! Parsing of the arguments into a question, from the matches that `clap` returns.
 
 ghost use Rattle.std.specs.Prelude.{IfErr};
 ghost use Rattle.cal_timers_command.specs.Faults.{HasText};
@@ -13,23 +13,32 @@ use std::alloc::{AllocError, Global};
 use std::convert::AsStr;
 
 impl Question {
-    /// Parses the arguments after the program's name. The first argument that is neither an option nor the value of
-    /// one is the verb. If it isn't the name of a verb, it is a target, and the verb is `list`, as it is if there is no
-    /// such argument. After an argument `--`, all arguments are targets. Options may be given anywhere before that.
+    /// Parses the arguments after the program's name.
+    ///
+    /// The verb is the first argument that is neither an option nor the value of an option. If that argument isn't the
+    /// name of a verb, it is a target, and the verb is `list`. The verb is also `list` if there is no such argument.
+    /// All arguments after `--` are targets; options may be given anywhere before it.
+    ///
+    /// The targets are:
     ///
     /// - `list`, `lint`: any number of units, files and folders.
     /// - `show`: one or more units and files.
-    /// - `between`: two times, and any number of units, files and folders.
+    /// - `between`: two times, and then any number of units, files and folders.
     /// - `same`: two units, files or expressions.
     /// - `next`: one or more expressions.
-    /// - `--count=N`, `-n N`, of `show` and `next`: a number from 1 to 1,000,000, in digits only.
-    /// - `--zone=ZONE`, or `--utc`, which is `--zone=UTC`: a zone, whose form isn't checked here.
-    /// - `--now=@N`: `@` and a number from 0 to 7,258,211,998, in digits only.
-    /// - `--root=DIR`: a path. `--user`, of all verbs but `next`: the user's units. `--json`: the output is JSON.
     ///
-    /// Fails with [`CommandFault::Help`] if help or the version is asked for, with [`CommandFault::NoMemory`] if
-    /// allocation fails, and with [`CommandFault::Usage`] if the arguments are invalid: for example, an option is given
-    /// twice, `--zone` is given with `--utc`, or a value is empty.
+    /// The options are:
+    ///
+    /// - `--count=N` or `-n N`, for `show` and `next`: a number from 1 to 1,000,000, in digits only.
+    /// - `--zone=ZONE`: a zone, whose form isn't checked here. `--utc` is the same as `--zone=UTC`.
+    /// - `--now=@N`: `@` and a number from 0 to 7,258,211,998, in digits only.
+    /// - `--root=DIR`: the path of a folder.
+    /// - `--user`, for all verbs except `next`: the user's units instead of the system's.
+    /// - `--json`: output as JSON.
+    ///
+    /// Fails with [`CommandFault::Help`] if the arguments ask for help or the version, with [`CommandFault::NoMemory`]
+    /// if allocation fails, and with [`CommandFault::Usage`] if the arguments are invalid: for example, if an option is
+    /// given twice, if `--zone` is given with `--utc`, or if a value is empty.
     pub fn of<S: AsStr>(alloc: Global, arguments: &[S]) -> Result<Question, CommandFault>
         ensures { IfErr result HasText }
     {
@@ -42,8 +51,8 @@ impl Question {
     }
 }
 
-/// Checks and copies what `clap` found for the verb. `clap` always finds as many targets as the verb needs, but a check
-/// is easier than a proof of that.
+/// Converts the matches of a verb to a question. `clap` always returns as many targets as the verb needs, but checking
+/// the number again is easier than proving it.
 fn question_of(alloc: Global, verb: Verb, values: &ArgMatches<'_>) -> Result<Question, CommandFault>
     ensures { IfErr result HasText }
 {
@@ -65,7 +74,7 @@ fn question_of(alloc: Global, verb: Verb, values: &ArgMatches<'_>) -> Result<Que
     })
 }
 
-/// Copies the arguments that are not options: the ones that have a name, and then all others.
+/// Copies the targets: the first and the second argument of `between` or `same`, and then all other targets.
 fn targets_of(alloc: Global, values: &ArgMatches<'_>) -> Result<Vec<String>, AllocError> {
     let mut targets = Vec::new(alloc);
     push_text(alloc, &mut targets, values.get_str(FIRST))?;
@@ -87,7 +96,7 @@ fn push_text(
     Ok(())
 }
 
-/// Returns the verb of a subcommand. `clap` finds only names of verbs.
+/// Returns the verb with this name. `clap` returns only names of verbs, so the last case is `list`.
 fn verb_named(name: &str) -> Verb {
     match name {
         "show" => Verb::Show,

@@ -1,6 +1,7 @@
-//! The usage of the program, and what stands below the options in each help. `{n}` ends a line.
+//! The usage of the program, and the text below the options in each help text. `clap` prints a line break for `{n}`.
 
-/// The usage of the program, which `clap` can't compose: the arguments without a verb are those of `list`.
+/// The usage of the program. `clap` can't generate it, since `clap` doesn't know that arguments without a verb are
+/// those of `list`.
 pub(crate) const USAGE: &str =
     "calendar-timers [OPTIONS] [UNIT|FILE|DIR]...\n       calendar-timers VERB [OPTIONS] [ARGUMENT]...";
 

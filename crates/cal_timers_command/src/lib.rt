@@ -1,4 +1,4 @@
-//! The arguments of `calendar-timers`: a verb, what it is about, and options.
+//! Parsing of the arguments of `calendar-timers`: a verb, its targets and its options.
 #![tactic(auto)]
 
 mod command_fault;

@@ -1,14 +1,14 @@
-//! What the arguments ask.
+//! The question that the arguments ask: a verb, its targets and its options.
 
 ghost use Rattle.std.specs.Prelude.{◌≡◌, true, vec_len};
 ghost use Rattle.std.specs.Option.{ForSome};
 ghost use Rattle.cal_zone.specs.Instant.{IsInstant};
 ghost use Rattle.cal_timers_command.specs.Questions.{IsCount, fits_verb};
 
-/// What is asked.
+/// A verb: what a question asks for.
 #[derive(Clone, Copy, PartialEq, Eq, Debug)]
 pub enum Verb {
-    /// The next elapse of each timer, the soonest first.
+    /// The next elapse of each timer, soonest first.
     List,
     /// The files, the expressions and the next elapses of each timer.
     Show,
@@ -22,28 +22,32 @@ pub enum Verb {
     Next,
 }
 
-/// A verb with its arguments and options.
+/// A verb, its targets and its options.
 #[derive(Debug, Drop)]
 pub struct Question {
     pub verb: Verb,
-    /// The arguments of the verb that are not options, in their order.
+    /// The arguments that are neither the verb nor options nor the values of options, in the order given.
     ///
-    /// - `list` and `lint`: units, files and folders; none for all units.
+    /// - `list` and `lint`: any number of units, files and folders. Without any, the question is about all units.
     /// - `show`: one or more units and files.
-    /// - `between`: the start of the range, its end, and then units, files and folders, of which there may be none.
+    /// - `between`: the start and the end of the range, and then any number of units, files and folders, as for `list`.
     /// - `same`: two units, files or calendar expressions.
     /// - `next`: one or more calendar expressions.
     pub targets: Vec<String>,
-    /// The local zone of `--zone`, or `UTC` for `--utc`. It isn't empty, and its form isn't checked. `None` stands for
-    /// the machine's zone.
+    /// The value of `--zone`, or `UTC` if `--utc` is given. The value isn't empty, and its form isn't checked. If
+    /// neither option is given, this is `None`, which stands for the machine's zone.
     pub zone: Option<String>,
-    /// The number of elapses of `--count`, from 1 to 1,000,000. Only `show` and `next` have this option.
+    /// The value of `--count`: a number of elapses, from 1 to 1,000,000. `None` if the option isn't given. Only `show`
+    /// and `next` have this option.
     pub count: Option<u32>,
-    /// The present instant of `--now` in Unix seconds, from 0 to 7,258,211,998, or `None` to read the system's clock.
+    /// The value of `--now`: the present, in seconds of Unix time, from 0 to 7,258,211,998. If the option isn't given,
+    /// this is `None`, which stands for the system's clock.
     pub now: Option<i64>,
-    /// The folder of `--root`, or an empty string for the machine itself.
+    /// The value of `--root`: a folder. If the option isn't given, this is an empty string, which stands for the root
+    /// of the machine itself.
     pub root: String,
-    /// Whether `--user` was given: the units are those of the user, not those of the system. `next` has no `--user`.
+    /// Whether `--user` is given, so that the units are those of the user instead of those of the system. `next`
+    /// doesn't have this option.
     pub is_user: bool,
     /// Whether to print JSON.
     pub is_json: bool,
@@ -53,7 +57,7 @@ pub struct Question {
 }
 
 impl Verb {
-    /// Returns whether the verb may have this number of targets.
+    /// Returns whether the verb accepts this number of targets.
     pub(crate) fn fits(self, count: usize) -> bool
         ensures { result ≡ fits_verb self count }
     {

@@ -1,13 +1,14 @@
-//! The options that take a value: what `clap` is told about them, and the names by which their values are looked up.
+//! The options that take a value, with their names and help texts. The names are also used to look up the values that
+//! `clap` has parsed.
 
-/// An option that takes one value and may be given once.
+/// An option that takes one value and may be given at most once.
 #[derive(Clone, Copy)]
 pub(crate) struct ValueOption {
-    /// The name, as it stands after `--`.
+    /// The name, without the `--` before it.
     pub(crate) name: &'static str,
-    /// What the help calls the value.
+    /// The placeholder for the value in the help.
     pub(crate) value: &'static str,
-    /// The lines of the help.
+    /// The text in the help. `clap` prints a line break for `{n}`.
     pub(crate) help: &'static str,
 }
 
@@ -17,7 +18,7 @@ pub(crate) const COUNT: ValueOption = ValueOption {
     help: "Show at most N elapses, 1 to 1000000 [default: 5]",
 };
 
-/// The short form of [`COUNT`].
+/// The short form of [`COUNT`], as in `-n 3`.
 pub(crate) const COUNT_SHORT: char = 'n';
 
 pub(crate) const ZONE: ValueOption = ValueOption {

@@ -1,4 +1,4 @@
-//! The values of options that `clap` found, checked and copied.
+//! The values of options, checked and copied from the matches that `clap` returns.
 
 ghost use Rattle.std.specs.Prelude.{◌≡◌, ◌≤◌, IfErr, IfOk, IfSome};
 ghost use Rattle.std.specs.Option.{ForSome};
@@ -12,11 +12,11 @@ use cal_zone::Instant;
 use clap::ArgMatches;
 use std::alloc::Global;
 
-/// The maximum of `--count`.
+/// The maximum value of `--count`.
 const MAX_COUNT: u64 = 1_000_000;
 
-/// Returns the number of `--count`: a number from 1 to [`MAX_COUNT`], in digits only. Returns `None` if the option
-/// wasn't given.
+/// Returns the value of `--count`, a number from 1 to [`MAX_COUNT`], or `None` if the option isn't given. Fails with
+/// [`CommandFault::Usage`] for any other value. The number must be written in digits only.
 pub(crate) fn count_of(alloc: Global, values: &ArgMatches<'_>) -> Result<Option<u32>, CommandFault>
     ensures range { IfOk result (λ count. ForSome count IsCount) }
     ensures fault { IfErr result HasText }
@@ -30,8 +30,9 @@ pub(crate) fn count_of(alloc: Global, values: &ArgMatches<'_>) -> Result<Option<
     }
 }
 
-/// Returns the second of `--now`: `@` and a number from 0 to [`Instant::LAST`], in digits only. Returns `None` if the
-/// option wasn't given.
+/// Returns the number in the value of `--now`, which is `@` and a number from 0 to [`Instant::LAST`], or `None` if the
+/// option isn't given. Fails with [`CommandFault::Usage`] for any other value. The number must be written in digits
+/// only.
 pub(crate) fn now_of(alloc: Global, values: &ArgMatches<'_>) -> Result<Option<i64>, CommandFault>
     ensures range { IfOk result (λ now. ForSome now IsInstant) }
     ensures fault { IfErr result HasText }
@@ -45,7 +46,7 @@ pub(crate) fn now_of(alloc: Global, values: &ArgMatches<'_>) -> Result<Option<i6
     }
 }
 
-/// Returns the zone of `--zone`, or `UTC` for `--utc`, or `None` if neither was given.
+/// Returns the value of `--zone`, or `UTC` if `--utc` is given, or `None` if neither option is given.
 pub(crate) fn zone_of(
     alloc: Global,
     values: &ArgMatches<'_>,
@@ -58,7 +59,7 @@ pub(crate) fn zone_of(
     text_of(alloc, values, ZONE)
 }
 
-/// Returns the folder of `--root`, or an empty string if the option wasn't given.
+/// Returns the value of `--root`, or an empty string if the option isn't given.
 pub(crate) fn root_of(alloc: Global, values: &ArgMatches<'_>) -> Result<String, CommandFault>
     ensures { IfErr result HasText }
 {
@@ -68,8 +69,8 @@ pub(crate) fn root_of(alloc: Global, values: &ArgMatches<'_>) -> Result<String, 
     }
 }
 
-/// Returns the value of an option, or `None` if the option wasn't given. Fails with [`CommandFault::Usage`] if the
-/// value is empty.
+/// Returns the value of an option, or `None` if the option isn't given. Fails with [`CommandFault::Usage`] if the value
+/// is empty.
 fn text_of(
     alloc: Global,
     values: &ArgMatches<'_>,
@@ -89,8 +90,8 @@ fn instant_in(text: &str) -> Option<Instant> {
     Instant::new(number as i64)
 }
 
-/// Parses a number from `least` to `most`. Only digits are accepted, so a leading `+`, which `parse` would accept, is
-/// rejected first.
+/// Parses a number from `least` to `most`, and returns `None` for any other text. Only digits are accepted, so a
+/// leading `+`, which `parse` would accept, is rejected first.
 fn number_between(text: &str, least: u64, most: u64) -> Option<u64>
     ensures { IfSome result (λ number. (least ≤ number) × (number ≤ most)) }
 {
@@ -103,7 +104,8 @@ fn number_between(text: &str, least: u64, most: u64) -> Option<u64>
     }
 }
 
-/// Returns the error for an invalid value, in the form in which `clap` writes it. An empty value needs no reason.
+/// Returns the error about an invalid value, worded as `clap` words such errors. If the value is empty, `reason` isn't
+/// used.
 fn bad_value(alloc: Global, option: ValueOption, text: &str, reason: &str) -> CommandFault
     ensures { HasText result }
 {

@@ -1,40 +1,40 @@
-//! The order of the arguments. `clap` takes a verb only before its options, so the verb is moved there, and `list` is
-//! put there if no verb is given.
+//! Reordering of the arguments. `clap` accepts the options of a verb only after the verb, so the verb is moved to the
+//! front. If no verb is given, `list` is inserted there.
 
 use crate::value_option::{COUNT, NOW, ROOT, ZONE};
 use std::alloc::{AllocError, Global};
 use std::convert::AsStr;
 
-/// Where the arguments have their verb.
+/// The position of the verb among the arguments.
 #[derive(Clone, Copy, PartialEq, Eq)]
 enum VerbPlace {
     /// At this index, counted from 0.
     At(usize),
-    /// Nowhere.
+    /// There is no verb.
     Missing,
-    /// Nowhere before an argument that asks for the help or the version of the program.
+    /// There is no verb before an argument that asks for the help or the version of the program.
     AfterHelp,
 }
 
-/// What an argument is, if it isn't the value of the option before it.
+/// The kind of an argument that isn't the value of the option before it.
 #[derive(Clone, Copy)]
 enum Kind {
     /// An option whose value is the next argument.
     NeedsValue,
     /// `--help`, `--version` or a short form of these.
     Help,
-    /// `--`, after which there are no options.
+    /// `--`, after which all arguments are targets.
     End,
-    /// Another option.
+    /// Any other option, including an option that is joined to its value.
     Option,
-    /// Not an option.
+    /// Not an option: a verb or a target.
     Word,
 }
 
-/// Returns the arguments with the verb as the first. If there is no verb, it is `list`, unless the arguments ask for
-/// the help or the version of the program.
+/// Returns the arguments with the verb moved to the front. If there is no verb, `list` is inserted there, unless the
+/// arguments ask for the help or the version of the program.
 ///
-/// The verb is the first argument that is neither an option nor its value, if it has the name of a verb.
+/// The verb is the first argument that is neither an option nor the value of an option, if it is the name of a verb.
 pub(crate) fn with_verb_first<'a, S: AsStr>(
     alloc: Global,
     arguments: &'a [S],
@@ -78,7 +78,8 @@ fn find_verb<S: AsStr>(arguments: &[S]) -> VerbPlace {
     VerbPlace::Missing
 }
 
-/// Returns the place of the verb, given the first argument that isn't an option.
+/// Returns the position of the verb. `word` is the first argument that is neither an option nor the value of an option,
+/// and `index` is its index.
 fn place_of(index: usize, word: &str) -> VerbPlace {
     if is_verb(word) {
         VerbPlace::At(index)
