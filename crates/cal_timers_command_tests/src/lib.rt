@@ -1,4 +1,4 @@
-//! Tests of the arguments of `calendar-timers`. What a contract proves for all arguments is not tested again.
+//! Tests of parsing the arguments of `calendar-timers`. What a contract proves for all arguments is not tested again.
 #![tactic(auto)]
 
 #[cfg(test)]

@@ -1,4 +1,5 @@
-//! Arguments, and what they ask or the first line of what is printed instead.
+//! Tests of parsing arguments. Each row has arguments, and the question that they ask or the first line that is printed
+//! instead.
 
 use cal_timers_command::{CommandFault, Question, Verb};
 use std::alloc::Global;
@@ -25,7 +26,7 @@ fn verb_name(verb: Verb) -> &'static str {
     }
 }
 
-/// Appends the verb, the options that were given, and each target after a `|`.
+/// Appends a question as text: the verb, the options that are given, and a `|` before each target.
 fn push_question(alloc: Global, shown: &mut String, question: &Question) -> Result<(), Fail> {
     shown.push_str(verb_name(question.verb))?;
     if let Some(zone) = &question.zone {
@@ -54,7 +55,7 @@ fn push_rest(alloc: Global, shown: &mut String, question: &Question) -> Result<(
     Ok(())
 }
 
-/// Returns what is printed for a fault.
+/// Returns the text that is printed for an error.
 fn text_of(fault: &CommandFault) -> &str {
     match fault {
         CommandFault::Usage(text) | CommandFault::Help(text) => text.as_str(),
@@ -71,7 +72,7 @@ fn shown_answer(alloc: Global, line: &str) -> Result<String, Fail> {
     Ok(shown)
 }
 
-/// Expects the arguments on each line to be shown as the text after the arrow.
+/// Checks that the arguments before the arrow on each line give the text after the arrow.
 fn check(alloc: Global, lines: &str) -> Result<(), Fail> {
     for line in lines.lines() {
         let (arguments, want) = line.split_once("-> ").ok_or("no arrow")?;
@@ -83,7 +84,7 @@ fn check(alloc: Global, lines: &str) -> Result<(), Fail> {
     Ok(())
 }
 
-/// Every verb, every option, and values up to their limits.
+/// All verbs and all options, with values up to their limits.
 const QUESTIONS: &str = "\
 list -> list
 list|a|b.timer|./c -> list|a|b.timer|./c
@@ -149,7 +150,7 @@ fn verbs(rt: HostRuntime) -> Result<(), Fail> {
     check(rt.alloc(), VERBS)
 }
 
-/// Requests for help and the version.
+/// Requests for help or the version.
 const HELPS: &str = "\
 --help -> Show when systemd timers elapse, check their files and compare them
 -h -> Show when systemd timers elapse, check their files and compare them
@@ -242,7 +243,7 @@ fn is_narrow(text: &str) -> bool {
     text.lines().all(|row| row.len() <= 80)
 }
 
-/// Texts end with exactly one line feed and fit into 80 columns.
+/// Help texts and messages end with exactly one line feed and fit into 80 columns.
 #[test]
 fn texts_fit_a_terminal(rt: HostRuntime) -> Result<(), Fail> {
     for line in TEXTS.lines() {
