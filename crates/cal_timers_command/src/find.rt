@@ -38,7 +38,7 @@ impl Question {
     ///
     /// Fails with [`CommandFault::Help`] if the arguments ask for help or the version, with [`CommandFault::NoMemory`]
     /// if allocation fails, and with [`CommandFault::Usage`] if the arguments are invalid: for example, if an option is
-    /// given twice, if `--zone` is given with `--utc`, or if a value is empty.
+    /// given twice, if its value is empty, or if `--zone` is given with `--utc`.
     pub fn of<S: AsStr>(alloc: Global, arguments: &[S]) -> Result<Question, CommandFault>
         ensures { IfErr result HasText }
     {
