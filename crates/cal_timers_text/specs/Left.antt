@@ -3,7 +3,7 @@ use Rattle.std.specs.Prelude.{ℕ, ◌*◌, ℤ, ◌-ℤ◌, unsigned_abs, List,
 use Rattle.cal_span.specs.headline.SpanText.{span_text}
 use Rattle.cal_text.specs.headline.Words.{words}
 
--- a word with a space before it, if there is one
+-- a space and the first word, or nothing if there are no words
 abbrev pub second_word : List (List ℕ) → List ℕ
 second_word [] = []
 second_word (word ∷ _) = 32 ∷ word

@@ -9,7 +9,7 @@ use Rattle.std.specs.Fmt.{digit_glyph}
 abbrev pub code_text : ℕ → List ℕ
 code_text code = 92 ∷ 120 ∷ digit_glyph false (code / 16) ∷ digit_glyph false (code % 16) ∷ []
 
--- a character as it is printed
+-- a character as it is printed: a control character as its code, and any other character unchanged
 abbrev pub shown_char : ℕ → List ℕ
 shown_char sign = cond (is_control sign) (code_text sign) (encode_utf8 sign)
 

@@ -1,4 +1,4 @@
-//! Pieces of lines: text without control characters, padded or cut to a width.
+//! Parts of lines: text without control characters, and text that is padded or cut to a width.
 
 ghost use Rattle.std.specs.Prelude.{◌≡◌, ◌++◌, OnOk, length, string_bytes, true};
 ghost use Rattle.std.specs.Char.{is_control};
@@ -7,7 +7,7 @@ ghost use Rattle.cal_timers_text.specs.Shown.{code_text, shown};
 
 use std::alloc::AllocError;
 
-/// Appends a text. Each control character in it is printed as `\x` and its code in two hexadecimal digits.
+/// Appends a text, with each control character replaced by `\x` and two hexadecimal digits, its code.
 pub(crate) fn push_shown(out: &mut String, text: &str) -> Result<(), AllocError>
     ensures { OnOk result (string_bytes out.new ≡ string_bytes out.old ++ shown text.now) }
 {
@@ -29,7 +29,7 @@ fn push_code(out: &mut String, sign: char) -> Result<(), AllocError>
     write!(out, "\\x{code:02x}")
 }
 
-/// Returns how many characters [`push_shown`] appends for this text.
+/// Returns the number of characters that [`push_shown`] appends for this text.
 pub(crate) fn shown_width(text: &str) -> usize {
     let mut width: usize = 0;
     for sign in text.chars() {
@@ -38,14 +38,14 @@ pub(crate) fn shown_width(text: &str) -> usize {
     width
 }
 
-/// Returns the number of characters of a text.
+/// Returns the number of characters in a text.
 pub(crate) fn width_of(text: &str) -> usize
     ensures { result ≡ length (chars text.now) }
 {
     text.chars().count()
 }
 
-/// Appends a text and at least one blank, so that they fill `width` characters if the text is short enough.
+/// Appends a text, and then blanks to fill up `width` characters, but at least one blank.
 pub(crate) fn push_padded(out: &mut String, text: &str, width: usize) -> Result<(), AllocError> {
     out.push_str(text)?;
     push_blanks(out, width.saturating_sub(width_of(text)).max(1))
@@ -63,8 +63,8 @@ pub(crate) fn push_times(out: &mut String, sign: char, count: usize) -> Result<(
     Ok(())
 }
 
-/// Appends a text if it has at most `width` characters. Otherwise appends its first characters and `…`, which are
-/// `width` characters together, or only `…` if `width` is 0.
+/// Appends a text if it has at most `width` characters. Otherwise appends its first `width - 1` characters and `…`, or
+/// only `…` if `width` is 0.
 pub(crate) fn push_cut(out: &mut String, text: &str, width: usize) -> Result<(), AllocError> {
     if width_of(text) <= width {
         return out.push_str(text);

@@ -1,4 +1,5 @@
-//! The elapses of several timers in a range, and where two timers differ.
+//! The output of `between` and `same`: the elapses of timers in a range, and the first instants at which two timers
+//! differ.
 
 use crate::cells::{push_blanks, push_shown};
 use crate::times::{instant_width, push_instant};
@@ -7,7 +8,8 @@ use cal_tasks::{Difference, TimerElapse};
 use cal_zone::{InstantFormatter, Zone};
 use std::alloc::{AllocError, Global};
 
-/// Returns a line for each elapse: its instant and the name of its timer. Without elapses, returns an empty text.
+/// Returns a line for each elapse, with its instant, as clocks in the zone `local` show it, and the name of its timer.
+/// If there are no elapses, returns an empty text.
 pub fn between_text(
     alloc: Global,
     local: Zone<'_>,
@@ -31,7 +33,7 @@ pub fn between_text(
     Ok(out)
 }
 
-/// Returns the width of the widest of these instants.
+/// Returns the width of the widest instant, in characters.
 fn widest(formatter: &mut InstantFormatter<'_>, elapses: &[TimerElapse]) -> usize {
     let mut width = 0;
     for elapse in elapses {
@@ -40,7 +42,7 @@ fn widest(formatter: &mut InstantFormatter<'_>, elapses: &[TimerElapse]) -> usiz
     width
 }
 
-/// Appends an instant, padded to `width` characters, and a name.
+/// Appends a line: an instant, padded to `width` characters, two blanks, and a name.
 fn push_elapse(
     out: &mut String,
     formatter: &mut InstantFormatter<'_>,
@@ -55,8 +57,8 @@ fn push_elapse(
     out.push('\n')
 }
 
-/// Returns where two timers differ: a line for each timer that elapses when the other doesn't, with the first such
-/// instant. If they don't differ, returns the line `same`.
+/// Returns how two timers differ. For each timer that elapses at an instant at which the other doesn't, there is a line
+/// with the first such instant. If there are no such instants, returns the line `same`.
 pub fn same_text(
     alloc: Global,
     local: Zone<'_>,

@@ -1,4 +1,4 @@
-//! Error lines: why timers and zones can't be loaded.
+//! Error lines about timers that can't be loaded, and about a local zone that can't be used.
 
 use crate::cells::push_shown;
 use cal_load::{TargetFault, TargetReason};
@@ -7,8 +7,8 @@ use cal_timer::TimerFault;
 use cal_units::Reason;
 use std::alloc::{AllocError, Global};
 
-/// Returns why a timer can't be loaded, without a line feed: what the user named, or the path and the line at fault,
-/// and the message.
+/// Returns the error line about a timer that can't be loaded, without a line feed. The line begins with what is at
+/// fault, which is the timer, a path, or a line of a file, and ends with the message.
 pub fn fault_text(alloc: Global, fault: &TargetFault) -> Result<String, AllocError> {
     let mut out = String::new(alloc);
     let target = fault.target.as_str();
@@ -46,7 +46,7 @@ pub fn fault_text(alloc: Global, fault: &TargetFault) -> Result<String, AllocErr
     Ok(out)
 }
 
-/// Returns why the local zone can't be used, without a line feed.
+/// Returns the error line about a local zone that can't be used, without a line feed.
 pub fn zones_text(alloc: Global, fault: &ZonesFault) -> Result<String, AllocError> {
     let mut out = String::new(alloc);
     match fault {
@@ -66,7 +66,8 @@ fn origin_name(origin: Origin) -> &'static str {
     }
 }
 
-/// Returns what to say if nothing is found for this target: a path, which contains a slash, or the name of a unit.
+/// Returns the message about a target that isn't found. A target with a slash is a path; any other target is the name
+/// of a unit.
 fn not_found_words(target: &str) -> &'static str {
     if target.as_bytes().contains(&b'/') {
         "no such file or folder"
@@ -75,7 +76,7 @@ fn not_found_words(target: &str) -> &'static str {
     }
 }
 
-/// Returns why the path of a unit can't be used.
+/// Returns the message about a path of a unit that can't be used for this reason.
 fn reason_words(reason: Reason) -> &'static str {
     match reason {
         Reason::ReadFailed => "cannot be read",
@@ -88,7 +89,7 @@ fn reason_words(reason: Reason) -> &'static str {
     }
 }
 
-/// Appends what is at fault, and the message.
+/// Appends what is at fault, a colon and a blank, and the message.
 fn push_fault(out: &mut String, subject: &str, message: &str) -> Result<(), AllocError> {
     push_shown(out, subject)?;
     out.push_str(": ")?;
@@ -105,7 +106,7 @@ fn push_line_fault(
     out.push_str(fault.words())
 }
 
-/// Appends a path and a line, each with a colon after it.
+/// Appends a path and the number of a line, each with a colon after it, and a blank.
 fn push_line(out: &mut String, path: &str, line: u32) -> Result<(), AllocError> {
     push_shown(out, path)?;
     write!(out, ":{line}: ")
@@ -133,7 +134,7 @@ fn push_expression_zone(
     push_zone_fault(out, zone, reason)
 }
 
-/// Appends why the zone file at a path can't be used.
+/// Appends the message about a zone file that can't be used for this reason. `zone` is the path of the file.
 fn push_zone_fault(out: &mut String, zone: &str, reason: FileReason) -> Result<(), AllocError> {
     match reason {
         FileReason::NotFound => {

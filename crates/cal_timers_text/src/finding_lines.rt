@@ -1,4 +1,4 @@
-//! Problems of timers, with the lines that have them.
+//! The output of `lint`: problems of timers, with the lines of the files that have them.
 
 use crate::cells::{push_blanks, push_shown, push_times, shown_width};
 use crate::messages::{idle_words, push_message};
@@ -10,9 +10,10 @@ use cal_text::{first_word, trim_blanks_end};
 use cal_timer::without_mark;
 use std::alloc::{AllocError, Global};
 
-/// Returns the lines about a problem of the file at `path`, which contains `text`: the place and the message, the line
-/// of the file, a caret below the word at fault, and what to write instead if that is known. A line that is continued
-/// has no caret.
+/// Returns the lines about a problem in the file at `path`, whose content is `text`.
+///
+/// The lines are: the position and the message; the line of the file; a caret below the word at fault; and what to
+/// write instead, if that is known. The caret is left out if the problem is in a value that continues on the next line.
 pub fn finding_text(
     alloc: Global,
     path: &str,
@@ -29,7 +30,7 @@ pub fn finding_text(
     Ok(out)
 }
 
-/// Returns the line about an expression or an exception that does nothing.
+/// Returns the line about an expression or an exception that has no effect.
 pub fn idle_text(
     alloc: Global,
     timer: &LoadedTimer,
@@ -47,7 +48,7 @@ pub fn idle_text(
     Ok(out)
 }
 
-/// Appends a path, a line and a column, each with a colon after it.
+/// Appends a path, the number of a line, and a column if there is one, each with a colon after it, and a blank.
 fn push_place(
     out: &mut String,
     path: &str,
@@ -73,7 +74,8 @@ fn push_kind(out: &mut String, kind: Kind, style: Style) -> Result<(), AllocErro
     }
 }
 
-/// Appends the line with the problem, a line with a caret, and what to write instead.
+/// Appends the line of the file that has the problem, a line with a caret if the word at fault is known, and a line
+/// with what to write instead if that is known.
 fn push_excerpt(out: &mut String, text: &str, finding: &Finding) -> Result<(), AllocError> {
     let line = line_of(text, finding.line);
     push_shown(out, line)?;
@@ -93,7 +95,8 @@ fn push_suggestion(out: &mut String, suggestion: &str) -> Result<(), AllocError>
     out.push('\n')
 }
 
-/// Appends a line with a caret below the first character of the word, and `~` below the others.
+/// Appends a line with `^` below the first character of the word, and `~` below its other characters. `before` is the
+/// text before the word.
 fn push_caret(out: &mut String, before: &str, word: &str) -> Result<(), AllocError> {
     push_blanks(out, shown_width(before))?;
     out.push('^')?;
@@ -101,7 +104,7 @@ fn push_caret(out: &mut String, before: &str, word: &str) -> Result<(), AllocErr
     out.push('\n')
 }
 
-/// Returns the physical line with this number, from 1, or an empty text if there is none.
+/// Returns the physical line with this number, counted from 1, or an empty text if there is no such line.
 fn line_of(text: &str, number: u32) -> &str {
     without_mark(text)
         .lines()
@@ -109,8 +112,8 @@ fn line_of(text: &str, number: u32) -> &str {
         .unwrap_or("")
 }
 
-/// Returns the text before the word at fault, and the word. Returns `None` if the line is continued, so that the word
-/// isn't known.
+/// Returns the text before the word at fault, and the word. Returns `None` if the column of the word isn't known,
+/// because the value continues on the next line, or if the line doesn't have this column.
 fn word_at_fault<'t>(line: &'t str, finding: &Finding) -> Option<(&'t str, &'t str)> {
     let is_key = matches!(finding.problem, Problem::UnknownKey);
     if finding.column <= 1 && !is_key {
@@ -124,7 +127,8 @@ fn word_at_fault<'t>(line: &'t str, finding: &Finding) -> Option<(&'t str, &'t s
     }
 }
 
-/// Returns the key of a setting.
+/// Returns the key of a setting: the text before the first `=`, without blanks at its end, or all of the text if it has
+/// no `=`.
 fn key_of(setting: &str) -> &str {
     match setting.split_once('=') {
         Some((key, _)) => trim_blanks_end(key),

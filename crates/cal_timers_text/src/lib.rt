@@ -1,7 +1,7 @@
-//! What `calendar-timers` prints for people: tables, lines and messages.
+//! The output of `calendar-timers` for people: tables, lines and messages.
 //!
-//! Control characters in names, paths and values are printed as `\xNN`, so that they can't change the terminal. Widths
-//! count characters.
+//! In names, paths and values, control characters are printed as `\xNN`, so that they can't change the terminal. Widths
+//! are numbers of characters.
 #![tactic(auto)]
 
 mod cells;

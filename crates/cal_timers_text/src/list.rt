@@ -1,4 +1,4 @@
-//! The table of timers.
+//! The output of `list`: a table of timers.
 
 use crate::cells::{push_cut, push_padded, push_shown, width_of};
 use crate::style::{Emphasis, Style};
@@ -11,13 +11,13 @@ use std::alloc::{AllocError, Global};
 /// The number of blanks between columns.
 const GAP: usize = 2;
 
-/// The least width of the notes: that of `masked`, the longest note that this crate adds.
+/// The minimum width of the notes: the width of `masked`, the longest note that isn't a setting.
 const NOTES_WIDTH: usize = 6;
 
 /// The headings of the columns.
 const HEADINGS: [&str; 4] = ["NEXT", "LEFT", "UNIT", "NOTES"];
 
-/// A row of the table, without control characters.
+/// A row of the table. Its texts have no control characters.
 #[derive(Drop)]
 struct Row {
     next: String,
@@ -26,7 +26,7 @@ struct Row {
     notes: String,
 }
 
-/// The width of each column except the notes, including the blanks after it, and the width of the terminal.
+/// The widths of all columns but the notes, each including the blanks after the column, and the width of the terminal.
 #[derive(Clone, Copy)]
 struct Widths {
     next: usize,
@@ -35,9 +35,9 @@ struct Widths {
     terminal: usize,
 }
 
-/// Returns a table of timers: those with a next elapse, soonest first, then those that never elapse, and last those
-/// that are masked. Each row has the next elapse, how long it is until then, the unit and its notes. Notes that don't
-/// fit into the width of the terminal are cut. Without timers, returns the line `no timers`.
+/// Returns a table: first the timers with a next elapse, soonest first, then the timers without one, and last the
+/// masked units. Each row has the next elapse, how long it is until then, the name of the unit and its notes. Notes
+/// that don't fit into the width of the terminal are cut. If there are no timers, returns the line `no timers`.
 pub fn list_text(
     alloc: Global,
     at: Clocked<'_>,
@@ -109,8 +109,8 @@ fn elapse_row(
     Ok(row)
 }
 
-/// Returns the row of a timer without a next elapse. A timer with no calendar expressions isn't said to elapse never,
-/// since its notes tell what starts it.
+/// Returns the row of a timer without a next elapse. The row has the note `never`, unless the timer has no calendar
+/// expressions: then its other notes say what starts its unit.
 fn never_row(alloc: Global, timer: &LoadedTimer) -> Result<Row, AllocError> {
     let note = match &timer.calendar {
         Calendar::Nothing => "",
@@ -121,7 +121,7 @@ fn never_row(alloc: Global, timer: &LoadedTimer) -> Result<Row, AllocError> {
     Ok(row)
 }
 
-/// Returns a row without a next elapse.
+/// Returns a row with the name of a unit and a note, but without a next elapse.
 fn plain_row(alloc: Global, unit: &str, note: &str) -> Result<Row, AllocError> {
     let mut name = String::new(alloc);
     push_shown(&mut name, unit)?;
@@ -156,8 +156,8 @@ fn table_text(alloc: Global, rows: &[Row], style: Style) -> Result<String, Alloc
     Ok(out)
 }
 
-/// Returns how wide the columns are. A column is as wide as its widest entry, but units that leave too little room for
-/// notes don't widen theirs.
+/// Returns the widths of the columns. A column is as wide as its widest entry, but units that leave too little room for
+/// notes don't widen the column of units.
 fn widths_of(rows: &[Row], style: Style) -> Widths {
     let [next, left, unit, _] = HEADINGS;
     let mut widths = Widths {
@@ -183,7 +183,7 @@ fn widths_of(rows: &[Row], style: Style) -> Widths {
     widths
 }
 
-/// Returns the width of the longest unit with room for notes after it.
+/// Returns the maximum width of a unit that leaves enough room for notes after it.
 fn room_for_unit(widths: Widths) -> usize {
     widths
         .terminal
@@ -193,7 +193,7 @@ fn room_for_unit(widths: Widths) -> usize {
         .saturating_sub(NOTES_WIDTH)
 }
 
-/// Appends the headings of the columns. The notes have one only if there are notes.
+/// Appends the headings of the columns. The column of notes has a heading only if there are notes.
 fn push_headings(
     out: &mut String,
     rows: &[Row],
@@ -242,8 +242,8 @@ fn push_cells(out: &mut String, cells: [&str; 4], widths: Widths) -> Result<(), 
     push_cut(out, notes, room_for_notes(widths, unit_width))
 }
 
-/// Returns the width to which the notes are cut: what is left of the line if the unit and the blanks after it have
-/// `unit_width` characters, but at least [`NOTES_WIDTH`].
+/// Returns the width to which the notes of a row are cut: what is left of the terminal's width, but at least
+/// [`NOTES_WIDTH`]. `unit_width` is the width of the unit and of the blanks after it.
 fn room_for_notes(widths: Widths, unit_width: usize) -> usize {
     widths
         .terminal

@@ -5,8 +5,8 @@ use cal_tasks::IdleKind;
 use cal_timer::TimerFault;
 use std::alloc::{AllocError, Global};
 
-/// Returns the message about a problem. If the expression is invalid, the message says why: by `mistake`, which is what
-/// the expression looks like, or else by the error.
+/// Returns the message about a problem. If an expression is invalid, the message says why: it describes `mistake`, the
+/// known mistake that the expression resembles, if there is one, and otherwise the error.
 pub fn message_of(
     alloc: Global,
     problem: Problem,
@@ -48,7 +48,7 @@ fn push_invalid(
     }
 }
 
-/// Returns what an invalid expression looks like, or what it lacks, for the end of a message.
+/// Returns what an invalid expression looks like, or what is wrong with it, as the end of a message.
 pub fn mistake_words(mistake: Mistake) -> &'static str {
     match mistake {
         Mistake::Setting => "a setting, not only its value",
@@ -66,7 +66,7 @@ pub fn mistake_words(mistake: Mistake) -> &'static str {
     }
 }
 
-/// Returns what systemd 252 doesn't accept, for the end of a message.
+/// Returns what systemd 252 doesn't accept, as the end of a message.
 fn rejection_words(rejection: Rejection) -> &'static str {
     match rejection {
         Rejection::Tab => "tabs in an expression",
@@ -88,7 +88,7 @@ fn doubt_words(doubt: Doubt) -> &'static str {
     }
 }
 
-/// Returns the message about an expression or an exception that does nothing.
+/// Returns the message about an expression or an exception that has no effect.
 pub fn idle_words(kind: IdleKind) -> &'static str {
     match kind {
         IdleKind::NeverElapses => "the expression never elapses",

@@ -1,4 +1,4 @@
-//! A timer in detail.
+//! The output of `show` and `next`: one timer in detail.
 
 use crate::cells::{push_padded, push_shown};
 use crate::style::{Emphasis, Style};
@@ -14,8 +14,8 @@ use std::alloc::{AllocError, Global};
 const LABEL_WIDTH: usize = 13;
 
 /// Returns the name of a timer, its files, its expressions and exceptions in normal form, the other settings that start
-/// or delay its unit, its next elapses, and the local times that clock changes skip or repeat. Each has lines of its
-/// own.
+/// or delay its unit, its next elapses, and the local times that clock changes skip or repeat. Each of these has lines
+/// of its own. If the timer has no calendar expressions, its next elapses are left out.
 pub fn show_text(
     alloc: Global,
     at: Clocked<'_>,
@@ -81,7 +81,7 @@ fn push_also(out: &mut String, notes: &[String]) -> Result<(), AllocError> {
     Ok(())
 }
 
-/// Appends a line of a label, which may be empty, and a value.
+/// Appends a line with a label, which may be empty, and a value.
 fn push_field(out: &mut String, label: &str, value: &str) -> Result<(), AllocError> {
     push_padded(out, label, LABEL_WIDTH)?;
     push_shown(out, value)?;
@@ -103,7 +103,7 @@ fn push_elapses(out: &mut String, at: Clocked<'_>, elapses: &[i64]) -> Result<()
     Ok(())
 }
 
-/// Returns the width of the widest of these instants.
+/// Returns the width of the widest instant, in characters.
 fn widest(formatter: &mut InstantFormatter<'_>, elapses: &[i64]) -> usize {
     let mut width = 0;
     for secs in elapses {
@@ -112,7 +112,7 @@ fn widest(formatter: &mut InstantFormatter<'_>, elapses: &[i64]) -> usize {
     width
 }
 
-/// Appends an instant, padded to `width` characters, and how long it is until then.
+/// Appends an instant, padded to `width` characters, two blanks, how long it is until the instant, and a line feed.
 fn push_elapse(
     out: &mut String,
     formatter: &mut InstantFormatter<'_>,
@@ -140,8 +140,8 @@ fn push_clock_notes(out: &mut String, notes: &[ClockNote]) -> Result<(), AllocEr
     Ok(())
 }
 
-/// Appends what a clock change does to a local time, and a line feed. A local time that clocks never show is printed
-/// as that of a clock in UTC, which shows all of them.
+/// Appends what a clock change does to a local time, and a line feed. The local time is converted to a date and a time
+/// as if it were in UTC, since a skipped local time has no instant in its own zone.
 fn push_clock_note(out: &mut String, note: &ClockNote) -> Result<(), AllocError> {
     let Some(instant) = Instant::new(note.local) else {
         return out.push('\n');

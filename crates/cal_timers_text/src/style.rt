@@ -1,17 +1,17 @@
-//! The width of the terminal, and bold and red text.
+//! The width of the output, and text that is bold or red.
 
 use std::alloc::AllocError;
 
-/// How text is printed for a terminal.
+/// The style in which text is printed.
 #[derive(Clone, Copy, PartialEq, Eq, Debug)]
 pub struct Style {
-    /// The width of the terminal, in characters. Widths below 80 leave less room for the notes of a table.
+    /// The width of the terminal, in characters. The notes in the table of timers are cut to fit into it.
     pub width: usize,
-    /// Whether headings are bold and the word `error` is red.
+    /// Whether headings are bold and the word `error` is bold and red.
     pub is_bold: bool,
 }
 
-/// How a piece of text stands out.
+/// A kind of emphasized text.
 #[derive(Clone, Copy, PartialEq, Eq, Debug)]
 pub(crate) enum Emphasis {
     Heading,
@@ -19,7 +19,7 @@ pub(crate) enum Emphasis {
 }
 
 impl Style {
-    /// Appends what begins a piece of text that stands out.
+    /// Appends the escape sequence that begins emphasized text. If `is_bold` is `false`, appends nothing.
     pub(crate) fn begin(self, out: &mut String, emphasis: Emphasis) -> Result<(), AllocError> {
         if !self.is_bold {
             return Ok(());
@@ -30,7 +30,7 @@ impl Style {
         }
     }
 
-    /// Appends what ends a piece of text that stands out.
+    /// Appends the escape sequence that ends emphasized text. If `is_bold` is `false`, appends nothing.
     pub(crate) fn end(self, out: &mut String) -> Result<(), AllocError> {
         if self.is_bold {
             out.push_str("\x1b[0m")

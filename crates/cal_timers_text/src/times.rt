@@ -1,4 +1,4 @@
-//! Instants, how long until them, and calendar expressions as text.
+//! Instants, the time until an instant, and calendar expressions, all as text.
 
 ghost use Rattle.std.specs.Prelude.{◌≡◌, ◌++◌, ◌≤ℤ◌, ◌<ℤ◌, IfOk, OnOk, codes, length, string_bytes};
 ghost use Rattle.cal_text.specs.headline.Words.{words};
@@ -18,8 +18,8 @@ use std::alloc::{AllocError, Global};
 /// What is printed in place of an instant that is missing or out of range.
 pub(crate) const NO_INSTANT: &str = "-";
 
-/// Returns what clocks in the zone show at an instant, as in `Fri 2026-11-27 18:00:00 CET`, or `-` if `secs` is not an
-/// [`Instant`].
+/// Returns what clocks in the zone show at an instant, as in `Fri 2026-11-27 18:00:00 +01:00`, or `-` if `secs` is not
+/// an [`Instant`].
 pub fn instant_text(alloc: Global, zone: Zone<'_>, secs: i64) -> Result<String, AllocError>
     ensures { IsInstant secs → IfOk result (λ text. string_bytes text ≡ instant_text zone.entry secs) }
 {
@@ -45,7 +45,7 @@ pub(crate) fn push_instant(
     out.push_str(ascii(text.as_slice())?)
 }
 
-/// Returns how many characters [`push_instant`] appends.
+/// Returns the number of characters that [`push_instant`] appends.
 pub(crate) fn instant_width(formatter: &mut InstantFormatter<'_>, secs: i64) -> usize
     ensures width { IsInstant secs → result ≡ length (instant_text formatter.old secs) }
     ensures zone { formatter.new ≡ formatter.old }
@@ -58,8 +58,8 @@ pub(crate) fn instant_width(formatter: &mut InstantFormatter<'_>, secs: i64) -> 
     text.as_slice().len()
 }
 
-/// Returns how long it is from `now` until the instant `secs`: the two largest units of the time span, as in
-/// `4h 12min`. Returns `now` if the instant isn't later than `now`, and `-` if `secs` is not an [`Instant`].
+/// Returns how long it is from `now` until `secs`: the two largest units of the time span, as in `4h 12min`. If `secs`
+/// isn't after `now`, returns the text "now". If `secs` is after the last [`Instant`], returns `-`.
 pub fn left_text(alloc: Global, now: Instant, secs: i64) -> Result<String, AllocError>
     ensures past { secs ≤ℤ now.secs → IfOk result (λ text. string_bytes text ≡ codes "now") }
     ensures ahead { IsInstant secs → now.secs <ℤ secs
@@ -98,7 +98,7 @@ fn push_two_units(out: &mut String, now: Instant, then: Instant) -> Result<(), A
     push_two_words(out, ascii(text.as_slice())?)
 }
 
-/// Appends the first two words of a text.
+/// Appends the first two words of a text, with a space between them.
 fn push_two_words(out: &mut String, text: &str) -> Result<(), AllocError>
     ensures { OnOk result (string_bytes out.new ≡ string_bytes out.old ++ two_words (words text.now)) }
 {
@@ -113,8 +113,8 @@ fn push_two_words(out: &mut String, text: &str) -> Result<(), AllocError>
     out.push_str(second)
 }
 
-/// Returns a printed text as a `str`. Printed instants and spans are ASCII. Their contracts don't say so, so the bytes
-/// are checked again.
+/// Converts the bytes of a printed instant or time span to a `str`. The bytes are always ASCII, but the contracts of
+/// the functions that print them don't say so, so the bytes are checked here.
 fn ascii(bytes: &[u8]) -> Result<&str, AllocError>
     ensures { IfOk result (λ text. text.now ≡ bytes.now) }
 {
