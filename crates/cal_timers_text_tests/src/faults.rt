@@ -1,4 +1,4 @@
-//! Error lines.
+//! Tests of error lines.
 
 use crate::expect;
 use cal_load::{TargetFault, TargetReason};
@@ -13,7 +13,7 @@ use std::test::Fail;
 
 const ZONE: &str = "/usr/share/zoneinfo/X";
 
-/// Expects this line for a target that can't be loaded.
+/// Checks that the error line about a target that can't be loaded is `expected`.
 fn expect_fault(
     alloc: Global,
     target: &str,

@@ -1,4 +1,4 @@
-//! Problems with their lines.
+//! Tests of the lines about problems.
 
 use crate::expect;
 use crate::timers::Made;
@@ -12,7 +12,7 @@ const PLAIN: Style = Style {
     is_bold: false,
 };
 
-/// A unit file with one problem, and what is printed.
+/// Unit files with one problem each, and what is printed about it.
 static ROWS: [(&str, &str); 6] = [
     (
         "\u{FEFF}[Unit]\n[Timer]\nOnCalendar=Mo 18:00\n",
@@ -51,7 +51,7 @@ OnCalendar=10:00..12:00
            ^~~~~~~~~~~~
 ",
     ),
-    // The line that is shown ends before the word at fault.
+    // The value continues on the next line, which has the word at fault, so there is no caret.
     (
         "[Timer]\nOnCalendar=Mon \\\n  25:00",
         "a.timer:2:1: error: not a valid calendar expression: value out of range
@@ -73,7 +73,8 @@ fn lines_with_carets(rt: HostRuntime) -> Result<(), Fail> {
     Ok(())
 }
 
-/// The column counts bytes: `Ä`, `ö` and the tab before the word have 5 together.
+/// A column counts bytes, but the caret is placed by characters: before the word, `Ä`, `ö` and the tab have 5 bytes and
+/// are printed as 6 characters.
 #[test]
 fn characters_before_the_word(rt: HostRuntime) -> Result<(), Fail> {
     let style = Style {
@@ -106,7 +107,7 @@ fn characters_before_the_word(rt: HostRuntime) -> Result<(), Fail> {
     )
 }
 
-/// A column inside a character, and a line that the file doesn't have.
+/// A column inside a character, and the number of a line that the file doesn't have.
 #[test]
 fn places_that_are_not_there(rt: HostRuntime) -> Result<(), Fail> {
     let mut finding = Finding {

@@ -17,7 +17,7 @@ pub mod timers;
 
 use std::test::Fail;
 
-/// Fails with the text that was found unless it is the expected one.
+/// Fails unless the text that was found is the expected one. The error is the text that was found.
 pub fn expect(found: &str, expected: &str) -> Result<(), Fail> {
     if found == expected {
         Ok(())

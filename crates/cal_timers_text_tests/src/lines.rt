@@ -1,4 +1,4 @@
-//! Elapses in a range, and where timers differ.
+//! Tests of the lines about elapses in a range, and about the difference of two timers.
 
 use crate::expect;
 use crate::timers::{MIDNIGHT, Made, timers};
@@ -45,7 +45,8 @@ fn elapses_in_a_range(rt: HostRuntime) -> Result<(), Fail> {
     expect(found.as_str(), "")
 }
 
-/// When only the first timer and only the second timer elapses, and what is printed.
+/// The first instant at which only the first timer elapses, the first at which only the second timer elapses, and what
+/// is printed.
 type Row = (Option<i64>, Option<i64>, &'static str);
 
 static ROWS: [Row; 3] = [

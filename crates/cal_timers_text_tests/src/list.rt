@@ -1,4 +1,4 @@
-//! Tables of timers.
+//! Tests of the table of timers, and of the texts of instants and of the time until them.
 
 use crate::expect;
 use crate::timers::{MIDNIGHT, Made, NOW, now, strings, timers};
@@ -98,7 +98,8 @@ fn cut_notes(rt: HostRuntime) -> Result<(), Fail> {
     expect(found.as_str(), NARROW_TABLE)
 }
 
-/// The name has a line feed, and the widths of the table and of the note are counted in characters.
+/// A timer with a line feed in its name, and with characters of two bytes: the widths of the table and of the note are
+/// counted in characters.
 const ONE: Made<'static> = Made {
     name: "größe\n.timer",
     text: "[Timer]\nOnCalendar=daily\n",

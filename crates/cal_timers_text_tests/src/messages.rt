@@ -1,4 +1,4 @@
-//! The message about each problem.
+//! Tests of the message about each problem.
 
 use crate::expect;
 use cal_lint::{Doubt, Mistake, Problem, Rejection};

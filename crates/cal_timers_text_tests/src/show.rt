@@ -1,4 +1,4 @@
-//! Timers in detail.
+//! Tests of timers shown in detail.
 
 use crate::expect;
 use crate::timers::{MIDNIGHT, Made, now};
@@ -59,7 +59,7 @@ const PLAIN: Style = Style {
     is_bold: false,
 };
 
-/// A timer's name, its text, a note, whether it elapses, and what is printed.
+/// The name of a timer, the text of its file, its notes, whether it elapses, and what is printed.
 type Row = (
     &'static str,
     &'static str,

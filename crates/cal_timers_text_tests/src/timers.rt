@@ -1,4 +1,4 @@
-//! Timers in memory, and the present.
+//! Timers that are made in memory, and the present of the tests.
 
 use cal_load::{Calendar, LoadedTimer};
 use cal_streams::Port;
@@ -9,13 +9,14 @@ use cal_zone::{Instant, Zone, ZoneTable};
 use std::alloc::{AllocError, Global};
 use std::test::Fail;
 
-/// 2026-11-26 19:48:00 UTC.
+/// The present: 2026-11-26 19:48:00 UTC.
 pub const NOW: i64 = 1_795_722_480;
 
-/// The day after [`NOW`], 00:00:00 UTC: 4 h 12 min later.
+/// The next midnight: 2026-11-27 00:00:00 UTC, 4 h 12 min after [`NOW`].
 pub const MIDNIGHT: i64 = 1_795_737_600;
 
-/// A timer whose calendar expressions are those of a timer file. Without any, it has no calendar expressions.
+/// What a timer is made from. `text` is a timer file with the expressions and exceptions of the timer. If it is empty,
+/// the timer has no calendar expressions.
 #[derive(Clone, Copy, Debug)]
 pub struct Made<'a> {
     pub name: &'a str,
@@ -25,7 +26,7 @@ pub struct Made<'a> {
 }
 
 impl Made<'_> {
-    /// Returns the timer. Each of its files has 3 lines.
+    /// Makes the timer. Its line numbers are those of files with 3 lines each.
     pub fn timer(&self, alloc: Global) -> Result<LoadedTimer, Fail> {
         let calendar = calendar_of(alloc, self.text)?;
         Ok(LoadedTimer {
@@ -60,7 +61,7 @@ fn files_of(alloc: Global, paths: &[&str]) -> Result<Vec<UnitText>, AllocError> 
     Ok(files)
 }
 
-/// Copies texts.
+/// Copies texts to strings.
 pub fn strings(alloc: Global, texts: &[&str]) -> Result<Vec<String>, AllocError> {
     let mut copies = Vec::new(alloc);
     for text in texts {
@@ -69,7 +70,7 @@ pub fn strings(alloc: Global, texts: &[&str]) -> Result<Vec<String>, AllocError>
     Ok(copies)
 }
 
-/// Copies timers.
+/// Makes several timers.
 pub fn timers(alloc: Global, made: &[Made<'_>]) -> Result<Vec<LoadedTimer>, Fail> {
     let mut timers = Vec::new(alloc);
     for timer in made {
@@ -79,7 +80,7 @@ pub fn timers(alloc: Global, made: &[Made<'_>]) -> Result<Vec<LoadedTimer>, Fail
     Ok(timers)
 }
 
-/// Returns [`NOW`] in UTC.
+/// Returns the present, [`NOW`], with UTC as the local zone.
 pub fn now() -> Result<Clocked<'static>, Fail> {
     match Instant::new(NOW) {
         Some(now) => Ok(Clocked {
