@@ -12,8 +12,8 @@ use std::alloc::{AllocError, Global};
 
 /// Returns the lines about a problem in the file at `path`, whose content is `text`.
 ///
-/// The lines are: the position and the message; the line of the file; a caret below the word at fault; and what to
-/// write instead, if that is known. The caret is left out if the problem is in a value that continues on the next line.
+/// These are the position with the message, the line of the file, a caret below the word at fault, and, if it is known,
+/// what to write instead. There is no caret if the problem is in a value that continues on the next line.
 pub fn finding_text(
     alloc: Global,
     path: &str,

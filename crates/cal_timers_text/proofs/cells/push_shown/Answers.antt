@@ -5,7 +5,7 @@ use Rattle.std.specs.List.{flat_map}
 use Rattle.cal_timers_text.specs.Shown.{shown_char}
 use Rattle.cal_timers_text.proofs.cells.push_shown.Goals as goal
 
--- after the loop, all characters of the text are appended as they are printed
+-- after the loop, all characters of the text have been appended as they are printed
 pub returns : goal.returns
 returns c =
     let done = YieldsList-end (YieldsList-from_chars c.args.text.now c.utf8.text cc) c.loop-sign.yielded _ c.loop-sign.yielded_by _ _ c.in-None.is c.next.ensures.steps in
