@@ -1,4 +1,4 @@
-//! The answer to a question: what goes to both outputs, and the exit status.
+//! The answer to a question: the texts for standard output and standard error, and the exit status.
 
 ghost use Rattle.std.specs.Prelude.{◌≤◌, IfOk};
 
@@ -17,32 +17,32 @@ use cal_units::{Entry, Tree, TreeFault};
 use cal_zone::Instant;
 use std::alloc::{AllocError, Global};
 
-/// The exit status if something that was asked about is invalid.
+/// The exit status if a timer can't be loaded, `lint` finds an error, or two timers differ.
 pub(crate) const INVALID: u8 = 1;
 
-/// The exit status if the arguments, the root or the local zone can't be used.
+/// The exit status if the question can't be answered at all, for example because of the root or the local zone.
 const UNUSABLE: u8 = 2;
 
-/// The number of elapses that are shown if the arguments don't say how many.
+/// The number of elapses to show if the question doesn't say how many.
 const DEFAULT_COUNT: u32 = 5;
 
-/// What goes to both outputs, and the exit status.
+/// The texts for standard output and standard error, and the exit status.
 #[derive(Debug, Drop)]
 pub struct Answer {
-    /// What goes to standard output.
+    /// The text for standard output.
     pub out: String,
-    /// The error lines, which go to standard error.
+    /// The error lines, for standard error.
     pub err: String,
-    /// 0 if all is fine; 1 if a timer is invalid, `lint` found an error or two timers differ; 2 if the arguments or the
-    /// local zone can't be used.
+    /// The exit status: 0 for success; 1 if a timer can't be loaded, `lint` finds an error, or two timers differ; 2 if
+    /// the question can't be answered at all, for example because of the root or the local zone.
     pub status: u8,
 }
 
-/// A question with what it needs to know of the machine.
+/// What a verb needs to know: parts of the question, and facts about the machine.
 #[derive(Clone, Copy)]
 pub(crate) struct Asked<'a> {
     pub targets: &'a [&'a str],
-    /// The search path of units.
+    /// The search path of units, the most important folder first.
     pub path: &'a [String],
     pub at: Clocked<'a>,
     /// The number of elapses to show.
@@ -53,8 +53,8 @@ pub(crate) struct Asked<'a> {
 
 /// Answers a question about the timers of a machine.
 ///
-/// `clock` is what the machine's clock shows, in seconds of Unix time; it doesn't count if the question has a present
-/// of its own. Fails with [`PlanFault::NoMemory`] if allocation fails.
+/// `clock` is the time that the machine's clock shows, in seconds of Unix time, or `None` if the clock can't be read.
+/// If the question names a present, `clock` isn't used. Fails with [`PlanFault::NoMemory`] if allocation fails.
 pub fn answer_question<T: Tree>(
     alloc: Global,
     tree: &T,
@@ -84,12 +84,14 @@ pub fn answer_question<T: Tree>(
     answer_at(alloc, tree, question, Clocked { now, local: zone }, style)
 }
 
-/// Returns the present: that of the question, or else that of the clock.
+/// Returns the present: `given`, or else the time of `clock`. Returns `None` if there is neither, or if the time is not
+/// an [`Instant`].
 fn present(given: Option<i64>, clock: Option<i64>) -> Option<Instant> {
     Instant::new(given.or(clock)?)
 }
 
-/// Returns whether the root of the tree is a folder, if the question names a root.
+/// Returns whether the root of the tree is a folder. Returns `true` without a check if `root`, the root that the
+/// question names, is empty.
 fn has_root<T: Tree>(alloc: Global, tree: &T, root: &str) -> Result<bool, AllocError> {
     if root.is_empty() {
         return Ok(true);
@@ -101,7 +103,8 @@ fn has_root<T: Tree>(alloc: Global, tree: &T, root: &str) -> Result<bool, AllocE
     }
 }
 
-/// Returns the answer if a question can't be answered at all.
+/// Returns the answer if the question can't be answered at all: an error line with the reason, and the status
+/// [`UNUSABLE`].
 pub(crate) fn stopped(alloc: Global, reason: &str) -> Result<Answer, PlanFault>
     ensures { IfOk result (λ answer. answer.status ≤ 2) }
 {
@@ -112,7 +115,7 @@ pub(crate) fn stopped(alloc: Global, reason: &str) -> Result<Answer, PlanFault>
     })
 }
 
-/// Answers a question at a present and in a local zone.
+/// Answers a question, given the present and the local zone.
 fn answer_at<T: Tree>(
     alloc: Global,
     tree: &T,
@@ -148,7 +151,8 @@ fn answer_at<T: Tree>(
     }
 }
 
-/// Returns the search path of the system's units or of the user's, or `None` if the user's home isn't known.
+/// Returns the search path of the user's units if `is_user` is `true`, and otherwise that of the system's units.
+/// Returns `None` if the user's home isn't known.
 fn search_path<T: Tree>(
     alloc: Global,
     tree: &T,
@@ -164,7 +168,7 @@ fn search_path<T: Tree>(
     }
 }
 
-/// Returns the error lines of the timers that couldn't be loaded.
+/// Returns the error lines about timers or files that couldn't be loaded.
 pub(crate) fn fault_lines(alloc: Global, faults: &[TargetFault]) -> Result<String, AllocError> {
     let mut lines = String::new(alloc);
     for fault in faults {
@@ -175,7 +179,8 @@ pub(crate) fn fault_lines(alloc: Global, faults: &[TargetFault]) -> Result<Strin
     Ok(lines)
 }
 
-/// Returns the exit status of an answer without other reasons to fail.
+/// Returns the exit status of a verb that fails only if a timer can't be loaded: [`INVALID`] if there are errors, and
+/// otherwise 0.
 pub(crate) fn status_of(faults: &[TargetFault]) -> u8
     ensures { result ≤ 1 }
 {

@@ -13,7 +13,9 @@ use cal_units::Tree;
 use cal_zone::Instant;
 use std::alloc::Global;
 
-/// Lists the elapses of the timers from one instant on and before another. The first two targets are these instants.
+/// Lists the elapses of timers in a range. The first two targets are the start of the range, which is included, and its
+/// end, which isn't. An end such as `Mon 06:00` resolves to the first such time after the start. The other targets are
+/// the timers.
 pub(crate) fn between<T: Tree>(
     alloc: Global,
     tree: &T,

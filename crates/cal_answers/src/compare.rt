@@ -11,7 +11,7 @@ use cal_timers_text::same_text;
 use cal_units::Tree;
 use std::alloc::{AllocError, Global};
 
-/// Compares two timers. Each is a unit, a file or an expression.
+/// Compares the two timers that the targets name. Each target is a unit, a file or an expression.
 pub(crate) fn same<T: Tree>(alloc: Global, tree: &T, asked: Asked<'_>) -> Result<Answer, PlanFault>
     ensures { IfOk result (λ answer. answer.status ≤ 2) }
 {
@@ -26,7 +26,8 @@ pub(crate) fn same<T: Tree>(alloc: Global, tree: &T, asked: Asked<'_>) -> Result
     }
 }
 
-/// Loads a unit or a file or, if there is no such unit, an expression.
+/// Loads a unit or a file. If neither exists, loads the target as an expression. If that fails too, the error is about
+/// the unit or the file.
 fn load_one<T: Tree>(
     alloc: Global,
     tree: &T,
@@ -70,7 +71,8 @@ fn compared(
     })
 }
 
-/// Returns the errors of the timers that couldn't be loaded. A masked unit has no error of its own, and is named too.
+/// Returns the answer if a timer couldn't be loaded: the error lines, and a line for each masked unit, since a masked
+/// unit isn't loaded and has no error line.
 fn unloaded(alloc: Global, first: &Loaded, second: &Loaded) -> Result<Answer, PlanFault>
     ensures { IfOk result (λ answer. answer.status ≤ 2) }
 {

@@ -1,4 +1,5 @@
-//! What `calendar-timers` does for each verb: from its arguments to the texts for both outputs and the exit status.
+//! The answers of `calendar-timers`: from a question to the texts for standard output and standard error, and the exit
+//! status.
 #![tactic(auto)]
 
 mod answer;

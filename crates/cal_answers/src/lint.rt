@@ -1,4 +1,4 @@
-//! The verb `lint`: every problem of the files of timers.
+//! The verb `lint`: all problems of the files of timers.
 
 ghost use Rattle.std.specs.Prelude.{◌≤◌, IfOk};
 
@@ -12,10 +12,11 @@ use cal_timers_text::{Style, fault_text, finding_text, idle_text, idle_words, me
 use cal_units::Tree;
 use std::alloc::{AllocError, Global};
 
-/// The maximum size of a text, in bytes. A file has at most 1,048,576, each of which may have been replaced by three.
+/// The maximum size of the text of a file, in bytes. A file has at most 1,048,576 bytes, and each byte that isn't UTF-8
+/// is replaced by at most three bytes.
 const MAX_TEXT: usize = 3 * 1_048_576;
 
-/// A problem of a file, and what is printed of it.
+/// A problem of a file, with all that is printed about it.
 #[derive(Debug, Drop)]
 struct Problem {
     file: String,
@@ -24,11 +25,11 @@ struct Problem {
     is_error: bool,
     message: String,
     suggestion: Option<String>,
-    /// The lines for people.
+    /// The lines about the problem for people.
     text: String,
 }
 
-/// Prints every problem of the files of the timers, and of the timers as a whole.
+/// Returns all problems of the files, each checked by itself, and then the problems of whole timers.
 pub(crate) fn lint<T: Tree>(alloc: Global, tree: &T, asked: Asked<'_>) -> Result<Answer, PlanFault>
     ensures { IfOk result (λ answer. answer.status ≤ 2) }
 {
@@ -50,7 +51,7 @@ pub(crate) fn lint<T: Tree>(alloc: Global, tree: &T, asked: Asked<'_>) -> Result
     Ok(Answer { out, err, status })
 }
 
-/// Adds the problems of each file by itself, and returns the error lines of the files that can't be read.
+/// Adds the problems of the files, each checked by itself, and returns the error lines about files that can't be read.
 fn add_files<T: Tree>(
     alloc: Global,
     tree: &T,
@@ -59,7 +60,7 @@ fn add_files<T: Tree>(
 ) -> Result<String, AllocError> {
     let loaded = load_files(alloc, tree, asked.path, asked.targets)?;
     for file in &loaded.files {
-        // systemd doesn't mind comments that aren't UTF-8.
+        // systemd accepts comments that aren't UTF-8, so bytes that aren't UTF-8 are replaced here.
         let text = String::from_utf8_lossy(alloc, file.bytes.as_slice())?;
         add_findings(
             alloc,
@@ -72,7 +73,7 @@ fn add_files<T: Tree>(
     fault_lines(alloc, loaded.faults.as_slice())
 }
 
-/// Adds the problems of a file, unless it is far larger than a file of a unit may be.
+/// Adds the problems of a file. Adds nothing if the text is longer than [`MAX_TEXT`], but no file is that long.
 fn add_findings(
     alloc: Global,
     path: &str,
@@ -107,7 +108,8 @@ fn problem_of(
     })
 }
 
-/// Loads the timers that the targets stand for. A drop-in that is named by its path is not a timer by itself.
+/// Loads the timers that the targets name. Targets that end in `.conf` are left out: a drop-in is not a timer by
+/// itself.
 fn load_whole_timers<T: Tree>(
     alloc: Global,
     tree: &T,
@@ -129,7 +131,7 @@ fn load_whole_timers<T: Tree>(
     load_timers(alloc, tree, asked.path, timers.as_slice())
 }
 
-/// Adds the expressions that never elapse, and the exceptions that suppress nothing.
+/// Adds a warning about each expression that never elapses, and about each exception that suppresses nothing.
 fn add_idle(
     alloc: Global,
     asked: Asked<'_>,
@@ -165,8 +167,9 @@ fn idle_problem(
     })
 }
 
-/// Appends the error lines of timers that couldn't be loaded. Invalid lines are left out, since they are among the
-/// problems of their files.
+/// Appends the error lines about timers that name a zone that can't be loaded, or that have no setting that starts
+/// their unit. Errors of other kinds are left out: [`add_files`] reports them, unless they are about something that
+/// systemd accepts, such as a comment that isn't UTF-8.
 fn add_faults(alloc: Global, faults: &[TargetFault], err: &mut String) -> Result<(), AllocError> {
     for fault in faults {
         if matches!(

@@ -1,14 +1,14 @@
-//! The local zone of the machine, with what the zone borrows from.
+//! The local zone of the machine, with the rules or the zone table that its [`Zone`] borrows.
 
 use cal_machine_zones::{LocalZone, Origin, ZonesFault, find_local_zone, load_zones};
 use cal_units::Tree;
 use cal_zone::{Rules, Zone, ZoneFault, ZoneTable};
 use std::alloc::Global;
 
-/// The local zone of the machine.
+/// The local zone of the machine, with the data that its [`Zone`] borrows.
 #[derive(Drop)]
 pub(crate) enum LocalClock {
-    /// UTC, or a fixed offset from it.
+    /// UTC, or a zone with a fixed UTC offset.
     Fixed(Zone<'static>),
     /// The zone with these rules.
     Ruled(Rules),
@@ -17,9 +17,11 @@ pub(crate) enum LocalClock {
 }
 
 impl LocalClock {
-    /// Finds the local zone and reads its file. `option` is the value of the option `--zone`.
+    /// Finds the local zone, and reads its file if the zone has a name. `option` is the value of `--zone`, if the
+    /// option is given.
     ///
-    /// Fails like [`find_local_zone`] and [`load_zones`]. An invalid rule is [`ZonesFault::Unclear`].
+    /// Fails as [`find_local_zone`] and [`load_zones`] do, and with [`ZonesFault::Unclear`] if the rule in `--zone` is
+    /// invalid.
     pub(crate) fn find<T: Tree>(
         alloc: Global,
         tree: &T,
@@ -34,7 +36,7 @@ impl LocalClock {
         }
     }
 
-    /// Returns the zone. `None` stands for a name that isn't in its table.
+    /// Returns the zone, or `None` if the zone has a name that isn't in its table.
     pub(crate) fn zone(&self) -> Option<Zone<'_>> {
         match self {
             LocalClock::Fixed(zone) => Some(*zone),

@@ -11,7 +11,7 @@ use cal_timers_text::{list_text, show_text};
 use cal_units::Tree;
 use std::alloc::{AllocError, Global};
 
-/// What is shown of a timer.
+/// What `show` and `next` compute for a timer: its next elapses, and notes about clock changes.
 #[derive(Debug, Drop)]
 struct Elapsing {
     elapses: Vec<i64>,
@@ -40,7 +40,7 @@ pub(crate) fn show<T: Tree>(alloc: Global, tree: &T, asked: Asked<'_>) -> Result
     show_loaded(alloc, asked, &loaded)
 }
 
-/// Shows the next elapses of expressions that were given by themselves.
+/// Shows the next elapses of calendar expressions, which are the targets.
 pub(crate) fn next<T: Tree>(alloc: Global, tree: &T, asked: Asked<'_>) -> Result<Answer, PlanFault>
     ensures { IfOk result (λ answer. answer.status ≤ 2) }
 {
@@ -60,7 +60,7 @@ fn show_loaded(alloc: Global, asked: Asked<'_>, loaded: &Loaded) -> Result<Answe
     with_faults(alloc, loaded, out)
 }
 
-/// Returns the next elapses of each timer, and what clock changes do to it meanwhile.
+/// Returns for each timer its next elapses, and the notes that [`clock_notes`] returns for these elapses.
 fn elapsing_of(
     alloc: Global,
     asked: Asked<'_>,
@@ -92,7 +92,7 @@ fn shown_json(
     show_json(alloc, asked.at, shown.as_slice())
 }
 
-/// Returns the text of each timer, with an empty line between two, and then the masked units.
+/// Returns the text about each timer, with an empty line between two texts, and then a line for each masked unit.
 fn shown_text(
     alloc: Global,
     asked: Asked<'_>,
@@ -112,7 +112,7 @@ fn shown_text(
     Ok(text)
 }
 
-/// Adds the errors of the timers that couldn't be loaded.
+/// Returns the answer with the text `out`, and with the error lines about timers that couldn't be loaded.
 fn with_faults(alloc: Global, loaded: &Loaded, out: String) -> Result<Answer, PlanFault>
     ensures { IfOk result (λ answer. answer.status ≤ 2) }
 {
