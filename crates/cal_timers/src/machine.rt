@@ -1,4 +1,5 @@
-//! The real system: its folders, files, links and variables. Nothing is proved about what they contain.
+//! The real system: its folders, files and links, and the variables of the environment. Nothing is proved about what
+//! they contain.
 
 use cal_streams::Port;
 use cal_units::{Entry, Names, Tree, TreeFault};
@@ -9,20 +10,22 @@ use std::rt::{Env, Files};
 use std::time::{Clock, SystemTime, UNIX_EPOCH};
 use std::{env, fs, io};
 
-/// The maximum number of links from path to path below a root.
+/// The number of links, each leading to the next, at which following them below a root fails.
 const MAX_LINKS: usize = 40;
 
-/// The system that the program runs on, or a tree of folders in it.
+/// The system that the program runs on, or the part of it below a root folder.
 #[derive(Clone, Copy)]
 pub struct Machine<'a, R> {
     /// The runtime, through which everything is read.
     pub rt: &'a R,
-    /// The folder to which absolute paths and the targets of links refer, or the empty text for the system's own root.
+    /// The root folder, to which absolute paths and absolute targets of links are relative. Empty for the system's own
+    /// root.
     pub root: &'a str,
 }
 
 impl<'a, R: Clock> Machine<'a, R> {
-    /// Returns what the clock shows, in seconds of Unix time.
+    /// Returns the time that the clock shows, in seconds of Unix time. Returns `None` if the clock can't be read or
+    /// shows a time before 1970.
     pub fn clock(&self) -> Option<i64> {
         let now = SystemTime::now(self.rt).ok()?;
         let since = now.duration_since(UNIX_EPOCH).ok()?;
@@ -31,14 +34,15 @@ impl<'a, R: Clock> Machine<'a, R> {
 }
 
 impl<'a, R: Files + Env + AllocGlobal + Clone + Drop> Machine<'a, R> {
-    /// Returns the path on the system. Relative paths are not below the root.
+    /// Returns the path on the system for a path on this machine. An absolute path is prefixed with the root; a
+    /// relative path is unchanged.
     fn path_of(&self, alloc: Global, path: &str) -> Result<String, TreeFault> {
         let root = if path.starts_with('/') { self.root } else { "" };
         Ok(format!(in alloc; "{root}{path}")?)
     }
 
-    /// Returns the path on the system to which a path leads. Below a root, links are followed here, since the system
-    /// would look for their absolute targets in its own root.
+    /// Returns the path on the system to which `path` leads. Below a root, a link at `path` itself is followed here,
+    /// since the system would look for an absolute target in its own root.
     fn followed(&self, alloc: Global, path: &str) -> Result<String, TreeFault> {
         let mut path = self.path_of(alloc, path)?;
         if self.root.is_empty() {
@@ -53,7 +57,7 @@ impl<'a, R: Files + Env + AllocGlobal + Clone + Drop> Machine<'a, R> {
         Err(TreeFault::ReadFailed)
     }
 
-    /// Returns the path to which a link leads, or `None` if there is no link at this path.
+    /// Returns the path on the system to which the link at `path` leads, or `None` if no link can be read there.
     fn next_path(&self, alloc: Global, path: &str) -> Result<Option<String>, TreeFault> {
         let link = match fs::read_link(self.rt, path) {
             Ok(link) => link,
@@ -130,7 +134,7 @@ impl<'a, R: Files + Env + AllocGlobal + Clone + Drop> Tree for Machine<'a, R> {
     }
 }
 
-/// Appends the name of an entry of a folder, or counts it if its name isn't UTF-8.
+/// Appends the name of an entry of a folder, or counts the entry if its name isn't UTF-8.
 fn push_entry<R: Files + Drop>(
     alloc: Global,
     found: &mut Names,

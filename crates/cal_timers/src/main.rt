@@ -1,4 +1,5 @@
-//! The program `calendar-timers`: when the systemd timers of a machine elapse (systemd.timer(5), systemd.time(7)).
+//! The program `calendar-timers`, which shows when the systemd timers of a machine elapse (systemd.timer(5),
+//! systemd.time(7)).
 #![tactic(auto)]
 
 pub mod machine;
@@ -13,16 +14,16 @@ use std::process::ExitCode;
 use std::rt::Env;
 use std::{env, io};
 
-/// The exit status if output fails or memory runs out.
+/// The exit status if printing or allocation fails.
 const FAILED: u8 = 1;
 
 /// The exit status if the arguments are invalid.
 const USAGE: u8 = 2;
 
-/// The least width of a terminal, in columns.
+/// The minimum width of output to a terminal, in columns.
 const MIN_WIDTH: usize = 80;
 
-/// The width of tables that aren't printed to a terminal, in columns.
+/// The width of output that doesn't go to a terminal, in columns: so large that in practice nothing is cut.
 const MAX_WIDTH: usize = 1_000_000;
 
 const OUT_OF_MEMORY: &str = "calendar-timers: out of memory\n";
@@ -56,7 +57,8 @@ fn given_arguments<R: Env + AllocGlobal>(rt: &R) -> io::Result<Vec<String>> {
     Ok(env::args(rt)?.skip(1).collect(rt.alloc())?)
 }
 
-/// Answers a question about this machine, or about the tree below the root that the question names.
+/// Answers a question about this machine, or about the part of it below the root that the question names, and prints
+/// the answer.
 fn run(rt: &HostRuntime, question: &Question) -> ExitCode {
     let machine = Machine {
         rt,
@@ -80,7 +82,9 @@ fn run(rt: &HostRuntime, question: &Question) -> ExitCode {
     }
 }
 
-/// Returns how to print tables. Only a terminal has a width, which limits them, and gets colours (no-color.org).
+/// Returns the style of the output. For a terminal, the width of tables is limited, and text is bold or red unless the
+/// variable `NO_COLOR` is set and not empty (no-color.org). For other outputs, there is in practice no limit, and all
+/// text is plain.
 fn style_of(rt: &HostRuntime) -> Style {
     if !rt.stdout().is_terminal() {
         return Style {
@@ -98,7 +102,7 @@ fn style_of(rt: &HostRuntime) -> Style {
     }
 }
 
-/// Returns the width of the terminal by the variable `COLUMNS`, at least 80.
+/// Returns the width in the variable `COLUMNS`, or [`MIN_WIDTH`] if the variable is missing, invalid or less than that.
 fn width_of(rt: &HostRuntime) -> usize {
     match env::var(rt, "COLUMNS") {
         Ok(columns) => columns
@@ -110,11 +114,11 @@ fn width_of(rt: &HostRuntime) -> usize {
     }
 }
 
-/// Prints to both outputs and returns the exit status. If standard output fails, that is reported, unless it is a pipe
-/// whose reader has gone.
+/// Prints the texts for both outputs, and returns the exit status. If printing to standard output fails, reports that
+/// as an error, unless standard output is a pipe that nobody reads any more.
 fn end(rt: &HostRuntime, out: &str, err: &str, status: u8) -> ExitCode {
     let written = print!(rt; "{out}");
-    // If standard error fails, the exit status is all that is left to report with.
+    // If printing to standard error fails, only the exit status is left to report anything.
     let _ = eprint!(rt; "{err}");
     match written {
         Ok(()) => ExitCode::from(status),
