@@ -1,4 +1,4 @@
--- Lemmas about the list of the lines that have no effect, to which lines are appended one by one.
+-- Lemmas about collecting the lines that have no effect, one by one.
 use Rattle.std.proofs.Common.{◌≡◌, ℕ, ◌+◌, ◌<◌, ◌++◌, Bool, true, false, cond, List, [], ◌∷◌, ℤ, None, length, map, take, get_or, refl, sym, ap, ◌∙◌, append_assoc}
 use Rattle.std.specs.Prelude.{filter}
 use Rattle.std.proofs.lemmas.List.{map-append}
@@ -23,9 +23,9 @@ idle_one : (kind : IdleKind) (test : TimerLine Fields → Bool) (line : TimerLin
 idle_one kind test line true is = rw (← is) refl
 idle_one kind test line false is = rw (← is) refl
 
--- if `found` is `old`, followed by those of the first `i` lines that pass the test, and `new` is `found`, followed by
--- the line at index `i` if this line passes, then `new` is `old`, followed by those of the first `i + 1` lines that
--- pass
+-- a line passes if `test` is true for it; if `found` is `old` followed by the passing lines among the first `i`, and
+-- `new` is `found` followed by the line at index `i` if that line passes, then `new` is `old` followed by the passing
+-- lines among the first `i + 1`
 pub idle_more : (kind : IdleKind) (test : TimerLine Fields → Bool) (lines : List declared_line.TimerLine) (i : ℕ) (line : declared_line.TimerLine) (old found new : List IdleLine) (idle : Bool)
     → i < length lines → line ≡ get_or lines i line → found ≡ old ++ idle_as kind test (map shown (take i lines)) → idle ≡ test (shown line)
     → new ≡ found ++ cond idle (idle_line kind (shown line) ∷ []) [] → new ≡ old ++ idle_as kind test (map shown (take (i + 1) lines))

@@ -1,4 +1,4 @@
--- Lemmas about the list of notes, to which the notes about each expression are appended.
+-- Lemmas about collecting the notes about expressions, one expression after another.
 use Rattle.std.proofs.Common.{◌≡◌, ℕ, ◌<◌, ◌++◌, List, [], ◌∷◌, ℤ, ◌<ℤ◌, Some, length, map, get_or, sym, ap, ◌∙◌, append_assoc}
 use Rattle.std.specs.List.{All, Contains}
 use Rattle.std.proofs.lemmas.List.{append-nil, get_or-map, length-map}

@@ -15,7 +15,7 @@ use Rattle.cal_tasks.specs.declared.clock_note.ClockChange.{ClockChange}
 use Rattle.cal_tasks.specs.declared.clock_note.ClockChange.TheVariants.{Skipped, Repeated}
 use Rattle.cal_tasks.specs.declared.clock_note.ClockNote.{ClockNote}
 
--- the maximum number of notes for one timer
+-- the maximum number of notes about clock changes for one timer
 abbrev pub max_notes : ℕ
 max_notes = 16
 
@@ -23,7 +23,7 @@ max_notes = 16
 abbrev pub IsMatch : Sets → ℤ → Type 0
 IsMatch sets local = IsLocalSecond local × (matches sets (unsigned_abs local) ≡ true)
 
--- the zone's clock shows `local` at the instant `first`, its place, and again at the later instant `second`
+-- the zone's clock shows `local` at its place, the instant `first`, and again at the later instant `second`
 pub record IsRepeated (tz : TimeZone) (local : ℤ) : Type 0 where
   pub first : ℤ
   pub second : ℤ
@@ -31,8 +31,8 @@ pub record IsRepeated (tz : TimeZone) (local : ℤ) : Type 0 where
   pub later : first <ℤ second
   pub shown : local_shown_at tz second ≡ local
 
--- the zone's clock skips or repeats `local`, whichever the clock change says: a skipped local second has no place, and
--- a repeated local second is shown twice
+-- the clock change is the one that happens to `local`: a skipped local second has no place, and a repeated local second
+-- is shown twice
 abbrev pub IsChange : TimeZone → ℤ → ClockChange → Type 0
 IsChange tz local Skipped = place_of tz local ≡ None
 IsChange tz local Repeated = IsRepeated tz local

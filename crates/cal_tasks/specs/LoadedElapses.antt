@@ -17,7 +17,8 @@ use Rattle.cal_tasks.specs.declared.clocked.Clocked.{Clocked}
 abbrev pub lists_of_loaded : Calendar → Timer Fields
 lists_of_loaded calendar = record { expressions = expressions_in calendar; exceptions = exceptions_in calendar }
 
--- the zones of a timer's expressions: the local zone, and the zones that were loaded for the timer, by name
+-- the zones that the expressions of a timer can refer to: the local zone, and the zones that were loaded for the timer,
+-- by their names
 abbrev pub setting_for : Clocked → LoadedTimer → Setting
 setting_for at timer = record { local = zone_of at.local; find = zone_named timer.zones }
 

@@ -39,12 +39,12 @@ pub enum IdleKind {
 /// An expression or an exception that has no effect.
 #[derive(Clone, Copy, PartialEq, Eq, Debug)]
 pub struct IdleLine {
-    /// The line number of the expression or exception, from which [`LoadedTimer::place`] finds its file.
+    /// The number of the line with the expression or exception. [`LoadedTimer::place`] finds the file of this line.
     pub number: u32,
     pub kind: IdleKind,
 }
 
-/// Returns the lines of a timer that have no effect: first the expressions that don't elapse after the present, and
+/// Returns those lines of a timer that have no effect: first the expressions that don't elapse after the present, and
 /// then the exceptions that suppress nothing. For an exception, only the next 10,000 elapses that the timer would have
 /// without its exceptions are checked.
 ///

@@ -25,7 +25,7 @@ use cal_timer::TimerLine;
 use cal_zone::{Instant, PlaceCache, Setting, Zone, civil};
 use std::alloc::{AllocError, Global};
 
-/// The maximum number of notes for one timer.
+/// The maximum number of notes about clock changes for one timer.
 const MAX_NOTES: usize = 16;
 
 /// The maximum number of local times that are examined for each expression.
@@ -166,7 +166,7 @@ fn change_at(cache: &mut PlaceCache<'_>, local: i64) -> Option<ClockChange>
     ensures change { IfSome result (IsChange (zone_of cache.old) local) }
     ensures zone { cache.new ≡ cache.old }
 {
-    // Most local seconds are far from any clock change, so their UTC offset is known to stay constant for a day.
+    // Most local seconds are far from any clock change, so the UTC offset is known to stay the same for a day.
     if cache.offset_over(local, local + DAY).is_some() {
         return None;
     }

@@ -1,4 +1,5 @@
--- The numbers taken so far, followed by those still to be taken, are the first `count` numbers that the source had.
+-- The numbers taken so far, followed by those still to be taken, are the first `count` numbers of the source at the
+-- start.
 use Rattle.std.proofs.Common.{◌≡◌, ◌-◌, ◌++◌, take}
 use Rattle.cal_tasks.proofs.elapses.take_first.Given as goal
 
