@@ -10,13 +10,13 @@ use clap::error::ErrorKind;
 use clap::{Arg, ArgAction, ArgMatches, Command, Error};
 use std::alloc::{AllocError, Global};
 
-/// The name by which `clap` stores the first argument of `between` or `same`.
+/// The name under which `clap` stores the first argument of `between` or `same`.
 pub(crate) const FIRST: &str = "first";
 
-/// The name by which `clap` stores the second argument of `between` or `same`.
+/// The name under which `clap` stores the second argument of `between` or `same`.
 pub(crate) const SECOND: &str = "second";
 
-/// The name by which `clap` stores all targets except the first and the second argument of `between` or `same`.
+/// The name under which `clap` stores all targets except the first and the second argument of `between` or `same`.
 pub(crate) const TARGET: &str = "target";
 
 /// Parses the arguments with `clap`. The first argument is the verb, unless the arguments ask for the help or the

@@ -17,9 +17,9 @@ impl Question {
     ///
     /// The verb is the first argument that is neither an option nor the value of an option. If that argument isn't the
     /// name of a verb, it is a target, and the verb is `list`. The verb is also `list` if there is no such argument.
-    /// All arguments after `--` are targets; options may be given anywhere before it.
+    /// All arguments after `--` are targets; options may be given anywhere before `--`.
     ///
-    /// The targets are:
+    /// The targets of each verb are:
     ///
     /// - `list`, `lint`: any number of units, files and folders.
     /// - `show`: one or more units and files.
