@@ -72,7 +72,7 @@ fn shown_answer(alloc: Global, line: &str) -> Result<String, Fail> {
     Ok(shown)
 }
 
-/// Checks that the arguments before the arrow on each line give the text after the arrow.
+/// Checks that parsing the arguments before the arrow on each line results in the text after the arrow.
 fn check(alloc: Global, lines: &str) -> Result<(), Fail> {
     for line in lines.lines() {
         let (arguments, want) = line.split_once("-> ").ok_or("no arrow")?;
