@@ -7,7 +7,7 @@ ghost use Rattle.cal_timers_text.specs.Shown.{code_text, shown};
 
 use std::alloc::AllocError;
 
-/// Appends a text, with each control character replaced by `\x` and two hexadecimal digits, its code.
+/// Appends a text, with each control character replaced by `\x` and its code in two hexadecimal digits.
 pub(crate) fn push_shown(out: &mut String, text: &str) -> Result<(), AllocError>
     ensures { OnOk result (string_bytes out.new ≡ string_bytes out.old ++ shown text.now) }
 {

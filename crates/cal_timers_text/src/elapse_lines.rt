@@ -8,8 +8,8 @@ use cal_tasks::{Difference, TimerElapse};
 use cal_zone::{InstantFormatter, Zone};
 use std::alloc::{AllocError, Global};
 
-/// Returns a line for each elapse, with its instant, as clocks in the zone `local` show it, and the name of its timer.
-/// If there are no elapses, returns an empty text.
+/// Returns a line for each elapse: the instant, as clocks in the zone `local` show it, and the name of the timer. If
+/// there are no elapses, returns an empty text.
 pub fn between_text(
     alloc: Global,
     local: Zone<'_>,

@@ -12,8 +12,9 @@ use std::alloc::{AllocError, Global};
 
 /// Returns the lines about a problem in the file at `path`, whose content is `text`.
 ///
-/// These are the position with the message, the line of the file, a caret below the word at fault, and, if it is known,
-/// what to write instead. There is no caret if the problem is in a value that continues on the next line.
+/// The first line has the path, the line number, the column and the message. Below it are the line of the file, a caret
+/// below the word at fault, and, if it is known, what to write instead. There is no caret if the problem is in a value
+/// that continues on the next line.
 pub fn finding_text(
     alloc: Global,
     path: &str,
