@@ -20,7 +20,7 @@ use std::alloc::{AllocError, Global};
 /// The exit status if a timer can't be loaded, `lint` finds an error, or two timers differ.
 pub(crate) const INVALID: u8 = 1;
 
-/// The exit status if the question can't be answered at all, for example because of the root or the local zone.
+/// The exit status if the question can't be answered at all, for example because the local zone isn't known.
 const UNUSABLE: u8 = 2;
 
 /// The number of elapses to show if the question doesn't say how many.
@@ -34,7 +34,7 @@ pub struct Answer {
     /// The error lines, for standard error.
     pub err: String,
     /// The exit status: 0 for success; 1 if a timer can't be loaded, `lint` finds an error, or two timers differ; 2 if
-    /// the question can't be answered at all, for example because of the root or the local zone.
+    /// the question can't be answered at all, for example because the local zone isn't known.
     pub status: u8,
 }
 

@@ -25,11 +25,12 @@ struct Problem {
     is_error: bool,
     message: String,
     suggestion: Option<String>,
-    /// The lines about the problem for people.
+    /// What is printed about the problem for people: one or more lines.
     text: String,
 }
 
-/// Returns all problems of the files, each checked by itself, and then the problems of whole timers.
+/// Returns all problems in the files, each of which is checked by itself, and then warnings about expressions and
+/// exceptions that have no effect.
 pub(crate) fn lint<T: Tree>(alloc: Global, tree: &T, asked: Asked<'_>) -> Result<Answer, PlanFault>
     ensures { IfOk result (λ answer. answer.status ≤ 2) }
 {
@@ -60,7 +61,7 @@ fn add_files<T: Tree>(
 ) -> Result<String, AllocError> {
     let loaded = load_files(alloc, tree, asked.path, asked.targets)?;
     for file in &loaded.files {
-        // systemd accepts comments that aren't UTF-8, so bytes that aren't UTF-8 are replaced here.
+        // systemd accepts comments that aren't UTF-8, so such bytes are replaced instead of being an error.
         let text = String::from_utf8_lossy(alloc, file.bytes.as_slice())?;
         add_findings(
             alloc,
