@@ -10,7 +10,7 @@ use std::rt::{Env, Files};
 use std::time::{Clock, SystemTime, UNIX_EPOCH};
 use std::{env, fs, io};
 
-/// The number of links, each leading to the next, at which following them below a root fails.
+/// A path below a root can't be followed if it leads through this many links or more.
 const MAX_LINKS: usize = 40;
 
 /// The system that the program runs on, or the part of it below a root folder.

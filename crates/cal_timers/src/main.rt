@@ -114,8 +114,8 @@ fn width_of(rt: &HostRuntime) -> usize {
     }
 }
 
-/// Prints the texts for both outputs, and returns the exit status. If printing to standard output fails, reports that
-/// as an error, unless standard output is a pipe that nobody reads any more.
+/// Prints the texts for both outputs, and returns the exit status. If printing to standard output fails, prints an
+/// error line and returns [`FAILED`], unless standard output is a pipe that nobody reads any more.
 fn end(rt: &HostRuntime, out: &str, err: &str, status: u8) -> ExitCode {
     let written = print!(rt; "{out}");
     // If printing to standard error fails, only the exit status is left to report anything.
