@@ -169,8 +169,8 @@ fn idle_problem(
 }
 
 /// Appends the error lines about timers that name a zone that can't be loaded, or that have no setting that starts
-/// their unit. Errors of other kinds are left out: [`add_files`] reports them, unless they are about something that
-/// systemd accepts, such as a comment that isn't UTF-8.
+/// their unit. Errors of other kinds are left out here: [`add_files`] decides which of them `lint` reports. For
+/// example, a comment that isn't UTF-8 is not an error for `lint`.
 fn add_faults(alloc: Global, faults: &[TargetFault], err: &mut String) -> Result<(), AllocError> {
     for fault in faults {
         if matches!(
