@@ -1,8 +1,8 @@
--- What a document is.
+-- The layout of the JSON documents that calendar-timers prints.
 use Rattle.std.specs.Prelude.{◌≡◌, ℕ, List, ◌++◌, codes}
 use Rattle.json.specs.Layout.{pretty}
 use Rattle.json.specs.Lex.{tokens}
 
--- a JSON text, in the layout in which `pretty` prints its tokens, followed by a line feed
+-- whether `text` is a JSON text in the layout in which `pretty` prints its tokens, followed by a line feed
 abbrev pub IsDocument : List ℕ → Type 0
 IsDocument text = (json : List ℕ) × (text ≡ json ++ codes "\n") × (json ≡ pretty (tokens json))

@@ -15,7 +15,7 @@ use std::alloc::{AllocError, Global};
 #[derive(Drop, Serialize)]
 pub(crate) struct BetweenRow<'a> {
     pub(crate) unit: &'a str,
-    /// The elapse as local clocks show it.
+    /// The elapse in local time, such as `Fri 2026-11-27 18:00:00 +01:00`.
     pub(crate) local: String,
     /// The elapse in seconds of Unix time.
     pub(crate) unix: i64,
@@ -23,7 +23,7 @@ pub(crate) struct BetweenRow<'a> {
 
 /// Returns the document of `between`: an array with an object for each elapse, in the order given.
 ///
-/// The indices in `elapses` are those of `timers`. Fails only if allocation fails.
+/// Each elapse has the index of its timer in `timers`. Fails only if allocation fails.
 pub fn between_json(
     alloc: Global,
     local: Zone<'_>,
@@ -67,7 +67,8 @@ fn between_row<'a>(
     })
 }
 
-/// Returns the name of the timer with this index. There is a timer with every index that is passed here.
+/// Returns the name of the timer with this index. Callers pass only indices of timers; for any other index, the name is
+/// empty.
 fn name_of(timers: &[LoadedTimer], index: usize) -> &str {
     match timers.get(index) {
         Some(timer) => timer.name.as_str(),

@@ -1,4 +1,4 @@
-//! JSON documents.
+//! Converting a value to a JSON document.
 
 ghost use Rattle.std.specs.Prelude.{IfOk, string_bytes};
 ghost use Rattle.cal_timers_json.specs.Document.{IsDocument};
@@ -6,9 +6,9 @@ ghost use Rattle.cal_timers_json.specs.Document.{IsDocument};
 use serde::Serialize;
 use std::alloc::{AllocError, Global};
 
-/// Returns a value as a JSON text with a line for each member and item, and a line feed at its end.
+/// Converts a value to an indented JSON text that ends with a line feed.
 ///
-/// The value has no float and is not nested deeply, so this fails only if allocation fails.
+/// Callers pass only values without floats and without deep nesting, for which this fails only if allocation fails.
 pub(crate) fn document<T: Serialize>(alloc: Global, value: &T) -> Result<String, AllocError>
     ensures { IfOk result (λ text. IsDocument (string_bytes text)) }
 {

@@ -1,7 +1,8 @@
-//! The documents that `calendar-timers --json` prints, one for each verb.
+//! The JSON documents that `calendar-timers --json` prints. Each verb has its own, except `next`, which has that of
+//! `show`.
 //!
-//! Each is a JSON text in several lines (RFC 8259) that ends with a line feed, and the members of an object come in the
-//! order of the fields of its row.
+//! Each document is an indented JSON text (RFC 8259) that ends with a line feed. It is made from structs that are
+//! called rows: the members of an object have the names and the order of the fields of its row.
 #![tactic(auto)]
 
 mod between;

@@ -1,4 +1,4 @@
-//! The document of `lint`: the problems of files.
+//! The document of `lint`: the problems in files.
 
 ghost use Rattle.std.specs.Prelude.{IfOk, string_bytes};
 ghost use Rattle.cal_timers_json.specs.Document.{IsDocument};
@@ -7,14 +7,14 @@ use crate::document::document;
 use serde::Serialize;
 use std::alloc::{AllocError, Global};
 
-/// A problem of a file.
+/// A problem in a file.
 #[derive(Clone, Copy, PartialEq, Eq, Debug, Serialize)]
 pub struct LintRow<'a> {
     /// The path of the file.
     pub file: &'a str,
-    /// The number of the line, from 1.
+    /// The number of the line with the problem, from 1.
     pub line: u32,
-    /// The byte of the line, counted from 1, at which the word at fault begins, if a word is at fault.
+    /// The byte of the line, counted from 1, at which the problem begins, or `None` if that isn't known.
     pub column: Option<u32>,
     /// `error` or `warning`.
     pub kind: &'a str,

@@ -10,24 +10,26 @@ use cal_tasks::{Clocked, NextOfAll, TimerElapse};
 use serde::Serialize;
 use std::alloc::{AllocError, Global};
 
-/// A timer of the list. The fields `next`, `unix` and `left` are `None` if it doesn't elapse any more or is masked.
+/// A timer or a masked unit in the list. The fields `next`, `unix` and `left` are `None` if the unit is masked, or if
+/// its calendar expressions and exceptions leave no next elapse.
 #[derive(Drop, Serialize)]
 pub(crate) struct ListRow<'a> {
     pub(crate) unit: &'a str,
-    /// The next elapse as local clocks show it.
+    /// The next elapse in local time, such as `Fri 2026-11-27 18:00:00 +01:00`.
     pub(crate) next: Option<String>,
     /// The next elapse in seconds of Unix time.
     pub(crate) unix: Option<i64>,
-    /// The time span until then.
+    /// The time span from the present to the next elapse.
     pub(crate) left: Option<String>,
     pub(crate) notes: Vec<&'a str>,
 }
 
-/// Returns the document of `list`: an array with the timers that elapse again, soonest first, those that don't, and the
-/// masked units.
+/// Returns the document of `list`: an array with an object for each timer and each masked unit. First come the timers
+/// that elapse again, soonest first, then the other timers, and then the masked units.
 ///
-/// The notes of a timer are its own. If it has calendar expressions that don't elapse any more, `never` comes before
-/// them. The note of a masked unit is `masked`. The indices in `next` are those of the timers in `loaded`.
+/// The notes of a timer are those in `loaded`. If the timer has calendar expressions, but no next elapse, the note
+/// `never` comes first. A masked unit has only the note `masked`. The indices in `next` are those of the timers in
+/// `loaded`.
 ///
 /// Fails only if allocation fails.
 pub fn list_json(
@@ -42,7 +44,7 @@ pub fn list_json(
     document(alloc, &rows)
 }
 
-/// Returns a row for each timer and for each masked unit.
+/// Returns the rows of all timers and masked units, in the order of the document.
 fn list_rows<'a>(
     alloc: Global,
     at: Clocked<'_>,
@@ -60,7 +62,7 @@ fn list_rows<'a>(
     Ok(rows)
 }
 
-/// Appends the timers that elapse again.
+/// Appends a row for each timer that elapses again.
 fn push_soonest<'a>(
     alloc: Global,
     rows: &mut Vec<ListRow<'a>>,
@@ -77,7 +79,7 @@ fn push_soonest<'a>(
     Ok(())
 }
 
-/// Appends the timers that don't elapse any more.
+/// Appends a row for each timer without a next elapse.
 fn push_never<'a>(
     alloc: Global,
     rows: &mut Vec<ListRow<'a>>,
@@ -93,7 +95,7 @@ fn push_never<'a>(
     Ok(())
 }
 
-/// Appends the masked units.
+/// Appends a row for each masked unit.
 fn push_masked<'a>(
     alloc: Global,
     rows: &mut Vec<ListRow<'a>>,
@@ -130,7 +132,7 @@ fn row_of_elapse<'a>(
     })
 }
 
-/// Returns the row of a timer that doesn't elapse any more.
+/// Returns the row of a timer without a next elapse.
 fn row_of_ended<'a>(
     alloc: Global,
     timers: &'a [LoadedTimer],
@@ -143,8 +145,8 @@ fn row_of_ended<'a>(
     Ok(row_without(unit, notes))
 }
 
-/// Returns the note of a timer that doesn't elapse any more. A timer without calendar expressions has none: its other
-/// settings start the unit.
+/// Returns the note `never` for a timer that has calendar expressions, but no next elapse. Returns `None` if the timer
+/// has no calendar expressions: then other settings, such as `OnBootSec=`, start the unit.
 fn note_of_ended(timers: &[LoadedTimer], index: usize) -> Option<&'static str> {
     match timers.get(index) {
         Some(timer) if matches!(timer.calendar, Calendar::Nothing) => None,
@@ -152,7 +154,7 @@ fn note_of_ended(timers: &[LoadedTimer], index: usize) -> Option<&'static str> {
     }
 }
 
-/// Returns the row of a unit that doesn't elapse.
+/// Returns a row without a next elapse.
 fn row_without<'a>(unit: &'a str, notes: Vec<&'a str>) -> ListRow<'a>
     ensures { result.unix ≡ None }
 {
@@ -165,7 +167,8 @@ fn row_without<'a>(unit: &'a str, notes: Vec<&'a str>) -> ListRow<'a>
     }
 }
 
-/// Returns the name and the notes of the timer with this index. There is a timer with every index that is passed here.
+/// Returns the name and the notes of the timer with this index. Callers pass only indices of timers; for any other
+/// index, the name is empty and there are no notes.
 fn name_and_notes(timers: &[LoadedTimer], index: usize) -> (&str, &[String]) {
     match timers.get(index) {
         Some(timer) => (timer.name.as_str(), timer.notes.as_slice()),
@@ -173,7 +176,7 @@ fn name_and_notes(timers: &[LoadedTimer], index: usize) -> (&str, &[String]) {
     }
 }
 
-/// Returns `first`, if any, and then the other notes.
+/// Returns `first`, if there is one, followed by `notes`.
 fn notes_after<'a>(
     alloc: Global,
     first: Option<&'a str>,

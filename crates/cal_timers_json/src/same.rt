@@ -1,4 +1,4 @@
-//! The document of `same`: where two timers differ.
+//! The document of `same`: whether two timers elapse at the same instants, and if not, where they differ.
 
 ghost use Rattle.std.specs.Prelude.{◌≡◌, ◌↔◌, ◌++◌, IfOk, IsTrue, OnOk, None, map, string_bytes};
 ghost use Rattle.std.specs.Option.{option_to_list};
@@ -11,11 +11,11 @@ use cal_zone::Zone;
 use serde::Serialize;
 use std::alloc::{AllocError, Global};
 
-/// Whether two timers elapse at the same instants.
+/// The result of comparing the elapses of two timers.
 #[derive(Drop, Serialize)]
 pub(crate) struct SameRow<'a> {
     pub(crate) same: bool,
-    /// The first elapse of each timer at which the other doesn't elapse.
+    /// For each of the two timers, its first elapse at which the other doesn't elapse, if there is one.
     pub(crate) only: Vec<OnlyRow<'a>>,
 }
 
@@ -24,7 +24,7 @@ pub(crate) struct SameRow<'a> {
 pub(crate) struct OnlyRow<'a> {
     /// The name of the timer that elapses.
     pub(crate) of: &'a str,
-    /// The elapse as local clocks show it.
+    /// The elapse in local time, such as `Fri 2026-11-27 18:00:00 +01:00`.
     pub(crate) local: String,
     /// The elapse in seconds of Unix time.
     pub(crate) unix: i64,
@@ -66,7 +66,8 @@ fn same_row<'a>(
     })
 }
 
-/// Appends the elapse of a timer at which the other doesn't elapse, if there is one.
+/// Appends a row for `elapse`, if there is one. It is an elapse of the timer called `of` at which the other timer
+/// doesn't elapse.
 fn push_only<'a>(
     alloc: Global,
     rows: &mut Vec<OnlyRow<'a>>,

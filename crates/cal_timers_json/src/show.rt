@@ -1,4 +1,4 @@
-//! The document of `show` and `next`: what a timer is made of, and when it elapses.
+//! The document of `show` and `next`: the files, expressions, exceptions, elapses and notes of timers.
 
 ghost use Rattle.std.specs.Prelude.{◌≡◌, IfOk, map, length, string_bytes};
 ghost use Rattle.cal_spec.specs.headline.ExprText.{expr_text};
@@ -16,17 +16,17 @@ use std::alloc::{AllocError, Global};
 #[derive(Clone, Copy)]
 pub struct ShownTimer<'a> {
     pub timer: &'a LoadedTimer,
-    /// Its next elapses, in seconds of Unix time.
+    /// The timer's next elapses, in seconds of Unix time.
     pub elapses: &'a [i64],
-    /// The local times that clock changes skip or repeat.
+    /// Local times that the timer's expressions match, and that a clock change skips or repeats.
     pub clock: &'a [ClockNote],
 }
 
-/// A timer.
+/// The row of a timer.
 #[derive(Drop, Serialize)]
 pub(crate) struct ShowRow<'a> {
     pub(crate) unit: &'a str,
-    /// The paths of the files that were read, in this order.
+    /// The paths of the timer's files, in the order in which the files were read.
     pub(crate) files: Vec<&'a str>,
     pub(crate) expressions: Vec<LineRow<'a>>,
     pub(crate) exceptions: Vec<LineRow<'a>>,
@@ -40,22 +40,22 @@ pub(crate) struct ShowRow<'a> {
 pub(crate) struct LineRow<'a> {
     /// The expression as it is written.
     pub(crate) text: &'a str,
-    /// Its normal form.
+    /// The normal form of the expression.
     pub(crate) normal: String,
-    /// The path of its file, or `None` if it was given by itself.
+    /// The path of the file that contains the expression, or `None` if the expression isn't from a file.
     pub(crate) file: Option<&'a str>,
-    /// The number of its line there, from 1.
+    /// The number of the expression's line in this file, from 1.
     pub(crate) line: Option<u32>,
 }
 
 /// An elapse.
 #[derive(Drop, Serialize)]
 pub(crate) struct ElapseRow {
-    /// The elapse as local clocks show it.
+    /// The elapse in local time, such as `Fri 2026-11-27 18:00:00 +01:00`.
     pub(crate) local: String,
     /// The elapse in seconds of Unix time.
     pub(crate) unix: i64,
-    /// The time span until then.
+    /// The time span from the present to the elapse.
     pub(crate) left: String,
 }
 
@@ -68,8 +68,8 @@ pub(crate) struct ClockRow {
 
 /// Returns the document of `show` and `next`: an array with an object for each timer.
 ///
-/// If an expression was given by itself, the list of files is empty, and `file` and `line` are `null`. Fails only if
-/// allocation fails.
+/// For an expression that isn't from a file, the list of files is empty, and `file` and `line` are `null`. Fails only
+/// if allocation fails.
 pub fn show_json(
     alloc: Global,
     at: Clocked<'_>,

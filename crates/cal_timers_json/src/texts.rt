@@ -1,4 +1,5 @@
-//! The texts in rows: instants, local times, time spans and calendar expressions as this project prints them.
+//! Formatting instants, local times, time spans and calendar expressions for rows, as the rest of this project prints
+//! them.
 
 ghost use Rattle.std.specs.Prelude.{◌≡◌, IfOk, string_bytes};
 ghost use Rattle.cal_zone.specs.Instant.{IsInstant};
@@ -12,9 +13,9 @@ use cal_streams::Port;
 use cal_zone::{Instant, Zone, push_instant};
 use std::alloc::{AllocError, Global};
 
-/// Returns an instant as clocks in the zone show it, such as `Fri 2026-11-27 18:00:00 +01:00`.
+/// Returns the text of an instant in a zone, such as `Fri 2026-11-27 18:00:00 +01:00`.
 ///
-/// `secs` is an instant in seconds of Unix time, as all elapses are. For a number that isn't one, this returns the text
+/// `secs` should be an instant in seconds of Unix time, as all elapses are. For any other number, this returns the text
 /// of the nearest instant.
 pub(crate) fn local_text(alloc: Global, zone: Zone<'_>, secs: i64) -> Result<String, AllocError>
     ensures { IsInstant secs → IfOk result (λ text. string_bytes text ≡ instant_text zone.entry secs) }
@@ -24,8 +25,8 @@ pub(crate) fn local_text(alloc: Global, zone: Zone<'_>, secs: i64) -> Result<Str
     copy_of(alloc, text.as_slice())
 }
 
-/// Returns a local time, such as `Sun 2027-03-28 02:30:00`. `local` is in seconds since 1970-01-01 00:00:00 of the same
-/// clock, so its text in UTC without the zone is the text of the local time.
+/// Returns the text of a local time, such as `Sun 2027-03-28 02:30:00`. `local` is in seconds since 1970-01-01 00:00:00
+/// on the same clock. So this is the text of the instant `local` in UTC, without the name of the zone.
 pub(crate) fn clock_text(alloc: Global, local: i64) -> Result<String, AllocError> {
     let mut text = ShortText::new();
     push_instant(&mut text, Zone::utc(), instant_near(local));
@@ -33,7 +34,8 @@ pub(crate) fn clock_text(alloc: Global, local: i64) -> Result<String, AllocError
     copy_of(alloc, bytes.strip_suffix(b" UTC").unwrap_or(bytes))
 }
 
-/// Returns the time span from the present to an instant, such as `22h 12min`, or `0` if the instant has passed.
+/// Returns the text of the time span from `now` to an instant, such as `22h 12min`, or `0` if the instant isn't later
+/// than `now`.
 pub(crate) fn left_text(alloc: Global, now: Instant, secs: i64) -> Result<String, AllocError> {
     let text = format_span(span_until(now, instant_near(secs)));
     copy_of(alloc, text.as_slice())
@@ -63,7 +65,7 @@ fn instant_near(secs: i64) -> Instant
     }
 }
 
-/// Returns the time span from one instant to a later one, or the empty span if the second isn't later.
+/// Returns the time span from `now` to `then`, or the empty span if `then` isn't later than `now`.
 fn span_until(now: Instant, then: Instant) -> Span {
     let secs = u64::try_from(then.secs() - now.secs()).unwrap_or(0);
     match Span::new(secs * 1_000_000) {
@@ -72,8 +74,8 @@ fn span_until(now: Instant, then: Instant) -> Span {
     }
 }
 
-/// Returns a copy of a printed text. All of them are ASCII, but their contracts don't say so. So the bytes are checked
-/// here.
+/// Copies a formatted text into a string. All texts that are passed here are ASCII, but the contracts of the functions
+/// that format them don't say so. So the bytes are checked.
 fn copy_of(alloc: Global, bytes: &[u8]) -> Result<String, AllocError>
     ensures { IfOk result (λ text. string_bytes text ≡ bytes.now) }
 {

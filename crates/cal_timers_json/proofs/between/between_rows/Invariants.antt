@@ -1,7 +1,7 @@
 use Rattle.std.proofs.Common.{◌≡◌, map, take}
 use Rattle.cal_timers_json.proofs.between.between_rows.Given as goal
 
--- the rows so far are those of the elapses before the loop's index
+-- the rows so far have the instants of the elapses before the loop's index
 abbrev pub invariant-loop-elapse : goal.invariant-loop-elapse
 invariant-loop-elapse l =
     map (λ row. row.unix) l.rows.items ≡ map (λ elapse. elapse.secs) (take l.elapse-index l.elapses)
