@@ -1,4 +1,4 @@
-//! A document for each verb.
+//! Tests that compare a document of each verb with the expected one.
 
 use crate::ensure;
 use crate::expected::{BETWEEN, DIFFERENT, LINT, LIST, NEXT, SAME, SHOW};
@@ -47,7 +47,7 @@ static FOUND: [LintRow<'static>; 2] = [
     },
 ];
 
-/// The timers `past.timer`, `backup.timer` and `boot.timer`.
+/// Returns the timers `past.timer`, `backup.timer` and `boot.timer`.
 fn timers(alloc: Global) -> Result<Vec<LoadedTimer>, Fail> {
     let mut timers = Vec::new(alloc);
     timers.push(past(alloc)?)?;

@@ -92,7 +92,7 @@ pub const SHOW: &str = r#"[
 ]
 "#;
 
-/// An expression that was given by itself, and that doesn't elapse any more.
+/// The document of `next` for an expression that doesn't elapse any more.
 pub const NEXT: &str = r#"[
   {
     "unit": "2020-1-1",

@@ -10,7 +10,7 @@ mod made;
 
 use std::test::Fail;
 
-/// Fails with `about`, which names the document, unless `holds` is true.
+/// Fails with `about`, the document that was returned, unless `holds` is true.
 pub fn ensure(holds: bool, about: &str) -> Result<(), Fail> {
     if holds { Ok(()) } else { Err(about.into()) }
 }

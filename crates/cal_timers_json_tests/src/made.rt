@@ -15,7 +15,7 @@ OnCalendar=Mon..Fri 18:00
 X-ExceptOnCalendar=12-24 *:*:*
 ";
 
-/// Thu 2026-11-26 18:48:00 +01:00, one hour ahead of UTC.
+/// Returns the present of the tests, Thu 2026-11-26 18:48:00, in a zone that is one hour ahead of UTC.
 pub fn present() -> Result<Clocked<'static>, Fail> {
     let now = Instant::new(1_795_715_280).ok_or("no instant")?;
     Ok(Clocked {
@@ -44,7 +44,7 @@ fn backup_file(alloc: Global) -> Result<UnitText, AllocError> {
     })
 }
 
-/// Returns a timer whose only expression doesn't elapse any more, with another setting.
+/// Returns a timer that has the setting `Persistent=yes`, and whose only expression doesn't elapse any more.
 pub fn past(alloc: Global) -> Result<LoadedTimer, Fail> {
     let mut timer = expression(alloc, "2020-1-1")?;
     timer.name = String::from_str(alloc, "past.timer")?;
@@ -54,7 +54,7 @@ pub fn past(alloc: Global) -> Result<LoadedTimer, Fail> {
     Ok(timer)
 }
 
-/// Returns a timer without expressions.
+/// Returns a timer without calendar expressions.
 pub fn monotonic(alloc: Global) -> Result<LoadedTimer, Fail> {
     let mut timer = bare(alloc, "boot.timer", Calendar::Nothing)?;
     timer
@@ -63,7 +63,7 @@ pub fn monotonic(alloc: Global) -> Result<LoadedTimer, Fail> {
     Ok(timer)
 }
 
-/// Returns the timer of an expression that was given by itself.
+/// Returns the timer of one expression that isn't from a file.
 pub fn expression(alloc: Global, text: &str) -> Result<LoadedTimer, Fail> {
     let expr = read_expr(alloc, text)?;
     let mut lines = Vec::new(alloc);
