@@ -1,4 +1,4 @@
-//! The functions of `cal_compare`, over lists of numbers and over timers.
+//! Tests of `cal_compare`, with lists of numbers and with timers.
 
 ghost use Rattle.std.specs.List.Sorted.{IsStrictlySortedBy};
 ghost use Rattle.std.specs.Ordering.{int_cmp};
@@ -20,7 +20,7 @@ fn listed(alloc: Global, numbers: &[i64]) -> Result<Listed, AllocError>
     Ok(Listed::new(Vec::from_slice(alloc, numbers)?))
 }
 
-/// Three sources, the second of which has nothing to return.
+/// Returns three sources. The second has no numbers.
 fn three(alloc: Global) -> Result<Vec<Listed>, AllocError> {
     let mut sources = Vec::new(alloc);
     sources.push(listed(alloc, &[5, 7, 9])?)?;
@@ -29,7 +29,7 @@ fn three(alloc: Global) -> Result<Vec<Listed>, AllocError> {
     Ok(sources)
 }
 
-/// Returns whether these are the elapses, in this order.
+/// Returns whether `found` has the expected instants and timers, in this order.
 fn are_elapses(found: &[TimerElapse], expected: &[(i64, usize)]) -> bool {
     if found.len() != expected.len() {
         return false;
@@ -50,7 +50,7 @@ fn next_of_three(rt: HostRuntime) -> Result<(), Fail> {
     ensure(next.never.as_slice() == [1].as_slice(), "never")
 }
 
-/// The range has its start and not its end.
+/// Tests that a range includes its start, but not its end.
 #[test]
 fn between_two_instants(rt: HostRuntime) -> Result<(), Fail> {
     let mut sources = three(rt.alloc())?;
@@ -58,7 +58,7 @@ fn between_two_instants(rt: HostRuntime) -> Result<(), Fail> {
     ensure(are_elapses(&found, &[(5, 0), (5, 2), (6, 2)]), "the range")
 }
 
-/// The instant before the start of a range is its base, except for instant 0.
+/// Tests that the base for a range is the instant before its start, and that the base for instant 0 is instant 0.
 #[test]
 fn bases(rt: HostRuntime) -> Result<(), Fail> {
     let _ = rt.alloc();
@@ -79,7 +79,7 @@ fn only_one_of_two_lists(rt: HostRuntime) -> Result<(), Fail> {
     ensure(found.is_none(), "none")
 }
 
-/// Two timers, and where they differ, or the error.
+/// Two timers, and the expected difference or error.
 type Pair = (&'static str, &'static str, Result<Difference, CompareFault>);
 
 static PAIRS: [Pair; 5] = [
@@ -99,7 +99,7 @@ static PAIRS: [Pair; 5] = [
             only_other: None,
         }),
     ),
-    // Elapses before the base don't count.
+    // In the next row, both timers elapse only before the base, and these elapses don't count.
     (
         "[Timer]\nOnCalendar=2026-01-01",
         "[Timer]\nOnCalendar=2026-01-02",

@@ -1,4 +1,4 @@
-//! The elapses of one timer.
+//! Tests of the elapses of one timer.
 
 use crate::shared::{NOON, berlin, clocked, ensure, loaded, loaded_of, posix, timer};
 use cal_load::{Calendar, LoadedTimer};
@@ -8,18 +8,18 @@ use cal_zone::ZoneTable;
 use std::alloc::Global;
 use std::test::Fail;
 
-/// A timer, a number of elapses, and the elapses.
+/// A timer, how many elapses to compute, and the expected elapses.
 type Row = (&'static str, u32, &'static [i64]);
 
-/// In Berlin it is Thu 2026-11-26 13:00:00.
+/// In all rows, the present is Thu 2026-11-26 13:00:00 in Berlin.
 static ROWS: [Row; 6] = [
-    // An exception suppresses the Friday.
+    // The exception suppresses the elapse on Friday.
     (
         "[Timer]\nOnCalendar=Mon..Fri 18:00\nX-ExceptOnCalendar=*-11-27 *:*:*",
         2,
         &[1_795_712_400, 1_796_058_000],
     ),
-    // An instant at which two expressions elapse is one elapse, and UTC is one hour behind.
+    // 18:00 in Berlin is 17:00 UTC. So the first two expressions elapse at the same instant, which is returned once.
     (
         "[Timer]\nOnCalendar=18:00\nOnCalendar=17:00 UTC\nOnCalendar=18:30",
         3,
@@ -28,7 +28,7 @@ static ROWS: [Row; 6] = [
     ("[Timer]\nOnCalendar=18:00", 0, &[]),
     ("[Timer]\nOnCalendar=2026-11-26 18:00", 5, &[1_795_712_400]),
     ("[Timer]\nOnCalendar=2020-01-01", 5, &[]),
-    // The present is not after itself.
+    // Only elapses after the present count, and this one is at the present.
     ("[Timer]\nOnCalendar=2026-11-26 13:00", 5, &[]),
 ];
 
@@ -72,7 +72,7 @@ fn no_expressions(rt: HostRuntime) -> Result<(), Fail> {
 
 const TOKYO: &str = "[Timer]\nOnCalendar=18:00 Asia/Tokyo";
 
-/// Returns a table with the zone of Tokyo.
+/// Returns a zone table with the zone of Tokyo.
 fn tokyo(alloc: Global) -> Result<ZoneTable, Fail> {
     let mut zones = ZoneTable::new(alloc);
     match zones.add("Asia/Tokyo", posix(alloc, "JST-9")?) {
@@ -81,7 +81,8 @@ fn tokyo(alloc: Global) -> Result<ZoneTable, Fail> {
     }
 }
 
-/// A named zone is one of those that were loaded for the timer: 18:00 in Tokyo is 09:00 UTC.
+/// Tests that a zone name in an expression stands for the zone that was loaded under this name for the timer: 18:00 in
+/// Tokyo is 09:00 UTC.
 #[test]
 fn a_loaded_zone(rt: HostRuntime) -> Result<(), Fail> {
     let alloc = rt.alloc();

@@ -1,4 +1,4 @@
-//! Expressions that never elapse, and exceptions that suppress nothing.
+//! Tests of `idle_lines`: expressions that don't elapse any more, and exceptions that suppress nothing.
 
 use crate::shared::{NOON, berlin, clocked, ensure, loaded};
 use cal_plan::PlanFault;
@@ -6,7 +6,7 @@ use cal_tasks::{Clocked, IdleKind, IdleLine, idle_lines};
 use std::alloc::Global;
 use std::test::Fail;
 
-/// A timer, and its lines without effect.
+/// A timer, and the number and kind of each line that is expected to have no effect.
 type Row = (&'static str, &'static [(u32, IdleKind)]);
 
 const NEVER: IdleKind = IdleKind::NeverElapses;
@@ -22,12 +22,13 @@ static ROWS: [Row; 5] = [
         "[Timer]\nOnCalendar=2020-01-01\nX-ExceptOnCalendar=Fri\nOnCalendar=18:00\nOnCalendar=Mon 2026-02-30",
         &[(2, NEVER), (5, NEVER), (3, NOTHING)],
     ),
-    // Midnight is suppressed in another zone.
+    // In winter, 23:00 UTC is midnight in Berlin. So the first exception suppresses elapses, and the second doesn't.
     (
         "[Timer]\nOnCalendar=daily\nX-ExceptOnCalendar=23:00 UTC\nX-ExceptOnCalendar=daily UTC",
         &[(4, NOTHING)],
     ),
-    // The exception suppresses the elapse number 10,000, or 10,001.
+    // Only the next 10,000 elapses are examined. The exception of the next row suppresses elapse number 10,000, and
+    // that of the last row elapse number 10,001.
     (
         "[Timer]\nOnCalendar=*:*:*\nX-ExceptOnCalendar=2026-11-26 15:46:40",
         &[],

@@ -1,19 +1,20 @@
-//! Local times that a clock change skips or repeats.
+//! Tests of `clock_notes`: local times that a clock change skips or repeats.
 
 use crate::shared::{DAY, berlin, clocked, ensure, loaded};
 use cal_tasks::{ClockChange, ClockNote, Clocked, clock_notes};
 use std::alloc::Global;
 use std::test::Fail;
 
-/// The local second Sun 2027-03-28 00:00:00. In this night the clock in Berlin skips the hour from 02:00 on.
+/// The local second Sun 2027-03-28 00:00:00. In this night, the clock in Berlin skips the hour from 02:00 to 03:00.
 const SPRING: i64 = 1_806_192_000;
 
-/// The local second Sun 2027-10-31 00:00:00. In this night the clock in Berlin shows the hour from 02:00 on twice.
+/// The local second Sun 2027-10-31 00:00:00. In this night, the clock in Berlin shows the hour from 02:00 to 03:00
+/// twice.
 const AUTUMN: i64 = 1_824_940_800;
 
 const HOUR: i64 = 3_600;
 
-/// A timer, the present, its elapses, and the notes.
+/// A timer, the present, the elapses that are passed to `clock_notes`, and the expected notes.
 type Row = (
     &'static str,
     i64,
@@ -26,7 +27,8 @@ const SKIPPED: ClockChange = ClockChange::Skipped;
 const REPEATED: ClockChange = ClockChange::Repeated;
 
 static ROWS: [Row; 10] = [
-    // The Saturday before, with the elapse on Monday.
+    // The present is on the Saturday before the clock change, and the only elapse that is passed is on the Monday
+    // after.
     (
         "[Timer]\nOnCalendar=02:30",
         SPRING - DAY,
@@ -39,7 +41,8 @@ static ROWS: [Row; 10] = [
         &[AUTUMN + HOUR / 2],
         &[(AUTUMN + 2 * HOUR + HOUR / 2, REPEATED)],
     ),
-    // The first and the last second, and those beside them.
+    // In the next two rows, the clock skips or repeats all seconds from 02:00:00 to 02:59:59, but neither 01:59:59 nor
+    // 03:00:00, which the expression matches too.
     (
         "[Timer]\nOnCalendar=1..3:0,59:0,59",
         SPRING - 2 * HOUR,
@@ -62,7 +65,7 @@ static ROWS: [Row; 10] = [
             (AUTUMN + 3 * HOUR - 1, REPEATED),
         ],
     ),
-    // Two expressions, in order, and the time that both have once.
+    // The notes of two expressions are sorted, and 02:30, which both expressions match, is noted once.
     (
         "[Timer]\nOnCalendar=02:30\nOnCalendar=*-3-28 2:15,30",
         SPRING - 2 * HOUR,
@@ -72,28 +75,28 @@ static ROWS: [Row; 10] = [
             (SPRING + 2 * HOUR + HOUR / 2, SKIPPED),
         ],
     ),
-    // The day of the present counts from its beginning.
+    // The present is after the clock change, but on the same day. Notes begin at the start of this day.
     (
         "[Timer]\nOnCalendar=02:30",
         SPRING + 12 * HOUR,
         &[],
         &[(SPRING + 2 * HOUR + HOUR / 2, SKIPPED)],
     ),
-    // More than a day after the last elapse.
+    // The clock change is more than a day after the last elapse, so it isn't noted.
     (
         "[Timer]\nOnCalendar=02:30",
         SPRING - 3 * DAY,
         &[SPRING - 2 * DAY],
         &[],
     ),
-    // No clock change in UTC or at an offset.
+    // UTC and fixed UTC offsets have no clock changes.
     (
         "[Timer]\nOnCalendar=02:30 UTC\nOnCalendar=02:30 +01:00",
         SPRING - DAY,
         &[SPRING + DAY],
         &[],
     ),
-    // A year from now.
+    // The last elapse is seven months after the present, so both clock changes are noted.
     (
         "[Timer]\nOnCalendar=Sun *-*~07/1 02:30",
         SPRING - DAY,
@@ -141,7 +144,7 @@ fn notes(rt: HostRuntime) -> Result<(), Fail> {
     Ok(())
 }
 
-/// At most 16 notes, the earliest.
+/// Tests that at most 16 notes are returned, and that these are the earliest ones.
 #[test]
 fn at_most_sixteen(rt: HostRuntime) -> Result<(), Fail> {
     let rules = berlin(rt.alloc())?;

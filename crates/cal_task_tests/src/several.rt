@@ -1,4 +1,4 @@
-//! Several timers together.
+//! Tests of `next_of_timers`, `elapses_between` and `difference_of`, which take several timers.
 
 use crate::shared::{DAY, NOON, all_loaded, berlin, clocked, ensure, instant};
 use cal_load::LoadedTimer;
@@ -7,7 +7,8 @@ use cal_tasks::{Clocked, Difference, TimerElapse, difference_of, elapses_between
 use std::alloc::Global;
 use std::test::Fail;
 
-/// In Berlin it is Thu 2026-11-26 13:00:00, and the timers elapse at 18:00, never, at 13:30 and at 18:00.
+/// If it is Thu 2026-11-26 13:00:00 in Berlin, as in all tests, these timers elapse next at 18:00, never, at 13:30 and
+/// at 18:00.
 static TIMERS: [&str; 4] = [
     "[Timer]\nOnCalendar=18:00",
     "[Timer]\nOnCalendar=2020-01-01",
@@ -15,10 +16,10 @@ static TIMERS: [&str; 4] = [
     "[Timer]\nOnCalendar=18:00\nX-ExceptOnCalendar=Fri",
 ];
 
-/// The next elapse of each timer, soonest first, each with the index of its timer.
+/// The next elapse of each timer that has one, soonest first, with the index of the timer.
 static SOONEST: [(i64, usize); 3] = [(1_795_696_200, 2), (1_795_712_400, 0), (1_795_712_400, 3)];
 
-/// Returns whether these are the elapses, in this order.
+/// Returns whether `found` has the expected instants and timers, in this order.
 fn are_elapses(found: &[TimerElapse], expected: &[(i64, usize)]) -> bool {
     if found.len() != expected.len() {
         return false;
@@ -44,8 +45,8 @@ fn next_of_four(rt: HostRuntime) -> Result<(), Fail> {
     }
 }
 
-/// A range from 18:00 to 18:00 of the next day has the first of both, and of a timer that elapses every six hours all
-/// between them.
+/// Tests a range from 18:00 to 18:00 on the next day. It includes the elapses of both timers at its start, but not
+/// those at its end, and all elapses between them of the timer that elapses every six hours.
 #[test]
 fn between_two_evenings(rt: HostRuntime) -> Result<(), Fail> {
     let rules = berlin(rt.alloc())?;
@@ -65,7 +66,8 @@ fn between_two_evenings(rt: HostRuntime) -> Result<(), Fail> {
     }
 }
 
-/// The error has the number of the first line that names an unknown zone, in the first timer with such a line.
+/// Tests that the error has the number of the first line that names an unknown zone, in the first timer with such a
+/// line.
 #[test]
 fn no_such_zone(rt: HostRuntime) -> Result<(), Fail> {
     let rules = berlin(rt.alloc())?;
@@ -79,7 +81,8 @@ fn no_such_zone(rt: HostRuntime) -> Result<(), Fail> {
     ensure(found.err() == Some(PlanFault::NoSuchZone(3)), "the error")
 }
 
-/// Two timers, and the first instants at which only the first elapses and only the second.
+/// Two timers, the first instant at which only the first timer elapses, and the first instant at which only the second
+/// timer elapses.
 type Pair = (&'static [&'static str; 2], Option<i64>, Option<i64>);
 
 static PAIRS: [Pair; 4] = [
@@ -107,7 +110,7 @@ static PAIRS: [Pair; 4] = [
         None,
         None,
     ),
-    // The first timer lacks the Thursday, and the second the Friday.
+    // Only the second timer elapses on Thursday, and only the first timer on Friday.
     (
         &[
             "[Timer]\nOnCalendar=Fri..Sun 2026-*-* 18:00",

@@ -9,7 +9,7 @@ use cal_zone::{Instant, Rules, Zone, ZoneTable};
 use std::alloc::{AllocError, Global};
 use std::test::Fail;
 
-/// Thu 2026-11-26 12:00:00 UTC, in seconds of Unix time. It is 13:00 in Berlin.
+/// Thu 2026-11-26 12:00:00 UTC, in seconds of Unix time. In Berlin, this is 13:00:00.
 pub const NOON: i64 = 1_795_694_400;
 
 /// The number of seconds in a day.
@@ -20,7 +20,7 @@ pub fn ensure(holds: bool, about: &str) -> Result<(), Fail> {
     if holds { Ok(()) } else { Err(about.into()) }
 }
 
-/// Returns the rules of the clock in Berlin.
+/// Returns the rules of the zone of Berlin.
 pub fn berlin(alloc: Global) -> Result<Rules, Fail> {
     posix(alloc, "CET-1CEST,M3.5.0,M10.5.0/3")
 }
@@ -38,7 +38,7 @@ pub fn instant(secs: i64) -> Result<Instant, Fail> {
     Ok(Instant::new(secs).ok_or("no instant")?)
 }
 
-/// Returns the present at `secs` seconds of Unix time, with these rules as the local zone.
+/// Returns the instant at `secs` seconds of Unix time as the present, and the zone with these rules as the local zone.
 pub fn clocked(rules: &Rules, secs: i64) -> Result<Clocked<'_>, Fail> {
     Ok(Clocked {
         now: instant(secs)?,
@@ -54,13 +54,13 @@ pub fn timer(alloc: Global, text: &str) -> Result<Timer, Fail> {
     }
 }
 
-/// Reads a timer from the text of its file. No zones are loaded for it.
+/// Reads a timer from the text of its file, and returns it as a loaded timer without any zones.
 pub fn loaded(alloc: Global, text: &str) -> Result<LoadedTimer, Fail> {
     let timer = timer(alloc, text)?;
     Ok(loaded_of(alloc, Calendar::Timer(timer), ZoneTable::new(alloc))?)
 }
 
-/// Returns a timer with these expressions and zones.
+/// Returns a loaded timer with these expressions, exceptions and zones.
 pub fn loaded_of(
     alloc: Global,
     calendar: Calendar,
@@ -76,7 +76,7 @@ pub fn loaded_of(
     })
 }
 
-/// Reads timers from the texts of their files.
+/// Like [`loaded`], for several timers.
 pub fn all_loaded(alloc: Global, texts: &[&str]) -> Result<Vec<LoadedTimer>, Fail> {
     let mut timers = Vec::new(alloc);
     for text in texts {

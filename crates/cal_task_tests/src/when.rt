@@ -1,4 +1,4 @@
-//! Instants as the user writes them.
+//! Tests of `read_when`: instants as users write them.
 
 use crate::shared::{DAY, NOON, berlin, clocked, ensure, instant};
 use cal_read::StampFault;
@@ -6,34 +6,35 @@ use cal_tasks::{Clocked, read_when};
 use std::alloc::Global;
 use std::test::Fail;
 
-/// Fri 2026-11-27 18:00:00 in Berlin.
+/// Fri 2026-11-27 18:00:00 in Berlin, in seconds of Unix time.
 const FRIDAY: i64 = 1_795_798_800;
 
-/// A text, the instant that it comes after, and the instant, or the error.
+/// A text, the instant after which a weekday with a time is searched for, and the expected instant or error.
 type Row = (&'static str, i64, Result<i64, StampFault>);
 
-/// In Berlin it is Thu 2026-11-26 13:00:00.
+/// In all rows, the present is Thu 2026-11-26 13:00:00 in Berlin.
 static ROWS: [Row; 22] = [
     ("Fri 18:00", NOON, Ok(FRIDAY)),
     ("Fri 18:00", FRIDAY - 1, Ok(FRIDAY)),
     ("Fri 18:00", FRIDAY, Ok(FRIDAY + 7 * DAY)),
     ("  friday  18:00 ", NOON, Ok(FRIDAY)),
     ("Mon 06:00", FRIDAY, Ok(1_796_014_800)),
-    // The weekday of today, before and after the present.
+    // The weekday is today's: 12:00 has passed today, so it means the next Thursday, and 13:00:01 is one second from
+    // now.
     ("Thu 12:00", NOON, Ok(NOON + 7 * DAY - 3_600)),
     ("Thu 13:00:01", NOON, Ok(NOON + 1)),
     ("Mon..Fri 9:00", NOON, Ok(1_795_766_400)),
     ("Fri 18:00 UTC", NOON, Ok(FRIDAY + 3_600)),
     ("Fri 18:00 +02:00", NOON, Ok(FRIDAY - 3_600)),
     ("Fri", NOON, Ok(1_795_734_000)),
-    // Timestamps.
+    // Timestamps
     ("2026-11-27", NOON, Ok(1_795_734_000)),
     ("Fri 2026-11-27 18:00", NOON, Ok(FRIDAY)),
     ("now", FRIDAY, Ok(NOON)),
     ("tomorrow", NOON, Ok(1_795_734_000)),
     ("+2h", FRIDAY, Ok(NOON + 7_200)),
     ("@5.7", NOON, Ok(5)),
-    // The errors of timestamps.
+    // Invalid texts, with the errors of timestamps
     ("Sat 2026-11-27 18:00", NOON, Err(StampFault::WrongWeekday)),
     ("Fri 25:00", NOON, Err(StampFault::BadTime)),
     ("Fri 18:00 Europe/Berlin", NOON, Err(StampFault::NoSuchZone)),
