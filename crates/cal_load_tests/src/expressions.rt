@@ -1,4 +1,4 @@
-//! Timers that are made of expressions alone.
+//! Tests of `load_expressions`: timers that are made of expressions alone.
 
 use crate::shown::{check, shown};
 use cal_load::load_expressions;
@@ -6,14 +6,14 @@ use cal_unit_tests::memory::Memory;
 use std::alloc::Global;
 use std::test::Fail;
 
-/// Checks what is loaded for these expressions on a machine without files.
+/// Checks that loading these expressions, on a machine without files, results in `wanted`, as [`shown`] writes it.
 fn loads(alloc: Global, expressions: &[&str], wanted: &str) -> Result<(), Fail> {
     let machine = Memory { items: &[] };
     let loaded = load_expressions(alloc, &machine, expressions)?;
     check(shown(alloc, &loaded)?.as_str(), wanted)
 }
 
-/// Expressions are numbered from 1. The first error counts, and names its expression.
+/// Tests that expressions are numbered from 1, and that an error names its expression and leaves no timer.
 #[test]
 fn loads_expressions(rt: HostRuntime) -> Result<(), Fail> {
     let alloc = rt.alloc();

@@ -1,4 +1,4 @@
-//! The files that targets stand for.
+//! Tests of `load_files`: the files that targets stand for.
 
 use crate::shown::{check, push_faults, push_files};
 use cal_drop_ins::system_path;
@@ -18,7 +18,7 @@ static MACHINE: [(&str, Item<'static>); 8] = [
     ("/etc/systemd/system/t@.timer", Item::File(b"t")),
 ];
 
-/// Checks which files are read for these targets.
+/// Checks that the files that are read for these targets, and the errors, are `wanted`.
 fn reads(alloc: Global, targets: &[&str], wanted: &str) -> Result<(), Fail> {
     let machine = Memory {
         items: MACHINE.as_slice(),
@@ -31,7 +31,8 @@ fn reads(alloc: Global, targets: &[&str], wanted: &str) -> Result<(), Fail> {
     check(text.as_str(), wanted)
 }
 
-/// Each file is read once, also if several targets stand for it, and an unreadable one hides no other file.
+/// Tests that each file is read once, even if several targets stand for it, and that all other files are still read if
+/// one can't be read.
 #[test]
 fn reads_files(rt: HostRuntime) -> Result<(), Fail> {
     let alloc = rt.alloc();

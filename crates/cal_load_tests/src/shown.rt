@@ -1,11 +1,11 @@
-//! What was loaded, as one line of text.
+//! Writing what was loaded as one line of text.
 
 use cal_load::{Loaded, LoadedTimer, TargetFault, TargetReason};
 use cal_units::UnitText;
 use std::alloc::{AllocError, Global};
 use std::test::Fail;
 
-/// Fails unless the two texts are the same.
+/// Fails with `found` unless the two texts are the same.
 pub(crate) fn check(found: &str, wanted: &str) -> Result<(), Fail> {
     if found == wanted {
         return Ok(());
@@ -13,7 +13,9 @@ pub(crate) fn check(found: &str, wanted: &str) -> Result<(), Fail> {
     Err(found.into())
 }
 
-/// Returns the timers as `NAME[FILES](EXPRESSIONS)(EXCEPTIONS)(NOTES)`, then the masked ones and the errors.
+/// Returns the loaded timers, the masked units and the errors as one line of text. A timer is its name, its files in
+/// square brackets, its expressions as `FILE:LINE EXPRESSION,`, its exceptions as `FILE:LINE except EXPRESSION,`, and
+/// its notes.
 pub(crate) fn shown(alloc: Global, loaded: &Loaded) -> Result<String, AllocError> {
     let mut text = String::new(alloc);
     for timer in &loaded.timers {

@@ -1,4 +1,4 @@
-//! Timers by unit, by file and by folder, and each error.
+//! Tests of `load_timers`: timers by unit name, by file and by folder, and the errors.
 
 use crate::shown::{check, shown};
 use cal_drop_ins::system_path;
@@ -80,7 +80,7 @@ fn machine() -> Memory<'static> {
     }
 }
 
-/// Checks what is loaded for these targets.
+/// Checks that loading these targets results in `wanted`, as [`shown`] writes it.
 fn loads(alloc: Global, targets: &[&str], wanted: &str) -> Result<(), Fail> {
     let path = system_path(alloc, "")?;
     let loaded = load_timers(alloc, &machine(), path.as_slice(), targets)?;
@@ -97,8 +97,9 @@ const B: &str =
 
 const T: &str = "t@x.timer: /etc/systemd/system/t@x.timer:2:2 bad date; ";
 
-/// Each timer of the search path once, by name. A drop-in clears the expressions, and the continued line numbers lead
-/// back to the files.
+/// Tests that all timers of the search path are loaded if there are no targets: each once, and sorted by name. Also
+/// tests that a drop-in clears the expressions of the files before it, and that each expression is found in its own
+/// file and line.
 #[test]
 fn loads_all_timers(rt: HostRuntime) -> Result<(), Fail> {
     let alloc = rt.alloc();
@@ -106,7 +107,7 @@ fn loads_all_timers(rt: HostRuntime) -> Result<(), Fail> {
     loads(alloc, &[], wanted.as_str())
 }
 
-/// Timers by name, with and without the suffix, in the order of the targets.
+/// Tests that timers are loaded by unit name, with or without the suffix, in the order of the targets.
 #[test]
 fn loads_units(rt: HostRuntime) -> Result<(), Fail> {
     let alloc = rt.alloc();
@@ -121,7 +122,8 @@ fn loads_units(rt: HostRuntime) -> Result<(), Fail> {
     )
 }
 
-/// The timers of a folder by name: each error names its file and its line, and hides no other timer.
+/// Tests that a folder stands for its timers, sorted by name, and that each error names its file and, if a line is at
+/// fault, the line. After an error, the other files are still read.
 #[test]
 fn loads_folders(rt: HostRuntime) -> Result<(), Fail> {
     let alloc = rt.alloc();
@@ -132,7 +134,8 @@ fn loads_folders(rt: HostRuntime) -> Result<(), Fail> {
     loads(alloc, &["/t/"], wanted)
 }
 
-/// A file by its path has no drop-ins and needs no suffix. A path that leads nowhere is an error.
+/// Tests that a file can be loaded by its path: without drop-ins, and even if it lacks the suffix `.timer`. If there is
+/// nothing at the path, this is an error.
 #[test]
 fn loads_files(rt: HostRuntime) -> Result<(), Fail> {
     let alloc = rt.alloc();
