@@ -1,4 +1,5 @@
--- The longest prefix of a text whose bytes all pass a test, such as its leading digits, has only bytes that pass it.
+-- The first `prefix_len p xs` elements of `xs` all pass the test `p`. For example, the leading digits of a text are all
+-- digits.
 use Rattle.std.proofs.Common.{◌≡◌, ℕ, suc, cond, Bool, true, false, List, [], ◌∷◌, take, ◌+◌, refl, ap, ◌∙◌, arith}
 use Rattle.std.specs.Prelude.{◌&&◌}
 use Rattle.std.specs.List.{list_all, prefix_len}

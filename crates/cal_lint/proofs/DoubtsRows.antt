@@ -10,7 +10,7 @@ use Rattle.cal_lint.specs.UnknownKeys.{is_unknown_key}
 abbrev to : ℕ → Option ℕ → List Part
 to end step = record { start = 0; end = Some end; step = step } ∷ []
 
--- in this and the next three rows, the minutes of `10:00..12:00`, `10:00..30:00`, `10:00..12/2:00` and `10:00..10:00`
+-- this row and the next three test the minutes of `10:00..12:00`, `10:00..30:00`, `10:00..12/2:00` and `10:00..10:00`
 range : is_hour_range 10 (to 12 None) ≡ true
 range = refl
 
@@ -23,7 +23,7 @@ with_a_step = refl
 no_later_hour : is_hour_range 10 (to 10 None) ≡ false
 no_later_hour = refl
 
--- in this row, the minutes of `00:00,12:00`
+-- this row tests the minutes of `00:00,12:00`
 two_hours : is_hour_list 0 (point 0 ∷ point 12 ∷ []) ≡ true
 two_hours = refl
 

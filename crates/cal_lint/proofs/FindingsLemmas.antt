@@ -1,4 +1,5 @@
--- The errors of a list of one text, whose first line has the number 1, are the errors of its settings.
+-- If a unit has only one file, and the first line of this file has the number 1, `timer_faults` has all errors of the
+-- unit.
 use Rattle.std.proofs.Common.{◌≡◌, ◌∙◌, false, [], ◌∷◌, ap, append-nil, map, sym}
 use Rattle.cal_lines.specs.headline.Lines.{logical_lines}
 use Rattle.cal_spec.specs.Expr.{expr_in}

@@ -1,6 +1,6 @@
 -- Examples of what systemd 252 rejects, checked by computation. The script tests/systemd_252 compares such expressions
--- with systemd-analyze. The fields of an expression matter only if days are counted from the month's end, in the last
--- two rows. So all rows before them use the fields of `daily`, whatever their text is.
+-- with systemd-analyze. In all rows but the last two, the fields are those of `daily`, whatever the text is: the fields
+-- of an expression matter only if days are counted from the month's end, as in the last two rows.
 use Rattle.std.proofs.Common.{◌≡◌, ℕ, List, true, false, ◌++◌, ◌∷◌, [], codes, refl, Option, None, Some}
 use Rattle.cal_text.specs.headline.Words.{words}
 use Rattle.cal_civil.specs.headline.Weekday.{name_of}

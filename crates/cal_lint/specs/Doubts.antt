@@ -10,7 +10,7 @@ use Rattle.cal_spec.specs.declared.spec_fault.SpecFault.{SpecFault}
 use Rattle.cal_lint.specs.declared.doubts.Doubt.{Doubt}
 use Rattle.cal_lint.specs.declared.doubts.Doubt.TheVariants.{HourRange, HourList, MonthDay}
 
--- the number of a part that is a single number
+-- the number of a part that is a single number, or None for any other part
 abbrev pub number_of : ℕ → Option ℕ → Option ℕ → Option ℕ
 number_of start None None = Some start
 number_of start end step = None
@@ -20,7 +20,7 @@ only_number [] = None
 only_number (p ∷ []) = number_of p.start p.end p.step
 only_number (p ∷ q ∷ ps) = None
 
--- the number of a component that is a single number
+-- the number of a component that is a single number, or None for any other component
 abbrev pub single : Option (List Part) → Option ℕ
 single None = None
 single (Some ps) = only_number ps
@@ -33,7 +33,7 @@ abbrev pub is_range_to : ℕ → Option ℕ → Option ℕ → Bool
 is_range_to hour (Some end) None = is_later_hour hour end
 is_range_to hour end step = false
 
--- whether the minutes are the range from 0 to a number that could be a later hour
+-- whether the minutes are the range, without a step, from 0 to a number that could be a later hour
 abbrev pub is_hour_range : ℕ → List Part → Bool
 is_hour_range hour [] = false
 is_hour_range hour (p ∷ []) = (p.start == 0) && is_range_to hour p.end p.step
@@ -81,6 +81,7 @@ is_doubtful text f doubt = has_hours doubt f
 abbrev pub doubts : List Doubt
 doubts = HourRange ∷ HourList ∷ MonthDay ∷ []
 
--- the first doubt whose form a valid expression has, None if there is none, or the error of an invalid expression
+-- the first doubt whose form a valid expression has, or None if it has none of these forms; for an invalid expression,
+-- the error
 unfoldable pub doubt_in : List ℕ → Result (Option Doubt) SpecFault
 doubt_in text = expr_in text >>= λ f. Ok (find (is_doubtful text f) doubts)

@@ -1,5 +1,5 @@
--- All problems of a timer's settings, in the order of their lines: systemd.timer(5), Options. Exceptions are the
--- expressions after this project's key `X-ExceptOnCalendar=`: when one of them elapses, the timer doesn't.
+-- All problems of a timer's settings, in the order of their lines: systemd.timer(5), Options. An exception is an
+-- expression after this project's key `X-ExceptOnCalendar=`. When an exception elapses, the timer doesn't.
 use Rattle.std.specs.Prelude.{ℕ, ◌==◌, Bool, false, not, ◌&&◌, ◌||◌, if◌then◌else◌, List, [], ◌∷◌, ◌++◌, codes, map, Option, None, Some, Result, Ok, Err}
 use Rattle.std.specs.List.{find, flat_map, list_any}
 use Rattle.std.specs.Option.{option_map, option_to_list}
@@ -22,12 +22,12 @@ use Rattle.cal_lint.specs.declared.problems.Kind.TheVariants.{Error, Warning}
 use Rattle.cal_lint.specs.declared.problems.Problem.{Problem}
 use Rattle.cal_lint.specs.declared.problems.Problem.TheVariants.{Invalid, UnknownKey, Rejected, Doubtful}
 
--- a percent sign, which begins a specifier: systemd.unit(5), Specifiers
+-- whether the byte is a percent sign, which begins a specifier: systemd.unit(5), Specifiers
 abbrev pub is_percent : ℕ → Bool
 is_percent b = b == 37
 
--- whether the setting is an expression or an exception without specifiers; with specifiers, its text isn't known before
--- systemd loads the unit
+-- whether the setting is an expression or an exception without specifiers; if it has specifiers, systemd replaces them
+-- when it loads the unit
 abbrev pub is_checked : Assignment → Bool
 is_checked a = (is_expression a || is_exception a) && not (list_any is_percent a.value)
 
@@ -43,7 +43,7 @@ is_on number found = is_at number (line_of found.fault)
 abbrev pub fault_on : List FileFault → ℕ → Option TimerFault
 fault_on faults number = option_map (λ found. found.fault) (find (is_on number) faults)
 
--- what was found in a valid expression, or None if the expression is invalid
+-- what was found about a valid expression, or None if the expression is invalid
 abbrev pub if_valid : {A : Type 0} → Result (Option A) SpecFault → Option A
 if_valid (Ok x) = x
 if_valid (Err e) = None
@@ -59,7 +59,7 @@ abbrev pub value_problems : Option TimerFault → List ℕ → List Problem
 value_problems (Some fault) value = Invalid fault ∷ []
 value_problems None value = advice value
 
--- the problems of a setting, given all errors of the timer
+-- the problems of a setting, if `faults` are all errors of the timer
 abbrev pub problems_of : List FileFault → Assignment → List Problem
 problems_of faults a =
     if is_unknown_key a.key then UnknownKey ∷ []
@@ -71,7 +71,7 @@ kind_of UnknownKey = Error
 kind_of (Rejected rejection) = Error
 kind_of (Doubtful doubt) = Warning
 
--- what contracts say of a finding: its line, its kind and its problem
+-- what contracts say about a finding: its line, its kind and its problem
 pub record Report : Type 0 where
   pub line : ℕ
   pub kind : Kind
@@ -86,11 +86,11 @@ shown_finding finding = record { line = finding.line; kind = finding.kind; probl
 abbrev pub reports_of : List FileFault → Assignment → List Report
 reports_of faults a = map (report_at a.number) (problems_of faults a)
 
--- the settings of a timer, whose first line has the number 1
+-- the settings in the sections `Timer` of a unit file, whose first line has the number 1
 abbrev pub timer_settings : List ℕ → List Assignment
 timer_settings text = settings_in (codes "Timer") false (logical_lines 1 (without_mark text))
 
--- all errors of a timer, as `find_faults` returns them
+-- all errors in the settings of a unit file, as `find_faults` returns them
 abbrev pub timer_faults : List ℕ → List FileFault
 timer_faults text = map (in_file 0) (all_faults expr_in [] (timer_settings text))
 

@@ -9,12 +9,12 @@ use Rattle.cal_span.specs.SpanValue.{span_of}
 use Rattle.cal_lint.specs.declared.hints.Mistake.{Mistake}
 use Rattle.cal_lint.specs.declared.hints.Mistake.TheVariants.{Setting, Comment, Now, Span}
 
--- a character that begins a comment: `#` or `;`
+-- whether the byte begins a comment: `#` or `;`
 abbrev pub is_comment_mark : ℕ → Bool
 is_comment_mark b = (b == 35) || (b == 59)
 
--- whether the text has a letter and is a time span; numbers without a unit are spans too, in seconds, but are more
--- likely meant as hours
+-- whether the text has a letter and is a time span; a number without a unit is a span too, in seconds, but in an
+-- expression it more likely stands for an hour
 abbrev pub is_span : List ℕ → Bool
 is_span text = list_any is_ascii_alphabetic text && is_ok (span_of text)
 

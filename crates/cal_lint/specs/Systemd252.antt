@@ -1,5 +1,5 @@
 -- What systemd 252 rejects in calendar expressions that are valid here: systemd.time(7), Calendar Events, and "What is
--- accepted" in docs/DIFFERENCES.md. The definitions are about valid expressions; of other texts they say nothing.
+-- accepted" in docs/DIFFERENCES.md. The definitions are only about valid expressions.
 use Rattle.std.specs.Prelude.{ℕ, ◌-◌, ◌==◌, nat_le, nat_lt, Bool, true, false, not, ◌&&◌, ◌||◌, List, [], ◌∷◌, take, drop, Option, None, Some, is_some, unwrap_or, Result, Ok}
 use Rattle.std.specs.List.{after_first, find, list_all, list_any, prefix_len, slice_split}
 use Rattle.std.specs.Option.{option_map_or}
@@ -22,7 +22,7 @@ use Rattle.cal_spec.specs.Weekdays.{day_named, days_of, leading_letters}
 use Rattle.cal_lint.specs.declared.older_systemd.Rejection.{Rejection}
 use Rattle.cal_lint.specs.declared.older_systemd.Rejection.TheVariants.{Tab, Blanks, PastSunday, OneSecond, SecondStep, DaysFromEnd, Offset, ZoneName}
 
--- Blanks. Spaces divide an expression into pieces, and an empty piece means an additional space.
+-- Blanks. Spaces divide an expression into pieces, and an empty piece stands for an additional space.
 
 abbrev pub is_tab : ℕ → Bool
 is_tab b = b == 9
@@ -30,7 +30,7 @@ is_tab b = b == 9
 abbrev pub is_space : ℕ → Bool
 is_space b = b == 32
 
--- whether the first word of an expression is a list of weekdays, and not a shorthand
+-- whether `word`, the first word of an expression, is a list of weekdays and not a shorthand
 abbrev pub is_weekday_list : List ℕ → Bool
 is_weekday_list word = is_some (day_named (leading_letters word))
 
@@ -70,11 +70,11 @@ leading_digits part = take (prefix_len is_ascii_digit part) part
 abbrev pub after_digits : List ℕ → List ℕ
 after_digits part = drop (prefix_len is_ascii_digit part) part
 
--- whether two texts of digits are the same number, and an expression may contain this number
+-- whether two texts of digits are the same number, at most `most`, the greatest number in an expression
 abbrev pub are_equal : List ℕ → List ℕ → Bool
 are_equal a b = (digits_value 10 a == digits_value 10 b) && nat_le (digits_value 10 a) most
 
--- whether the text is `..` and then the number `a`
+-- whether the text is `..` and then a number equal to `a`
 abbrev pub is_up_to : List ℕ → List ℕ → Bool
 is_up_to a [] = false
 is_up_to a (b ∷ []) = false
@@ -84,11 +84,11 @@ is_up_to a (b ∷ c ∷ last) = (b == 46) && (c == 46) && list_all is_ascii_digi
 abbrev pub is_one_second : List ℕ → Bool
 is_one_second part = is_up_to (leading_digits part) (after_digits part)
 
--- the greatest step of a range of seconds: in microseconds it has to fit into 31 bits
+-- the greatest step of a range of seconds that systemd 252 accepts: in microseconds, a step has to fit into 31 bits
 abbrev pub max_second_step : ℕ
 max_second_step = 2147
 
--- the step of a part, given the texts between its slashes: the second of them, or nothing if there is no slash
+-- the step of a part that slashes divide into these texts: the second of them, or nothing if there is only one
 abbrev pub step_in : List (List ℕ) → List ℕ
 step_in (start ∷ step ∷ texts) = step
 step_in texts = []
@@ -106,8 +106,8 @@ has_large_step part = is_above max_second_step (step_in (slice_split is_slash pa
 abbrev pub last_of : Part → ℕ
 last_of p = unwrap_or p.end p.start
 
--- whether a part has a number above the part's bound: `greatest` for the first part, and 3 less for each further one.
--- (systemd 252 takes the three days that a month may lack off the bound once for each part.)
+-- whether a part has a number above its bound: `greatest` for the first part, and 3 less for each further part. A month
+-- can have three days less than 31, so the first bound is 28; systemd 252 subtracts 3 again for each further part.
 abbrev pub has_late_part : ℕ → List Part → Bool
 has_late_part greatest [] = false
 has_late_part greatest (p ∷ ps) = nat_lt greatest (last_of p) || has_late_part (greatest - 3) ps
@@ -116,7 +116,8 @@ abbrev pub late_among : Option (List Part) → Bool
 late_among None = false
 late_among (Some ps) = has_late_part 28 ps
 
--- whether days are counted from the month's end, and one of them is too large for its position in the normal form
+-- whether days are counted from the month's end, and one of their numbers is too large for its position in the normal
+-- form
 abbrev pub has_late_days : Fields → Bool
 has_late_days f = f.from_end && late_among f.day
 
@@ -129,7 +130,7 @@ is_empty (b ∷ bs) = false
 -- All reasons
 
 -- whether this piece makes systemd 252 reject an expression for this reason; a piece is an item of a weekday list, a
--- part of the seconds, or a part of a zone's name, in which slashes separate the parts
+-- part of the seconds, or one of the texts that slashes separate in a zone's name
 abbrev pub piece_is_rejected_for : Rejection → List ℕ → Bool
 piece_is_rejected_for PastSunday item = runs_past_sunday item
 piece_is_rejected_for OneSecond part = is_one_second part
@@ -168,7 +169,7 @@ rejections = Tab ∷ Blanks ∷ PastSunday ∷ OneSecond ∷ SecondStep ∷ Days
 abbrev pub first_rejection : List ℕ → Fields → Option Rejection
 first_rejection text f = find (is_rejected_for text f) rejections
 
--- the first reason for which systemd 252 rejects an expression, None if systemd 252 accepts it, or the error of an
--- invalid expression
+-- the first reason for which systemd 252 rejects a valid expression, or None if systemd 252 accepts it; for an invalid
+-- expression, the error
 unfoldable pub rejection_in : List ℕ → Result (Option Rejection) SpecFault
 rejection_in text = expr_in text >>= λ f. Ok (first_rejection text f)

@@ -2,9 +2,9 @@
 
 use std::alloc::{AllocError, Global};
 
-/// Converts the five fields of a crontab to a calendar expression, which may be invalid. Returns an empty text if
-/// neither the day of the month nor the weekday is `*`. Returns `None` if `text` doesn't have five words, or unless
-/// each of the first four words consists only of digits, `*`, `/`, `,` and `-`.
+/// Converts the five fields of a crontab to a calendar expression, which may be invalid. Returns `None` if `text`
+/// doesn't have five words, or if one of the first four has a character other than digits, `*`, `/`, `,` and `-`.
+/// Otherwise, if neither the day of the month nor the weekday is `*`, returns an empty text.
 pub(crate) fn from_crontab(alloc: Global, text: &str) -> Result<Option<String>, AllocError> {
     let mut fields = text.split_whitespace();
     let (Some(minute), Some(hour), Some(day), Some(month), Some(weekday), None) = (
@@ -38,16 +38,16 @@ pub(crate) fn from_crontab(alloc: Global, text: &str) -> Result<Option<String>, 
     Ok(Some(expr))
 }
 
-/// Returns whether a word consists of digits, `*`, `/`, `,` and `-`, as a field of a crontab does unless it contains
-/// names.
+/// Returns whether a word consists only of digits, `*`, `/`, `,` and `-`. This is true of the fields of a crontab,
+/// except those with names, such as `jan`.
 fn is_field(word: &str) -> bool {
     word.as_bytes()
         .iter()
         .all(|byte| byte.is_ascii_digit() || b"*/,-".contains(byte))
 }
 
-/// Appends a field of a crontab as a component of an expression. `least` is the least number of the component, with
-/// which a field such as `*/2` begins.
+/// Appends a field of a crontab as a component of an expression. `least` is the least value of the component: if it is
+/// `1`, for example, `*/2` becomes `1/2`.
 fn push_field(expr: &mut String, least: char, field: &str) -> Result<(), AllocError> {
     if let Some(step) = field.strip_prefix("*/") {
         expr.push(least)?;
@@ -64,7 +64,7 @@ fn push_field(expr: &mut String, least: char, field: &str) -> Result<(), AllocEr
     Ok(())
 }
 
-/// Appends the weekdays of a crontab and a space, or nothing for `*`.
+/// Appends the weekday field of a crontab and a space, or nothing if the field is `*`.
 fn push_weekdays(expr: &mut String, weekdays: &str) -> Result<(), AllocError> {
     if weekdays == "*" {
         return Ok(());
@@ -75,8 +75,8 @@ fn push_weekdays(expr: &mut String, weekdays: &str) -> Result<(), AllocError> {
     expr.push(' ')
 }
 
-/// Appends a character of the weekdays of a crontab: the name of the weekday for a digit from 0 to 7, `..` for `-`, and
-/// any other character unchanged.
+/// Appends a character of the weekday field of a crontab: the name of the weekday for a digit from 0 to 7, `..` for
+/// `-`, and any other character unchanged.
 fn push_weekday_sign(expr: &mut String, sign: char) -> Result<(), AllocError> {
     match sign {
         '0' | '7' => expr.push_str("Sun"),

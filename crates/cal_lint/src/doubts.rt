@@ -31,8 +31,8 @@ impl Doubt {
 }
 
 /// Returns why a valid calendar expression may not mean what its author thinks (systemd.time(7), Calendar Events), or
-/// `None` if it has none of the forms of [`Doubt`]. If it has several of them, returns the first in the order of
-/// [`Doubt`].
+/// `None` if the expression has none of the forms of [`Doubt`]. If it has several of these forms, returns the first in
+/// the order of [`Doubt`].
 ///
 /// Fails with the error of [`read_expr`] if `text` is not a valid expression. Fails with [`SpecFault::NoMemory`] only
 /// if allocation fails.
@@ -90,7 +90,7 @@ fn single(parts: Option<&[Part]>) -> Option<u16>
     }
 }
 
-/// Returns the number of a part that is a single number.
+/// Returns the number of a part that is a single number, or `None` for any other part.
 fn number_of(part: Part) -> Option<u16>
     ensures { result ≡ number_of part.start part.end part.step }
 {
@@ -100,7 +100,7 @@ fn number_of(part: Part) -> Option<u16>
     }
 }
 
-/// Returns whether the minutes are the range from 0 to a number that could be a later hour.
+/// Returns whether the minutes are the range, without a step, from 0 to a number that could be a later hour.
 fn is_hour_range(hour: u16, minutes: &[Part]) -> bool
     ensures { result ≡ is_hour_range hour minutes.now }
 {

@@ -22,8 +22,7 @@ const SHORTHANDS: [&str; 12] = [
     "annually",
 ];
 
-/// The names of the weekdays. Each is given first in full and in lower case, and then as systemd shortens it, to three
-/// letters.
+/// The names of the weekdays: each in full and in lower case, and as systemd shortens it to three letters.
 const DAYS: [(&str, &str); 7] = [
     ("monday", "Mon"),
     ("tuesday", "Tue"),
@@ -41,8 +40,8 @@ struct Rewritten {
     word: String,
 }
 
-/// Returns a hint with the first mistake in a word, and with the text in which each word that is a known mistake is
-/// replaced. Returns `None` if no word is a known mistake.
+/// Replaces each word of `text` that is a known mistake. Returns a hint with the first of these mistakes and the new
+/// text, or `None` if no word is a known mistake.
 pub(crate) fn rewrite_words(alloc: Global, text: &str) -> Result<Option<Hint>, AllocError> {
     let mut joined = String::new(alloc);
     let mut mistake = None;
@@ -63,7 +62,7 @@ pub(crate) fn rewrite_words(alloc: Global, text: &str) -> Result<Option<Hint>, A
     }
 }
 
-/// Appends a word, or what to write instead of it. Returns the mistake in the word, if it has one.
+/// Appends a word, or what to write instead if the word is a known mistake. Returns the mistake, if there is one.
 fn push_word(
     alloc: Global,
     joined: &mut String,
@@ -102,7 +101,7 @@ fn rewrite(alloc: Global, is_first: bool, word: &str) -> Result<Option<Rewritten
     rewrite_signed(alloc, word)
 }
 
-/// Returns this mistake, and the time written as `hh:mm`.
+/// Returns the rewritten word for this mistake: the time as `hh:mm`.
 fn clock(
     alloc: Global,
     mistake: Mistake,
@@ -113,7 +112,7 @@ fn clock(
     Ok(Some(Rewritten { mistake, word }))
 }
 
-/// Parses one or two digits that are a number below `end`. Returns `None` for anything else.
+/// Parses one or two digits as a number. Returns `None` for any other text, and if the number is not below `end`.
 fn number_below(text: &str, end: u8) -> Option<u8> {
     if text.len() > 2 || !are_digits(text.as_bytes()) {
         return None;
@@ -178,7 +177,7 @@ fn rewrite_signed(alloc: Global, word: &str) -> Result<Option<Rewritten>, AllocE
     }
 }
 
-/// Rewrites a UTC offset of whole hours. Returns `None` unless `hour` is one or two digits, for a number up to 25.
+/// Rewrites a UTC offset of whole hours. Returns `None` unless `hour` is one or two digits that are a number up to 25.
 fn offset(alloc: Global, sign: char, hour: &str) -> Result<Option<Rewritten>, AllocError> {
     let Some(hour) = number_below(hour, 26) else {
         return Ok(None);
@@ -190,8 +189,8 @@ fn offset(alloc: Global, sign: char, hour: &str) -> Result<Option<Rewritten>, Al
     }))
 }
 
-/// Returns the month in a word such as `2026-12`: one or two digits, for a number from 0 to 12. Returns `None` for any
-/// other word.
+/// Returns the month of a word such as `2026-12`: a year of four digits, `-`, and one or two digits that are a number
+/// up to 12. Returns `None` for any other word.
 fn year_month(word: &str) -> Option<u8> {
     let (year, month) = word.split_once('-')?;
     if year.len() != 4 || !are_digits(year.as_bytes()) {
@@ -200,7 +199,7 @@ fn year_month(word: &str) -> Option<u8> {
     number_below(month, 13)
 }
 
-/// Rewrites a word that begins with a letter: a misspelled shorthand, or a list of weekdays. Returns `None` if it
+/// Rewrites a word that begins with a letter: a misspelled shorthand, or a list of weekdays. Returns `None` if the word
 /// resembles neither.
 fn rewrite_name(alloc: Global, word: &str) -> Result<Option<Rewritten>, AllocError> {
     if let Some(name) = find_near(alloc, word)? {
@@ -232,7 +231,7 @@ fn find_near(alloc: Global, word: &str) -> Result<Option<&'static str>, AllocErr
 }
 
 /// Rewrites a list of weekdays, with each name shortened to three letters. Returns `None` if a name doesn't resemble a
-/// weekday, as [`find_day_like`] decides.
+/// weekday, in the sense of [`find_day_like`].
 fn rewrite_days(alloc: Global, word: &str) -> Result<Option<String>, AllocError> {
     let mut days = String::new(alloc);
     for item in word.split(',') {
@@ -268,9 +267,9 @@ fn push_day(alloc: Global, days: &mut String, name: &str) -> Result<bool, AllocE
     }
 }
 
-/// Returns the short name of the first weekday whose full name begins with `name`, or from whose full name `name`
-/// differs by at most one edit, as in [`find_near`], ignoring case. Returns `None` if there is no such weekday, or if
-/// `name` has fewer than two bytes.
+/// Returns the short name of the first weekday that `name` resembles, ignoring case: the full name of the weekday
+/// begins with `name`, or differs from `name` by at most one edit, as in [`find_near`]. Returns `None` if there is no
+/// such weekday, or if `name` has fewer than two bytes.
 fn find_day_like(alloc: Global, name: &str) -> Result<Option<&'static str>, AllocError> {
     let mut lower = String::from_str(alloc, name)?;
     lower.make_ascii_lowercase();

@@ -1,6 +1,7 @@
 //! What to write instead of an invalid calendar expression.
 //!
-//! Hints depend only on the form of the text. A suggestion that isn't a valid expression is left out.
+//! Hints depend only on the form of the text. If a suggestion would not be a valid expression, the hint has no
+//! suggestion.
 
 ghost use Rattle.std.specs.Prelude.{◌≡◌, IfOk, IfSome, Some, false, is_ok, string_bytes, true};
 ghost use Rattle.std.specs.List.{list_any};
@@ -88,7 +89,7 @@ pub(crate) fn is_valid(alloc: Global, text: &str) -> Result<bool, AllocError>
     }
 }
 
-/// Returns the text if it is a valid expression, and otherwise `None`.
+/// Returns `text` if it is a valid expression, and otherwise `None`.
 fn keep_valid(alloc: Global, text: Option<String>) -> Result<Option<String>, AllocError>
     ensures { IfOk result (λ kept. IfSome kept (λ text. is_ok (expr_in (string_bytes text)) ≡ true)) }
 {
@@ -102,7 +103,8 @@ fn keep_valid(alloc: Global, text: Option<String>) -> Result<Option<String>, All
     }
 }
 
-/// Returns a hint for a text without leading and trailing blanks, whether or not it is valid.
+/// Returns a hint for `text`, which has no leading or trailing blanks. Doesn't check that `text` is invalid, or that
+/// the suggestion is valid.
 fn hint_for(alloc: Global, text: &str) -> Result<Option<Hint>, AllocError>
     ensures { IfOk result (λ found. (mistake : Mistake) → mistake_in text.now ≡ Some mistake
         → option_map (λ hint. hint.mistake) found ≡ Some mistake) }
@@ -113,8 +115,8 @@ fn hint_for(alloc: Global, text: &str) -> Result<Option<Hint>, AllocError>
     }
 }
 
-/// Returns the mistake that shows in the text as a whole, not in single words, if there is one. If there are several,
-/// returns the first in the order of [`Mistake`].
+/// Returns the mistake that shows in the text as a whole, and not in single words, or `None` if there is no such
+/// mistake. If there are several, returns the first in the order of [`Mistake`].
 #[tactic(auto, unfolding(crate::specs::Hints::mistake_in))]
 fn mistake_in(text: &str) -> Option<Mistake>
     ensures { result ≡ mistake_in text.now }
@@ -132,9 +134,9 @@ fn mistake_in(text: &str) -> Option<Mistake>
     }
 }
 
-/// Returns a hint with this mistake. For a setting, the hint says to write only its value, and for a comment, only the
-/// text before it; mistakes in single words of that text are replaced. For any other mistake, the hint doesn't say what
-/// to write.
+/// Returns a hint with this mistake. For a setting, the hint suggests only its value, and for an expression with a
+/// comment, only the text before the comment; in both cases, mistakes in single words are corrected. For any other
+/// mistake, the hint has no suggestion.
 fn hint_with(alloc: Global, mistake: Mistake, text: &str) -> Result<Option<Hint>, AllocError>
     ensures { IfOk result (λ found. option_map (λ hint. hint.mistake) found ≡ Some mistake) }
 {
@@ -146,8 +148,8 @@ fn hint_with(alloc: Global, mistake: Mistake, text: &str) -> Result<Option<Hint>
     Ok(Some(Hint { mistake, instead }))
 }
 
-/// Returns a hint for the fields of a crontab, or for mistakes in single words. Returns `None` if there are none of
-/// these.
+/// Returns a hint for the fields of a crontab, or otherwise for mistakes in single words. Returns `None` if `text` has
+/// neither.
 fn hint_for_words(alloc: Global, text: &str) -> Result<Option<Hint>, AllocError> {
     match from_crontab(alloc, text)? {
         Some(instead) => Ok(Some(Hint {
@@ -158,7 +160,7 @@ fn hint_for_words(alloc: Global, text: &str) -> Result<Option<Hint>, AllocError>
     }
 }
 
-/// Returns the text without surrounding blanks, and with each word that is a known mistake replaced.
+/// Returns `text` without surrounding blanks, and with each word replaced that is a known mistake.
 fn rewritten(alloc: Global, text: &str) -> Result<Option<String>, AllocError> {
     let text = trim_blanks(text);
     match rewrite_words(alloc, text)? {

@@ -18,8 +18,8 @@ use cal_text::{are_digits, decimal_value, first_word};
 use jiff_core::civil::Weekday;
 use std::alloc::Global;
 
-/// The greatest step of a range of seconds that systemd 252 accepts. systemd stores seconds as microseconds, in signed
-/// 32-bit numbers.
+/// The greatest step of a range of seconds that systemd 252 accepts. systemd stores seconds as microseconds in signed
+/// 32-bit numbers, in which a greater step doesn't fit.
 const MAX_SECOND_STEP: u64 = 2147;
 
 /// The greatest number that systemd 252 accepts in the first part of a list of days from the month's end.
@@ -33,12 +33,12 @@ const MAX_NUMBER: u64 = 9999;
 pub enum Rejection {
     /// The expression contains a tab.
     Tab,
-    /// The expression begins with a space, ends with one, or has two in a row. Spaces after the weekdays and after the
-    /// date don't count, since systemd 252 skips any number of them.
+    /// The expression begins with a space, ends with one, or has two consecutive spaces. Spaces after the weekdays and
+    /// after the date don't count, since systemd 252 skips any number of them.
     Blanks,
     /// A range of weekdays runs past Sunday, as `Sat..Mon` does.
     PastSunday,
-    /// A range of seconds with no step has only one value, as `5..5` does.
+    /// A range of seconds has no step and only one value, as `5..5` does.
     OneSecond,
     /// The step of a range of seconds is greater than 2,147.
     SecondStep,
@@ -128,8 +128,8 @@ fn word_is_rejected_for(rejection: Rejection, word: &str) -> bool
     }
 }
 
-/// Returns whether one of the pieces of `text` between separators makes systemd 252 reject an expression for this
-/// reason.
+/// Splits `text` at the separators, and returns whether one of the pieces makes systemd 252 reject the expression for
+/// this reason.
 fn any_piece(rejection: Rejection, separator: u8, text: &[u8]) -> bool
     ensures { result ≡ list_any (piece_is_rejected_for rejection)
         (slice_split (λ byte. byte == separator) text.now) }
@@ -159,7 +159,7 @@ fn piece_is_rejected_for(rejection: Rejection, piece: &[u8]) -> bool
 
 // Blanks
 
-/// Returns whether the expression has an additional space that systemd 252 doesn't skip.
+/// Returns whether an expression has an additional space that systemd 252 doesn't skip.
 fn has_extra(text: &[u8]) -> bool
     ensures { result ≡ has_extra (slice_split is_space text.now) }
 {
@@ -186,14 +186,14 @@ fn has_extra_after(skips: bool, rest: Option<&[u8]>) -> bool
     false
 }
 
-/// Returns whether the first word of a valid expression is a list of weekdays, and not a shorthand.
+/// Returns whether `word`, the first word of a valid expression, is a list of weekdays and not a shorthand.
 fn is_weekday_list(word: &[u8]) -> bool
     ensures { result ≡ is_weekday_list word.now }
 {
     find_day(&word[..letters_len(word)]).is_some()
 }
 
-/// Returns whether a word of a valid expression is the date.
+/// Returns whether a word of a valid expression is its date.
 fn is_date(word: &[u8]) -> bool
     ensures { result ≡ is_date word.now }
 {
@@ -224,7 +224,7 @@ fn runs_past_sunday(item: &[u8]) -> bool
     }
 }
 
-/// Returns the weekday that is named after a leading `..` or `-`.
+/// Returns the weekday whose name follows a leading `..` or `-`. Returns `None` for any other text.
 fn day_after_joint(text: &[u8]) -> Option<Weekday>
     ensures { result ≡ option_and_then day_named (after_joint text.now) }
 {
@@ -245,7 +245,8 @@ fn letters_len(word: &[u8]) -> usize
 
 // Seconds
 
-/// Returns the seconds of a time, which follow its second colon, or an empty text if it has no seconds.
+/// Returns the text after the second colon of a time, which has the seconds. Returns an empty text if there is no
+/// second colon.
 fn seconds_in(word: &str) -> &str
     ensures { result.now ≡ seconds_in word.now }
 {
@@ -280,7 +281,8 @@ fn digits_len(text: &[u8]) -> usize
     text.iter().take_while(|byte| byte.is_ascii_digit()).count()
 }
 
-/// Returns whether two texts of digits are the same number, and an expression may contain this number.
+/// Returns whether two texts of digits are the same number, at most 9,999, which is the greatest number in an
+/// expression.
 fn are_equal(a: &[u8], b: &[u8]) -> bool
     requires first { IsTrue (list_all is_ascii_digit a.now) }
     requires last { IsTrue (list_all is_ascii_digit b.now) }
@@ -309,7 +311,8 @@ fn step_in(part: &[u8]) -> &[u8]
 
 // Days
 
-/// Returns whether days are counted from the month's end, and one of them is too large for its position in the list.
+/// Returns whether days are counted from the month's end, and one of their numbers is too large for its position in the
+/// list.
 fn has_late_days(expr: &Expr) -> bool
     ensures { result ≡ has_late_days expr.now }
 {

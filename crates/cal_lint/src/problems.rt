@@ -1,6 +1,7 @@
-//! All problems of the settings of a timer unit as data, for programs that print them or mark them in an editor.
-//! Exceptions, here and below, are the expressions after `X-ExceptOnCalendar=`, this project's key: when one of them
-//! elapses, the timer doesn't.
+//! All problems in the settings of a timer unit as data, for programs that print them or mark them in an editor.
+//!
+//! An exception is an expression after this project's key `X-ExceptOnCalendar=`. When an exception elapses, the timer
+//! doesn't.
 
 ghost use Rattle.std.specs.Prelude.{◌≡◌, ◌+◌, ◌<◌, ◌^◌, ◌++◌, ◌∷◌, [], IfOk, OnOk, length, map};
 ghost use Rattle.std.specs.List.{find, list_any};
@@ -26,7 +27,7 @@ use std::alloc::{AllocError, Global};
 /// How serious a problem is.
 #[derive(Clone, Copy, PartialEq, Eq, Debug)]
 pub enum Kind {
-    /// This project or systemd 252 doesn't accept the setting.
+    /// This project or systemd 252 rejects the setting, or the key is unknown.
     Error,
     /// The setting is accepted, but may not mean what its author thinks.
     Warning,
@@ -37,7 +38,7 @@ pub enum Kind {
 pub enum Problem {
     /// The expression or the exception is invalid, or its list is full.
     Invalid(TimerFault),
-    /// Neither systemd 252 nor this project knows the key, in the sense of [`crate::find_unknown_keys`].
+    /// The key is unknown, as [`crate::find_unknown_keys`] defines it.
     UnknownKey,
     /// systemd 252 rejects the expression or the exception, which is valid here.
     Rejected(Rejection),
@@ -62,9 +63,9 @@ impl Problem {
 pub struct Finding {
     /// The number of the setting's line, from 1. A continued line has the number of its first physical line.
     pub line: u32,
-    /// The byte of the line, counted from 1, at which one of these begins: an unknown key, the word at fault of an
-    /// invalid expression (see [`fault_span`]), or otherwise the value. If the line is continued and the problem is in
-    /// its value, this is 1.
+    /// The byte of the line, counted from 1, at which the problem begins: at the unknown key, at the word at fault of
+    /// an invalid expression (see [`fault_span`]), or otherwise at the value. It is 1 if the problem is in the value
+    /// and the line is continued.
     pub column: u32,
     pub kind: Kind,
     pub problem: Problem,
@@ -74,11 +75,11 @@ pub struct Finding {
     pub suggestion: Option<String>,
 }
 
-/// Returns all problems of the settings in the sections `Timer` of a unit file (systemd.timer(5), Options), in order.
-/// The first line has the number 1. `text` must have fewer than 2^32 - 1 bytes.
+/// Returns all problems of the settings in the sections `Timer` of a unit file (systemd.timer(5), Options), in the
+/// order of their lines. The first line has the number 1. `text` must have fewer than 2^32 - 1 bytes.
 ///
-/// The problems are unknown keys, as [`crate::find_unknown_keys`] finds them, the errors that [`find_faults`] returns,
-/// and, for expressions and exceptions without such an error, what [`systemd_252`] and [`find_doubt`] return.
+/// The problems are unknown keys, as [`crate::find_unknown_keys`] defines them, and invalid lines, as [`find_faults`]
+/// returns them. For valid expressions and exceptions, they are also what [`systemd_252`] and [`find_doubt`] return.
 /// Expressions and exceptions with a `%` are not checked, since systemd replaces specifiers when it loads the unit
 /// (systemd.unit(5), Specifiers). Fails only if allocation fails.
 pub fn findings(alloc: Global, text: &str) -> Result<Vec<Finding>, AllocError>
@@ -101,7 +102,7 @@ pub fn findings(alloc: Global, text: &str) -> Result<Vec<Finding>, AllocError>
     Ok(found)
 }
 
-/// Returns all errors in the lines of one text, whose first line has the number 1.
+/// Returns all errors in the lines of a text whose first line has the number 1.
 fn faults_of(alloc: Global, text: &str) -> Result<Vec<FileFault>, AllocError>
     requires { 1 + length text.now < 2 ^ 32 }
     ensures { IfOk result (λ found. found.items ≡ timer_faults text.now) }
@@ -159,8 +160,8 @@ fn add_invalid(
     Ok(())
 }
 
-/// If the setting's value is a valid expression, appends why systemd 252 rejects it, and why it may not mean what its
-/// author thinks.
+/// If the setting's value is a valid expression, appends why systemd 252 rejects the expression, if it does, and why
+/// the expression may not mean what its author thinks, if there is a doubt.
 fn add_advice(
     alloc: Global,
     found: &mut Vec<Finding>,
@@ -178,7 +179,8 @@ fn add_advice(
     push_doubt(found, setting.number, column, doubt)
 }
 
-/// Appends why systemd 252 rejects an expression, with its normal form if systemd 252 accepts that.
+/// If `rejected` has a reason, appends it. The suggestion is the normal form of the expression, if systemd 252 accepts
+/// that.
 fn push_rejection(
     alloc: Global,
     found: &mut Vec<Finding>,
@@ -198,7 +200,7 @@ fn push_rejection(
     Ok(())
 }
 
-/// Appends why a valid expression may not be meant.
+/// If there is a doubt about a valid expression, appends it.
 fn push_doubt(
     found: &mut Vec<Finding>,
     line: u32,
@@ -214,7 +216,8 @@ fn push_doubt(
     Ok(())
 }
 
-/// Returns the normal form of a valid expression if systemd 252 accepts the normal form.
+/// Returns the normal form of a valid expression. Returns `None` if systemd 252 rejects the normal form, or if `value`
+/// is not a valid expression.
 fn accepted_form(alloc: Global, value: &str) -> Result<Option<String>, AllocError> {
     let normal = match read_expr(alloc, value) {
         Ok(expr) => normal_form(alloc, &expr)?,
@@ -281,7 +284,7 @@ fn doubt_of(alloc: Global, value: &str) -> Result<Option<Doubt>, AllocError>
 }
 
 /// Returns the known mistake that an invalid expression resembles, and a valid expression to write instead, each only
-/// if known. Returns neither if `fault` isn't that the expression is invalid.
+/// if there is one. Returns neither if `fault` is not [`TimerFault::BadLine`].
 fn advice_for(
     alloc: Global,
     fault: TimerFault,
@@ -296,7 +299,8 @@ fn advice_for(
     }
 }
 
-/// Returns whether the setting is an expression or an exception, and its value has no `%`, with which specifiers begin.
+/// Returns whether the setting is an expression or an exception, and its value has no `%`, because a `%` begins a
+/// specifier.
 fn is_checked(setting: &Setting) -> bool
     ensures { result ≡ is_checked (shown_setting setting.now) }
 {
@@ -358,8 +362,8 @@ fn key_column(line: &str, key: &str) -> u32 {
     }
 }
 
-/// Returns the column of the byte of the value with this index. Returns 1 if the line doesn't contain the whole value
-/// because it is continued.
+/// Returns the column of the byte of the value that has this index. Returns 1 if the line doesn't contain the whole
+/// value, because the line is continued.
 fn value_column(line: &str, value: &str, index: usize) -> u32 {
     match line.rfind(value) {
         Some(start) => column_at(start, index),
@@ -367,7 +371,7 @@ fn value_column(line: &str, value: &str, index: usize) -> u32 {
     }
 }
 
-/// Returns the column, counted from 1, of the byte `index` bytes after the byte `start`.
+/// Returns the column, counted from 1, of the byte that is `index` bytes after the byte `start`.
 fn column_at(start: usize, index: usize) -> u32 {
     u32::try_from(start.saturating_add(index).saturating_add(1)).unwrap_or(1)
 }

@@ -12,8 +12,8 @@ use cal_bytes::is_among;
 use cal_read::{Setting, Settings, without_mark};
 use std::alloc::{AllocError, Global};
 
-/// The keys of the section `Timer` that systemd 252 knows (systemd.timer(5), Options), and last this project's key for
-/// exceptions, which are expressions at whose elapses the timer doesn't elapse.
+/// The keys of the section `Timer` that systemd 252 knows (systemd.timer(5), Options), and then `X-ExceptOnCalendar`,
+/// this project's key for exceptions. When an exception elapses, the timer doesn't.
 const KNOWN_KEYS: [&[u8]; 16] = [
     b"OnActiveSec",
     b"OnBootSec",
@@ -33,13 +33,13 @@ const KNOWN_KEYS: [&[u8]; 16] = [
     b"X-ExceptOnCalendar",
 ];
 
-/// Returns the settings in the sections `Timer` of a unit file whose keys neither systemd 252 (systemd.timer(5),
-/// Options) nor this project knows, in order. The first line of `text` has the number `first`; `first` plus the number
-/// of bytes must be below 2^32.
+/// Returns the settings with unknown keys in the sections `Timer` of a unit file, in order. A key is unknown if neither
+/// systemd 252 (systemd.timer(5), Options) nor this project knows it. The first line of `text` has the number `first`;
+/// `first` plus the number of bytes must be below 2^32.
 ///
-/// systemd ignores keys that begin with `X-` (systemd.unit(5)). So a setting with such a key is left out, unless the
-/// key looks like a misspelled `X-ExceptOnCalendar`, which is this project's key for exceptions. A key looks so if it
-/// begins with `X-Except` or ends with `OnCalendar`, ignoring case.
+/// systemd ignores keys that begin with `X-` (systemd.unit(5)). So they don't count as unknown, unless they look like a
+/// misspelled `X-ExceptOnCalendar`, this project's key for exceptions: they begin with `X-Except` or end with
+/// `OnCalendar`, ignoring case.
 ///
 /// Fails only if allocation fails.
 pub fn find_unknown_keys(alloc: Global, first: u32, text: &str) -> Result<Vec<Setting>, AllocError>

@@ -4,8 +4,8 @@ use Rattle.cal_bytes.specs.SplitPieces.{left, pieces_after}
 use Rattle.cal_lint.specs.Systemd252.{has_extra_after, is_space}
 use Rattle.cal_lint.proofs.older_systemd.has_extra_after.Given as goal
 
--- the additional spaces passed so far were all skipped, so the rest has an additional space that isn't skipped if and
--- only if the whole text has one
+-- systemd 252 skips all additional spaces so far, so the rest has one that systemd 252 doesn't skip if and only if the
+-- whole text has one
 abbrev pub invariant-loop-rest : goal.invariant-loop-rest
 invariant-loop-rest l =
     has_extra_after l.skips (pieces_after is_space (option_copied l.rest))

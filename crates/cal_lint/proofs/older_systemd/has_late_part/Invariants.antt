@@ -3,7 +3,7 @@ use Rattle.std.specs.Prelude.{drop}
 use Rattle.cal_lint.specs.Systemd252.{has_late_part}
 use Rattle.cal_lint.proofs.older_systemd.has_late_part.Given as goal
 
--- no number so far is too large, so a number of the remaining parts is too large if and only if a number of all parts
--- is too large
+-- no number so far is too large, so one of the remaining parts has a number that is too large if and only if one of all
+-- parts has
 abbrev pub invariant-loop-part : goal.invariant-loop-part
 invariant-loop-part l = has_late_part l.greatest (drop l.part-index l.parts) ≡ has_late_part 28 l.parts

@@ -6,7 +6,8 @@ use Rattle.cal_read.specs.Settings.{settings_in, shown_setting}
 use Rattle.cal_lint.specs.UnknownKeys.{has_unknown_key}
 use Rattle.cal_lint.proofs.unknown_keys.find_unknown_keys.Given as goal
 
--- the settings found so far, followed by the remaining ones with unknown keys, are all settings with unknown keys
+-- the settings found so far, followed by those of the remaining settings that have unknown keys, are all settings with
+-- unknown keys
 abbrev pub invariant-loop-found : goal.invariant-loop-found
 invariant-loop-found l =
     map shown_setting l.found.items ++ filter has_unknown_key l.settings
