@@ -1,4 +1,4 @@
-//! All problems of a unit file.
+//! Tests of `findings`: all problems of a unit file.
 
 use crate::ensure;
 use cal_lint::{Doubt, Finding, Kind, Mistake, Problem, Rejection, findings};
@@ -21,7 +21,7 @@ OnCalendar=Mon \\
 OnCalendar=
 ";
 
-/// The line and the column of a finding, its problem, and a word of the setting, which names the row if the test fails.
+/// A finding's line, column and problem, and a word of the setting, which names the row if the test fails.
 type Row = (u32, u32, Problem, &'static str);
 
 static FOUND: [Row; 6] = [

@@ -1,4 +1,4 @@
-//! Valid expressions that may not mean what their author thinks.
+//! Tests of `find_doubt`: valid expressions that may not mean what their author thinks.
 
 use crate::ensure;
 use cal_lint::{Doubt, find_doubt};
@@ -10,8 +10,8 @@ static ROWS: [(&str, Option<Doubt>); 16] = [
     ("10:00..12:00", Some(Doubt::HourRange)),
     ("Mon..Fri 10:00..12:30 UTC", Some(Doubt::HourRange)),
     ("10..12:00", None),
-    // In the next two rows, the number after `..` can't be meant as an hour after 10, because it is 10 itself or above
-    // 23. So a range of minutes is probably meant.
+    // In the next two rows, the number after `..` can't be meant as an hour after 10: it is 10 itself or above 23. So a
+    // range of minutes is probably meant.
     ("10:00..10:00", None),
     ("10:00..30", None),
     ("10:00..12/2:00", None),

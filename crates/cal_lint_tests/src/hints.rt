@@ -1,12 +1,11 @@
-//! Hints for invalid expressions.
+//! Tests of `find_hint`: hints for invalid expressions.
 
 use crate::ensure;
 use cal_lint::{Hint, Mistake, find_hint};
 use std::alloc::Global;
 use std::test::Fail;
 
-/// An invalid expression, its mistake, and what to write instead. The last is empty if the hint doesn't say what to
-/// write.
+/// An invalid expression, its mistake, and the suggestion, which is empty if the hint has none.
 type Row = (&'static str, Mistake, &'static str);
 
 static WHOLE_TEXTS: [Row; 11] = [
@@ -19,8 +18,8 @@ static WHOLE_TEXTS: [Row; 11] = [
     ("*/15 * * * *", Mistake::Crontab, "*-*-* *:0/15"),
     ("0 0 1 */2 *", Mistake::Crontab, "*-1/2-1 0:0"),
     ("5 4 * * sun", Mistake::Crontab, "sun *-*-* 4:5"),
-    // The crontab in the next row runs on the 1st and on each Friday, which no single expression can say. The one in
-    // the row after it has an invalid minute.
+    // The crontab in the next row runs on the 1st and on each Friday, which no single expression can say. The crontab
+    // in the row after it has an invalid minute.
     ("30 4 1 * 5", Mistake::Crontab, ""),
     ("99 9 * * *", Mistake::Crontab, ""),
 ];
@@ -44,11 +43,11 @@ static WORDS: [Row; 19] = [
     ("Daly UTC", Mistake::Shorthand, "daily UTC"),
     ("montly", Mistake::Shorthand, "monthly"),
     ("anually", Mistake::Shorthand, "annually"),
-    // In the next row, the hint has the mistake of the first word, and both words are replaced.
+    // In the next row, the hint has the mistake of the first word, and its suggestion corrects both words.
     ("Mo 9am", Mistake::Weekday, "Mon 09:00"),
 ];
 
-/// Texts without a hint: the first two are valid.
+/// Texts for which there is no hint. The first two are valid.
 static NONE: [&str; 9] = [
     "daily",
     " Mon 12:00 ",

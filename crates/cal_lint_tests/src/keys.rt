@@ -1,11 +1,11 @@
-//! Keys of timers that systemd 252 doesn't know.
+//! Tests of `find_unknown_keys`: keys of timers that neither systemd 252 nor this project knows.
 
 use crate::ensure;
 use cal_lint::find_unknown_keys;
 use cal_read::Setting;
 use std::test::Fail;
 
-/// A unit file with all keys that systemd 252 knows, and keys that it doesn't know.
+/// A unit file with all known keys of timers, and with unknown ones.
 const UNIT: &str = "\
 \u{FEFF}[Unit]
 Description=x

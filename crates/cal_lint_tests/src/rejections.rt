@@ -1,4 +1,5 @@
-//! What systemd 252 rejects. The script tests/systemd_252 compares more expressions with systemd-analyze.
+//! Tests of `systemd_252`: what systemd 252 rejects. The script tests/systemd_252 compares more expressions with
+//! systemd-analyze.
 
 use crate::ensure;
 use cal_lint::{Rejection, systemd_252};
@@ -15,7 +16,7 @@ static ROWS: [(&str, Option<Rejection>); 13] = [
     ("*:*:5..5", Some(Rejection::OneSecond)),
     ("*:*:0..59/2148", Some(Rejection::SecondStep)),
     ("*~1,26", Some(Rejection::DaysFromEnd)),
-    // In the normal form of the next row, 26 is the second part of the list, and the bound of the second part is 25.
+    // The normal form of the next row has the parts 1 and 26, in this order, and the bound of the second part is 25.
     ("*~26,1", Some(Rejection::DaysFromEnd)),
     ("*~1,25", None),
     ("daily +02:00", Some(Rejection::Offset)),
