@@ -13,13 +13,14 @@ type Row = (&'static str, u32, &'static [i64]);
 
 /// In all rows, the present is Thu 2026-11-26 13:00:00 in Berlin.
 static ROWS: [Row; 6] = [
-    // The exception suppresses the elapse on Friday.
+    // In the next row, the exception suppresses the elapse on Friday.
     (
         "[Timer]\nOnCalendar=Mon..Fri 18:00\nX-ExceptOnCalendar=*-11-27 *:*:*",
         2,
         &[1_795_712_400, 1_796_058_000],
     ),
-    // 18:00 in Berlin is 17:00 UTC. So the first two expressions elapse at the same instant, which is returned once.
+    // In the next row, the first two expressions elapse at the same instant, because 18:00 in Berlin is 17:00 UTC. This
+    // instant is returned once.
     (
         "[Timer]\nOnCalendar=18:00\nOnCalendar=17:00 UTC\nOnCalendar=18:30",
         3,
@@ -28,7 +29,7 @@ static ROWS: [Row; 6] = [
     ("[Timer]\nOnCalendar=18:00", 0, &[]),
     ("[Timer]\nOnCalendar=2026-11-26 18:00", 5, &[1_795_712_400]),
     ("[Timer]\nOnCalendar=2020-01-01", 5, &[]),
-    // Only elapses after the present count, and this one is at the present.
+    // In the next row, the only elapse is at the present. It doesn't count, because only elapses after the present do.
     ("[Timer]\nOnCalendar=2026-11-26 13:00", 5, &[]),
 ];
 

@@ -22,7 +22,8 @@ static ROWS: [Row; 5] = [
         "[Timer]\nOnCalendar=2020-01-01\nX-ExceptOnCalendar=Fri\nOnCalendar=18:00\nOnCalendar=Mon 2026-02-30",
         &[(2, NEVER), (5, NEVER), (3, NOTHING)],
     ),
-    // In winter, 23:00 UTC is midnight in Berlin. So the first exception suppresses elapses, and the second doesn't.
+    // In winter, 23:00 UTC is midnight in Berlin. So the first exception of the next row suppresses elapses, and the
+    // second doesn't.
     (
         "[Timer]\nOnCalendar=daily\nX-ExceptOnCalendar=23:00 UTC\nX-ExceptOnCalendar=daily UTC",
         &[(4, NOTHING)],

@@ -27,8 +27,8 @@ const SKIPPED: ClockChange = ClockChange::Skipped;
 const REPEATED: ClockChange = ClockChange::Repeated;
 
 static ROWS: [Row; 10] = [
-    // The present is on the Saturday before the clock change, and the only elapse that is passed is on the Monday
-    // after.
+    // In the next row, the present is on the Saturday before the clock change, and the only elapse that is passed is on
+    // the Monday after.
     (
         "[Timer]\nOnCalendar=02:30",
         SPRING - DAY,
@@ -65,7 +65,7 @@ static ROWS: [Row; 10] = [
             (AUTUMN + 3 * HOUR - 1, REPEATED),
         ],
     ),
-    // The notes of two expressions are sorted, and 02:30, which both expressions match, is noted once.
+    // In the next row, the notes of both expressions are sorted, and 02:30, which both match, is noted once.
     (
         "[Timer]\nOnCalendar=02:30\nOnCalendar=*-3-28 2:15,30",
         SPRING - 2 * HOUR,
@@ -75,14 +75,15 @@ static ROWS: [Row; 10] = [
             (SPRING + 2 * HOUR + HOUR / 2, SKIPPED),
         ],
     ),
-    // The present is after the clock change, but on the same day. Notes begin at the start of this day.
+    // In the next row, the present is after the clock change, but on the same day. Notes begin at the start of this
+    // day.
     (
         "[Timer]\nOnCalendar=02:30",
         SPRING + 12 * HOUR,
         &[],
         &[(SPRING + 2 * HOUR + HOUR / 2, SKIPPED)],
     ),
-    // The clock change is more than a day after the last elapse, so it isn't noted.
+    // In the next row, the clock change is more than a day after the last elapse, so it isn't noted.
     (
         "[Timer]\nOnCalendar=02:30",
         SPRING - 3 * DAY,
@@ -96,7 +97,7 @@ static ROWS: [Row; 10] = [
         &[SPRING + DAY],
         &[],
     ),
-    // The last elapse is seven months after the present, so both clock changes are noted.
+    // In the next row, the last elapse is seven months after the present, so both clock changes are noted.
     (
         "[Timer]\nOnCalendar=Sun *-*~07/1 02:30",
         SPRING - DAY,

@@ -110,7 +110,7 @@ static PAIRS: [Pair; 4] = [
         None,
         None,
     ),
-    // Only the second timer elapses on Thursday, and only the first timer on Friday.
+    // In the next row, only the second timer elapses on Thursday, and only the first timer on Friday.
     (
         &[
             "[Timer]\nOnCalendar=Fri..Sun 2026-*-* 18:00",
