@@ -1,4 +1,4 @@
--- Lemmas on the numbers that only one of two lists has.
+-- Lemmas on the numbers that are only in one of two lists.
 use Rattle.std.proofs.Common.{◌≡◌, ◌++◌, false, List, [], ◌∷◌, Option, inl, inr, ℤ, slice_get, sym, ap, ◌∙◌}
 use Rattle.std.specs.List.Sorted.{IsStrictlySortedBy}
 use Rattle.std.specs.Ordering.{int_cmp}
@@ -7,15 +7,15 @@ use Rattle.cal_rising.specs.Merge.{Merge, merged}
 use Rattle.cal_rising.specs.RisingList.{union, without}
 use Rattle.cal_compare.specs.Difference.{first_only_in}
 
--- the union of a single strictly increasing list is that list
+-- the union of only one list is that list, if it is strictly increasing
 pub union_one : (xs : List ℤ) → IsStrictlySortedBy int_cmp xs → union (xs ∷ []) ≡ xs
 union_one xs h = sym (IsUnion-only (xs ∷ []) xs (record {
   rises = h;
   members = λ i. (λ m. inl m, λ m. elim m [ inl n ↦ n | inr n ↦ absurd n ]);
 }))
 
--- a merge of one source with one exception, a source whose numbers are skipped, first yields the first number that only
--- the source has
+-- A merge of one source and one exception leaves out the numbers of the exception. So the first number that it returns
+-- is the first one of the source that the exception lacks.
 pub first_of_merge : (xs ys : List ℤ) → IsStrictlySortedBy int_cmp xs → IsStrictlySortedBy int_cmp ys → (empty some both : Merge) (first : Option ℤ) → empty ≡ record { started = false; lists = []; exceptions = [] }
     → some ≡ record { started = false; lists = empty.lists ++ xs ∷ []; exceptions = empty.exceptions }
     → both ≡ record { started = false; lists = some.lists; exceptions = some.exceptions ++ ys ∷ [] }

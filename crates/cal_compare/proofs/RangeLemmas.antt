@@ -11,7 +11,7 @@ use Rattle.cal_text.proofs.General.{list-first, lt_from_less}
 use Rattle.cal_compare.specs.SeveralTimers.{in_range, range_of_one}
 use Rattle.cal_compare.specs.declared.timer_elapse.TimerElapse.{TimerElapse}
 
--- leaving out a first elapse that is outside the range doesn't change the elapses in the range
+-- a first elapse outside the range can be left out: the elapses in the range are the same
 left_out : (from before : ℤ) (timer : ℕ) (x : ℤ) (xs : List ℤ) → in_range from before x ≡ false
     → range_of_one from before timer (x ∷ xs) ≡ range_of_one from before timer xs
 left_out from before timer x xs h = grind arith
@@ -19,14 +19,14 @@ left_out from before timer x xs h = grind arith
 in_range-late : (from before x : ℤ) → before ≤ℤ x → in_range from before x ≡ false
 in_range-late from before x late = grind (arith, ints)
 
--- if `x` is past the range, no number above `x` is in the range
+-- if `x` is at or after the end of the range, no number above `x` is in the range
 none_past : (from before : ℤ) (timer : ℕ) (x : ℤ) (xs : List ℤ) → before ≤ℤ x → AllByRecursion (λ y. int_cmp x y ≡ Less) xs → range_of_one from before timer xs ≡ []
 none_past from before timer x [] late above = refl
 none_past from before timer x (y ∷ xs) late above =
     let later : before ≤ℤ y = let over = lt_from_less x y above.0 in omega (arith, ints) in
     left_out from before timer y xs (in_range-late from before y later) ∙ none_past from before timer x xs late above.1
 
--- if the first elapse is past the range, no elapse is in the range
+-- if the first elapse is at or after the end of the range, no elapse is in the range
 pub range_past : (from before : ℤ) (timer : ℕ) (x : ℤ) (xs : List ℤ) (found whole : List TimerElapse) → slice_get xs 0 ≡ Some x → IsStrictlySortedBy int_cmp xs → before ≤ℤ x
     → found ++ range_of_one from before timer xs ≡ whole → found ≡ whole
 range_past from before timer x xs found whole first rises late all =

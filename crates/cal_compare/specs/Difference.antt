@@ -1,5 +1,5 @@
--- The first instants at which only one of two timers elapses. A timer is given as the list of the instants at which it
--- elapses: systemd.timer(5), OnCalendar=.
+-- The first instants at which only one of two timers elapses: systemd.timer(5), OnCalendar=. A timer is given as the
+-- list of the instants at which it elapses.
 use Rattle.std.specs.Prelude.{◌≡◌, ℕ, List, ℤ, Option, None, Some, slice_get}
 use Rattle.cal_rising.specs.RisingList.{without}
 use Rattle.cal_compare.specs.declared.compare_fault.CompareFault.{CompareFault}
@@ -15,8 +15,8 @@ pub record IsDifference (xs ys : List ℤ) (difference : Difference) : Type 0 wh
   pub one : difference.only_one ≡ first_only_in xs ys
   pub other : difference.only_other ≡ first_only_in ys xs
 
--- Whether this is the error for two timers, given the first line of each timer with an unknown zone, or None if there
--- is no such line. The error names the first timer's line or, if the first timer has none, the second timer's line. If
+-- Whether this is the error for two timers, given the first line of each that names an unknown zone, or None if it has
+-- no such line. The error names the first timer's line or, if the first timer has none, the second timer's line. If
 -- neither timer has such a line, no error fits.
 abbrev pub IsUnzonedInEither : Option ℕ → Option ℕ → CompareFault → Type 0
 IsUnzonedInEither (Some line) other fault = fault ≡ NoSuchZoneInOne line

@@ -1,5 +1,5 @@
--- The elapses of several timers, each with the index of its timer. A timer is given as the list of the instants at
--- which it elapses: systemd.timer(5), OnCalendar=.
+-- The elapses of several timers, each with the index of its timer: systemd.timer(5), OnCalendar=. A timer is given as
+-- the list of the instants at which it elapses.
 use Rattle.std.specs.Prelude.{ℕ, Bool, ◌&&◌, List, [], ◌∷◌, ℤ, int_le, int_lt, map, filter}
 use Rattle.std.specs.List.{enumerate_from, flat_map}
 use Rattle.std.specs.Ordering.{int_cmp, nat_cmp, ordering_then}
@@ -10,7 +10,8 @@ use Rattle.cal_compare.specs.declared.timer_elapse.TimerElapse.{TimerElapse}
 abbrev pub by_instant : TimerElapse → TimerElapse → Ordering
 by_instant x y = ordering_then (int_cmp x.secs y.secs) (nat_cmp x.timer y.timer)
 
--- what `f` returns for each timer's index and elapses, timer by timer; `first` is the index of the first timer
+-- the results of `f` for the index and the elapses of each timer, joined in the order of the timers; `first` is the
+-- index of the first timer
 abbrev pub of_each : {B : Type 0} → (ℕ → List ℤ → List B) → ℕ → List (List ℤ) → List B
 of_each f first timers = flat_map (λ t. f t.0 t.1) (enumerate_from first timers)
 
@@ -22,7 +23,7 @@ in_range from before secs = int_le from secs && int_lt secs before
 abbrev pub range_of_one : ℤ → ℤ → ℕ → List ℤ → List TimerElapse
 range_of_one from before timer xs = map (λ secs. record { secs = secs; timer = timer }) (filter (in_range from before) xs)
 
--- the elapses of all timers in this range, timer by timer
+-- the elapses of all timers in this range, in the order of the timers
 abbrev pub range_of_each : ℤ → ℤ → List (List ℤ) → List TimerElapse
 range_of_each from before timers = of_each (range_of_one from before) 0 timers
 
@@ -31,11 +32,11 @@ abbrev pub next_of_one : ℕ → List ℤ → List TimerElapse
 next_of_one timer [] = []
 next_of_one timer (x ∷ xs) = record { secs = x; timer = timer } ∷ []
 
--- the next elapse of each timer that has one, timer by timer
+-- the next elapse of each timer that has one, in the order of the timers
 abbrev pub next_of_each : List (List ℤ) → List TimerElapse
 next_of_each timers = of_each next_of_one 0 timers
 
--- the index of the timer if it has no elapses
+-- the index of a timer, if it has no elapses
 abbrev pub index_if_ended : ℕ → List ℤ → List ℕ
 index_if_ended timer [] = timer ∷ []
 index_if_ended timer (x ∷ xs) = []

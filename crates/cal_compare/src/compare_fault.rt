@@ -8,11 +8,10 @@ use std::alloc::AllocError;
 /// Why two timers can't be compared.
 #[derive(Clone, Copy, PartialEq, Eq, Debug)]
 pub enum CompareFault {
-    /// The expression or exception (an expression at whose elapses the timer doesn't elapse) on this line of the first
-    /// timer names a zone that isn't in the zone table.
+    /// The expression or exception on this line of the first timer names a zone that isn't in the zone table.
     NoSuchZoneInOne(u32),
-    /// The zones of the first timer are known, and the expression or exception on this line of the second timer names
-    /// a zone that isn't in the zone table.
+    /// The zone table has all zones of the first timer, but the expression or exception on this line of the second
+    /// timer names a zone that isn't in the table.
     NoSuchZoneInOther(u32),
     /// Allocation failed.
     NoMemory,

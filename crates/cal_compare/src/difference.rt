@@ -17,8 +17,8 @@ use cal_timer::Timer;
 use cal_zone::{Instant, Setting};
 use std::alloc::Global;
 
-/// The first instants at which only one of two timers elapses, in seconds of Unix time. If both fields are `None`, the
-/// timers elapse at the same instants.
+/// The first instants in a range at which only one of two timers elapses, in seconds of Unix time. If both fields are
+/// `None`, the timers elapse at the same instants in this range.
 #[derive(Clone, Copy, PartialEq, Eq, Debug)]
 pub struct Difference {
     /// The first instant at which the first timer elapses and the second doesn't.
@@ -27,11 +27,12 @@ pub struct Difference {
     pub only_other: Option<i64>,
 }
 
-/// Returns the first instants after `base`, through 2199, at which only one of the timers `one` and `other` elapses.
+/// Compares the elapses of the timers `one` and `other` after `base`, through 2199. Returns the first instant at which
+/// only `one` elapses, and the first at which only `other` does.
 ///
 /// Fails with [`CompareFault::NoSuchZoneInOne`] if an expression or exception of `one` names a zone that isn't in the
-/// zone table, or else with [`CompareFault::NoSuchZoneInOther`] if one of `other` does. (The exceptions of a timer are
-/// expressions at whose elapses it doesn't elapse.) Fails with [`CompareFault::NoMemory`] if allocation fails.
+/// zone table, or else with [`CompareFault::NoSuchZoneInOther`] if an expression or exception of `other` does. Fails
+/// with [`CompareFault::NoMemory`] if allocation fails. When an exception of a timer elapses, the timer doesn't.
 ///
 /// All elapses of both timers up to the difference are computed. This takes longest if the timers elapse at the same
 /// instants: then all their elapses through 2199 are computed, once for each field of the result.

@@ -1,4 +1,4 @@
-//! Which of several timers elapses next.
+//! Finding which of several timers elapses next.
 
 ghost use Rattle.std.specs.Prelude.{◌≡◌, ◌++◌, IfOk, map, IsPermutation, IsSorted};
 ghost use Rattle.cal_compare.specs.SeveralTimers.{by_instant, ended, next_of_each};
@@ -16,10 +16,10 @@ pub struct NextOfAll {
     pub never: Vec<usize>,
 }
 
-/// Takes the next elapse of each timer, and sorts them, soonest first.
+/// Takes the next elapse of each timer, and returns these elapses sorted, soonest first.
 ///
-/// Each timer is a source of its elapses, such as `cal_plan::merge_of` returns. Fails with `NoMemory` if allocation
-/// fails.
+/// Each timer is given as a source of its elapses, such as `cal_plan::merge_of` returns. Fails with `NoMemory` if
+/// allocation fails.
 pub fn next_of_all<S: Rising>(alloc: Global, timers: &mut [S]) -> Result<NextOfAll, NoMemory>
     ensures sorted { IfOk result (λ next. IsSorted by_instant next.soonest.items) }
     ensures soonest { IfOk result (λ next. IsPermutation (next_of_each (map S.rest timers.old)) next.soonest.items) }
@@ -30,7 +30,7 @@ pub fn next_of_all<S: Rising>(alloc: Global, timers: &mut [S]) -> Result<NextOfA
     Ok(next)
 }
 
-/// Takes the next elapse of each timer, in the order given.
+/// Takes the next elapse of each timer, and returns these elapses in the order of the timers.
 fn take_next<S: Rising>(alloc: Global, timers: &mut [S]) -> Result<NextOfAll, NoMemory>
     ensures soonest { IfOk result (λ next. next.soonest.items ≡ next_of_each (map S.rest timers.old)) }
     ensures never { IfOk result (λ next. next.never.items ≡ ended (map S.rest timers.old)) }

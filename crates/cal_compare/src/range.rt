@@ -12,8 +12,8 @@ use std::alloc::Global;
 /// Returns the elapses of all timers from `from` on (included) and before `before`, in increasing order, each with the
 /// index of its timer. At the same instant, timers are in the order given.
 ///
-/// Each timer is a source of its elapses, such as `cal_plan::merge_of` returns. The base of its elapses should be
-/// [`base_before`] of `from`: an earlier base takes longer, and with a later base, elapses at or after `from` can be
+/// Each timer is given as a source of its elapses, such as `cal_plan::merge_of` returns. The base of its elapses should
+/// be [`base_before`] of `from`: an earlier base takes longer, and with a later base, elapses at or after `from` can be
 /// missing. Fails with `NoMemory` if allocation fails.
 pub fn between<S: Rising>(
     alloc: Global,
@@ -35,15 +35,15 @@ pub fn between<S: Rising>(
 
 /// Returns the base for the elapses from `from` on (included): the instant one second earlier.
 ///
-/// Instant 0 has no earlier instant, so it is its own base. A timer that elapses at 1970-01-01 00:00:00 UTC then lacks
-/// this one elapse.
+/// Instant 0 has no earlier instant, so it is its own base. Then an elapse at instant 0, 1970-01-01 00:00:00 UTC, is
+/// missing, because elapses come after their base.
 pub fn base_before(from: Instant) -> Instant
     ensures { result.secs ≡ int_max (from.secs -ℤ pos 1) (pos 0) }
 {
     Instant::new(from.secs() - 1).unwrap_or(from)
 }
 
-/// Appends the elapses of one timer from `from` on and before `before`.
+/// Appends the elapses of one timer from `from` on (included) and before `before`.
 fn add_range<S: Rising>(
     found: &mut Vec<TimerElapse>,
     timer: usize,

@@ -1,5 +1,5 @@
--- The elapses appended so far, followed by the timer's remaining elapses in the range, are all that have to be
--- appended.
+-- The elapses appended so far, followed by those in the range that the timer has yet to return, are all its elapses in
+-- the range.
 use Rattle.std.proofs.Common.{◌≡◌, ◌++◌, length}
 use Rattle.cal_compare.specs.SeveralTimers.{range_of_one}
 use Rattle.cal_compare.proofs.range.add_range.Given as goal
@@ -9,6 +9,6 @@ invariant-loop-secs g l =
     let rest = g.S.Rising.rest in
     l.found.items ++ range_of_one l.from l.before l.timer (rest l.elapses) ≡ l.fn.found.items ++ range_of_one l.from l.before l.timer (rest l.fn.elapses)
 
--- each round takes an elapse
+-- each iteration takes one elapse
 abbrev pub decreases-loop-secs : goal.decreases-loop-secs
 decreases-loop-secs g l = length (g.S.Rising.rest l.elapses)

@@ -1,5 +1,5 @@
--- What was found for the timers before the loop's index, followed by what is to be found for the remaining timers, is
--- what is to be found for all timers.
+-- The elapses of the timers before the loop's index, followed by those that the remaining timers have in the range, are
+-- the elapses of all timers in the range.
 use Rattle.std.proofs.Common.{◌≡◌, ◌++◌, map, drop}
 use Rattle.cal_compare.specs.SeveralTimers.{of_each, range_of_each, range_of_one}
 use Rattle.cal_compare.proofs.range.between.Given as goal
