@@ -1,4 +1,4 @@
--- Tables of the zones of a machine.
+-- Lemmas on loading the zones of a machine into a table.
 use Rattle.std.proofs.Common.{◌≡◌, ℕ, List, ◌∷◌, map, take, drop, string_bytes, Bool, true, false, Option, Some, None, refl, sym, ap, ◌∙◌, arith}
 use Rattle.std.specs.Prelude.{◌||◌, IfSome, MatchOption, is_some}
 use Rattle.std.specs.FinMap.{empty, get-empty, insert}
@@ -26,12 +26,12 @@ use Rattle.cal_zone.proofs.ZoneMapLemmas.{zone_named-here, zone_named-elsewhere}
 use Rattle.cal_machine_zones.specs.ZoneFiles.{HasZonesOf, IsAdded, IsFirstError, IsLoadError, IsZoneOn}
 use Rattle.cal_machine_zones.specs.declared.fault.ZonesFault.{ZonesFault}
 
--- a name that isn't taken isn't UTC
+-- a name under which a table can get a zone isn't UTC
 pub free_is_other : (table : ZoneMap) (name : List ℕ) → is_taken table name ≡ false → is_utc_name name ≡ false
 unfolding zone_named
 free_is_other table name free = grind (arith, free)
 
--- the empty table has UTC alone
+-- the empty table has only UTC
 pub empty_has : (name : List ℕ) → is_some (zone_named empty name) ≡ is_utc_name name
 unfolding zone_named
 empty_has name = grind (arith, get-empty {X = TimeZone} (slice_cmp nat_cmp) name)
@@ -67,7 +67,7 @@ or_false : (b : Bool) → (b || false) ≡ b
 or_false true = refl
 or_false false = refl
 
--- a table with one more name
+-- after a zone is added, the table has the zone's name and the names from before
 named_if : (old : ZoneMap) (name : List ℕ) (zone : TimeZone) (other : List ℕ) → is_utc_name name ≡ false → (t : Bool) → bytes_eq other name ≡ t
     → is_some (zone_named (insert old name zone) other) ≡ (is_some (zone_named old other) || t)
 named_if old name zone other utc true is =
@@ -101,8 +101,8 @@ usable_of : (machine : Machine) (other : List ℕ) (o : Option TimeZone) → is_
 usable_of machine other None there on = absurd (false≢true there)
 usable_of machine other (Some zone) there on = (zone, on)
 
--- the error of loading the name at the index `place` is the first error, if the table has the zones of all names before
--- it
+-- if the table has the zones of all names before the index `place`, the error of loading the name at this index is the
+-- first error
 pub error_at : (machine : Machine) (names : List (String Global)) (place : ℕ) (name : List ℕ) (after : List (List ℕ)) (table : ZoneMap) (fault : ZonesFault)
     → map string_bytes (drop place names) ≡ name ∷ after → IsLoadError machine name fault
     → ((other : List ℕ) → is_some (zone_named table other) ≡ (is_utc_name other || list_any (bytes_eq other) (map string_bytes (take place names))))

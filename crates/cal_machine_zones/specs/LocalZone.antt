@@ -1,6 +1,6 @@
--- The local zone of a machine: the zone of the option, else that of the variable TZ (tzset(3)), else that of the link
--- /etc/localtime (localtime(5)), else UTC. The forms of the option are this project's own, except for names
--- (systemd.time(7), Calendar Events).
+-- The local zone of a machine. If an option is given, it decides; otherwise, the variable TZ decides if it is set
+-- (tzset(3)); otherwise, the link /etc/localtime decides (localtime(5)). Without any of these, the local zone is UTC.
+-- Names in the option are as in systemd.time(7), Calendar Events; its other forms are this project's own.
 use Rattle.std.specs.Prelude.{◌≡◌, ⊤, ℕ, ℤ, List, [], Option, None, Some, Result, Ok, Err, codes, if◌then◌else◌, is_some, string_bytes}
 use Rattle.std.specs.Option.{option_or, unwrap_or}
 use Rattle.std.specs.Str.{bytes_eq}
@@ -18,7 +18,8 @@ use Rattle.cal_machine_zones.specs.declared.fault.ZonesFault.{ZonesFault}
 use Rattle.cal_machine_zones.specs.declared.fault.ZonesFault.TheVariants as faults
 use Rattle.cal_machine_zones.specs.declared.texts.Told as tolds
 
--- UTC, an offset in seconds east of UTC, a POSIX rule, the name of a zone, or a text that is none of these
+-- a local zone: UTC, an offset in seconds east of UTC, a POSIX rule, or the name of a zone; or `UnclearIn`, if the
+-- origin doesn't say which zone is the local zone
 pub data LocalZone : Type 0 where
   InUtc : LocalZone
   Ahead : (seconds : ℤ) → LocalZone
@@ -40,11 +41,11 @@ abbrev pub rule_or_other : List ℕ → Option (List ℕ) → LocalZone
 rule_or_other text None = name_or_offset text
 rule_or_other text (Some rule) = ByRule rule
 
--- the zone of the option's value: `UTC`, ignoring case, `posix:` and a rule, a name or an offset
+-- the zone that the option's value names: `UTC`, ignoring case; `posix:` and a rule; a name; or an offset
 abbrev pub argument_zone : List ℕ → LocalZone
 argument_zone text = if is_utc_name text then InUtc else rule_or_other text (after_prefix (codes "posix:") text)
 
--- the zone of a name in the variable or the link
+-- the zone of this name, which comes from the variable or the link
 abbrev pub name_zone : Origin → List ℕ → LocalZone
 name_zone origin name = if is_utc_name name then InUtc else if is_zone_name name then OfName name else UnclearIn origin
 
@@ -57,8 +58,8 @@ localtime = codes "/etc/localtime"
 abbrev pub without_folder : List ℕ → List ℕ
 without_folder file = unwrap_or (after_prefix zone_folder file) file
 
--- The zone of a file in the variable (tzset(3)), which has a path relative to the folder of zones or an absolute path.
--- An empty path stands for UTC. For the path /etc/localtime this is None, because the link says which zone it is.
+-- The zone of a file that the variable names (tzset(3)). The file's path is absolute, or relative to the folder of zone
+-- files. An empty path stands for UTC. The result is None for the path /etc/localtime, because the link there decides.
 abbrev pub file_zone : List ℕ → Option LocalZone
 file_zone file =
     if bytes_eq file localtime then None
@@ -69,12 +70,13 @@ abbrev pub value_zone : List ℕ → Option (List ℕ) → Option LocalZone
 value_zone text None = if is_some (read_whole text) then Some (ByRule text) else file_zone text
 value_zone text (Some file) = file_zone file
 
--- The zone of the variable's value (tzset(3)): after a colon a file, and without a colon a POSIX rule or a file. None
--- for the path /etc/localtime.
+-- The zone that the variable's value names (tzset(3)). After a colon, the value has the path of a file. Without a
+-- colon, it is a POSIX rule or, if it isn't a valid one, the path of a file. The result is None for the path
+-- /etc/localtime.
 abbrev pub variable_zone : List ℕ → Option LocalZone
 variable_zone text = value_zone text (after_prefix (codes ":") text)
 
--- the name of the zone to which the link leads (localtime(5)): its target is absolute, or relative to /etc
+-- the name of the zone to whose file the link leads (localtime(5)); the link's target is absolute, or relative to /etc
 abbrev pub link_name : List ℕ → Option (List ℕ)
 link_name target = option_or (after_prefix zone_folder target) (after_prefix (codes "../usr/share/zoneinfo/") target)
 
@@ -119,7 +121,7 @@ shown_zone (zones.TheVariants.Offset seconds) = Ahead seconds
 shown_zone (zones.TheVariants.Rule rule) = ByRule (string_bytes rule)
 shown_zone (zones.TheVariants.Named name) = OfName (string_bytes name)
 
--- whether the zone, if it is an offset, is in the range of offsets of the library `jiff`
+-- whether the library `jiff` accepts the offset, if the zone is an offset
 abbrev pub HasOffset : tolds.Told → Type 0
 HasOffset tolds.TheVariants.Utc = ⊤
 HasOffset (tolds.TheVariants.Offset seconds) = IsOffsetSeconds seconds
@@ -133,7 +135,8 @@ HasZoneOffset (zones.TheVariants.Offset seconds) = IsOffsetSeconds seconds
 HasZoneOffset (zones.TheVariants.Rule rule) = ⊤
 HasZoneOffset (zones.TheVariants.Named name) = ⊤
 
--- whether finding this zone can fail with this error; a text is called unclear only if it doesn't say which zone it is
+-- whether finding this zone can fail with this error: `Unclear` is only possible if the origin doesn't say which zone
+-- is the local zone
 abbrev pub IsMissedBy : LocalZone → ZonesFault → Type 0
 IsMissedBy zone (faults.Unclear origin) = zone ≡ UnclearIn origin
 IsMissedBy zone (faults.Unread origin) = ⊤

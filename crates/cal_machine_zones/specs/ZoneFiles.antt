@@ -18,16 +18,16 @@ use Rattle.cal_machine_zones.specs.declared.fault.ZonesFault.TheVariants as faul
 abbrev pub zone_path : List ℕ → List ℕ
 zone_path name = zone_folder ++ name
 
--- whether the zone is the one in the machine's zone file of this name
+-- whether the zone is the one in the machine's zone file for this name
 abbrev pub IsZoneOn : Machine → List ℕ → TimeZone → Type 0
 IsZoneOn machine name zone = MatchOption (machine.file (zone_path name)) ⊥ (λ bytes. IsFileZone name bytes zone)
 
--- whether each zone of the table, except UTC, is the one in the machine's zone file of its name
+-- whether each zone of the table, except UTC, is the one in the machine's zone file for its name
 abbrev pub HasZonesOf : Machine → ZoneMap → Type 0
 HasZonesOf machine table =
     (name : List ℕ) → is_utc_name name ≡ false → IfSome (zone_named table name) (IsZoneOn machine name)
 
--- The table has gained a zone for which `IsZone` holds, under a name other than UTC.
+-- whether the table has gained exactly one zone, for which `IsZone` holds, under a name other than UTC
 pub record IsAdded (old new : ZoneMap) (name : List ℕ) (IsZone : TimeZone → Type 0) : Type 0 where
   pub zone : TimeZone
   pub is_zone : IsZone zone
@@ -45,7 +45,8 @@ IsLoadError machine name (faults.Unread origin) = ⊥
 IsLoadError machine name (faults.At path reason) = (string_bytes path ≡ zone_path name) × IsReasonOn machine name reason
 IsLoadError machine name faults.NoMemory = ⊤
 
--- The error is about the name at the index `place`, and the files of all names before it, except UTC, are zone files.
+-- whether the error is about the name at the index `place`, and the files for all names before it, except UTC, are
+-- valid zone files
 pub record IsFirstError (machine : Machine) (names : List (List ℕ)) (fault : ZonesFault) : Type 0 where
   pub place : ℕ
   pub name : List ℕ

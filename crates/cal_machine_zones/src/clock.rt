@@ -14,7 +14,7 @@ use std::alloc::Global;
 pub enum LocalZone {
     /// UTC.
     Utc,
-    /// An offset from UTC in seconds, from -93,540 to 93,540.
+    /// A UTC offset in seconds, from -93,540 to 93,540.
     Offset(i32),
     /// A POSIX rule. A rule from the variable `TZ` is valid; a rule from the option isn't checked.
     Rule(String),
@@ -22,17 +22,18 @@ pub enum LocalZone {
     Named(String),
 }
 
-/// Returns the local zone of a machine, without reading the file of this zone.
+/// Finds the local zone of a machine, without reading the file of this zone.
 ///
-/// If there is an option, `argument` is its value and decides: `UTC`, ignoring case; `+hh:mm` or `-hh:mm`; `posix:` and
-/// a rule; or a name.
+/// If there is an option, its value `argument` decides. It can be `UTC`, ignoring case; an offset, `+hh:mm` or
+/// `-hh:mm`; `posix:` and a POSIX rule; or the name of a zone.
 ///
-/// Otherwise the variable `TZ` decides (tzset(3)), if it is set: a POSIX rule; or a name, or a path below
-/// `/usr/share/zoneinfo`, both also with a `:` before them. If the variable is empty or only `:`, the local zone is
-/// UTC.
+/// Otherwise, if the variable `TZ` is set, its value decides (tzset(3)). It can be a POSIX rule; or, with or without a
+/// `:` in front, the name of a zone or the path of a file below `/usr/share/zoneinfo`. If the value is empty or only
+/// `:`, the local zone is UTC.
 ///
-/// Otherwise, and if the variable is the path `/etc/localtime`, the link at this path decides (localtime(5)), by the
-/// zone file to which it leads. If nothing is there, the local zone is UTC.
+/// If the variable isn't set, or if its value is `/etc/localtime`, with or without a `:` in front, the link at
+/// `/etc/localtime` decides (localtime(5)): the local zone is the one to whose file the link leads. If nothing is at
+/// this path, the local zone is UTC.
 ///
 /// Fails with [`ZonesFault::Unclear`] if the option, variable or link that decides doesn't say which zone is the local
 /// zone, with [`ZonesFault::Unread`] if the variable or the link can't be read or is not UTF-8, and with

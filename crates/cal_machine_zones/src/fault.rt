@@ -6,7 +6,7 @@ ghost use Rattle.cal_machine_zones.specs.declared.fault.ZonesFault.TheVariants.{
 use cal_zone::LoadFault;
 use std::alloc::{AllocError, AllocFailed};
 
-/// What the local zone is taken from.
+/// What decides which zone is the local zone.
 #[derive(Clone, Copy, PartialEq, Eq, Debug)]
 pub enum Origin {
     /// The option of the command line.
@@ -22,8 +22,7 @@ pub enum Origin {
 pub enum FileReason {
     /// There is no such file.
     NotFound,
-    /// The file can't be loaded, for this reason. Out of memory is not among the reasons: for this, there is
-    /// [`ZonesFault::NoMemory`].
+    /// The file can't be loaded, for this reason. If memory runs out, the error is [`ZonesFault::NoMemory`] instead.
     Load(LoadFault),
 }
 
@@ -32,7 +31,7 @@ pub enum FileReason {
 pub enum ZonesFault {
     /// This origin doesn't say which zone is the local zone.
     Unclear(Origin),
-    /// This origin can't be read, or what it says is not UTF-8.
+    /// This origin can't be read, or its text is not UTF-8.
     Unread(Origin),
     /// The zone file at this path can't be used, for this reason.
     At(String, FileReason),

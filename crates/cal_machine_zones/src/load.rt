@@ -1,4 +1,4 @@
-//! Loading of the zones that expressions name.
+//! Loading the zones that expressions name.
 
 ghost use Rattle.std.specs.Prelude.{◌≡◌, ◌||◌, ℕ, List, IfErr, IfOk, OnOk, is_some, map, string_bytes};
 ghost use Rattle.std.specs.List.{list_any};
@@ -13,8 +13,8 @@ use cal_units::{Tree, TreeFault};
 use cal_zone::{LoadFault, ZoneFault, ZoneTable, load_zone};
 use std::alloc::{AllocError, Global};
 
-/// Returns a table of UTC and of the zones with these names, each from its file `/usr/share/zoneinfo/NAME` (RFC 8536).
-/// The name `UTC`, ignoring case, needs no file, and a name may be repeated.
+/// Returns a table with UTC and with the zones of these names, each loaded from its file `/usr/share/zoneinfo/NAME`
+/// (RFC 8536). The name `UTC`, ignoring case, needs no file, and a name may be repeated.
 ///
 /// Fails with [`ZonesFault::At`] and the path of the first file that can't be used: with [`FileReason::NotFound`] if
 /// there is no such file, or else with [`FileReason::Load`] and the error of [`load_zone`]. So an invalid name fails
@@ -39,7 +39,7 @@ pub fn load_zones<T: Tree>(
     Ok(table)
 }
 
-/// Loads a zone into the table, unless the table already has a zone with this name.
+/// Loads the zone of this name into the table, unless the table already has it.
 fn load_name<T: Tree>(
     alloc: Global,
     tree: &T,
@@ -59,7 +59,7 @@ fn load_name<T: Tree>(
     add_zone(alloc, tree, table, name)
 }
 
-/// Loads a zone into the table, which doesn't have a zone with this name.
+/// Loads the zone of this name into the table. The caller has checked that the table doesn't have the zone yet.
 fn add_zone<T: Tree>(
     alloc: Global,
     tree: &T,

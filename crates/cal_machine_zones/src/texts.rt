@@ -16,22 +16,22 @@ use std::alloc::Global;
 /// The link to the file of the local zone.
 pub(crate) const LOCALTIME: &str = "/etc/localtime";
 
-/// A local zone, with the part of the text that says which one it is.
+/// What an origin says about the local zone. Rules and names are parts of the origin's text.
 #[derive(Clone, Copy, Debug)]
 pub(crate) enum Told<'t> {
     Utc,
-    /// An offset from UTC in seconds.
+    /// A UTC offset in seconds.
     Offset(i32),
     /// A POSIX rule.
     Rule(&'t str),
     /// A name below `/usr/share/zoneinfo`.
     Named(&'t str),
-    /// What comes from this origin doesn't say which zone is the local zone.
+    /// This origin doesn't say which zone is the local zone.
     Unclear(Origin),
 }
 
-/// Returns the zone that an option's value names: `UTC`, ignoring case; `posix:` and a rule, which isn't checked; a
-/// name; or `+hh:mm` or `-hh:mm`. Returns [`Told::Unclear`] for any other value.
+/// Returns the zone that an option's value names: `UTC`, ignoring case; `posix:` and a POSIX rule, which isn't checked;
+/// a name; or `+hh:mm` or `-hh:mm`. Returns [`Told::Unclear`] for any other value.
 pub(crate) fn argument_zone(text: &str) -> Told<'_>
     ensures zone { shown_told result ≡ argument_zone text.now }
     ensures offset { HasOffset result }
@@ -100,7 +100,8 @@ fn file_zone(file: &str) -> Option<Told<'_>>
     Some(name_zone(Origin::Variable, without_folder(file)))
 }
 
-/// Returns the name of the zone whose file has the absolute path `file`. Returns any other text unchanged.
+/// Returns the name of the zone whose file is at the path `file`, if the path begins with `/usr/share/zoneinfo/`.
+/// Returns any other text unchanged.
 fn without_folder(file: &str) -> &str
     ensures { result.now ≡ without_folder file.now }
 {
@@ -123,8 +124,8 @@ fn name_zone(origin: Origin, name: &str) -> Told<'_>
     }
 }
 
-/// Returns the zone that `/etc/localtime` names, given what is there (localtime(5)): UTC if nothing is there, or the
-/// zone to whose file a link leads. Returns [`Told::Unclear`] for anything else.
+/// Returns the zone for what is at `/etc/localtime` (localtime(5)): UTC if nothing is there, or the zone to whose file
+/// a link leads. Returns [`Told::Unclear`] for anything else.
 pub(crate) fn link_zone(entry: &Entry) -> Told<'_>
     ensures zone { shown_told result ≡ link_zone (shown_entry entry.now) }
     ensures offset { HasOffset result }

@@ -8,7 +8,7 @@ use Rattle.cal_zone.specs.headline.ZoneTable.{zone_named}
 use Rattle.cal_machine_zones.specs.ZoneFiles.{HasZonesOf}
 use Rattle.cal_machine_zones.proofs.load.load_zones.Given as goal
 
--- the table has the names so far, with the zones of the machine
+-- the table has UTC and the names before the loop's index, and their zones are those of the machine
 abbrev pub invariant-loop-name : goal.invariant-loop-name
 invariant-loop-name g l =
     ((name : List ℕ) → is_some (zone_named l.table name)
