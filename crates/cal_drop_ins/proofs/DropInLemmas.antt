@@ -1,5 +1,5 @@
--- How the entries of the Rust map of drop-ins agree with `by_name`, and what one more file or name adds to `by_name`
--- and `candidates`.
+-- Lemmas on the Rust map of drop-ins, whose entries are those of `by_name`, and on what one more file or name adds to
+-- `by_name` and `candidates`.
 use Rattle.std.proofs.Common.{◌≡◌, ℕ, Bool, true, false, cond, List, [], ◌∷◌, ◌++◌, refl, sym, ap, ◌∙◌, map, reverse, Option, Some, None, option_map, string_bytes, append_assoc, filter}
 use Rattle.std.specs.BTreeMap.{insert_entry}
 use Rattle.std.specs.Cmp.Lexicographic.{slice_cmp}
@@ -36,7 +36,7 @@ pub shown_insert : (es : List (String Global × String Global)) (k : String Glob
 shown_insert [] k v = refl
 shown_insert (e ∷ es) k v = put_by (string_cmp k e.0) e es (insert_entry string_cmp es k v) k v _ (shown_insert es k v)
 
--- one more file is put into the entries of those before it
+-- `by_name` of a list with one more file has the entries of the list, with this file entered
 pub by_name_more : (found : List Found) (file : Found) → by_name (found ++ file ∷ []) ≡ put (by_name found) file
 unfolding by_name
 by_name_more found file = fold-append put [] found (file ∷ [])
@@ -119,7 +119,7 @@ pub paths_are : (entries : List (String Global × String Global)) (paths : List 
 unfolding chosen
 paths_are entries paths files h e = ap (map string_bytes) e ∙ shown_paths entries ∙ ap (map (λ entry. entry.1)) h
 
--- the candidates of one more name follow those of the names before it
+-- the candidates of a list with one more name are those of the list, followed by those of the name
 pub candidates_more : (folder : List ℕ) (names : List (List ℕ)) (name : List ℕ)
     → candidates folder (names ++ name ∷ []) ≡ candidates folder names ++ candidates folder (name ∷ [])
 unfolding candidates

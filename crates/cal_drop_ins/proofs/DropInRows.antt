@@ -1,5 +1,6 @@
--- Examples that check the definitions of drop-ins. The expected results come from systemd-analyze 252, which names the
--- files of a unit in the order in which it reads them if each file has an invalid line.
+-- Examples that check the definitions of drop-ins. The expected results come from systemd-analyze 252. To see which
+-- files it reads, and in which order, each file was given an invalid line: systemd-analyze reports these lines as it
+-- reads the files.
 use Rattle.std.proofs.Common.{◌≡◌, ℕ, List, [], ◌∷◌, ◌++◌, codes, filter, map, refl, Some, None}
 use Rattle.std.specs.List.{list_any}
 use Rattle.std.specs.Str.{bytes_eq}
@@ -12,7 +13,7 @@ use Rattle.cal_drop_ins.specs.declared.unit_name.UnitKind.TheVariants.{Plain, Te
 abbrev File : Type 0
 File = List ℕ × List ℕ
 
--- a machine with these files; the files whose paths are in `links` are links to `/dev/null`
+-- a machine with these files, of which those at the paths `links` are links to `/dev/null`
 abbrev machine : List File → List (List ℕ) → Disk
 machine files links =
     record {
@@ -20,11 +21,12 @@ machine files links =
       is_null = λ path. list_any (bytes_eq path) links;
     }
 
--- the drop-ins of a unit that are read on a machine with two folders of units
+-- the drop-ins of a unit that are read on a machine with these files, whose search path has two folders
 abbrev read_on : List File → List (List ℕ) → List (List ℕ) → List (List ℕ)
 read_on files links stems = drop_ins (machine files links) (codes "/etc" ∷ codes "/lib" ∷ []) stems
 
--- the files of a machine, its links to `/dev/null`, the names of a unit, and the drop-ins that are read
+-- the files of a machine, the paths of its links to `/dev/null`, the stems of a unit's names, and the drop-ins that are
+-- read
 abbrev Row : Type 0
 Row = List File × (List (List ℕ) × (List (List ℕ) × List (List ℕ)))
 
@@ -91,7 +93,7 @@ rows_read : map (λ (row : Row). read_on row.0 row.1.0 row.1.1.0) rows ≡ map (
 unfolding drop_ins chosen by_name candidates is_drop_in folders folder_stems prefixes_within template_of
 rows_read = refl
 
--- the stems whose folders apply to the units with the stems `foo--bar`, `foo-bar@x-y`, `-x`, `foo-` and `foo@`
+-- the stems whose drop-in folders apply to the units with the stems `foo--bar`, `foo-bar@x-y`, `-x`, `foo-` and `foo@`
 stems_apply : map folder_stems (codes "foo--bar" ∷ codes "foo-bar@x-y" ∷ codes "-x" ∷ codes "foo-" ∷ codes "foo@" ∷ [])
     ≡ (codes "foo-" ∷ codes "foo--" ∷ codes "foo--bar" ∷ []) ∷ (codes "foo-" ∷ codes "foo-bar@" ∷ codes "foo-bar@x-y" ∷ []) ∷ (codes "-x" ∷ [])
     ∷ (codes "foo-" ∷ []) ∷ (codes "foo@" ∷ []) ∷ []

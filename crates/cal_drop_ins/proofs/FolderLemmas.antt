@@ -1,4 +1,5 @@
--- The prefixes of a name that end at a dash, byte by byte, and why a name may be cut after a dash or `@`.
+-- Lemmas on the prefixes of a stem that end with a dash, one byte at a time, and on why a stem may be cut after a dash
+-- or an `@`.
 use Rattle.std.proofs.Common.{◌≡◌, ◌+◌, ◌<◌, ◌==◌, ℕ, true, List, [], ◌∷◌, ◌++◌, refl, sym, ap, ◌∙◌, arith, append_assoc, get_or, length, map, reverse, take, add-one}
 use Rattle.std.specs.Prelude.{if◌then◌else◌}
 use Rattle.std.specs.List.{position_or_len}

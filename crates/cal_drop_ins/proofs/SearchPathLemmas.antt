@@ -1,4 +1,5 @@
--- The search path of a user's manager, from its two folders in the user's home.
+-- If `config` and `share` are the folders of units in the user's home, the list of these and the other folders, each
+-- below the root, is `user_path`.
 use Rattle.std.proofs.Common.{◌≡◌, ◌++◌, ◌∷◌, [], ℕ, List, codes, map, refl}
 use Rattle.cal_drop_ins.specs.SearchPath.{user_path}
 

@@ -1,4 +1,4 @@
--- Cutting the suffix off a name.
+-- Lemmas on removing the suffix of a name.
 use Rattle.std.proofs.Common.{◌≡◌, ◌-◌, ◌≤◌, ℕ, true, false, List, None, refl, sym, ap, ◌∙◌, arith, length, take}
 use Rattle.std.specs.List.{ends_with}
 use Rattle.std.specs.Prelude.{nat_eq}

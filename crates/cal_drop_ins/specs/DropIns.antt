@@ -13,7 +13,7 @@ pub record Disk : Type 0 where
   pub names : List ℕ → List (List ℕ)
   pub is_null : List ℕ → Bool
 
--- a file of a folder: its name and its path
+-- a file in a folder: its name and its path
 pub record Found : Type 0 where
   pub name : List ℕ
   pub path : List ℕ
@@ -26,17 +26,17 @@ is_drop_in name = ends_with nat_eq name (codes ".conf") && not (starts_with nat_
 abbrev pub found_in : List ℕ → List ℕ → Found
 found_in folder name = record { name = name; path = folder ++ codes "/" ++ name }
 
--- the drop-ins in a folder whose files are called `names`
+-- the drop-ins among the files called `names` in a folder
 unfoldable pub candidates : List ℕ → List (List ℕ) → List Found
 candidates folder names = map (found_in folder) (filter is_drop_in names)
 
--- the entries, which are pairs of a name and a path, after the path of this file is put under its name, in place of an
--- earlier path with this name
+-- the entries, after this file's path was entered under the file's name, in place of any path that was already there;
+-- an entry is a pair of a name and a path
 abbrev pub put : List (List ℕ × List ℕ) → Found → List (List ℕ × List ℕ)
 put entries file = insert_entry (slice_cmp nat_cmp) entries file.name file.path
 
--- the files' names with their paths, sorted by the bytes of the names: of several files with the same name the last one
--- counts
+-- the names of the files with their paths, sorted by the bytes of the names; of several files with the same name, the
+-- last counts
 unfoldable pub by_name : List Found → List (List ℕ × List ℕ)
 by_name found = fold put [] found
 
@@ -45,9 +45,9 @@ unfoldable pub chosen : List Found → List (List ℕ)
 chosen found = map (λ entry. entry.1) (by_name found)
 
 -- The drop-ins that are read, in the order in which they are read. `path` has the roots of the search path, the most
--- important first. `stems` has the unit's names without `.timer`: first its aliases, last its own. A file in a more
--- important folder hides the files of the same name in less important folders, even if it is a link to `/dev/null`.
--- Such a link isn't read.
+-- important first. `stems` has the unit's names without `.timer`: first its aliases, and last its own. A file in a more
+-- important folder hides the files of the same name in less important folders, even if it is a link to `/dev/null`. The
+-- link itself isn't read.
 unfoldable pub drop_ins : Disk → List (List ℕ) → List (List ℕ) → List (List ℕ)
 drop_ins disk path stems =
     filter (λ file. not (disk.is_null file))

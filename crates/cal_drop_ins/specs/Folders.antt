@@ -1,39 +1,40 @@
--- The folders of a unit's drop-ins: systemd.unit(5), Description. All lists of this file go from the least important
+-- The drop-in folders of a unit: systemd.unit(5), Description. All lists of this file go from the least important
 -- folder to the most important one.
 use Rattle.std.specs.Prelude.{ℕ, zero, suc, ◌+◌, ◌==◌, nat_lt, Bool, ◌&&◌, if◌then◌else◌, List, [], ◌∷◌, ◌++◌, length, map, take, slice_index, codes}
 use Rattle.std.specs.List.{flat_map}
 use Rattle.std.specs.Option.{option_to_list}
 use Rattle.cal_drop_ins.specs.UnitName.{base_of, template_of}
 
--- whether there is a dash at index `i` that is neither the first byte nor the last
+-- whether the byte of `base` at index `i` is a dash, but neither the first byte nor the last
 abbrev pub is_dash_within : List ℕ → ℕ → Bool
 is_dash_within base i = nat_lt 0 i && (nat_lt (i + 1) (length base) && (slice_index base i == 45))
 
--- the prefixes of `base` that end at a dash among its first `n` bytes, the shortest first, but not `base` itself and
+-- the prefixes of `base` that end with a dash among the first `n` bytes, the shortest first, but not `base` itself and
 -- not a dash alone
 unfoldable pub prefixes_within : List ℕ → ℕ → List (List ℕ)
 prefixes_within base zero = []
 prefixes_within base (suc n) = prefixes_within base n ++ (if is_dash_within base n then take (n + 1) base ∷ [] else [])
 
--- the stems whose folders apply to the unit with this stem: the prefixes that end at a dash, of the stem's part before
--- any `@`, except this part itself and a dash alone; the template of an instance; and the stem itself
+-- The stems whose drop-in folders apply to the unit with this stem. First come prefixes of the part before the first
+-- `@`, or of the whole stem if it has no `@`: all prefixes that end with a dash, the shortest first, except this part
+-- itself and a dash alone. Then come the stem of the template, if the unit is an instance, and the stem itself.
 unfoldable pub folder_stems : List ℕ → List (List ℕ)
 folder_stems stem =
     prefixes_within (base_of stem) (length (base_of stem)) ++ (option_to_list (template_of stem) ++ stem ∷ [])
 
--- the folder below `root` with the drop-ins of a stem
+-- the drop-in folder of this stem below `root`
 abbrev pub own_folder : List ℕ → List ℕ → List ℕ
 own_folder root stem = root ++ codes "/" ++ stem ++ codes ".timer.d"
 
--- the folder below `root` with drop-ins that apply to all timers
+-- the drop-in folder of all timers below `root`
 abbrev pub type_folder : List ℕ → List ℕ
 type_folder root = root ++ codes "/timer.d"
 
--- the folders that apply to one name of a unit: any folder below a more important root is more important
+-- the drop-in folders that apply to a unit with this stem; all folders below a more important root are more important
 abbrev pub name_folders : List (List ℕ) → List ℕ → List (List ℕ)
 name_folders roots stem = flat_map (λ root. map (own_folder root) (folder_stems stem)) roots
 
--- the folders that apply to a unit with these stems, of which its own is the last: the folders of all timers, and then
--- the folders of each stem
+-- the drop-in folders that apply to a unit with these stems, the last of which is its own: first the folders of all
+-- timers, and then the folders of each stem
 unfoldable pub folders : List (List ℕ) → List (List ℕ) → List (List ℕ)
 folders roots stems = map type_folder roots ++ flat_map (name_folders roots) stems

@@ -1,5 +1,5 @@
--- Where units are: systemd.unit(5), Unit File Load Path, tables 1 and 2, without the folders that only a running
--- manager uses. The most important folder comes first.
+-- The folders that have unit files: systemd.unit(5), Unit File Load Path, tables 1 and 2, without the folders that only
+-- a running manager uses. The most important folder comes first.
 use Rattle.std.specs.Prelude.{ℕ, List, [], ◌∷◌, ◌++◌, codes, map}
 
 abbrev pub system_folders : List (List ℕ)

@@ -1,5 +1,4 @@
--- Names of timer units: systemd.unit(5), Description. The stem of a name is what the name has before its suffix
--- `.timer`.
+-- Names of timer units: systemd.unit(5), Description. The stem of a name is the name without its suffix `.timer`.
 use Rattle.std.specs.Prelude.{ℕ, ◌+◌, ◌-◌, ◌==◌, nat_eq, nat_lt, nat_le, Bool, ◌&&◌, ◌||◌, if◌then◌else◌, List, Option, None, Some, codes, length, take}
 use Rattle.std.specs.List.{before_first, ends_with, list_all, list_any}
 use Rattle.cal_drop_ins.specs.declared.unit_name.UnitKind.{UnitKind}
@@ -16,7 +15,7 @@ without_suffix name = if ends_with nat_eq name suffix then take (length name - l
 abbrev pub is_at_sign : ℕ → Bool
 is_at_sign b = b == 64
 
--- what a stem has before its first `@`, or the whole stem if it has no `@`
+-- the part of a stem before its first `@`, or the whole stem if it has no `@`
 abbrev pub base_of : List ℕ → List ℕ
 base_of stem = before_first is_at_sign stem
 
@@ -46,6 +45,6 @@ unfoldable pub is_stem : List ℕ → Bool
 is_stem stem =
     nat_le (length stem + length suffix) max_name && (nat_lt 0 (length (base_of stem)) && list_all is_name_byte stem)
 
--- the stem of the unit that a name stands for, if the name is valid
+-- the stem of the unit that a name stands for, or None if the name isn't valid
 unfoldable pub unit_stem : List ℕ → Option (List ℕ)
 unit_stem name = if is_stem (without_suffix name) then Some (without_suffix name) else None

@@ -9,9 +9,9 @@ use std::collections::BTreeMap;
 /// A file in a folder of drop-ins.
 #[derive(Debug, Drop)]
 pub struct DropIn {
-    /// Its name in the folder.
+    /// The file's name in the folder.
     pub name: String,
-    /// Its path.
+    /// The file's path.
     pub path: String,
 }
 
@@ -25,7 +25,7 @@ pub fn is_drop_in(name: &str) -> bool
     name.ends_with(b".conf") && !name.starts_with(b".")
 }
 
-/// Appends the drop-ins in `folder`, whose files are called `names`.
+/// Appends the drop-ins among the files called `names` in `folder`.
 pub fn push_candidates(
     alloc: Global,
     found: &mut Vec<DropIn>,
@@ -42,7 +42,8 @@ pub fn push_candidates(
 }
 
 /// Returns the paths of the drop-ins that count, sorted by the bytes of their file names. Of several drop-ins with the
-/// same name the last counts, so `found` has to go from the least important folder to the most important one.
+/// same name, only the last counts, so `found` has to be sorted from the least important folder to the most important
+/// one.
 #[tactic(auto, using(crate::proofs::DropInLemmas::paths_are))]
 pub fn choose(alloc: Global, found: Vec<DropIn>) -> Result<Vec<String>, AllocError>
     ensures { IfOk result (λ paths. map string_bytes paths.items ≡ chosen (map shown found.items)) }
@@ -51,7 +52,7 @@ pub fn choose(alloc: Global, found: Vec<DropIn>) -> Result<Vec<String>, AllocErr
     paths_of(alloc, entered)
 }
 
-/// Appends the file called `name` in a folder, if it is a drop-in.
+/// Appends the file called `name` in `folder`, if it is a drop-in.
 #[tactic(auto, unfolding(crate::specs::DropIns::candidates))]
 fn push_candidate(
     alloc: Global,
@@ -75,7 +76,8 @@ fn file_in(alloc: Global, folder: &str, name: String) -> Result<DropIn, AllocErr
     Ok(DropIn { name, path })
 }
 
-/// Returns a map from the names of the drop-ins to their paths. Of several drop-ins with the same name the last counts.
+/// Returns a map from the names of the drop-ins to their paths. Of several drop-ins with the same name, the map has the
+/// last.
 fn enter_all(alloc: Global, found: Vec<DropIn>) -> Result<BTreeMap<String, String>, AllocError>
     ensures { IfOk result (λ entered. map shown_entry entered.entries ≡ by_name (map shown found.items)) }
 {
@@ -86,7 +88,7 @@ fn enter_all(alloc: Global, found: Vec<DropIn>) -> Result<BTreeMap<String, Strin
     Ok(entered)
 }
 
-/// Enters the path of a file under its name, in place of an earlier path with this name.
+/// Enters the path of a file under the file's name, in place of any path that is already there.
 fn enter(by_name: &mut BTreeMap<String, String>, file: DropIn) -> Result<(), AllocError>
     ensures { OnOk result (map shown_entry by_name.new.entries ≡ put (map shown_entry by_name.old.entries) (shown file)) }
 {

@@ -1,4 +1,4 @@
-//! The folders of a unit's drop-ins (systemd.unit(5), Description).
+//! The drop-in folders of a unit (systemd.unit(5), Description).
 
 ghost use Rattle.std.specs.Prelude.{◌≡◌, ◌+◌, ◌++◌, ◌∷◌, [], ◌<◌, IfOk, OnOk, if◌then◌else◌, map, length, take, reverse, string_bytes};
 ghost use Rattle.cal_drop_ins.specs.Folders.{folder_stems, folders, is_dash_within, name_folders, own_folder, prefixes_within, type_folder};
@@ -6,8 +6,8 @@ ghost use Rattle.cal_drop_ins.specs.Folders.{folder_stems, folders, is_dash_with
 use crate::unit_name::{base_of, template_of};
 use std::alloc::{AllocError, Global};
 
-/// Returns the folders that can have drop-ins of a unit, from the least important one to the most important one,
-/// whether they exist or not.
+/// Returns the folders that can have drop-ins of a unit, from the least important one to the most important one. Some
+/// of them may not exist.
 ///
 /// `path` is the search path, the most important folder first. `stems` are the unit's names without `.timer`: its
 /// aliases, and last its own name.
@@ -24,9 +24,12 @@ pub fn folders_of(alloc: Global, path: &[String], stems: &[&str]) -> Result<Vec<
     Ok(folders)
 }
 
-/// Returns the stems whose folders of drop-ins apply to the unit with this stem, from the least important one to the
-/// most important one. First come the prefixes that end at a dash, the shortest first, of the stem's part before any
-/// `@`, except this part itself and a dash alone. Then come the template of an instance, and the stem itself.
+/// Returns the stems whose drop-in folders apply to the unit with this stem, from the least important one to the most
+/// important one. For `foo-bar@x`, these are `foo-`, `foo-bar@` and `foo-bar@x`.
+///
+/// First come prefixes of the part before the first `@`, or of the whole stem if it has no `@`: all prefixes that end
+/// with a dash, the shortest first, except this part itself and a dash alone. Then come the stem of the template, if
+/// the unit is an instance, and the stem itself.
 #[tactic(auto, unfolding(crate::specs::Folders::folder_stems))]
 pub fn folder_stems(alloc: Global, stem: &str) -> Result<Vec<&str>, AllocError>
     ensures { IfOk result (λ stems. map (λ stem. stem.now) stems.items ≡ folder_stems stem.now) }
@@ -40,7 +43,7 @@ pub fn folder_stems(alloc: Global, stem: &str) -> Result<Vec<&str>, AllocError>
     Ok(stems)
 }
 
-/// Returns the folders of the search path, from the least important one to the most important one.
+/// Returns the folders of the search path in reverse order, from the least important one to the most important one.
 #[tactic(auto, using(crate::proofs::FolderLemmas::map_reverse))]
 fn reversed(alloc: Global, path: &[String]) -> Result<Vec<&str>, AllocError>
     ensures { IfOk result (λ roots. map (λ root. root.now) roots.items ≡ reverse (map string_bytes path.now)) }
@@ -60,7 +63,7 @@ fn all_texts(alloc: Global, path: &[String]) -> Result<Vec<&str>, AllocError>
     Ok(roots)
 }
 
-/// Returns the folders of drop-ins that apply to all timers, one below each root.
+/// Returns the drop-in folders that apply to all timers, one below each root.
 fn type_folders(alloc: Global, roots: &[&str]) -> Result<Vec<String>, AllocError>
     ensures { IfOk result (λ folders. map string_bytes folders.items ≡ map type_folder (map (λ root. root.now) roots.now)) }
 {
@@ -79,7 +82,7 @@ fn push_type_folder(alloc: Global, folders: &mut Vec<String>, root: &str) -> Res
     Ok(())
 }
 
-/// Appends the folders that apply to one name of a unit.
+/// Appends the drop-in folders that apply to a unit with this stem, below all roots.
 fn push_name_folders(
     alloc: Global,
     folders: &mut Vec<String>,
@@ -96,7 +99,7 @@ fn push_name_folders(
     Ok(())
 }
 
-/// Appends the folders of these stems below one folder of the search path.
+/// Appends the drop-in folders of these stems below one root.
 fn push_own_folders(
     alloc: Global,
     folders: &mut Vec<String>,
@@ -112,7 +115,7 @@ fn push_own_folders(
     Ok(())
 }
 
-/// Appends the folder of drop-ins of one stem below `root`.
+/// Appends the drop-in folder of one stem below one root.
 fn push_own_folder(
     alloc: Global,
     folders: &mut Vec<String>,
@@ -126,7 +129,7 @@ fn push_own_folder(
     Ok(())
 }
 
-/// Appends the prefixes of `base` that end at a dash, the shortest first, but not `base` itself and not a dash alone.
+/// Appends the prefixes of `base` that end with a dash, the shortest first, but not `base` itself and not a dash alone.
 fn push_prefixes<'n>(stems: &mut Vec<&'n str>, base: &'n str) -> Result<(), AllocError>
     ensures { OnOk result (map (λ stem. stem.now) stems.new.items
         ≡ map (λ stem. stem.now) stems.old.items ++ prefixes_within base.now (length base.now)) }
@@ -137,8 +140,8 @@ fn push_prefixes<'n>(stems: &mut Vec<&'n str>, base: &'n str) -> Result<(), Allo
     Ok(())
 }
 
-/// Appends the prefix of `base` that ends with the byte at `index`, if this byte is a dash, and neither the first byte
-/// of `base` nor the last one.
+/// Appends the prefix of `base` that ends with the byte at `index`, if this byte is a dash, but neither the first byte
+/// of `base` nor the last.
 fn push_prefix<'n>(stems: &mut Vec<&'n str>, base: &'n str, index: usize) -> Result<(), AllocError>
     requires { index < length base.now }
     ensures { OnOk result (map (λ stem. stem.now) stems.new.items ≡ map (λ stem. stem.now) stems.old.items
@@ -150,7 +153,7 @@ fn push_prefix<'n>(stems: &mut Vec<&'n str>, base: &'n str, index: usize) -> Res
     Ok(())
 }
 
-/// Returns whether there is a dash at `index` that is neither the first byte nor the last.
+/// Returns whether the byte of `base` at `index` is a dash, but neither the first byte nor the last.
 fn is_dash_within(base: &str, index: usize) -> bool
     requires { index < length base.now }
     ensures { result ≡ is_dash_within base.now index }

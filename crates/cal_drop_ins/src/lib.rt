@@ -1,5 +1,5 @@
-//! Which files make up a timer unit, from their names alone (systemd.unit(5)): the search path, the folders of
-//! drop-ins, and which drop-ins are read.
+//! Which files make up a timer unit, decided from names alone (systemd.unit(5)): the search path, the drop-in folders,
+//! and which drop-ins are read.
 #![tactic(auto)]
 
 mod drop_ins;

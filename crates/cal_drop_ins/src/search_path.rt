@@ -1,5 +1,5 @@
-//! The folders in which unit files are (systemd.unit(5), Unit File Load Path), without those that only a running
-//! manager uses, such as `/run/systemd/transient`.
+//! The search path: the folders that have unit files (systemd.unit(5), Unit File Load Path), without those that only a
+//! running manager uses, such as `/run/systemd/transient`.
 
 ghost use Rattle.std.specs.Prelude.{◌≡◌, ◌++◌, IfOk, map, string_bytes};
 ghost use Rattle.cal_drop_ins.specs.SearchPath.{system_path, user_path};
@@ -42,7 +42,7 @@ pub fn user_path(alloc: Global, root: &str, home: &str) -> Result<Vec<String>, A
     all_below(alloc, root, &folders)
 }
 
-/// Returns the folders with `root` before each.
+/// Returns the paths of the folders with `root` in front of each.
 fn all_below(alloc: Global, root: &str, folders: &[&str]) -> Result<Vec<String>, AllocError>
     ensures { IfOk result (λ path. map string_bytes path.items ≡ map (λ folder. root.now ++ folder.now) folders.now) }
 {

@@ -24,8 +24,8 @@ pub enum UnitKind {
 /// Returns the stem of the timer unit that `name` stands for: the name without the suffix `.timer`. A name without this
 /// suffix is itself the stem of a timer.
 ///
-/// Returns `None` if the name isn't valid: its stem is empty, begins with `@`, has a byte that is neither a letter, a
-/// digit nor one of `:-_.\@`, or has more than 255 bytes with the suffix.
+/// Returns `None` if the name isn't valid: the stem is empty, begins with `@`, or has a byte that is neither a letter
+/// nor a digit nor one of `:-_.\@`, or the stem with the suffix has more than 255 bytes.
 #[tactic(auto, unfolding(crate::specs::UnitName::unit_stem))]
 pub fn unit_stem(name: &str) -> Option<&str>
     ensures { option_map (λ stem. stem.now) result ≡ unit_stem name.now }
@@ -34,7 +34,7 @@ pub fn unit_stem(name: &str) -> Option<&str>
     if is_stem(stem) { Some(stem) } else { None }
 }
 
-/// Returns what a name with this stem stands for.
+/// Returns what the name of a unit with this stem stands for.
 #[tactic(auto, unfolding(crate::specs::UnitName::kind_of))]
 pub fn kind_of(stem: &str) -> UnitKind
     ensures { result ≡ kind_of stem.now }
@@ -49,8 +49,8 @@ pub fn kind_of(stem: &str) -> UnitKind
     UnitKind::Instance
 }
 
-/// Returns the stem of the template of an instance, such as `backup@` for `backup@home`. Returns `None` if the stem
-/// isn't that of an instance.
+/// Returns the stem of an instance's template, such as `backup@` for `backup@home`. Returns `None` if the stem isn't
+/// that of an instance.
 #[tactic(auto, unfolding(crate::specs::UnitName::template_of))]
 pub fn template_of(stem: &str) -> Option<&str>
     ensures { option_map (λ template. template.now) result ≡ template_of stem.now }
@@ -62,7 +62,7 @@ pub fn template_of(stem: &str) -> Option<&str>
     None
 }
 
-/// Returns what a stem has before its first `@`, or the whole stem if it has no `@`.
+/// Returns the part of a stem before its first `@`, or the whole stem if it has no `@`.
 pub(crate) fn base_of(stem: &str) -> &str
     ensures { result.now ≡ base_of stem.now }
 {

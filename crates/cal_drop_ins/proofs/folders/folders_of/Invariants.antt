@@ -2,7 +2,7 @@ use Rattle.std.proofs.Common.{◌≡◌, map, take, reverse, string_bytes}
 use Rattle.cal_drop_ins.specs.Folders.{folders}
 use Rattle.cal_drop_ins.proofs.folders.folders_of.Given as goal
 
--- the folders so far are those that apply to a unit with only the names so far
+-- the folders so far are those of a unit that has only the stems before the loop's index
 abbrev pub invariant-loop-stem : goal.invariant-loop-stem
 invariant-loop-stem l =
     map string_bytes l.folders.items

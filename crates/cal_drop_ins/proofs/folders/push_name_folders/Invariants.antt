@@ -2,7 +2,7 @@ use Rattle.std.proofs.Common.{◌≡◌, ◌++◌, map, take, string_bytes}
 use Rattle.cal_drop_ins.specs.Folders.{name_folders}
 use Rattle.cal_drop_ins.proofs.folders.push_name_folders.Given as goal
 
--- the folders below the roots so far have been appended
+-- the folders below the roots before the loop's index have been appended
 abbrev pub invariant-loop-root : goal.invariant-loop-root
 invariant-loop-root l =
     map string_bytes l.folders.items
