@@ -13,17 +13,17 @@ pub enum Item<'a> {
     Link(&'a str),
     /// A folder.
     Folder,
-    /// A folder with this many drop-ins, which are gone when they are opened.
+    /// A folder with this many drop-ins. They are listed, but nothing is at their paths.
     Many(u32),
-    /// A file that is in its folder, but gone when it is opened.
+    /// A name that is listed in its folder, but nothing is at its path, as if the file was removed after the listing.
     Gone,
-    /// Something that can't be listed, opened or looked at.
+    /// A file or folder that can't be listed or opened. Looking at its path fails too.
     Locked,
-    /// An entry whose name isn't UTF-8. The name in the path of this item has no effect.
+    /// An entry of a folder, with a name that isn't UTF-8. The last part of this item's path has no effect.
     Unnamed,
 }
 
-/// A machine that has each of these items at its path.
+/// A machine with these items, each at its path.
 #[derive(Clone, Copy, Debug)]
 pub struct Memory<'a> {
     pub items: &'a [(&'a str, Item<'a>)],

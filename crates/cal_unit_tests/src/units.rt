@@ -1,4 +1,4 @@
-//! Tests of units, of their drop-ins, and of errors with their paths.
+//! Tests of finding units and their drop-ins, and of errors with their paths.
 
 use crate::memory::{Item, Memory};
 use cal_drop_ins::system_path;
@@ -65,7 +65,7 @@ fn ensure(holds: bool, about: &str) -> Result<(), Fail> {
     if holds { Ok(()) } else { Err(about.into()) }
 }
 
-/// Returns whether a unit was found, its file is at `path`, and its own stem, which is the last one, is `own`.
+/// Returns whether `unit` was found with its file at `path`, and with `own` as its own stem, which is the last one.
 fn is_found(unit: &Unit, path: &str, own: &str) -> bool {
     match unit {
         Unit::Found(file) => {
@@ -98,7 +98,7 @@ fn find(alloc: Global, stem: &str) -> Result<Unit, Fail> {
     }
 }
 
-/// Finds a unit of each kind.
+/// Tests what is found for units of each kind.
 #[test]
 fn finds_units(rt: HostRuntime) -> Result<(), Fail> {
     let alloc = rt.alloc();
@@ -140,7 +140,7 @@ fn reports_a_loop_of_links(rt: HostRuntime) -> Result<(), Fail> {
     }
 }
 
-/// Reads the unit `a`, which has the alias `also`, and joins the bytes of its files, each file with a space after it.
+/// Reads the files of the unit `a`, which has the alias `also`, and joins their bytes, with a space after each file.
 fn texts(alloc: Global, machine: Memory<'_>) -> Result<Vec<u8>, UnitFault> {
     let path = system_path(alloc, "")?;
     let found = find_drop_ins(alloc, &machine, path.as_slice(), &["also", "a"])?;
@@ -156,7 +156,7 @@ fn texts(alloc: Global, machine: Memory<'_>) -> Result<Vec<u8>, UnitFault> {
 
 const READ: &[u8] = b"own all ten fifteen twenty ";
 
-/// Checks that the unit's file is read first, and then its drop-ins in the order of their names. Masked drop-ins and
+/// Tests that the unit's file is read first, and then its drop-ins in the order of their names. Masked drop-ins and
 /// links to nothing are left out.
 #[test]
 fn reads_drop_ins(rt: HostRuntime) -> Result<(), Fail> {
@@ -166,7 +166,7 @@ fn reads_drop_ins(rt: HostRuntime) -> Result<(), Fail> {
     }
 }
 
-/// Checks that a folder with an entry whose name isn't UTF-8 is reported, and that the folder's other drop-ins are
+/// Tests that a folder with an entry whose name isn't UTF-8 is reported, and that the other drop-ins of the unit are
 /// found.
 #[test]
 fn reports_other_names(rt: HostRuntime) -> Result<(), Fail> {
@@ -186,8 +186,8 @@ fn reports_other_names(rt: HostRuntime) -> Result<(), Fail> {
     )
 }
 
-/// Checks that reading the unit `a` fails with `reason` at the path `at` if the machine has the unit's file and one
-/// more item.
+/// Checks that reading the unit `a` fails with `reason` at the path `at`, on a machine that has only the unit's file
+/// and `item` at `path`.
 fn check_fault(
     alloc: Global,
     path: &str,
@@ -212,7 +212,7 @@ const FOLDER: &str = "/etc/systemd/system/a.timer.d";
 
 const DROP_IN: &str = "/etc/systemd/system/a.timer.d/x.conf";
 
-/// Checks that errors name the path at fault.
+/// Tests that each error names the path at fault.
 #[test]
 fn names_the_path_of_an_error(rt: HostRuntime) -> Result<(), Fail> {
     let alloc = rt.alloc();
