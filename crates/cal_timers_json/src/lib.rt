@@ -1,5 +1,5 @@
-//! The JSON documents that `calendar-timers --json` prints. Each verb has its own, except `next`, which has that of
-//! `show`.
+//! The JSON documents that `calendar-timers --json` prints: one for each verb, except that `next` prints the same
+//! document as `show`.
 //!
 //! Each document is an indented JSON text (RFC 8259) that ends with a line feed. It is made from structs that are
 //! called rows: the members of an object have the names and the order of the fields of its row.

@@ -11,7 +11,7 @@ use serde::Serialize;
 use std::alloc::{AllocError, Global};
 
 /// A timer or a masked unit in the list. The fields `next`, `unix` and `left` are `None` if the unit is masked, or if
-/// its calendar expressions and exceptions leave no next elapse.
+/// the timer's calendar expressions and exceptions leave no next elapse.
 #[derive(Drop, Serialize)]
 pub(crate) struct ListRow<'a> {
     pub(crate) unit: &'a str,
@@ -27,7 +27,7 @@ pub(crate) struct ListRow<'a> {
 /// Returns the document of `list`: an array with an object for each timer and each masked unit. First come the timers
 /// that elapse again, soonest first, then the other timers, and then the masked units.
 ///
-/// The notes of a timer are those in `loaded`. If the timer has calendar expressions, but no next elapse, the note
+/// The notes of a timer are those in `loaded`. If a timer has calendar expressions, but no next elapse, the note
 /// `never` comes first. A masked unit has only the note `masked`. The indices in `next` are those of the timers in
 /// `loaded`.
 ///

@@ -1,7 +1,7 @@
 use Rattle.std.proofs.Common.{◌≡◌, ◌++◌, Some, map, take}
 use Rattle.cal_timers_json.proofs.list.push_soonest.Given as goal
 
--- so far, a row with the same instant has been appended for each elapse before the loop's index
+-- so far, one row has been appended for each elapse before the loop's index, with the elapse as its instant
 abbrev pub invariant-loop-elapse : goal.invariant-loop-elapse
 invariant-loop-elapse l =
     map (λ row. row.unix) l.rows.items
