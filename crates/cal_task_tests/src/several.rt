@@ -7,7 +7,7 @@ use cal_tasks::{Clocked, Difference, TimerElapse, difference_of, elapses_between
 use std::alloc::Global;
 use std::test::Fail;
 
-/// If it is Thu 2026-11-26 13:00:00 in Berlin, as in all tests, these timers elapse next at 18:00, never, at 13:30 and
+/// In all tests, it is Thu 2026-11-26 13:00:00 in Berlin. Then these timers next elapse at 18:00, never, at 13:30 and
 /// at 18:00.
 static TIMERS: [&str; 4] = [
     "[Timer]\nOnCalendar=18:00",

@@ -19,8 +19,8 @@ static ROWS: [Row; 22] = [
     ("Fri 18:00", FRIDAY, Ok(FRIDAY + 7 * DAY)),
     ("  friday  18:00 ", NOON, Ok(FRIDAY)),
     ("Mon 06:00", FRIDAY, Ok(1_796_014_800)),
-    // The weekday of the next two rows is today's. 12:00 has passed, so the first row means the next Thursday; 13:00:01
-    // is one second from now.
+    // The weekday of the next two rows is today's. 12:00 has passed, so the instant of the first row is in the next
+    // week. 13:00:01 is one second from now.
     ("Thu 12:00", NOON, Ok(NOON + 7 * DAY - 3_600)),
     ("Thu 13:00:01", NOON, Ok(NOON + 1)),
     ("Mon..Fri 9:00", NOON, Ok(1_795_766_400)),
