@@ -13,7 +13,8 @@ fn loads(alloc: Global, expressions: &[&str], wanted: &str) -> Result<(), Fail> 
     check(shown(alloc, &loaded)?.as_str(), wanted)
 }
 
-/// Tests that expressions are numbered from 1, and that an error names its expression and leaves no timer.
+/// Tests that expressions are numbered from 1, that an error names the expression at fault, and that no timer is loaded
+/// after an error.
 #[test]
 fn loads_expressions(rt: HostRuntime) -> Result<(), Fail> {
     let alloc = rt.alloc();

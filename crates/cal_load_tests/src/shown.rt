@@ -13,9 +13,9 @@ pub(crate) fn check(found: &str, wanted: &str) -> Result<(), Fail> {
     Err(found.into())
 }
 
-/// Returns the loaded timers, the masked units and the errors as one line of text. A timer is its name, its files in
-/// square brackets, its expressions as `FILE:LINE EXPRESSION,`, its exceptions as `FILE:LINE except EXPRESSION,`, and
-/// its notes.
+/// Returns the loaded timers, the masked units and the errors as one line of text. A timer is written as its name, its
+/// files in square brackets, its expressions as `FILE:LINE EXPRESSION,`, its exceptions as
+/// `FILE:LINE except EXPRESSION,`, and its notes.
 pub(crate) fn shown(alloc: Global, loaded: &Loaded) -> Result<String, AllocError> {
     let mut text = String::new(alloc);
     for timer in &loaded.timers {
