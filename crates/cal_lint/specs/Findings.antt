@@ -86,7 +86,7 @@ shown_finding finding = record { line = finding.line; kind = finding.kind; probl
 abbrev pub reports_of : List FileFault → Assignment → List Report
 reports_of faults a = map (report_at a.number) (problems_of faults a)
 
--- the settings in the sections `Timer` of a unit file, whose first line has the number 1
+-- the settings in the sections `Timer` of a unit file whose first line has the number 1
 abbrev pub timer_settings : List ℕ → List Assignment
 timer_settings text = settings_in (codes "Timer") false (logical_lines 1 (without_mark text))
 

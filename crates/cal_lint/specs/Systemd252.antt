@@ -34,7 +34,7 @@ is_space b = b == 32
 abbrev pub is_weekday_list : List ℕ → Bool
 is_weekday_list word = is_some (day_named (leading_letters word))
 
--- whether a word is a date, and not weekdays, a shorthand, a time or a zone
+-- whether a word of an expression is its date, and not a list of weekdays, a shorthand, a time or a zone
 abbrev pub is_date : List ℕ → Bool
 is_date word = not (begins_zone word) && not (list_any is_colon word)
 
@@ -60,7 +60,7 @@ runs_past_sunday item =
 
 -- Seconds
 
--- the text after the second colon of a time, or nothing if there is no second colon
+-- the seconds of a time: the text after its second colon, or nothing if there is no second colon
 abbrev pub seconds_in : List ℕ → List ℕ
 seconds_in word = after_first is_colon (after_first is_colon word)
 

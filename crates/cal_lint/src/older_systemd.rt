@@ -64,8 +64,9 @@ impl Rejection {
     ];
 }
 
-/// Returns why systemd 252 rejects a calendar expression that is valid here, or `None` if it accepts the expression
-/// (systemd.time(7), Calendar Events). If there are several reasons, returns the first in the order of [`Rejection`].
+/// Returns why systemd 252 rejects a calendar expression that is valid here, or `None` if systemd 252 accepts the
+/// expression (systemd.time(7), Calendar Events). If there are several reasons, returns the first in the order of
+/// [`Rejection`].
 ///
 /// systemd 252 also rejects an expression with the name of a zone that the machine doesn't have. This function doesn't
 /// check whether the machine has the zone.
@@ -193,7 +194,7 @@ fn is_weekday_list(word: &[u8]) -> bool
     find_day(&word[..letters_len(word)]).is_some()
 }
 
-/// Returns whether a word of a valid expression is its date.
+/// Returns whether a word of a valid expression is the date of the expression.
 fn is_date(word: &[u8]) -> bool
     ensures { result ≡ is_date word.now }
 {
@@ -245,8 +246,7 @@ fn letters_len(word: &[u8]) -> usize
 
 // Seconds
 
-/// Returns the text after the second colon of a time, which has the seconds. Returns an empty text if there is no
-/// second colon.
+/// Returns the seconds of a time: the text after its second colon, or an empty text if there is no second colon.
 fn seconds_in(word: &str) -> &str
     ensures { result.now ≡ seconds_in word.now }
 {

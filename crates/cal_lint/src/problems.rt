@@ -69,7 +69,7 @@ pub struct Finding {
     pub column: u32,
     pub kind: Kind,
     pub problem: Problem,
-    /// The known mistake that the expression resembles, if it is invalid and resembles one.
+    /// The known mistake that an invalid expression resembles, if there is one.
     pub mistake: Option<Mistake>,
     /// A valid expression to write instead, if one is known.
     pub suggestion: Option<String>,
