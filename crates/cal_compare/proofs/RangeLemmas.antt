@@ -11,7 +11,7 @@ use Rattle.cal_text.proofs.General.{list-first, lt_from_less}
 use Rattle.cal_compare.specs.SeveralTimers.{in_range, range_of_one}
 use Rattle.cal_compare.specs.declared.timer_elapse.TimerElapse.{TimerElapse}
 
--- a first elapse outside the range can be left out: the elapses in the range are the same
+-- leaving out the first elapse, if it is outside the range, doesn't change which elapses are in the range
 left_out : (from before : ℤ) (timer : ℕ) (x : ℤ) (xs : List ℤ) → in_range from before x ≡ false
     → range_of_one from before timer (x ∷ xs) ≡ range_of_one from before timer xs
 left_out from before timer x xs h = grind arith
