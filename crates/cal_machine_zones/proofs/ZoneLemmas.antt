@@ -26,7 +26,7 @@ use Rattle.cal_zone.proofs.ZoneMapLemmas.{zone_named-here, zone_named-elsewhere}
 use Rattle.cal_machine_zones.specs.ZoneFiles.{HasZonesOf, IsAdded, IsFirstError, IsLoadError, IsZoneOn}
 use Rattle.cal_machine_zones.specs.declared.fault.ZonesFault.{ZonesFault}
 
--- a name under which a table can get a zone isn't UTC
+-- every table has the name UTC, so a name that a table doesn't have isn't UTC
 pub free_is_other : (table : ZoneMap) (name : List ℕ) → is_taken table name ≡ false → is_utc_name name ≡ false
 unfolding zone_named
 free_is_other table name free = grind (arith, free)

@@ -90,7 +90,8 @@ fn unread(origin: Origin, fault: TreeFault) -> ZonesFault
     }
 }
 
-/// Copies the text of a zone. Fails with [`ZonesFault::Unclear`] for [`Told::Unclear`].
+/// Converts `told` to a [`LocalZone`], which has copies of its texts. Fails with [`ZonesFault::Unclear`] for
+/// [`Told::Unclear`].
 fn to_owned(alloc: Global, told: Told<'_>) -> Result<LocalZone, ZonesFault>
     requires { HasOffset told }
     ensures zone { IsTold (shown_told told.entry) result }

@@ -13,7 +13,7 @@ use cal_units::Entry;
 use cal_zone::Rules;
 use std::alloc::Global;
 
-/// The link to the file of the local zone.
+/// The path of the link to the file of the local zone.
 pub(crate) const LOCALTIME: &str = "/etc/localtime";
 
 /// What an origin says about the local zone. Rules and names are parts of the origin's text.
