@@ -46,8 +46,9 @@ rows =
           ∷ in_lib (codes "foo.timer.d") (codes ".5.conf") ∷ in_lib (codes "foo.timer.d") (codes "README") ∷ [],
       ([], (codes "foo" ∷ [], codes "/lib/foo.timer.d/10.conf" ∷ codes "/etc/timer.d/9.conf" ∷ codes "/lib/foo.timer.d/B.conf" ∷ codes "/lib/foo.timer.d/a.conf" ∷ [])),
     )
-    -- In the second row, the folder of all timers loses to another folder, although it is below the more important
-    -- root. In the third row, of two folders of all timers, the one below the more important root wins.
+    -- In the second row, the folder of all timers loses to another folder, although the folder of all timers is below
+    -- the more important root. In the third row, of two folders of all timers, the one below the more important root
+    -- wins.
     ∷ (
       in_etc (codes "timer.d") (codes "x.conf") ∷ in_lib (codes "foo-.timer.d") (codes "x.conf") ∷ [],
       ([], (codes "foo-bar" ∷ [], codes "/lib/foo-.timer.d/x.conf" ∷ [])),

@@ -18,8 +18,7 @@ pub record Found : Type 0 where
   pub name : List ℕ
   pub path : List ℕ
 
--- whether a file called `name` in a folder of drop-ins is a drop-in: the name ends in `.conf` and doesn't begin with a
--- dot
+-- whether a file called `name` in a drop-in folder is a drop-in: the name ends in `.conf` and doesn't begin with a dot
 unfoldable pub is_drop_in : List ℕ → Bool
 is_drop_in name = ends_with nat_eq name (codes ".conf") && not (starts_with nat_eq name (codes "."))
 
@@ -46,8 +45,8 @@ chosen found = map (λ entry. entry.1) (by_name found)
 
 -- The drop-ins that are read, in the order in which they are read. `path` has the roots of the search path, the most
 -- important first. `stems` has the unit's names without `.timer`: first its aliases, and last its own. A file in a more
--- important folder hides the files of the same name in less important folders, even if it is a link to `/dev/null`. The
--- link itself isn't read.
+-- important folder hides the files of the same name in less important folders. So does a link to `/dev/null`, which
+-- isn't read itself.
 unfoldable pub drop_ins : Disk → List (List ℕ) → List (List ℕ) → List (List ℕ)
 drop_ins disk path stems =
     filter (λ file. not (disk.is_null file))

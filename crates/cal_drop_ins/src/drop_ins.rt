@@ -6,7 +6,7 @@ ghost use Rattle.cal_drop_ins.specs.DropIns.{by_name, candidates, chosen, found_
 use std::alloc::{AllocError, Global};
 use std::collections::BTreeMap;
 
-/// A file in a folder of drop-ins.
+/// A file in a drop-in folder.
 #[derive(Debug, Drop)]
 pub struct DropIn {
     /// The file's name in the folder.
@@ -15,7 +15,7 @@ pub struct DropIn {
     pub path: String,
 }
 
-/// Returns whether a file called `name` in a folder of drop-ins is a drop-in: `name` ends in `.conf` and doesn't begin
+/// Returns whether a file called `name` in a drop-in folder is a drop-in: the name ends in `.conf` and doesn't begin
 /// with a dot.
 #[tactic(auto, unfolding(crate::specs::DropIns::is_drop_in))]
 pub fn is_drop_in(name: &str) -> bool

@@ -21,8 +21,8 @@ pub fn system_path(alloc: Global, root: &str) -> Result<Vec<String>, AllocError>
     all_below(alloc, root, &folders)
 }
 
-/// Returns the search path of a user's manager below `root`, the most important folder first. `home` is the user's home
-/// below `root`, such as `/home/ann`. Variables such as `XDG_CONFIG_HOME` have no effect.
+/// Returns the search path of a user's manager below `root`, the most important folder first. `home` is the path of the
+/// user's home, such as `/home/ann`, without `root` in front. Variables such as `XDG_CONFIG_HOME` have no effect.
 pub fn user_path(alloc: Global, root: &str, home: &str) -> Result<Vec<String>, AllocError>
     ensures { IfOk result (λ path. map string_bytes path.items ≡ user_path root.now home.now) }
 {
