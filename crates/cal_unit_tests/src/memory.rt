@@ -15,7 +15,7 @@ pub enum Item<'a> {
     Folder,
     /// A folder with this many drop-ins. They are listed, but nothing is at their paths.
     Many(u32),
-    /// A name that is listed in its folder, but nothing is at its path, as if the file was removed after the listing.
+    /// A name that is listed in a folder, although nothing is at its path, as if the file had been removed since.
     Gone,
     /// A file or folder that can't be listed or opened. Looking at its path fails too.
     Locked,
