@@ -1,4 +1,5 @@
--- Lemmas on the counts of units in a printed span: division with remainder finds them, and there are no others.
+-- Lemmas on the counts of units in a printed span: exactly one list of counts follows the rule for a span, and division
+-- with remainder finds this list.
 use Rattle.std.proofs.Common.{◌≡◌, ℕ, ◌+◌, ◌*◌, ◌/◌, ◌%◌, ◌<◌, ◌≤◌, List, [], ◌∷◌, ◌++◌, codes, length, drop, get_or, Bool, true, false, cond, nat_lt, refl, ap, ◌∙◌, lit<, arith}
 use Rattle.std.proofs.Math.Nat.{div-eq_of_lt, mod-eq_of_lt}
 use Rattle.std.proofs.lemmas.Bool.{lt-ltb, le-ltb, ltb-false}
@@ -69,11 +70,11 @@ unfolding units_text
 span_text_only n text h =
     h.2 ∙ ap (λ (cs : List Count). counts_text (positive cs)) (counts_of-weight all_units h.0 h.1.reduced ∙ ap (counts_of all_units) h.1.sum)
 
--- if a unit fits into `n`, the counts that aren't zero begin with the count of this unit
+-- if the first unit fits into `n`, the counts that aren't zero begin with the count of this unit
 positive_taken : (unit : TimeUnit) (units : List TimeUnit) (n : ℕ) → size_of unit ≤ n → positive (counts_of (unit ∷ units) n) ≡ record { number = n / size_of unit; unit = unit } ∷ positive (counts_of units (n % size_of unit))
 positive_taken unit units n fits = grind (arith, nat_tests, lt-ltb, le-div, size_of_positive)
 
--- if a unit doesn't fit into `n`, its count is zero, so only units after it can have counts that aren't zero
+-- if the first unit doesn't fit into `n`, its count is zero, so only later units can have counts that aren't zero
 positive_skipped : (unit : TimeUnit) (units : List TimeUnit) (n : ℕ) → n < size_of unit → positive (counts_of (unit ∷ units) n) ≡ positive (counts_of units (n % size_of unit))
 positive_skipped unit units n below = grind (arith, nat_tests, le-ltb, div-eq_of_lt)
 
@@ -96,8 +97,8 @@ unfolding counts_in_row
 counts_in_row-led [] = refl
 counts_in_row-led (c ∷ cs) = refl
 
--- if the unit at index `i` fits into `n`, then `led lead` of the counts from this unit on consists of three texts:
--- `lead`, the count of this unit, and `led` of the counts after it, with a space as their lead
+-- if the unit at index `i` fits into `n`, the loop prints `lead` and the count of this unit, and then the counts of the
+-- later units that aren't zero, with a space before each of them
 pub led_taken : (lead : List ℕ) (units : List TimeUnit) (i : ℕ) (d : TimeUnit) (size n : ℕ) → i < length units → size ≡ size_of (get_or units i d) → size ≤ n → led lead (positive (counts_of (drop i units) n)) ≡ joined (lead ∷ decimal (n / size) ∷ unit_name (get_or units i d) ∷ []) ++ led (codes " ") (positive (counts_of (drop (i + 1) units) (n % size)))
 led_taken lead units i d size n within e fits =
     rw e
@@ -112,8 +113,8 @@ led_skipped lead units i d size n within e below =
     ∙ ap (led lead) (positive_skipped (get_or units i d) (drop (i + 1) units) n small)
     ∙ ap (λ left. led lead (positive (counts_of (drop (i + 1) units) left))) (mod-eq_of_lt small)
 
--- if the counts `kept` add up to `n`, and `c` is put in front of them unless its number is zero, the sum is the value
--- of `c` plus `n` in both cases
+-- if the counts `kept` add up to `n`, and the count `c` is put in front of them unless its number is zero, the
+-- resulting counts add up to the value of `c` plus `n`
 weight-kept : (c : Count) (kept : List Count) (n : ℕ) → weight kept ≡ n → (b : Bool) → nat_lt 0 c.number ≡ b → weight (cond b (c ∷ kept) kept) ≡ c.number * size_of c.unit + n
 weight-kept c kept n e true t = ap (λ (m : ℕ). c.number * size_of c.unit + m) e
 weight-kept c kept n e false t = grind (arith, nat_tests, ltb-false)

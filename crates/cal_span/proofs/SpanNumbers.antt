@@ -1,4 +1,5 @@
--- Lemmas on the numbers of a time span, in terms of the digits before and after the decimal point.
+-- Lemmas on the numbers of a time span, in terms of the bytes before and after the first decimal point. If a word has
+-- no decimal point, all its bytes count as bytes before the point.
 use Rattle.std.proofs.Common.{ℕ, suc, ◌+◌, ◌-◌, ◌*◌, ◌^◌, ◌/◌, ◌<◌, ◌≤◌, ◌≡◌, Bool, true, false, cond, not, ◌&&◌, ◌||◌, leb, List, [], ◌∷◌, length, take, drop, get_or, min, refl, sym, ◌∙◌, arith, zero-add, add-one, ⊎_elim}
 use Rattle.std.specs.Prelude.{count_by, nat_le, nat_lt}
 use Rattle.std.specs.List.{list_all, list_any, position_or_len, before_first, after_first}

@@ -80,7 +80,7 @@ name_of_nonempty Second = lit< tt
 name_of_nonempty Millisecond = lit< tt
 name_of_nonempty Microsecond = lit< tt
 
--- the words of counts: the digits and the unit of each
+-- the words of printed counts: for each count, its digits and then its unit
 abbrev pub count_words : List Count → List Piece
 count_words [] = []
 count_words (c ∷ cs) =

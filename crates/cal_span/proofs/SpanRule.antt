@@ -1,4 +1,4 @@
--- `span_of` returns the value or the error that the rule `Judges` demands, and the rule demands no other.
+-- `span_of` returns the value or the error that the rule `Judges` demands, and the rule allows no other value or error.
 use Rattle.std.proofs.Common.{ℕ, ◌+◌, ◌≤◌, ◌≡◌, Bool, true, false, cond, List, [], ◌∷◌, ◌++◌, Option, Some, None, Result, Ok, Err, refl, sym, ap, ◌∙◌, subst, arith, add-zero, zero-add, ◌⊎◌, inl, inr, ⊎_elim}
 use Rattle.std.specs.Prelude.{nat_le}
 use Rattle.std.proofs.lemmas.Bool.{leb-true, leb-false, le-leb, lt-leb}
@@ -30,15 +30,15 @@ JudgesFrom sum ps (Ok n) = (k : ℕ) × AreWorth ps k × (n ≡ sum + k) × (n �
 JudgesFrom sum ps (Err f) =
     (before : List Pair) × (p : Pair) × (after : List Pair) × (k : ℕ) × (ps ≡ before ++ (p ∷ after)) × AreWorth before k × (sum + k ≤ limit) × IsFaultAfter (sum + k) p f
 
--- a pair without a value is invalid after any sum
+-- if a pair has an error of its own, it fails with this error whatever the sum of the pairs before it is
 fault_after : (sum : ℕ) (p : Pair) (f : SpanFault) → worth_of p ≡ Err f → IsFaultAfter sum p f
 fault_after sum p Empty e = e
 fault_after sum p BadNumber e = e
 fault_after sum p UnknownUnit e = e
 fault_after sum p TooLarge e = grind (arith, nat_tests, ⊎_elim, worth_fault)
 
--- if the rule gives `r` for `ps` after the sum `sum + m`, it gives `r` for `p ∷ ps` after `sum`, where `m` is the value
--- of `p`
+-- if `m` is the value of `p`, and the rule demands the result `r` for `ps` after the sum `sum + m`, then it demands `r`
+-- for `p ∷ ps` after the sum `sum`
 one_before : (sum : ℕ) (p : Pair) (ps : List Pair) (m : ℕ) (r : Result ℕ SpanFault) → worth_of p ≡ Ok m → JudgesFrom (sum + m) ps r → JudgesFrom sum (p ∷ ps) r
 one_before sum p ps m (Ok n) e (k, are, is, small) =
     (m + k, (m, k, e, are, refl), omega arith, small)

@@ -9,7 +9,7 @@ use Rattle.cal_span.specs.SpanValue.{Piece, is_kind, characters, with_front, run
 use Rattle.cal_span.specs.SpanRule.{IsRun, AreRuns, AreApart}
 use Rattle.std.proofs.lemmas.Bool.Decides.{nat_tests}
 
--- one character is a run
+-- a single character is a run
 run_alone : (s : Piece) → IsRun (s ∷ []) s
 run_alone s = record { some = omega arith; kinds = (refl, tt); text = sym (append-nil s.text) }
 
@@ -58,9 +58,10 @@ runs_apart (s ∷ ss) = apart_first s (runs ss) (runs_apart ss)
 pub runs_longest : (text : List ℕ) → AreApart (runs (characters text))
 runs_longest text = runs_apart (characters text)
 
--- There are no other runs
+-- If runs follow the rules `AreRuns` and `AreApart`, they are the runs that `runs` finds
 
--- a run of kind k may stand in front of these runs: there are no runs, or the first run is of another kind
+-- a run of kind `k` in front of these runs stays a run of its own: there are no runs, or the first run is of another
+-- kind
 abbrev pub BeginsApart : CharKind → List Piece → Type 0
 BeginsApart k [] = Unit {0}
 BeginsApart k (v ∷ ws) = is_kind k v.kind ≡ false

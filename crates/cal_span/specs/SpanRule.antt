@@ -28,7 +28,7 @@ AreApart [] = ⊤
 AreApart (w ∷ []) = ⊤
 AreApart (w ∷ v ∷ ws) = (is_kind w.kind v.kind ≡ false) × AreApart (v ∷ ws)
 
--- Pairs (here a number is any word of digits and decimal points, and a unit is any word of letters)
+-- Pairs. In this section, a number is any word of digits and decimal points, and a unit is any word of letters.
 
 -- the words don't begin with a unit, that is, with a word of letters
 abbrev pub BeginsWithNoUnit : List Piece → Type 0
@@ -60,7 +60,7 @@ pub record IsNoNumber (ws : List Piece) (p : Pair) (rest : List Piece) : Type 0 
   pub is_other : word.kind ≡ Numeric → ⊥
   pub pair : p ≡ record { number = []; unit = None }
 
--- the words form these pairs; blanks are not among the words
+-- the words, from which blanks have been removed, form these pairs, and no word is left over
 abbrev pub ArePairs : List Piece → List Pair → Type 0
 ArePairs ws [] = ws ≡ []
 ArePairs ws (p ∷ ps) = (rest : List Piece) × (IsWithUnit ws p rest ⊎ (IsWithoutUnit ws p rest ⊎ IsNoNumber ws p rest)) × ArePairs rest ps

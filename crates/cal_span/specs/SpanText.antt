@@ -22,6 +22,6 @@ pub record AreCounts (n : ℕ) (cs : List Count) : Type 0 where
   pub sum : weight cs ≡ n
   pub reduced : AreReduced all_units cs
 
--- the text is the printed span of n microseconds: the text of the counts of n that aren't zero
+-- the text is the printed span of n microseconds: the counts that aren't zero, or `0` if all counts are zero
 abbrev pub IsSpanText : ℕ → List ℕ → Type 0
 IsSpanText n text = (cs : List Count) × AreCounts n cs × (text ≡ counts_text (positive cs))

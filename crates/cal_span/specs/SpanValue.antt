@@ -63,7 +63,7 @@ with_front s (w ∷ ws) =
     if is_kind s.kind w.kind then record { kind = s.kind; text = s.text ++ w.text } ∷ ws
     else s ∷ w ∷ ws
 
--- the characters, joined into the longest runs of one kind
+-- the characters, joined into runs of one kind, each as long as possible
 abbrev pub runs : List Piece → List Piece
 runs [] = []
 runs (s ∷ ss) = with_front s (runs ss)
@@ -84,7 +84,8 @@ pub record Pair : Type 0 where
 abbrev pub numeral_in : Piece → List ℕ
 numeral_in w = if is_kind Numeric w.kind then w.text else []
 
--- whether the first word is a number and the second its unit, by their kinds
+-- whether the first word consists of digits and decimal points and the second of letters, so that the second word is
+-- the unit of the first
 abbrev pub is_unit_of : Piece → Piece → Bool
 is_unit_of w v = is_kind Numeric w.kind && is_kind Letter v.kind
 

@@ -76,7 +76,7 @@ impl TimeUnit {
             TimeUnit::Minute => &[b"minutes", b"minute", b"min", b"m"],
             TimeUnit::Second => &[b"seconds", b"second", b"sec", b"s"],
             TimeUnit::Millisecond => &[b"msec", b"ms"],
-            // With the micro sign, U+00B5, and with the Greek letter mu, U+03BC.
+            // The last two spellings begin with the micro sign, U+00B5, and the Greek letter mu, U+03BC, respectively.
             TimeUnit::Microsecond => &[b"usec", b"us", b"\xc2\xb5s", b"\xce\xbcs"],
         }
     }

@@ -20,7 +20,7 @@ pub enum SpanFault {
     /// The word of letters after the number is not a unit.
     #[error("unknown unit")]
     UnknownUnit = 3,
-    /// A pair takes the sum of the pairs so far over 9,223,372,036,854,775,807 microseconds.
+    /// The values of the pairs up to this one add up to more than 9,223,372,036,854,775,807 microseconds.
     #[error("time span too large")]
     TooLarge = 4,
 }

@@ -27,8 +27,8 @@ pub fn one_value()
     ensures spelled { (unit : TimeUnit)
         → AllByRecursion (λ word. unit_named word ≡ Some unit) (spellings_of unit) }
 
-    // The value is the sum of the pairs. If a pair is invalid or takes the sum over the limit, the result is the error
-    // of the leftmost such pair instead. Without pairs, the result is the error `Empty`.
+    // The value of a text is the sum of the values of its pairs. If a pair is invalid or takes the sum over the limit,
+    // the result is the error of the leftmost such pair instead. Without pairs, the result is the error `Empty`.
     ensures found { (text : List ℕ) → Judges (pairs_in text) (span_of text) }
     ensures only { (pairs : List Pair) (a b : Result ℕ SpanFault)
         → Judges pairs a → Judges pairs b → a ≡ b }

@@ -17,8 +17,8 @@ use crate::time_unit::TimeUnit;
 use cal_bytes::{ShortText, Sink, WriteFault, push, put_all};
 use itoa::Buffer;
 
-/// The maximum length of a printed span, in bytes. Each of its nine units takes at most a space, 20 digits and a name
-/// of 5 bytes.
+/// An upper bound on the length of a printed span, in bytes. Each of the nine units takes at most 26 bytes: a space, 20
+/// digits and a name of 5 bytes.
 pub const SPAN_ROOM: usize = 234;
 
 /// Appends a time span as it is printed: its units from the largest to the smallest, without those whose count is zero,
@@ -46,7 +46,8 @@ pub fn format_span(span: Span) -> ShortText
 
 /// Writes a time span as [`push_span`] prints it.
 ///
-/// Fails with [`WriteFault::Failed`] if and only if the sink fails; then only a prefix was written.
+/// Fails with [`WriteFault::Failed`] if and only if the sink fails; in that case, only a prefix of the text was
+/// written.
 pub fn write_span<W: Sink>(out: &mut W, span: Span) -> Result<(), WriteFault>
     requires { W.is_failed out.old ≡ false }
     ensures { Puts W.Sink out.old out.new result (span_text span.micros) }
@@ -55,8 +56,9 @@ pub fn write_span<W: Sink>(out: &mut W, span: Span) -> Result<(), WriteFault>
     put_all(out, text.as_slice())
 }
 
-/// For every number of microseconds, exactly one text follows the rule `IsSpanText`, and this text is printed. The
-/// function does nothing; its contract is a law, a statement that is proved for all arguments.
+/// For every number of microseconds, exactly one text follows the rule `IsSpanText`: the text that [`push_span`]
+/// appends for a span of this length. The function does nothing; its contract is a law, a statement that is proved for
+/// all arguments.
 pub fn one_text()
     ensures some { (n : ℕ) → IsSpanText n (span_text n) }
     ensures only { (n : ℕ) (text : List ℕ) → IsSpanText n text → text ≡ span_text n }
@@ -68,7 +70,8 @@ pub fn text_reads_back()
     ensures { (n : ℕ) → n ≤ limit → span_of (span_text n) ≡ Ok n }
 {}
 
-/// Divides `micros` into these units and appends each count that isn't zero, with a space between the counts.
+/// Splits `micros` into counts of `units`, starting with the first unit, and appends each count that isn't zero,
+/// followed by the name of its unit. There is a space between the counts.
 fn push_counts(text: &mut ShortText, units: &[TimeUnit], micros: u64)
     requires few { length units.now ≤ 9 }
     requires room { length text.old.items + SPAN_ROOM ≤ SHORT_TEXT_ROOM }

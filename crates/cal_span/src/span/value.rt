@@ -45,7 +45,7 @@ struct Pair<'a> {
     unit: Option<&'a [u8]>,
 }
 
-/// Returns the first pair in `bytes` and the bytes after it, or `None` if there are only blanks. If the first word
+/// Returns the first pair in `bytes` and the bytes after it, or `None` if `bytes` is empty or blank. If the first word
 /// doesn't consist of digits and decimal points, the pair has an empty number, which [`add_pair`] rejects.
 fn first_pair(bytes: &[u8]) -> Option<(Pair<'_>, &[u8])>
     ensures { MatchOption result (pairs_in bytes.now ≡ []) (λ found.
@@ -75,7 +75,7 @@ fn first_pair(bytes: &[u8]) -> Option<(Pair<'_>, &[u8])>
     }
 }
 
-/// Adds a pair to `sum`, or returns the error of the pair.
+/// Returns the sum of `sum` and the value of the pair. Fails if the pair is invalid or the new sum is too large.
 fn add_pair(sum: Span, pair: Pair<'_>) -> Result<Span, SpanFault>
     ensures { let worth = worth_of record {
       number = pair.entry.number.now;
@@ -104,8 +104,8 @@ fn unit_of(word: Option<&[u8]>) -> Option<TimeUnit>
     }
 }
 
-/// Returns the units that have a spelling with the same first byte as `word`, from the largest to the smallest, so that
-/// most units need not be compared.
+/// Returns the units that have a spelling with the same first byte as `word`, from the largest to the smallest.
+/// [`find_unit`] then compares `word` only with the spellings of these units.
 #[tactic(auto, unfolding(crate::specs::SpanValue::unit_named, crate::specs::UnitSpellings::spellings_of))]
 fn units_by_initial(word: &[u8]) -> &'static [TimeUnit]
     ensures { find (λ unit. list_any (bytes_eq word.now) (spellings_of unit)) result.now ≡ unit_named word.now }
@@ -124,7 +124,7 @@ fn units_by_initial(word: &[u8]) -> &'static [TimeUnit]
     }
 }
 
-/// Returns the first of `units` that can be spelled `word`, or `None` if there is none.
+/// Returns the first of `units` that can be spelled `word`, or `None` if none of them can.
 fn find_unit(units: &[TimeUnit], word: &[u8]) -> Option<TimeUnit>
     ensures { result ≡ find (λ unit. list_any (bytes_eq word.now) (spellings_of unit)) units.now }
 {

@@ -25,7 +25,7 @@ pub(crate) struct Word<'a> {
     pub(crate) text: &'a [u8],
 }
 
-/// Returns the first word in `bytes` and the bytes after it, or `None` if there are only blanks.
+/// Returns the first word in `bytes` and the bytes after it, or `None` if `bytes` is empty or blank.
 pub(crate) fn first_span_word(bytes: &[u8]) -> Option<(Word<'_>, &[u8])>
     ensures { MatchOption result (words_in bytes.now ≡ []) (λ found.
         (words_in bytes.now
