@@ -1,5 +1,5 @@
--- Lists without the numbers of other lists, the exceptions: which numbers they contain, what one round of the loop in
--- `Merge::next` leaves of them, and how `has_onward_in_any` tests whether at least one exception has a number.
+-- Lemmas on lists without the numbers of other lists, the exceptions; on one round of the loop in `Merge::next`; and on
+-- the loop in `has_onward_in_any`, which tests whether at least one exception has a number.
 use Rattle.std.proofs.Common.{None, IfSome, ◌≡◌, ◌≢◌, ◌↔◌, ◌||◌, ◌&&◌, ◌<◌, ◌≤◌, ◌+◌, ℕ, suc, cond, Bool, true, false, not, List, [], ◌∷◌, length, drop, slice_get, get_or, get_or-set_other, set, map, zero, Option, Some, ℤ, ◌≤ℤ◌, int_eq, refl, sym, ap, ◌∙◌, arith}
 use Rattle.std.specs.List.{AllByRecursion, list_any}
 use Rattle.std.specs.List.Sorted.{IsStrictlySortedBy}

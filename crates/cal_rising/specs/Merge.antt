@@ -12,7 +12,7 @@ pub record Merge : Type 0 where
   pub lists : List (List ℤ)
   pub exceptions : List (List ℤ)
 
--- the numbers that a merge has yet to return: those of its sources that no exception has
+-- the numbers that a merge has yet to return: the remaining numbers of its sources, without those that an exception has
 abbrev pub merged : Merge → List ℤ
 merged m = without (union m.lists) (union m.exceptions)
 
@@ -33,7 +33,7 @@ numbers s = numbers_by s.head s.after
 abbrev pub HasHead : Peeked → Type 0
 HasHead s = (s.head ≡ slice_get (numbers s) 0) × IsStrictlySortedBy int_cmp (numbers s)
 
--- what remains of a strictly increasing list after `x` is returned; no number of the list may be below `x`
+-- what remains of a strictly increasing list after `x` is returned, if no number of the list is below `x`
 abbrev pub advanced : ℤ → List ℤ → List ℤ
 advanced x [] = []
 advanced x (y ∷ ys) = cond (int_lt x y) (y ∷ ys) ys

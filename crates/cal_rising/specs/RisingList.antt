@@ -11,7 +11,7 @@ abbrev pub HasAny : List (List ℤ) → ℤ → Type 0
 HasAny [] i = ⊥
 HasAny (xs ∷ xss) i = Has xs i ⊎ HasAny xss i
 
--- `ys`, a strictly increasing list, with the numbers of `xs` inserted
+-- the strictly increasing list `ys` with the numbers of `xs` inserted
 abbrev pub with_numbers : List ℤ → List ℤ → List ℤ
 with_numbers [] ys = ys
 with_numbers (x ∷ xs) ys = insert_key int_cmp (with_numbers xs ys) x

@@ -71,8 +71,9 @@ impl<S: Rising> Merge<S> {
 impl<S: Rising> Rising for Merge<S> {
     ghost rest = { merged };
 
-    /// Removes and returns the smallest remaining number of the sources that no exception has. The sources' smaller
-    /// numbers are dropped, since exceptions have them. Returns `None` if there is no such number.
+    /// Removes and returns the smallest remaining number that a source has and no exception has. Returns `None` if
+    /// there is no such number. All smaller numbers of the sources are dropped: for each of them, there is an exception
+    /// that has it.
     fn next(&mut self) -> Option<i64>
         ensures given { result ≡ slice_get (merged self.old) 0 }
         ensures left { merged self.new ≡ drop 1 (merged self.old) }

@@ -1,4 +1,5 @@
-//! One source of a merge. At most one number has been read ahead from it: read but not returned yet.
+//! One source of a merge, and the number read ahead, if any: a number that was read from the source, but that the merge
+//! has not returned yet.
 
 ghost use Rattle.std.specs.Prelude.{◌≡◌, ◌≤ℤ◌, None, IfSome};
 ghost use Rattle.std.specs.Set.{is_member};
@@ -9,9 +10,9 @@ ghost use Rattle.cal_rising.specs.RisingList.{IsSameFrom};
 use crate::Rising;
 use std::marker::Model;
 
-/// After this many answers that a source lacks the number asked for, the next such answer causes a number to be read
-/// from the source. Reading is put off this long because, if a source has few numbers, finding the next one costs far
-/// more than asking whether it has a certain number.
+/// How many misses are counted before the next miss makes [`Peeked::has_onward`] read a number from the source. A miss
+/// is an answer of the source that it does not have the number asked for. Reading is put off because finding the next
+/// number of a source can cost far more than asking whether the source has a certain number.
 const MISSES_BEFORE_STEP: u8 = 128;
 
 /// A source whose next number may have been read ahead ("peeked"). A contract sees the number read ahead, if any, and
@@ -20,7 +21,7 @@ const MISSES_BEFORE_STEP: u8 = 128;
 pub struct Peeked<S: Rising> {
     head: Option<i64>,
     source: S,
-    /// How many times the source has said that it lacks a number since `step_toward` last read from it.
+    /// The misses counted so far. When `step_toward` reads from the source, counting starts again at 0.
     misses: u8,
 }
 
@@ -37,7 +38,7 @@ impl<S: Rising> Model for Peeked<S> {
 }
 
 impl<S: Rising> Peeked<S> {
-    /// Wraps a source from which no number has been read ahead yet.
+    /// Wraps a source. No number is read ahead yet.
     pub fn new(source: S) -> Self
         ensures { result ≡ record { head = None; after = S.rest source } }
     {
@@ -48,8 +49,8 @@ impl<S: Rising> Peeked<S> {
         }
     }
 
-    /// Reads a number from the source unless one has already been read ahead. The numbers yet to be returned stay the
-    /// same.
+    /// Reads one number ahead from the source, unless that has already been done. The numbers yet to be returned stay
+    /// the same.
     pub fn peek(&mut self)
         ensures same { numbers self.new ≡ numbers self.old }
         ensures taken { HasHead self.new }
@@ -121,9 +122,9 @@ impl<S: Rising> Peeked<S> {
         }
     }
 
-    /// Does nothing if the number read ahead is at least `number`. Otherwise counts the call or, after
-    /// [`MISSES_BEFORE_STEP`] counted calls, drops the number read ahead, if any, reads the next one from the source,
-    /// and starts counting again.
+    /// Does nothing if the number read ahead is at least `number`. Otherwise counts a miss. If [`MISSES_BEFORE_STEP`]
+    /// misses have been counted already, drops the number read ahead, if any, reads the next one from the source, and
+    /// starts counting again at 0 instead.
     fn step_toward(&mut self, number: i64)
         ensures { IsSameFrom number (numbers self.new) (numbers self.old) }
     {

@@ -18,7 +18,8 @@ pub trait Rising {
     /// Returns whether the rest contains `number`, or `None` if the source cannot tell. The rest does not change. Does
     /// not allocate.
     ///
-    /// By default a source cannot tell; a [`Merge`](crate::Merge) then reads it up to the number instead.
+    /// The default implementation returns `None`. A [`Merge`](crate::Merge) then reads the numbers of the source until
+    /// it reaches `number` or a greater number.
     fn has(&mut self, _number: i64) -> Option<bool>
         ensures has { IfSome result (λ has. has ≡ is_member int_eq (rest self.old) _number) }
         ensures same { rest self.new ≡ rest self.old }

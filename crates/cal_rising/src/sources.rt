@@ -64,9 +64,9 @@ impl<S: Rising> Sources<S> {
 impl<S: Rising> Rising for Sources<S> {
     ghost rest = { union };
 
-    /// Returns the smallest remaining number of the sources and removes it from each source that has it. To find it,
-    /// reads one number ahead from each source from which none has been read ahead. Returns `None` if no source has a
-    /// number left.
+    /// Returns the smallest remaining number of the sources and removes this number from each source that has it.
+    /// Returns `None` if no source has a number left. To compare the sources, makes sure that the next number of each
+    /// source has been read ahead.
     fn next(&mut self) -> Option<i64>
         ensures given { result ≡ slice_get (union self.old) 0 }
         ensures left { union self.new ≡ drop 1 (union self.old) }
@@ -84,7 +84,7 @@ impl<S: Rising> Rising for Sources<S> {
     ghost rises = { rises-union };
 }
 
-/// Reads one number ahead from each source from which none has been read ahead.
+/// Makes sure that the next number of each source, if the source has one, has been read ahead.
 fn peek_all<S: Rising>(sources: &mut Vec<Peeked<S>>)
     ensures same { map numbers sources.new.items ≡ map numbers sources.old.items }
     ensures taken { All HasHead sources.new.items }
@@ -107,7 +107,7 @@ fn least_head<S: Rising>(sources: &Vec<Peeked<S>>) -> Option<i64>
     least
 }
 
-/// Drops the number read ahead from each source if it is at most `number`.
+/// In each source, drops the number read ahead if it is at most `number`.
 fn advance_all_past<S: Rising>(sources: &mut Vec<Peeked<S>>, number: i64)
     requires { All HasHead sources.old.items }
     ensures { map numbers sources.new.items ≡ map (advanced number) (map numbers sources.old.items) }
