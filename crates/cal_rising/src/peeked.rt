@@ -11,8 +11,8 @@ use crate::Rising;
 use std::marker::Model;
 
 /// How many misses are counted before the next miss makes [`Peeked::has_onward`] read a number from the source. A miss
-/// is an answer of the source that it does not have the number asked for. Reading is put off because finding the next
-/// number of a source can cost far more than asking whether the source has a certain number.
+/// is an answer of the source that it does not have the number asked for. Reading is put off because, in a source with
+/// few numbers, finding the next number costs far more than asking whether the source has a certain number.
 const MISSES_BEFORE_STEP: u8 = 128;
 
 /// A source whose next number may have been read ahead ("peeked"). A contract sees the number read ahead, if any, and
@@ -122,9 +122,9 @@ impl<S: Rising> Peeked<S> {
         }
     }
 
-    /// Does nothing if the number read ahead is at least `number`. Otherwise counts a miss. If [`MISSES_BEFORE_STEP`]
-    /// misses have been counted already, drops the number read ahead, if any, reads the next one from the source, and
-    /// starts counting again at 0 instead.
+    /// Does nothing if the number read ahead is at least `number`. Otherwise counts a miss, unless
+    /// [`MISSES_BEFORE_STEP`] misses have been counted already. In that case, drops the number read ahead, if any,
+    /// reads the next one from the source, and starts counting again at 0.
     fn step_toward(&mut self, number: i64)
         ensures { IsSameFrom number (numbers self.new) (numbers self.old) }
     {
