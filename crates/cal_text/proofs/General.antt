@@ -398,8 +398,7 @@ rises-next (x ∷ xs) (suc k) h = rises-next xs k h
 pub rises_after : (xs : List ℤ) (k : ℕ) → IsStrictlySortedBy int_cmp (drop k xs) → IsStrictlySortedBy int_cmp (drop (k + 1) xs)
 rises_after xs k h = rw (add-one k) (rises-next xs k h)
 
--- if a list `xs` overwrites a list `ys` of the same length `n`, the first `n` items of the result, which are all of
--- them, are `xs`
+-- if a list `xs` overwrites a list `ys` of the same length `n`, the first `n` items of the result are those of `xs`
 pub taken_whole : {X : Type 0} (xs ys : List X) (n : ℕ) → length xs ≡ length ys → n ≡ length ys → take n (xs ++ drop (length xs) ys) ≡ xs
 taken_whole xs ys n long e =
     let past : length ys ≤ length xs = omega arith in

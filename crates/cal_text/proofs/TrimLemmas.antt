@@ -1,4 +1,5 @@
--- The result of each trimming function satisfies a relation of `TrimRule`, which says which blanks are removed.
+-- The results of `trim_start_matches` and `trim_matches` satisfy the relations of `TrimRule`, which say which blanks
+-- are removed, and no other texts satisfy them.
 use Rattle.std.proofs.Common.{◌≡◌, ℕ, Bool, true, false, List, [], ◌∷◌, ◌++◌, reverse, refl, sym, subst, ap, ◌∙◌, append-nil}
 use Rattle.std.specs.List.{AllByRecursion, suffix_len}
 use Rattle.std.proofs.Math.Numerals.{one-add}

@@ -1,5 +1,5 @@
-//! Splitting off the first or last word of a text, and trimming blanks. A blank is a space or a tab, and a word is as
-//! many consecutive other bytes as possible.
+//! Splitting off the first or last word of a text, and trimming blanks. A blank is a space or a tab. A word consists of
+//! consecutive bytes that are not blanks, as many as possible.
 
 ghost use Rattle.std.specs.Prelude.{◌≡◌, ◌≤◌, ◌∷◌, [], MatchOption, false, length, not, true};
 ghost use Rattle.std.specs.List.{after_last, before_last, list_any, prefix_len, suffix_len, position_or_len};
