@@ -35,8 +35,8 @@ pub trait Source {
     /// Whether a call can fail.
     ghost may_fail: { Self → Bool } = { λ _. true };
 
-    /// Reads the next bytes into the start of `into` and returns how many it read. This is 0 only at the end of the
-    /// source, or if `into` is empty. Returns `None` if the call fails; then it has read nothing.
+    /// Reads the next bytes into the start of `into` and returns their number, which is 0 only at the end of the source
+    /// or if `into` is empty. Returns `None` if the call fails; then it has read nothing.
     fn fetch(&mut self, into: &mut [u8]) -> Option<usize>
         requires { is_failed self.old ≡ false }
         ensures failed { is_failed self.new ≡ is_none result }

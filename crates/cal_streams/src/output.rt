@@ -15,8 +15,8 @@ pub trait Output: Sink {
     /// The bytes that have left the buffer, or `None` if the type doesn't keep track of them.
     ghost reached: { Self → Option (List ℕ) } = { λ _. None };
 
-    /// Writes out the buffer, and returns `true` if no call has failed, including this one. In that case all bytes
-    /// written so far have left the buffer; otherwise a prefix of them has.
+    /// Writes out the buffer, and returns `true` if no call has failed, including this one. In that case, all bytes
+    /// written so far have left the buffer; otherwise, a prefix of these bytes has left it.
     fn flush(&mut self) -> bool
         ensures answer { result ≡ not (Self.is_failed self.new) }
         ensures failed { Self.is_failed self.old ≡ true → Self.is_failed self.new ≡ true }

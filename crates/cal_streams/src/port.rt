@@ -9,7 +9,7 @@ use std::io::{Read, Write};
 ///
 /// Each call of [`Sink::offer`] makes one `write`, and each call of [`Source::fetch`] makes one `read`. Every error
 /// counts as a failure, even `Interrupted`, and so does a `write` that accepts 0 bytes of a piece that isn't empty. If
-/// the inner reader or writer fails to allocate, it reports an error too.
+/// the inner reader or writer cannot allocate, the call fails, too.
 #[derive(Debug, Drop)]
 pub struct Port<T> {
     pub(crate) inner: T,

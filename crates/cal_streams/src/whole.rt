@@ -17,7 +17,7 @@ pub enum WholeFault {
     NoMemory = 3,
 }
 
-/// The number of bytes that one read asks for.
+/// The number of bytes that each read asks for.
 const CHUNK: usize = 4_096;
 
 /// Reads a source, which may have at most `limit` bytes, to its end and returns its bytes.
