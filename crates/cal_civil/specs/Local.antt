@@ -13,6 +13,7 @@ IsLocalSecond local = IsBetween (pos 0) (pos last_local_second) local
 abbrev pub CanSettle : ℤ → Type 0
 CanSettle local = IsBetween (neg_ℤ (pos 300_000)) (pos 7_258_500_000) local
 
--- a second of Unix time that a local second with `CanSettle` can be converted to: the two differ by at most 25:59:59
+-- a second of Unix time to which a local second of the range `CanSettle` can be converted: the two seconds differ by at
+-- most 25:59:59
 abbrev pub IsNearSettled : ℤ → Type 0
 IsNearSettled second = IsBetween (neg_ℤ (pos 393_599)) (pos 7_258_593_599) second

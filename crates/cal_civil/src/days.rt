@@ -12,8 +12,8 @@ use jiff_core::civil::Date;
 /// The number of seconds in a day.
 pub const DAY: i64 = 86_400;
 
-/// The first local second of 2200, where the range of supported local seconds ends. The years 1970 to 2199
-/// have 84,006 days.
+/// The first local second of 2200, which is the first one after the supported years 1970 to 2199. These years have
+/// 84,006 days.
 pub const LOCAL_END: i64 = 84_006 * DAY;
 
 /// The largest UTC offset that `jiff` accepts, in seconds (25:59:59). A local second and the second of Unix time to

@@ -6,9 +6,9 @@ ghost use Rattle.cal_civil.specs.OffsetWord.{begins_zone, hour_minute_in, offset
 
 use crate::begins_with_letter;
 
-/// Returns whether `word`, at a position where a zone is allowed (systemd.time(7), Calendar Events and Parsing
-/// Timestamps), is parsed as a zone: it begins with a letter, as names do, or with `+` or `-`, as this project's
-/// offsets do. What follows in the word may still be invalid.
+/// Returns whether `word` is parsed as a zone at a position where a zone is allowed (systemd.time(7), Calendar Events
+/// and Parsing Timestamps). Words that begin with a letter are parsed as names of zones, and words that begin with `+`
+/// or `-` as UTC offsets, a form of this project's own. The rest of the word may still be invalid.
 pub fn begins_zone(word: &[u8]) -> bool
     ensures { result ≡ begins_zone word.now }
 {

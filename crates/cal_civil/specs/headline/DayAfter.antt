@@ -15,7 +15,7 @@ use Rattle.jiff_core.proofs.SignedLemmas.{signed_arith}
 use Rattle.jiff_core.proofs.CalendarLemmas.{days_in_month_bounds}
 use Rattle.jiff_core.proofs.DateLemmas.{days_from_civil-day, days_from_civil-next_month, days_from_civil-next_year, days_from_civil-min, days_from_civil-max}
 
--- a date with day number `day`
+-- a date that has the day number `day`
 pub record DateOn (day : ℤ) : Type 0 where
   pub date : Date
   pub is : epoch_day date ≡ day
@@ -117,8 +117,8 @@ date_counted (suc n) h =
     let after = next before.date (not_last n (epoch_day before.date) h before.is) in
     record { date = after.date; is = one_more n (epoch_day before.date) (epoch_day after.date) before.is after.is }
 
--- the position of a day in `jiff`'s calendar, from 0 (-9999-01-01) to 7,304,483 (9999-12-31); a position outside this
--- range, which no caller passes, is replaced by the nearer end of the range
+-- the position of a day in `jiff`'s calendar, limited to the range from 0 (-9999-01-01) to 7,304,483 (9999-12-31): a
+-- position outside this range is replaced by the nearer end of the range
 unfoldable pub place_among : ℤ → ℕ
 place_among (pos n) = min n 7_304_483
 place_among (negsuc n) = 0

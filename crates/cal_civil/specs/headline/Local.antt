@@ -5,7 +5,7 @@ use Rattle.jiff_core.specs.declared.civil.date.Date.{Date}
 use Rattle.cal_civil.specs.headline.Days.{date_of}
 
 -- The number of local seconds in the years 1970 to 2199. Proofs use the lemma below, which states the value, instead of
--- unfolding the definition. A proof that unfolds it could build a list of this length.
+-- unfolding the definition: with the definition unfolded, the prover could build a list of this length.
 pub seconds_in_all : ℕ
 seconds_in_all = 7_258_118_400
 
