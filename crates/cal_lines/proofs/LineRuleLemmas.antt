@@ -1,4 +1,4 @@
--- `groups` computes a grouping that satisfies `LineRule`, and no other grouping does.
+-- `groups` computes the only grouping of lines that follows the rule of `LineRule`.
 use Rattle.std.proofs.Common.{arith, ◌≡◌, true, false, List, [], ◌∷◌, ◌++◌, refl, ap, ◌∙◌}
 use Rattle.cal_lines.specs.LineRule.{AreGroups, IsClosed, IsOpen, lines_of}
 use Rattle.cal_lines.specs.headline.Lines.{Group, Line, continued_by, groups, is_continued}
