@@ -1,7 +1,7 @@
 -- Between two consecutive transitions, the UTC offset is constant.
 --
--- In these lemmas, `moment` is a nanosecond at which a POSIX rule starts or ends daylight saving time, and `w` is the
--- pair of such a start and such an end in one year, in UTC.
+-- In these lemmas, `moment` is a nanosecond at which daylight saving time starts or ends under a POSIX rule, and `w` is
+-- the pair of the start and the end of daylight saving time in one year, both in UTC.
 use Rattle.std.proofs.Common.{◌≡◌, ◌∙◌, ◌⊎◌, inl, inr, ◌<◌, ◌≤◌, ℤ, pos, neg_ℤ, ◌+ℤ◌, ◌≤ℤ◌, ◌<ℤ◌, Bool, true, false, if◌then◌else◌, int_le, int_lt, IfSome, Option, None, Some, refl, sym, ap, subst, arith, vec_len}
 use Rattle.std.specs.Int.{int_max}
 use Rattle.std.proofs.lemmas.Bool.{cases_lt, and_from}
@@ -32,7 +32,8 @@ use Rattle.cal_zone.proofs.LocalOffsetRangeLemmas.{floor_second-whole, offset_be
 use Rattle.cal_text.proofs.General.{lt_test, not_lt_test}
 use Rattle.cal_zone.proofs.RuleLemmas.{IsApart, IsBeside, clamped, in_its_year, moment_on, next_after_table, offset_in, ordered_apart, ordered_rises, utc_year, window_apart, window_beside, window_of}
 
--- if `moment` isn't between `low` and `high`, then `at` and `other`, both in `low..high`, are on the same side of it
+-- if `moment` isn't between `low` and `high`, then any two numbers `at` and `other` in `low..high` are on the same side
+-- of `moment`
 beside_within : (low high moment at other : ℤ) → IsApart low high (pos 0) moment → low ≤ℤ at → at <ℤ high → low ≤ℤ other → other <ℤ high → IsBeside moment at other
 beside_within low high moment at other (inl h) a b c d = grind (arith, signed_arith, le_yes, not_lt_test)
 beside_within low high moment at other (inr h) a b c d = grind (arith, signed_arith, le_no, lt_test)
@@ -206,8 +207,8 @@ constant_until_transition (ByTable table) from second begun bound later same = g
 pub max_before : (a b x : ℤ) → x <ℤ int_max a b → a ≤ℤ x → x <ℤ b
 max_before a b x = grind (arith, signed_arith)
 
--- `range` has a constant UTC offset and contains `from`. If it doesn't end before `to`, the UTC offset is
--- constant in `from..to`.
+-- if `range` has a constant UTC offset, contains `from`, and doesn't end before `to`, the UTC offset is constant in
+-- `from..to`
 pub constant_within : (tz : TimeZone) (from to : ℤ) (range : InstantOffsetRange) → IsInstantOffsetRangeAt tz from range → to ≤ℤ range.to → HasConstantOffset tz from to
 constant_within tz from to range at within = grind (arith, signed_arith)
 

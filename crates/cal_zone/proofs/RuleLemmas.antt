@@ -1,8 +1,8 @@
 -- Two local times in the same year have the same UTC offset under a POSIX rule if no transition is between them or too
 -- near to either of them.
 --
--- In these lemmas, `moment` is a nanosecond at which a POSIX rule starts or ends daylight saving time, and `w` is the
--- pair of such a start and such an end in one year, in UTC.
+-- In these lemmas, `moment` is a nanosecond at which daylight saving time starts or ends under a POSIX rule, and `w` is
+-- the pair of the start and the end of daylight saving time in one year, both in UTC.
 use Rattle.std.proofs.Common.{◌≡◌, ◌∙◌, ◌⊎◌, inl, inr, ℤ, pos, ◌+ℤ◌, ◌-ℤ◌, ◌*ℤ◌, ◌≤ℤ◌, ◌<ℤ◌, Bool, true, false, ◌&&◌, ◌||◌, ◌≤◌, vec_len, if◌then◌else◌, int_le, int_lt, Option, None, Some, refl, sym, arith}
 use Rattle.std.proofs.lemmas.Bool.{and_parts}
 use borrow.Author.Differences.{lt-true, lt-false}
@@ -118,8 +118,8 @@ apart_kept low high by more moment moved from to some also a b (inl h) = grind (
 apart_kept low high by more moment moved from to some also a b (inr h) = grind (arith, signed_arith, kept_high, clamped, civil_order)
 
 -- The nanosecond at which daylight saving time starts or ends in the year from `low` to `high`, or `high` if there is
--- no `day`. It is in UTC if `seconds` is the UTC offset until then, and in local time if `seconds` is 0. By the lemma
--- below, `moment_on` changes by at most 93,599 seconds, the largest UTC offset, if `seconds` is replaced by 0.
+-- no `day`. The nanosecond is counted in UTC if `seconds` is the UTC offset before the change, and in local time if
+-- `seconds` is 0. By the lemma below, the two counts differ by at most 93,599 seconds, the largest UTC offset.
 abbrev pub moment_on : Option ℤ → ℤ → ℤ → ℤ → ℤ → ℤ
 moment_on day low high time seconds = match_some day high (λ d. clamp_to low high (d *ℤ nanos_per_day +ℤ nanos_of_seconds (time -ℤ seconds)))
 
@@ -331,8 +331,8 @@ pub next_found : (rule : Posix) (dst : Option Dst) (n : ℤ) (change : ℤ × Of
 next_found rule None n change e = absurd (cc)
 next_found rule (Some d) n change e = (d, refl, e)
 
--- after the last transition of a table, the next transition is the next one of the table's POSIX rule; without a rule,
--- there is none
+-- after the last transition of a table, the next transition is the next one of the table's POSIX rule; if the table has
+-- no rule, there is no next transition
 pub next_after_table : (z : Table) (past : ℤ) → vec_len z.transitions ≤ count_at z past → OfTable.next_at z (nanos_of_seconds past) ≡ match_some z.posix_tz None (λ rule. ByPosix.next_at rule (nanos_of_seconds past))
 next_after_table z past all = grind (arith, signed_arith, vec_len, floor_second-whole, count_after_table)
 

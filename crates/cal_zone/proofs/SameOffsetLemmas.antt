@@ -1,8 +1,8 @@
 -- Between two consecutive transitions of a POSIX rule, and far enough from both, all local times have the same UTC
 -- offset, even across a new year.
 --
--- In these lemmas, `w` is the pair of the nanoseconds at which a POSIX rule starts and ends daylight saving time in one
--- year, in UTC.
+-- In these lemmas, `w` is a pair: the nanoseconds at which daylight saving time starts and ends in one year under a
+-- POSIX rule, both in UTC.
 use Rattle.std.proofs.Common.{◌≡◌, ◌∙◌, inl, inr, ◌≤◌, ℤ, pos, ◌+ℤ◌, ◌-ℤ◌, ◌≤ℤ◌, ◌<ℤ◌, Bool, true, false, ◌&&◌, if◌then◌else◌, int_le, int_lt, Option, None, Some, refl, sym, ap, subst, arith, vec_len}
 use Rattle.std.proofs.lemmas.Bool.{and_parts}
 use borrow.Author.Differences.{le-false}

@@ -1,4 +1,4 @@
-//! Days on a zone's clock, with the text that all instants of one day share.
+//! Days on a zone's clock, with the parts of the printed text that are the same for all instants of one day.
 
 ghost use Rattle.std.specs.Prelude.{◌≡◌, ◌+◌, ◌*◌, ◌≤◌, ◌++◌, ◌-ℤ◌, ◌≤ℤ◌, ◌<ℤ◌, length, pos};
 ghost use Rattle.jiff.specs.Words.{IsBetween};

@@ -104,8 +104,8 @@ impl<'z> InstantFormatter<'z> {
         self.day = day;
     }
 
-    /// Returns a range with a constant UTC offset that contains `instant`. This is the cached range if possible, and
-    /// otherwise a new one, which replaces it.
+    /// Returns a range with a constant UTC offset that contains `instant`. If the cached range doesn't contain
+    /// `instant`, a new range is computed and cached.
     fn range_at(&mut self, instant: Instant) -> InstantOffsetRange
         ensures range { IsInstantOffsetRangeAt (zone_of self.old) instant.secs result }
         ensures zone { self.new ≡ self.old }

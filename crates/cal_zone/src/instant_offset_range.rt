@@ -72,8 +72,8 @@ fn instant_range_by_rules(rules: &Rules, instant: Instant) -> InstantOffsetRange
 ///
 /// A range that [`instant_range_by_rules`] returns ends with the year at the latest, even if the offset doesn't change
 /// then. So this function also examines the range that follows. If that range has the same offset and ends at a
-/// supported instant, its end is returned, and otherwise the end of the first range. If the first range ends after the
-/// last supported instant, the result is `from`, which makes the range empty.
+/// supported instant, its end is returned. Otherwise, the end of the first range is returned. If the first range ends
+/// after the last supported instant, the result is `from`, which makes the range empty.
 pub(crate) fn constant_offset_until(rules: &Rules, from: Instant) -> Instant
     ensures { HasConstantOffset rules.now from.secs result.secs }
 {
@@ -88,8 +88,9 @@ pub(crate) fn constant_offset_until(rules: &Rules, from: Instant) -> Instant
     }
 }
 
-/// Returns the end of the range that starts at `second` and has a constant UTC offset: the second of `next`, the zone's
-/// first transition after `second`, if there is one, or the end of the year in UTC, whichever is earlier.
+/// Returns the end of the range that starts at `second` and has a constant UTC offset. `next` is the zone's first
+/// transition after `second`, if there is one. The range ends at this transition or at the end of the year in UTC,
+/// whichever is earlier.
 fn instant_range_end(next: Option<Transition>, second: i64) -> i64
     requires { CanSettle second }
     ensures { IsBeforeTransitionUntil (option_map transition_view next) second result }

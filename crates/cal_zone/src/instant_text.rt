@@ -33,7 +33,8 @@ pub fn push_instant(text: &mut ShortText, zone: Zone, instant: Instant)
 
 /// Writes the text of `instant`, as formatted by [`push_instant`].
 ///
-/// Fails with [`WriteFault::Failed`] if and only if the sink fails; then only a prefix was written.
+/// Fails with [`WriteFault::Failed`] if and only if the sink fails; in that case, only a prefix of the text was
+/// written.
 pub fn write_instant<W: Sink>(out: &mut W, zone: Zone, instant: Instant) -> Result<(), WriteFault>
     requires { W.is_failed out.old ≡ false }
     ensures { Puts W.Sink out.old out.new result (instant_text zone.entry instant.secs) }
@@ -106,7 +107,8 @@ pub(crate) fn push_time(text: &mut ShortText, hour: u8, minute: u8, second: u8)
     );
 }
 
-/// Formats a number below 100 with two digits. Adding 100 keeps the leading zero of numbers below 10.
+/// Formats a number below 100 with two digits. The digits are the last two of `100 + number`, so that numbers below 10
+/// get a leading zero.
 #[tactic(auto)]
 fn two_digits(number: u8) -> [u8; 2]
     requires { number < 100 }

@@ -1,7 +1,8 @@
 //! Instants, zones and civil time.
 //!
 //! A *local second* is a second of a zone's civil clock, counted from 1970-01-01 00:00:00 on that clock. The *place* of
-//! a local second is the instant at which the clock shows it, or the earlier instant if the clock shows it twice.
+//! a local second is the second of Unix time at which the clock shows it. If the clock shows it twice, its place is the
+//! earlier of the two.
 #![tactic(auto)]
 
 mod civil_fields;

@@ -14,8 +14,8 @@ use jiff::Timestamp;
 /// second.
 ///
 /// The result, if there is one, is the local second that the zone's clock shows at `instant`. After clocks are turned
-/// back, they show some local times again. An instant at which a local time is shown again is not its place, so the
-/// result for this instant is `None`. (systemd.time(7), Calendar Events.)
+/// back, they show some local times again. An instant at which a local time is shown for the second time is not the
+/// place of this local time, so the result for such an instant is `None`. (systemd.time(7), Calendar Events.)
 pub(crate) fn local_at(zone: Zone, instant: Instant) -> Option<i64>
     ensures { IsLocalAt (zone_of zone.entry) instant.secs result }
 {

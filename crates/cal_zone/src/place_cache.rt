@@ -14,8 +14,9 @@ use crate::{Instant, Zone, place};
 use cal_civil::LOCAL_END;
 use std::marker::Model;
 
-/// After a search that found no range, the next search is for a local second at least this many seconds later. Until
-/// then, local seconds are converted one by one, since a search costs more than a conversion.
+/// If a search for a range that contains a local second finds none, the next search is for a local second that is at
+/// least this many seconds later. Local seconds before that are converted one by one, since a search costs more than a
+/// conversion.
 const SEEK_RETRY_DISTANCE: i64 = 1_000;
 
 /// A converter from local seconds of one zone to their places and back, fast for ascending local seconds.

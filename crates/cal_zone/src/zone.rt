@@ -41,7 +41,7 @@ impl<'t> Zone<'t> {
     }
 
     /// Returns the zone with a fixed UTC offset of `seconds` seconds, from -93,599 to 93,599. Even with the offset 0,
-    /// it is not the same as [`Zone::utc`], and is printed differently.
+    /// this zone is not the same as [`Zone::utc`]: instants in the two zones are printed differently.
     pub fn offset(seconds: i32) -> Zone<'static>
         requires { IsOffsetSeconds seconds }
         ensures zone { (offset : Offset) → offset.seconds ≡ seconds → zone_of result ≡ fixed_zone offset }
