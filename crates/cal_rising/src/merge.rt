@@ -12,7 +12,7 @@ use std::marker::Model;
 /// A merge of sources and exceptions: a source that returns each number of the sources once, in increasing order,
 /// unless an exception has it.
 ///
-/// A contract sees the remaining numbers of each source and of each exception, and whether `next` has been called.
+/// A contract can see the remaining numbers of each source and of each exception, and whether `next` has been called.
 #[derive(Drop)]
 pub struct Merge<S: Rising> {
     sources: Sources<S>,

@@ -15,8 +15,8 @@ use std::marker::Model;
 /// few numbers, finding the next number costs far more than asking whether the source has a certain number.
 const MISSES_BEFORE_STEP: u8 = 128;
 
-/// A source whose next number may have been read ahead ("peeked"). A contract sees the number read ahead, if any, and
-/// the rest of the source.
+/// A source whose next number may have been read ahead ("peeked"). A contract can see the number read ahead, if any,
+/// and the rest of the source.
 #[derive(Drop)]
 pub struct Peeked<S: Rising> {
     head: Option<i64>,
@@ -78,8 +78,8 @@ impl<S: Rising> Peeked<S> {
     }
 
     /// Returns whether `number` is still to be returned. The caller promises not to ask for a smaller number again, so
-    /// numbers below `number` may be dropped. If the source cannot tell whether it has `number`, it is read up to
-    /// `number`.
+    /// numbers below `number` may be dropped. If the source cannot tell whether it has `number`, its numbers are read
+    /// until `number` or a greater number is reached.
     pub fn has_onward(&mut self, number: i64) -> bool
         ensures has { result ≡ is_member int_eq (numbers self.old) number }
         ensures left { IsSameFrom number (numbers self.new) (numbers self.old) }

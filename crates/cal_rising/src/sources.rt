@@ -12,7 +12,7 @@ use crate::{NoMemory, Rising};
 use std::alloc::Global;
 use std::marker::Model;
 
-/// Several sources of strictly increasing numbers. A contract sees the remaining numbers of each source.
+/// Several sources of strictly increasing numbers. A contract can see the remaining numbers of each source.
 #[derive(Drop)]
 pub struct Sources<S: Rising> {
     sources: Vec<Peeked<S>>,

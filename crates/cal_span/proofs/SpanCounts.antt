@@ -15,7 +15,7 @@ use Rattle.cal_span.specs.SpanText.{weight, AreReduced, AreCounts, IsSpanText}
 use Rattle.cal_span.specs.headline.SpanText.{Count, count_text, counts_in_row, counts_text, positive, counts_of, units_text, span_text}
 use Rattle.std.proofs.lemmas.Bool.Decides.{nat_tests}
 
--- every unit is longer than zero
+-- the length of every unit is more than zero
 pub size_of_positive : (unit : TimeUnit) → 0 < size_of unit
 size_of_positive Year = lit< tt
 size_of_positive Month = lit< tt
@@ -27,19 +27,19 @@ size_of_positive Second = lit< tt
 size_of_positive Millisecond = lit< tt
 size_of_positive Microsecond = lit< tt
 
--- what remains of a number after division by each of the units in turn
+-- what remains of a number of microseconds after division by each of the units in turn
 abbrev remainder : List TimeUnit → ℕ → ℕ
 remainder [] n = n
 remainder (unit ∷ units) n = remainder units (n % size_of unit)
 
--- the counts of n in some units, and what remains after division by these units, add up to n
+-- the counts of n microseconds in some units, and what remains after division by these units, add up to n
 weight-counts_of-remainder : (units : List TimeUnit) (n : ℕ) → weight (counts_of units n) + remainder units n ≡ n
 weight-counts_of-remainder [] n = omega arith
 weight-counts_of-remainder (unit ∷ units) n =
     omega (arith, weight-counts_of-remainder units (n % size_of unit), div-add-mod' n (size_of unit))
 
--- the counts that division finds satisfy `AreReduced`: the counts after a unit come from the remainder, so they add up
--- to less than one of this unit
+-- the counts that division finds satisfy `AreReduced`: the counts after the count of a unit come from the remainder of
+-- the division by this unit, so they add up to less than one such unit
 reduced-counts_of : (units : List TimeUnit) (n : ℕ) → AreReduced units (counts_of units n)
 reduced-counts_of [] n = tt
 reduced-counts_of (unit ∷ units) n =
@@ -49,7 +49,7 @@ reduced-counts_of (unit ∷ units) n =
 remainder-all_units : (n : ℕ) → remainder all_units n ≡ 0
 remainder-all_units n = omega arith
 
--- division finds the counts of a span
+-- the counts that division finds are the counts of a span of n microseconds
 pub are_counts_of : (n : ℕ) → AreCounts n (counts_of all_units n)
 are_counts_of n = grind (arith, nat_tests, weight-counts_of-remainder, remainder-all_units, reduced-counts_of)
 
@@ -91,7 +91,7 @@ led_space (c ∷ cs) = refl
 led_first : (lead : List ℕ) (c : Count) (cs : List Count) → led lead (c ∷ cs) ≡ joined (lead ∷ decimal c.number ∷ unit_name c.unit ∷ []) ++ led (codes " ") cs
 led_first lead c cs = grind (arith, nat_tests, led_space, append_assoc)
 
--- the printed counts are `led` with an empty `lead`, which is how the loop in `push_counts` begins
+-- the printed counts are what `led` returns for an empty `lead`, with which the loop in `push_counts` begins
 pub counts_in_row-led : (cs : List Count) → counts_in_row cs ≡ led [] cs
 unfolding counts_in_row
 counts_in_row-led [] = refl

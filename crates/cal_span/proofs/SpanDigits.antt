@@ -15,7 +15,7 @@ use Rattle.cal_span.specs.declared.span.word.CharKind.TheVariants.{Numeric}
 use Rattle.cal_text.specs.headline.Separators.{is_point}
 use Rattle.cal_span.specs.SpanValue.{kind_of, is_number, number_worth}
 
--- a digit, which is an ASCII byte and neither a decimal point nor a blank
+-- the byte is a digit, and so it is below 128 and neither a decimal point nor a blank
 pub record IsDigit (c : ℕ) : Type 0 where
   pub ascii : c < 128
   pub digit : is_ascii_digit c ≡ true

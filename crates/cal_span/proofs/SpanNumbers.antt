@@ -65,8 +65,8 @@ one_point [] = refl
 one_point (x ∷ xs) =
     rw (sum_by-cons, before_first-cons x xs, after_first-cons x xs) (one_point_step x xs (before_first is_point xs) (after_first is_point xs) (is_ascii_digit x) (is_point x) (list_all is_digit_or_point xs) (count_by is_point xs) refl (point_no_digit x) (no_point xs) (one_point xs))
 
--- if a word has only digits before and after its first decimal point, it has a digit if and only if there is a byte
--- before or after that point (the induction step)
+-- if there are only digits before and after the first decimal point of a word, the word has a digit if and only if
+-- there is a byte before or after that point (the induction step)
 some_digit_step : (x : ℕ) (xs before after : List ℕ) (point : Bool) → (point ≡ true → is_ascii_digit x ≡ false) → list_all is_ascii_digit (cond point [] (x ∷ before)) ≡ true → list_all is_ascii_digit (cond point xs after) ≡ true → list_any is_ascii_digit (x ∷ xs) ≡ nat_lt 0 (length (cond point [] (x ∷ before)) + length (cond point xs after))
 some_digit_step x [] before after true apart all_before all_after = rw (apart refl) refl
 some_digit_step x (y ∷ xs) before after true apart all_before all_after = grind (arith, nat_tests, and_parts, lt-ltb)
@@ -76,8 +76,8 @@ some_digit : (xs : List ℕ) → list_all is_ascii_digit (before_first is_point 
 some_digit [] all_before all_after = refl
 some_digit (x ∷ xs) all_before all_after = grind (arith, nat_tests, before_first-cons, after_first-cons, some_digit_step, point_no_digit)
 
--- if a word has only digits before and after its first decimal point, it is a number if and only if there is at least
--- one of these digits
+-- if there are only digits before and after the first decimal point of a word, the word is a number if and only if
+-- there is at least one of these digits
 number_parts : (xs before after : List ℕ) → before ≡ before_first is_point xs → after ≡ after_first is_point xs → list_all is_ascii_digit before ≡ true → list_all is_ascii_digit after ≡ true → is_number xs ≡ nat_lt 0 (length before + length after)
 unfolding is_number
 number_parts xs before after at_before at_after all_before all_after = grind (arith, nat_tests, one_point, some_digit)

@@ -85,7 +85,7 @@ only_sum : (sum : ℕ) (ps : List Pair) (k : ℕ) → AreWorth ps k → sum + k 
 only_sum sum [] k are fits = rw are (rw add-zero refl)
 only_sum sum (p ∷ ps) n (m, k, e, are, is) fits = grind (arith, nat_tests, sum_with-fits, only_sum (sum + m) ps k are (omega arith))
 
--- if the pair `p` is invalid after this sum, `judged` returns its error
+-- if the pair `p` fails with the error `f` after this sum, `judged` returns `f` for `p` and all pairs after it
 fault_first : (sum : ℕ) (p : Pair) (after : List Pair) (f : SpanFault) → IsFaultAfter sum p f → judged sum (p ∷ after) ≡ Err f
 fault_first sum p after Empty e = rw e refl
 fault_first sum p after BadNumber e = rw e refl

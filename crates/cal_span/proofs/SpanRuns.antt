@@ -1,5 +1,5 @@
--- `runs` splits the characters of a text wherever their kind changes and nowhere else, and there is no other way to do
--- so.
+-- `runs` splits the characters of a text wherever their kind changes and nowhere else, and no other list of runs is
+-- split in this way.
 use Rattle.std.proofs.Common.{ℕ, ◌<◌, ◌≡◌, Bool, true, false, cond, List, [], ◌∷◌, ◌++◌, length, refl, sym, ap, ◌∙◌, subst, arith}
 use Rattle.std.specs.List.{AllByRecursion, flat_map}
 use Rattle.std.proofs.lemmas.List.{append-nil}

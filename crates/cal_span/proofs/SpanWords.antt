@@ -35,8 +35,8 @@ same_from_is_kind Other Other e = refl
 abbrev pub without_blanks : List Piece → List Piece
 without_blanks ws = filter (λ (w : Piece). not (is_kind Blank w.kind)) ws
 
--- if `runs_first` holds for the characters from `t` on, it holds from `s` on, whether `s` and `t` are of the same kind
--- or not
+-- if `runs_first` holds for the characters from `t` on, it also holds for the characters from `s` on, whether `s` and
+-- `t` are of the same kind or not
 runs_second : (s t : Piece) (ss : List Piece) (same : Bool) → is_kind s.kind t.kind ≡ same → runs (t ∷ ss) ≡ record { kind = t.kind; text = t.text ++ front_of t.kind ss } ∷ runs (after_front t.kind ss) → cond same (record { kind = s.kind; text = s.text ++ (t.text ++ front_of t.kind ss) } ∷ runs (after_front t.kind ss)) (s ∷ record { kind = t.kind; text = t.text ++ front_of t.kind ss } ∷ runs (after_front t.kind ss)) ≡ record { kind = s.kind; text = s.text ++ cond same (t.text ++ front_of s.kind ss) [] } ∷ runs (cond same (after_front s.kind ss) (t ∷ ss))
 runs_second s t ss true test by_rest = grind (arith, nat_tests, same_from_is_kind)
 runs_second s t ss false test by_rest = rw append-nil (ap (λ ws. s ∷ ws) (sym by_rest))
@@ -47,8 +47,9 @@ pub runs_first : (s : Piece) (ss : List Piece) → runs (s ∷ ss) ≡ record { 
 runs_first s [] = rw append-nil refl
 runs_first s (t ∷ ss) = grind (arith, nat_tests, runs_second, runs_first t ss)
 
--- if the first character of `rest`, the bytes from index `len` on, is of this kind, then the longest prefix of `rest`
--- that has only characters of this kind consists of this character and the longest such prefix of the bytes after it
+-- Let `rest` be the bytes from index `len` on. If the first character of `rest` is of this kind, then the longest
+-- prefix of `rest` that has only characters of this kind consists of this character and the longest such prefix of the
+-- bytes after it.
 pub front_more : (kind : CharKind) (bytes : List ℕ) (len width : ℕ) (rest : List ℕ) → rest ≡ drop len bytes → characters rest ≡ record { kind = kind; text = take width rest } ∷ characters (drop width rest) → front_of kind (characters (drop len bytes)) ≡ take width (drop len bytes) ++ front_of kind (characters (drop (len + width) bytes))
 front_more kind bytes len width rest at first = grind (arith, nat_tests, is_kind-same, drop-drop)
 

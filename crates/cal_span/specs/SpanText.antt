@@ -10,7 +10,7 @@ weight [] = 0
 weight (c ∷ cs) = c.number * size_of c.unit + weight cs
 
 -- There is one count for each unit, in the order of the units. The counts after the count of a unit add up to less than
--- one of this unit.
+-- one such unit.
 abbrev pub AreReduced : List TimeUnit → List Count → Type 0
 AreReduced [] [] = Unit {0}
 AreReduced [] (c ∷ cs) = ⊥

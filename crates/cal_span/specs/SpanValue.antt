@@ -130,7 +130,7 @@ fraction_worth size place (digit ∷ digits) =
 abbrev pub digits_worth : List ℕ → List ℕ → ℕ → ℕ
 digits_worth whole fraction size = digits_value 10 whole * size + fraction_worth size 1 fraction
 
--- the value of a number in microseconds, in a unit of this size
+-- the value in microseconds of a number in a unit of this size
 unfoldable pub number_worth : List ℕ → ℕ → ℕ
 number_worth number size =
     digits_worth (before_first is_point number) (after_first is_point number) size

@@ -1,5 +1,5 @@
 -- How a time span is printed (systemd.time(7), Parsing Time Spans): for each unit, from the largest to the smallest,
--- the largest whole count that fits into what remains, without the counts that are zero.
+-- the text says how many whole units fit into what the larger units leave. Counts that are zero are left out.
 use Rattle.std.specs.Prelude.{ℕ, ◌/◌, ◌%◌, List, [], ◌∷◌, codes, decimal, filter, nat_lt}
 use Rattle.std.specs.List.{join_by}
 use Rattle.cal_bytes.specs.headline.Bytes.{joined}

@@ -35,7 +35,7 @@ pub fn push_span(text: &mut ShortText, span: Span)
     }
 }
 
-/// Returns a time span as [`push_span`] prints it.
+/// Returns the text of a time span, as [`push_span`] appends it.
 pub fn format_span(span: Span) -> ShortText
     ensures { result.items ≡ span_text span.micros }
 {
@@ -44,7 +44,7 @@ pub fn format_span(span: Span) -> ShortText
     text
 }
 
-/// Writes a time span as [`push_span`] prints it.
+/// Writes the text of a time span, as [`push_span`] appends it.
 ///
 /// Fails with [`WriteFault::Failed`] if and only if the sink fails; in that case, only a prefix of the text was
 /// written.
