@@ -101,9 +101,9 @@ union-advanced m ss h e =
     same_rising (union (map (advanced m) lists)) (drop 1 (union lists)) (rises-union (map (advanced m) lists)) (rises-drop (union lists) 1 rises)
     (λ i. grind (arith, HasAny-advanced m ss h low i, later_by_first m (union lists) rises e i, Has-union (map (advanced m) lists) i, Has-union lists i))
 
--- Suppose that each of the first i sources of `xs` has this property: its numbers are `f` of the numbers of the source
--- of `ys` at the same index. If the source of `xs` at index i is replaced by one that has the property, too, then the
--- first i + 1 sources have it.
+-- Suppose that applying `f` to the numbers of each of the first i sources of `ys` gives the numbers of the source of
+-- `xs` at the same index. If the source of `xs` at index i is replaced by one for which this is also true, then it is
+-- true for the first i + 1 sources.
 changed_next : (f : List ℤ → List ℤ) (xs ys : List Peeked) (i : ℕ) (y d : Peeked) → i < length xs → i < length ys
     → map numbers (take i xs) ≡ map f (map numbers (take i ys)) → numbers y ≡ f (numbers (get_or ys i d))
     → map numbers (take (suc i) (set xs i y)) ≡ map f (map numbers (take (suc i) ys))

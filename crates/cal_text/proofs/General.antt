@@ -580,8 +580,9 @@ filter_none : (p : ℕ → Bool) (xs : List ℕ) → length xs ≤ position_or_l
 filter_none p [] past = refl
 filter_none p (x ∷ xs) past = grind (arith, filter_none p xs)
 
--- if the first separator is at index `n`, the pieces are the bytes before it and then the pieces of the bytes after it,
--- and the separators are this separator and then those of the bytes after it
+-- If the first separator is at index `n`, the first piece is the bytes before this separator, and the other pieces are
+-- those of the bytes after it. In the same way, the first separator is followed by the separators of the bytes after
+-- it.
 pub cut_some : (p : ℕ → Bool) (xs : List ℕ) (n : ℕ) → position p xs ≡ Some n → (slice_split p xs ≡ take n xs ∷ slice_split p (drop (n + 1) xs)) × (filter p xs ≡ get_or xs n 0 ∷ filter p (drop (n + 1) xs))
 cut_some p xs n at =
     let found = cond_some (nat_lt (position_or_len p xs) (length xs)) (position_or_len p xs) n at in (

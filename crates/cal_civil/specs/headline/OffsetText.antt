@@ -1,4 +1,4 @@
--- How a UTC offset is printed: `+02:00`.
+-- How a UTC offset is printed, as in `+02:00`.
 use Rattle.std.specs.Prelude.{ℕ, ◌-◌, ◌/◌, ◌%◌, ◌==◌, if◌then◌else◌, ℤ, pos, int_lt, unsigned_abs, List, [], ◌∷◌, ◌++◌, length, codes, decimal, replicate}
 use Rattle.cal_bytes.specs.headline.Bytes.{joined}
 
