@@ -115,8 +115,8 @@ not_after None at h = h
 pub year_order : (y : ℤ) → first_nanosecond y ≤ℤ last_nanosecond y
 year_order y = let long = days_in_year_bounds y in omega (arith, signed_arith)
 
--- the year of a second of Unix time from 0 to 7,258,500,000 is within `jiff`'s range of timestamps, and ends at
--- 7,300,000,000 or earlier
+-- the year of a second of Unix time from 0 to 7,258,500,000 is within `jiff`'s range of timestamps, and ends at the
+-- second 7,300,000,000 or earlier
 instant_year : (from : ℤ) → pos 0 ≤ℤ from → from ≤ℤ pos 7_258_500_000
     → (lowest ≤ℤ first_nanosecond (datetime_of from).date.year) × (last_nanosecond (datetime_of from).date.year ≤ℤ highest) × (year_end (datetime_of from).date.year ≤ℤ pos 7_300_000_000)
 unfolding datetime_of
@@ -212,8 +212,8 @@ max_before a b x = grind (arith, signed_arith)
 pub constant_within : (tz : TimeZone) (from to : ℤ) (range : InstantOffsetRange) → IsInstantOffsetRangeAt tz from range → to ≤ℤ range.to → HasConstantOffset tz from to
 constant_within tz from to range at within = grind (arith, signed_arith)
 
--- There are two ranges with the same UTC offset: `range` contains `from`, and `next` contains `turn`, the end of
--- `range`. If `next` doesn't end before `to`, the UTC offset is constant in `from..to`.
+-- Suppose that two ranges have the same constant UTC offset: `range`, which contains `from`, and `next`, which contains
+-- `turn`, the end of `range`. If `next` doesn't end before `to`, the UTC offset is constant in `from..to`.
 pub constant_over : (tz : TimeZone) (from turn to : ℤ) (range next : InstantOffsetRange) → IsInstantOffsetRangeAt tz from range → turn ≡ range.to → IsInstantOffsetRangeAt tz turn next → to ≤ℤ next.to
     → next.offset.seconds ≡ range.offset.seconds → HasConstantOffset tz from to
 constant_over tz from turn to range next at ends after within same = λ second later before.

@@ -1,5 +1,6 @@
--- Lemmas on `settle_of`, which converts a local second to Unix time, and on `place_of`, which returns the place of a
--- local second: the result of `settle_of`, or `None` if the zone's clock doesn't show the local second at this time.
+-- Lemmas on the conversion of local seconds to Unix time. `settle_of` converts every local second. `place_of` returns
+-- the result of `settle_of`, the place of the local second, only if the zone's clock shows the local second at that
+-- time.
 use Rattle.std.proofs.Common.{◌≡◌, ◌∙◌, ℤ, pos, ◌-ℤ◌, Bool, Some, None, refl, sym, ap, arith, int_eq, true, false, if◌then◌else◌}
 use Rattle.std.proofs.lemmas.Bool.Decides.{Decides-int_eq}
 use Rattle.std.proofs.lemmas.Int.{ints}

@@ -30,7 +30,7 @@ pub record IsCivil (shown : Civil) : Type 0 where
   pub second : shown.second ≤ 59
   pub offset : IsOffsetSeconds shown.offset
 
--- the civil time on the day of `c` and at its UTC offset, `second` seconds after midnight
+-- the civil time `second` seconds after midnight on the day of `c`, with the UTC offset of `c`
 abbrev pub at_second : Civil → ℕ → Civil
 at_second c second = record {
   year = c.year;

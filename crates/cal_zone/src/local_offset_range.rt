@@ -63,10 +63,10 @@ fn all_local_seconds(offset: i64) -> LocalOffsetRange
 /// Returns the range with a constant UTC offset that starts at `local`, according to the transitions of a zone file's
 /// table.
 ///
-/// It ends [`MAX_OFFSET`] seconds before the next transition, since the gap or fold of that transition can begin that
-/// much earlier. Returns `None` if a transition is less than [`MAX_OFFSET`] seconds before `local` or at most
-/// [`MAX_OFFSET`] seconds after it, or if no transition follows. After the last transition, not the table but the
-/// file's POSIX rule determines the offset, if there is one; [`range_end_after_table`] handles this case.
+/// The range ends [`MAX_OFFSET`] seconds before the next transition, since the gap or fold of that transition can begin
+/// that much earlier. Returns `None` if a transition is less than [`MAX_OFFSET`] seconds before `local` or at most
+/// [`MAX_OFFSET`] seconds after it, or if no transition follows. After the last transition, the offset depends on the
+/// file's POSIX rule, if the file has one; [`range_end_after_table`] handles this case.
 pub(crate) fn local_range_in_table(table: &Tzif, local: i64) -> Option<LocalOffsetRange>
     requires { IsLocalSecond local }
     ensures { IfSome result (IsLocalOffsetRangeAt (zone_of_table table.now) local) }

@@ -16,9 +16,8 @@ use jiff::tz::Offset;
 /// Returns the place of a local second of the years 1970 to 2199 (0 to 7,258,118,399): the second of Unix time at which
 /// the zone's clock shows it.
 ///
-/// If the clock shows the local second twice, because it is turned back, the place is the first occurrence, which
-/// `jiff`'s compatible conversion picks. Returns `None` if the clock skips the local second. (systemd.time(7), Calendar
-/// Events.)
+/// If clocks are turned back and show the local second twice, the place is the first occurrence, which `jiff`'s
+/// compatible conversion picks. Returns `None` if the clock skips the local second. (systemd.time(7), Calendar Events.)
 pub fn place(zone: Zone, local: i64) -> Option<i64>
     requires { IsLocalSecond local }
     ensures { result ≡ place_of (zone_of zone.entry) local }

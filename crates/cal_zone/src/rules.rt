@@ -160,7 +160,7 @@ impl Rules {
         }
     }
 
-    /// Returns the range `local..to` with its UTC offset. The caller guarantees that the zone's UTC offsets don't
+    /// Returns the range `local..to` with its UTC offset. The caller guarantees that the zone's UTC offset doesn't
     /// change in this range. Returns `None` if the range is empty or if the clock skips `local`.
     fn local_range_until(&self, local: i64, to: i64) -> Option<LocalOffsetRange>
         requires local_in { IsLocalSecond local }
