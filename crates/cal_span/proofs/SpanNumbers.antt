@@ -35,8 +35,8 @@ before_first-cons x xs = take_one_more x xs (is_point x) (position_or_len is_poi
 pub after_first-cons : (x : ℕ) (xs : List ℕ) → after_first is_point (x ∷ xs) ≡ cond (is_point x) xs (after_first is_point xs)
 after_first-cons x xs = drop_one_more x xs (is_point x) (position_or_len is_point xs)
 
--- all bytes of a word are digits or points and none of them is a point, if and only if all bytes are digits (the
--- induction step)
+-- testing that all bytes of a word are digits or decimal points, and that none of them is a decimal point, returns the
+-- same as testing that all bytes are digits (the induction step)
 no_point_step : (digit point rest all : Bool) (n : ℕ) → (point ≡ true → digit ≡ false) → (rest && nat_le n 0) ≡ all → (((digit || point) && rest) && nat_le (cond point 1 0 + n) 0) ≡ (digit && all)
 no_point_step true true rest all n apart h = absurd (false≢true (sym (apart refl)))
 no_point_step true false rest all n apart h = rw zero-add h

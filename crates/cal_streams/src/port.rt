@@ -5,7 +5,7 @@ ghost use Rattle.std.specs.Prelude.{◌≡◌, true, false, None};
 use cal_bytes::{Sink, Source};
 use std::io::{Read, Write};
 
-/// A [`Sink`] over any std `Write`, and a [`Source`] over any std `Read`, which remembers whether a call has failed.
+/// A [`Sink`] over any std `Write`, or a [`Source`] over any std `Read`, that remembers whether a call has failed.
 ///
 /// Each call of [`Sink::offer`] makes one `write`, and each call of [`Source::fetch`] makes one `read`. Every error
 /// counts as a failure, even `Interrupted`, and so does a `write` that accepts 0 bytes of a piece that isn't empty. If

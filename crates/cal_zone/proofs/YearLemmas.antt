@@ -62,7 +62,7 @@ unfolding last_of_2200
 year-to_2200 d h =
     by_lt_z (pos 2200) d.year (λ lt. absurd (omega (arith, signed_arith, days_from_civil-2200, epoch_day-lt last_of_2200 d (inl lt)))) (λ ge. ge)
 
--- every local second below `seconds_in_all`, from 0 on, is in the years 1970 to 2199
+-- every local second that is at least 0 and below `seconds_in_all` is in the years 1970 to 2199
 pub year_of_local : (local : ℕ) → local < seconds_in_all → IsBetween (pos 1970) (pos 2199) (civil_date (local / 86_400)).year
 unfolding civil_date
 year_of_local local h =
@@ -90,7 +90,7 @@ unfolding first_of_2200 last_of_1969
 day_of_year d (from, to) =
     (omega (arith, signed_arith, days_from_civil-last_1969, epoch_day-lt last_of_1969 d (inl (omega (arith, signed_arith)))), omega (arith, signed_arith, days_from_civil-first_2200, epoch_day-lt d first_of_2200 (inl (omega (arith, signed_arith)))))
 
--- every second of a date in the years 1970 to 2199 is a local second from 0 on and below `seconds_in_all`
+-- every second of a date in the years 1970 to 2199 is a local second that is at least 0 and below `seconds_in_all`
 pub local_of_year : (d : Date) (second : ℕ) → IsBetween (pos 1970) (pos 2199) d.year → second < 86_400 → (pos 0 ≤ℤ (epoch_day d *ℤ pos 86_400 +ℤ pos second)) × ((epoch_day d *ℤ pos 86_400 +ℤ pos second) <ℤ pos seconds_in_all)
 local_of_year d second year h =
     let day = day_of_year d year in
