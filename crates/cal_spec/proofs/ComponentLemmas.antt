@@ -1,4 +1,4 @@
--- The values of a parsed component are valid, and it has no more counted parts than are allowed.
+-- A parsed component has valid values, and no more counted parts than are allowed.
 use Rattle.std.proofs.Common.{ℕ, suc, ◌+◌, ◌-◌, ◌<◌, ◌≤◌, ◌≡◌, ◌⊎◌, inl, inr, Bool, true, false, cond, ◌&&◌, List, [], ◌∷◌, length, Option, Some, None, Ok, refl, ap, arith, leb, eqb}
 use Rattle.std.specs.List.{AllByRecursion, slice_split}
 use Rattle.std.proofs.lemmas.Bool.{and_parts, cases_Bool, leb-true, ltb-false, leb-false, eqb-false, not-false}
@@ -119,8 +119,8 @@ counted_in : (time : Bool) (n room : ℕ) → n ≤ cond time (room + 1) room �
 counted_in true n room h = omega arith
 counted_in false n room h = h
 
--- what is known of a component that was parsed with this `room`: its values are valid, and it has at most `room`
--- counted parts
+-- what is known of a component after parsing: its values are valid, and it has at most `room` counted parts, as many as
+-- the parser allowed
 pub record IsRead (slot : Slot) (room : ℕ) (c : Option (List Part)) : Type 0 where
   pub sound : IsValidComponent slot c
   pub few : counted slot c ≤ room

@@ -30,8 +30,9 @@ use Rattle.cal_spec.proofs.FieldLemmas.{fields_with, DateRead, date_found}
 use Rattle.cal_spec.proofs.ReadLemmas.{Follows, bind_ok, cond_ok}
 use Rattle.cal_spec.specs.headline.Fields.{max_counted_parts}
 
--- the error, if any, of two parsers that run one after the other is the error `u` of the first, or, if `u` is None, the
--- error `v` of the second; `v` must be the same for every value that the first parser can return
+-- Two parsers run one after the other. Let `u` be the error of the first, and let `v` be the error of the second for
+-- every value that the first can return; None stands for success. Then both together fail with `u`, or, if `u` is None,
+-- with `v`.
 pub err_of_bind : {A B : Type 0} (r : Result A SpecFault) (f : A → Result B SpecFault) (u v : Option SpecFault) → result_err r ≡ u → ((a : A) → r ≡ Ok a → result_err (f a) ≡ v) → result_err (r >>= f) ≡ option_or u v
 err_of_bind (Ok x) f u v first next = next x refl ∙ ap (λ o. option_or o v) first
 err_of_bind (Err e) f u v first next = ap (λ o. option_or o v) first

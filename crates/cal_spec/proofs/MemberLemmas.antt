@@ -125,7 +125,7 @@ second_stays None v h = refl
 second_stays (Some ps) v h = starred_has (normal_parts ps) v ∙ parts_have Second ps v h
 
 -- each day is between 1 and 31, whether it is counted from the month's start or end, so `~*` matches the same days as
--- `*`
+-- `-*`
 every_day : (date : Date) → is_between 1 31 (day_value true date) ≡ is_between 1 31 (day_value false date)
 every_day date =
     let long = days_in_month_bounds date.year date.month in

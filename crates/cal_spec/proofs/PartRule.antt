@@ -92,7 +92,8 @@ at_end_is : (slot : Slot) (p : Part) (ss : List Symbol) (q : Part) → part_at_e
 at_end_is slot p [] q at = (refl, cc)
 at_end_is slot p (s ∷ ss) q at = cc
 
--- `p` is the part with the start `a` and the end `last` whose step, if it has one, is spelled by the symbols `ss`
+-- `p` is a part with the start `a` and the end `last`; the symbols `ss` are a slash and the part's step, or nothing if
+-- the part has no step
 pub record IsBehind (ss : List Symbol) (a : ℕ) (last : Option ℕ) (p : Part) : Type 0 where
   pub step : Option ℕ
   pub back : IsNext (codes "/") (written ss) step
@@ -117,7 +118,8 @@ end_read slot a b [] p sound at = record { step = None; back = refl; is = cc }
 end_read slot a b (slash ∷ ss) p sound at = step_read slot a (Some b) ss p sound.1 at
 end_read slot a b ss p sound at = cc
 
--- `p` is the part with the start `a` whose end and step, if it has them, are spelled by `text`
+-- `p` is a part with the start `a`; `text` is what is written of the part after its start: `..` and the end if it has
+-- an end, then a slash and the step if it has a step
 pub record IsRest (text : List ℕ) (a : ℕ) (p : Part) : Type 0 where
   pub middle : List ℕ
   pub back : List ℕ

@@ -93,9 +93,9 @@ unfolding run_text
 led-comma [] = refl
 led-comma (r ∷ rs) = refl
 
--- Suppose that the days from `day` to `last` are a run, so that the day after `last` doesn't match, and that `next` is
--- the day after that. The text of the runs from `day` on is then the text of this run, followed by the text of the runs
--- from `next` on.
+-- Suppose that the days from `day` to `last` are a run, and that `next` is `last + 2`. No run begins at `last + 1`,
+-- since that day doesn't match. So the text of the runs from `day` on is the text of this run, followed by the text of
+-- the runs from `next` on.
 pub led-front : (lead : List ℕ) (day last next n : ℕ) (days : List Bool) → n ≡ front (drop day days) → 0 < n → last ≡ day + n - 1 → next ≡ day + (n + 1)
     → led lead (runs_from day (drop day days)) ≡ run_text lead (record { first = day; last = last }) ++ led (codes ",") (runs_from next (drop next days))
 led-front lead day last next zero days e positive at_last at_next = absurd (omega arith)

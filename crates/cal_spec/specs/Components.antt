@@ -28,12 +28,13 @@ counted slot (Some ps) = if is_time slot then length ps - 1 else length ps
 abbrev pub room_in : Slot → ℕ → ℕ
 room_in slot room = if is_time slot then room + 1 else room
 
--- parses the next part, or fails with `TooManyParts` if `room` is 0
+-- parses the next part of a component that may have `room` more parts, or fails with `TooManyParts` if `room` is 0
 unfoldable pub part_due : Slot → ℕ → List ℕ → Result Part SpecFault
 part_due slot room text =
     if room == 0 then Err TooManyParts else (part_of slot text >>= λ p. Ok (with_values slot p))
 
--- parses the parts without checking their values, or fails with the first error
+-- parses a component's parts, of which there may be at most `room`, without checking their values; fails with the first
+-- error
 abbrev pub parts_of : Slot → ℕ → List (List ℕ) → Result (List Part) SpecFault
 parts_of slot room [] = Ok []
 parts_of slot room (t ∷ ts) =

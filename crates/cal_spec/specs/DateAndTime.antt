@@ -32,8 +32,8 @@ is_tilde b = b == 126
 abbrev pub is_date_sign : ℕ → Bool
 is_date_sign b = (b == 45) || is_tilde b
 
--- the texts of a date's components, given its signs and the texts between them; a missing year becomes `*`, and only
--- the last sign may be `~`
+-- the texts of a date's components, given its signs and the texts that these signs separate; a missing year becomes
+-- `*`, and only the last sign may be `~`
 abbrev pub date_texts_by : List ℕ → List (List ℕ) → Option DateTexts
 date_texts_by (s ∷ []) (month ∷ day ∷ []) =
     Some (record { year = codes "*"; month = month; day = day; from_end = is_tilde s })
@@ -41,7 +41,7 @@ date_texts_by (s ∷ t ∷ []) (year ∷ month ∷ day ∷ []) =
     if is_tilde s then None else Some (record { year = year; month = month; day = day; from_end = is_tilde t })
 date_texts_by ss texts = None
 
--- the texts of a time's components, given the texts between its colons; missing seconds become `00`
+-- the texts of a time's components, given the texts that its colons separate; missing seconds become `00`
 abbrev pub time_texts_by : List (List ℕ) → Option TimeTexts
 time_texts_by (hour ∷ minute ∷ []) = Some (record { hour = hour; minute = minute; second = codes "00" })
 time_texts_by (hour ∷ minute ∷ second ∷ []) = Some (record { hour = hour; minute = minute; second = second })
@@ -61,7 +61,7 @@ date_fields t =
     >>= λ month. component_of (day_slot t.from_end) (max_counted_parts - counted Year year - counted Month month) t.day
     >>= λ day. Ok (record { year = year; month = month; day = day; from_end = t.from_end })
 
--- the number of counted parts that are still allowed after the date
+-- the number of counted parts that may follow the date in an expression
 abbrev pub room_after : DateFields → ℕ
 room_after d =
     max_counted_parts - counted Year d.year - counted Month d.month - counted (day_slot d.from_end) d.day

@@ -28,7 +28,7 @@ use Rattle.cal_spec.specs.headline.Fields.{max_counted_parts}
 abbrev pub pieces_of : List ℕ → List (List ℕ)
 pieces_of text = slice_split is_comma text
 
--- the number of counted parts of a component, counted in its text
+-- the number of counted parts of a component, found by counting the parts in its text
 abbrev pub numbered : Slot → List ℕ → ℕ
 numbered slot text =
     if is_star text then 0 else (if is_time slot then length (pieces_of text) - 1 else length (pieces_of text))

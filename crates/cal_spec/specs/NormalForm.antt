@@ -9,7 +9,7 @@ use Rattle.cal_spec.specs.headline.ValidParts.{EndsAfter, IsStep}
 use Rattle.cal_spec.specs.declared.part.Part.{Part}
 use Rattle.cal_spec.specs.headline.NormalForm.{each, normal_from_end, part_cmp, range_to, step_of}
 
--- a part has a normal form if its range doesn't run backwards and its step isn't zero
+-- the part has a normal form: its end, if it has one, isn't below its start, and its step, if it has one, isn't zero
 pub record IsPart (p : Part) : Type 0 where
   pub forward : EndsAfter p.start p.end
   pub steps : IsStep p.step

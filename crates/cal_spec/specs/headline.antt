@@ -1,5 +1,5 @@
--- The definitions of this crate that the law `headline` of cal_report, the contract of a function that does nothing,
--- depends on.
+-- The definitions of this crate that the law `headline` of cal_report depends on. A law is a statement that is proved
+-- for all arguments.
 pub mod DateAndTime
 pub mod ExprText
 pub mod Fields

@@ -65,7 +65,8 @@ fn read_listed(alloc: Global, slot: Slot, room: usize, text: &[u8]) -> Result<Ve
     }
 }
 
-/// Parses parts separated by commas without checking their values.
+/// Parses parts separated by commas without checking their values. Fails with `TooManyParts` if there are more than
+/// `room` parts; here the first part of an hour, minute or second is counted like the others.
 fn read_parts(alloc: Global, slot: Slot, room: usize, text: &[u8]) -> Result<Vec<Part>, SpecFault>
     ensures { GivesUnlessNoMemory (λ parts. parts.items) result
         (parts_of slot room (slice_split is_comma text.now)) }
@@ -83,7 +84,8 @@ fn read_parts(alloc: Global, slot: Slot, room: usize, text: &[u8]) -> Result<Vec
     Ok(parts)
 }
 
-/// Parses the next part, or fails with `TooManyParts` if `room` is 0. Expands two-digit years.
+/// Parses the next part of a component that may have `room` more parts. Fails with `TooManyParts` if `room` is 0.
+/// Expands two-digit years.
 #[tactic(auto, unfolding(crate::specs::Components::part_due))]
 fn part_due(slot: Slot, room: usize, text: &[u8]) -> Result<Part, SpecFault>
     ensures { Gives (λ part. part) result (part_due slot room text.now) }

@@ -50,7 +50,8 @@ pub(crate) fn read_time(alloc: Global, room: usize, word: &[u8]) -> Result<TimeF
     }
 }
 
-/// Returns how many of the `MAX_COUNTED_PARTS` parts are left for the time after this date.
+/// Returns how many counted parts may follow this date in an expression: `MAX_COUNTED_PARTS` minus the number of
+/// counted parts in the date.
 pub(crate) fn room_after(date: &DateFields) -> usize
     ensures value { result ≡ room_after (date_fields_in date.now) }
     ensures bound { result ≤ max_counted_parts }

@@ -15,7 +15,7 @@ const MAX_NUMBER: u16 = 9999;
 
 /// Parses a part, `a`, `a/r`, `a..b` or `a..b/r`, without checking its values (systemd.time(7), Calendar Events). If
 /// the syntax is wrong, the error is that of the leftmost mistake. A number above `MAX_NUMBER` and a fraction of a
-/// second are mistakes in the syntax too.
+/// second count as mistakes in the syntax too.
 #[tactic(auto, unfolding(crate::specs::Parts::part_of))]
 pub(crate) fn read_part(slot: Slot, text: &[u8]) -> Result<Part, SpecFault>
     ensures { Gives (λ part. part) result (part_of slot text.now) }

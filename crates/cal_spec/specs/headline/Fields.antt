@@ -16,7 +16,7 @@ pub record Fields : Type 0 where
   pub from_end : Bool
   pub zone : Option ZoneSuffix
 
--- the number of parts of a component
+-- the number of parts of a component, which is 0 for `*`
 abbrev pub parts_in : Option (List Part) → ℕ
 parts_in None = 0
 parts_in (Some ps) = length ps

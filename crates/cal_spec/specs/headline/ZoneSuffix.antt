@@ -1,5 +1,5 @@
--- The zone at the end of a calendar expression: a name (systemd.time(7), Calendar Events), or a UTC offset, which is
--- this project's own.
+-- The zone at the end of a calendar expression: a name (systemd.time(7), Calendar Events), or a UTC offset, which
+-- systemd doesn't accept.
 use Rattle.std.specs.Prelude.{ℕ, ℤ, if◌then◌else◌, List, codes}
 use Rattle.std.specs.Str.{str_eq_ignore_ascii_case}
 use Rattle.cal_civil.specs.headline.OffsetText.{offset_text}
