@@ -184,7 +184,7 @@ then_zone at day number micros word zone meant = rw meant refl
 no_zone : (at : Setting) (day : Option Weekday) (number : Option ℤ) (micros : ℕ) (word : List ℕ) → zone_of_word at.find word ≡ Err StrayWord → civil_stamp_in at day number micros (word ∷ []) ≡ Err StrayWord
 no_zone at day number micros word meant = rw meant refl
 
--- The line of a date, a second of the day and a word for the zone
+-- The line that is printed for a date, a second of the day and the word for a zone
 
 abbrev date_in : Date → List ℕ
 date_in date = date_word (year_of date) date.month date.day

@@ -74,7 +74,7 @@ offset_found (Some seconds) = Ok (fixed_offset_zone seconds)
 abbrev pub zone_of_word : (List ℕ → Option TimeZone) → List ℕ → Result TimeZone StampFault
 zone_of_word find w = if begins_with_letter w then name_found (find w) else offset_found (offset_in w)
 
--- `zone`, for which the previous word stands, or `StrayWord` if another word follows
+-- the zone `zone` of the previous word if no other word follows, and otherwise `StrayWord`
 abbrev pub zone_alone : TimeZone → List (List ℕ) → Result TimeZone StampFault
 zone_alone zone [] = Ok zone
 zone_alone zone (w ∷ ws) = Err StrayWord

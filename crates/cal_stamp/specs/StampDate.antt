@@ -39,7 +39,8 @@ is_day year month day =
     nat_le 1970 year && nat_le year 2199 && nat_le 1 month && nat_le month 12 && nat_le 1 day
     && nat_le day (days_in_month (pos year) month)
 
--- the day number of a date, counted from 1970-01-01, or `NoSuchDate` if it isn't a day from 1970-01-01 to 2199-12-31
+-- the day number of a date, counted from 1970-01-01, or `NoSuchDate` if the date isn't a day from 1970-01-01 to
+-- 2199-12-31
 unfoldable pub day_of_date : ℕ → ℕ → ℕ → Result ℤ StampFault
 day_of_date year month day =
     if is_day year month day then Ok (days_from_civil (pos year) month day) else Err NoSuchDate

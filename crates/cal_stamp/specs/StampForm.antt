@@ -6,8 +6,8 @@ use Rattle.cal_text.specs.headline.Trim.{trim_matches}
 use Rattle.cal_text.specs.headline.Words.{is_blank, words}
 
 -- The forms of a timestamp: nothing; the present; the present plus a time span; the present minus a time span;
--- 1970-01-01 00:00:00 UTC plus a time span; the midnight at which a day begins, given by how many days after today it
--- is and by the words of its zone; and a civil time, given by its words.
+-- 1970-01-01 00:00:00 UTC plus a time span; the midnight at which a day begins, given by how many days after today this
+-- day is and by the words of the zone; and a civil time, given by its words.
 pub data Form : Type 0 where
   nothing : Form
   present : Form

@@ -110,7 +110,7 @@ fn begins_with_digit(word: &[u8]) -> bool
     }
 }
 
-/// Converts a civil time to a moment. If the civil time has no date, it is on the present day in its zone. Fails with
+/// Converts a civil time to a moment. If the civil time has no date, its day is the present day in its zone. Fails with
 /// `WrongWeekday` if a weekday is named and the day isn't this weekday, and otherwise with `OutOfRange` if the time is
 /// before the first moment or after the last.
 #[tactic(auto, unfolding(crate::specs::Stamp::moment_of_civil_stamp))]

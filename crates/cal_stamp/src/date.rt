@@ -21,7 +21,8 @@ struct DateNumbers {
 /// Parses a date, `year-month-day`, and returns its day number, counted from 1970-01-01.
 ///
 /// The year has one to four digits, the month and the day one or two (systemd.time(7), Parsing Timestamps). Fails with
-/// `BadDate` if `word` doesn't have this form, and with `NoSuchDate` if it isn't a day from 1970-01-01 to 2199-12-31.
+/// `BadDate` if `word` doesn't have this form, and with `NoSuchDate` if the date isn't a day from 1970-01-01 to
+/// 2199-12-31.
 #[tactic(auto, unfolding(crate::specs::StampDate::day_written))]
 pub(crate) fn read_date(word: &[u8]) -> Result<i64, StampFault>
     ensures value { result ≡ day_written word.now }

@@ -13,9 +13,9 @@ use cal_civil::{begins_with_letter, read_offset};
 use cal_text::first_word;
 use cal_zone::{Setting, Zone, ZoneTable};
 
-/// Parses `text` as a zone. Without words, the zone is the local zone. A single word must be a name in the table
-/// (systemd.time(7), Parsing Timestamps) or an offset, `+hh:mm` or `-hh:mm`, a form of this project's own. A word that
-/// doesn't begin with a letter is never looked up in the table.
+/// Parses `text` as a zone. If `text` has no words, the zone is the local zone. If it is a single word, this word must
+/// be a name in the table (systemd.time(7), Parsing Timestamps) or an offset, `+hh:mm` or `-hh:mm`, which this project
+/// adds to systemd's rules. A word that doesn't begin with a letter is never looked up in the table.
 ///
 /// Fails with `NoSuchZone` if the first word begins with a letter and is not a name in the table, and with `StrayWord`
 /// if the first word begins with anything else and is not an offset, or if another word follows a valid zone.
