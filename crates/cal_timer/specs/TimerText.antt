@@ -21,7 +21,7 @@ pub record TimerLine (E : Type 0) : Type 0 where
   pub text : List ℕ
   pub expr : E
 
--- the error of a line, given the result of parsing its expression
+-- the error of a line, if it has one, given the result of parsing the expression in the line
 abbrev pub bad_line : {E : Type 0} → ℕ → Result E SpecFault → Option TimerFault
 bad_line number (Ok expr) = None
 bad_line number (Err fault) = Some (BadLine number fault)

@@ -15,8 +15,9 @@ ghost use Rattle.cal_timer.specs.TimerText.{Timer, lists_of};
 ghost use Rattle.cal_timer.specs.TimerView.{entries_or_fault, resumed};
 ghost use Rattle.cal_timer.specs.headline.TimerText.{excepted, is_exception, is_exception_reset, is_expression, is_reset, listed};
 
-/// A line belongs to the section `Timer` if the last header before the line opens this section. If there is no header
-/// before the line, `inside` decides. A header itself belongs to no section.
+/// A line belongs to the section `Timer` if the last header before the line opens this section. Lines before the first
+/// header belong to the section if the argument `inside` of `timer_lines` is `true`. A header itself belongs to no
+/// section.
 pub fn one_section()
     ensures header { (inside : Bool) (front rest : List Line) (header : Line)
         → is_header header.text ≡ true → list_any (λ line. is_header line.text) rest ≡ false
