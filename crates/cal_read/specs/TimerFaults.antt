@@ -23,14 +23,14 @@ all_faults read before (a ∷ after) = option_to_list (fault_following read befo
 abbrev pub in_file : ℕ → TimerFault → FileFault
 in_file k fault = record { file = Some k; fault = fault }
 
--- all errors of several texts, which come after the assignments in `before`; the first of the texts has the index `k`
+-- all errors of several texts, if the assignments in `before` come before these texts; the first text has the index `k`
 unfoldable pub faults_of : {E : Type 0} → (List ℕ → Result E SpecFault) → List Assignment → ℕ → List UnitText → List FileFault
 faults_of read before k [] = []
 faults_of read before k (file ∷ files) =
     map (in_file k) (all_faults read before (assignments_at file)) ++ faults_of read (before ++ assignments_at file) (k + 1) files
 
--- The rest of this file follows the loops of the code, which count the entries of each list but don't keep the lists.
--- Only private contracts use it.
+-- The definitions from here on follow the loops of the code, which count the entries of each list but don't keep the
+-- lists. Only contracts of private functions use these definitions.
 
 -- the length of a list after an assignment, capped at the limit, given the length before it, whether the assignment
 -- adds to the list, and whether it clears the list

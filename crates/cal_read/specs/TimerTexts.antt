@@ -19,8 +19,9 @@ assignments_at file = assignments_in false (logical_lines file.first (without_ma
 abbrev pub assignments_of : List UnitText → List Assignment
 assignments_of = flat_map assignments_at
 
--- The first error of several texts is `fault`, in the text with this index: the texts before it have no error. If there
--- is no index, no assignment has an error, and `fault` is `NothingToDo`.
+-- `fault` is the error of reading these texts as one timer. If an index is given, `fault` is the first error in the
+-- text with this index, and the texts before this text have no errors. If the index is None, none of the texts has an
+-- error, and `fault` is `NothingToDo`, the error of a timer whose list of expressions is empty.
 abbrev pub IsFirstOf : {E : Type 0} → (List ℕ → Result E SpecFault) → List UnitText → Option ℕ → TimerFault → Type 0
 IsFirstOf read files None fault = (first_fault read [] (assignments_of files) ≡ None) × (fault ≡ NothingToDo)
 IsFirstOf read files (Some k) fault =

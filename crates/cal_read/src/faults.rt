@@ -96,7 +96,7 @@ fn fault_beside(
     }
 }
 
-/// Appends an error, if there is one, with the index of its text.
+/// Appends `fault`, if it is an error, to `found`, together with `place`, the index of the text that has the error.
 fn push_fault(
     found: &mut Vec<FileFault>,
     place: usize,

@@ -74,8 +74,8 @@ impl<'t> Settings<'t> {
         }
     }
 
-    /// Returns the next setting, or `None` if there are no more. Fails only if allocation fails; then no setting is
-    /// skipped.
+    /// Returns the next setting, or `None` if there are no more. Fails only if allocation fails; a later call then
+    /// returns the same setting.
     pub fn next(&mut self, alloc: Global) -> Result<Option<Setting>, AllocError>
         ensures next { IfOk result (λ found. MatchOption found (self.old ≡ [])
             (λ setting. self.old ≡ shown_setting setting ∷ self.new)) }
