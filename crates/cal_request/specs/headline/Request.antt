@@ -1,4 +1,4 @@
--- A request together with the present and the zones, which its answer depends on.
+-- A request, together with the present and the zones that its answer depends on.
 use Rattle.std.specs.Prelude.{ℕ, ℤ, List, Option}
 use Rattle.cal_zone.specs.headline.ZoneMap.{ZoneMap}
 use Rattle.cal_zone.specs.declared.zone.Zone.{Zone}
