@@ -31,9 +31,9 @@ among p kind [] at holds = absurd at
 among p kind (k ∷ ks) (inl same) holds = grind (arith, ap p same)
 among p kind (k ∷ ks) (inr later) holds = grind (arith, among p kind ks later holds)
 
--- Suppose that `clap` returns an error of the kind `kind`: either `OutOfMemory`, or a kind that it may report for these
--- arguments, which it then doesn't accept. If the code may report `fault` for this error (`IsReportedOf`), then `fault`
--- is right for the arguments, as `IsFaultOf` defines it.
+-- Suppose that `clap` returns an error of the kind `kind` for these arguments. Unless the kind is `OutOfMemory`, `clap`
+-- may report this kind for the arguments, and it doesn't accept them. If the code may report `fault` for the error
+-- (`IsReportedOf`), then `fault` is right for the arguments, as `IsFaultOf` defines it.
 pub reported_fault : (arguments : List Text) (kind : ErrorKind) (fault : CommandFault) → (takes_arguments arguments ≡ true → kind ≡ OutOfMemory)
     → (kind ≡ OutOfMemory) ⊎ IsAmong kind (faults_in arguments) → IsReportedOf kind fault → IsFaultOf arguments fault
 reported_fault arguments kind (usage text) passes kinds reported =

@@ -74,7 +74,7 @@ parts_at-split c text (Some x) h small =
     rw (any_below (λ byte. byte == c) text cut.0, cut.1, cut.2) refl
 
 -- if a text has a comma, then its first item is the part before the first comma, and its other items are the items of
--- the part after it
+-- the part after this comma
 pub item_some : (text : List ℕ) (x : Bor (List ℕ) × Bor (List ℕ)) → IsSplitOnceResult 44 text (Some x)
     → slice_split is_comma text ≡ x.0.now ∷ slice_split is_comma x.1.now
 item_some text x h =
@@ -86,7 +86,8 @@ item_none text h =
     let cut = split_once_first 44 text None h (lit< tt) in
     slice_split_none is_comma text (λ k d within. not-true _ (prefix_len_passes (λ x. not (is_comma x)) text k d (omega (arith, cut))))
 
--- `done` are the `n` items parsed so far and `left` those still to be parsed; together they are the items of `text`
+-- `done` are the items parsed so far, of which there are `n`, at most 64, and `left` are the items still to be parsed;
+-- together they are the items of `text`
 abbrev pub ZonesRead : List ZoneItem → ℕ → List (List ℕ) → List ℕ → Type 0
 ZonesRead done n left text =
     (option_map (λ later. done ++ later) (zone_items_in left) ≡ zone_items_in (slice_split is_comma text))

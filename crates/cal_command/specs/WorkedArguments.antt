@@ -10,7 +10,7 @@ use Rattle.clap.specs.declared.parser.matches.ValueSource.TheVariants as source
 abbrev pub daily_arguments : List (List ℕ)
 daily_arguments = codes "calendar" ∷ codes "daily" ∷ []
 
--- what `clap` finds in `calendar daily`: the verb, the text `daily`, and one row of `clap`, the row for the texts
+-- what `clap` finds in `calendar daily`: the verb, the text `daily`, and a single row, which lists the texts
 abbrev pub daily_matches : VerbMatches
 daily_matches = record { verb = Calendar; texts = codes "daily" ∷ []; rows = record { id = codes "text"; values = codes "daily" ∷ []; count = None; source = Some source.CommandLine; reading = reading.AsWritten } ∷ [] }
 

@@ -8,7 +8,7 @@ pub(crate) struct ValueOption {
     pub(crate) name: &'static str,
     /// What the help calls the value.
     pub(crate) value: &'static str,
-    /// The line of the help.
+    /// What the help says about the option; `{n}` begins a new line.
     pub(crate) help: &'static str,
 }
 
