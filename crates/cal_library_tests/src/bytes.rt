@@ -65,7 +65,8 @@ fn reads_whole(rt: HostRuntime) -> Result<(), Fail> {
     Ok(())
 }
 
-/// Expects the next call to return `count` bytes (or to fail, for `None`), and `into` to hold `held` afterwards.
+/// Expects the next call of `fetch` to return `count` bytes, or to fail if `count` is `None`. Expects `into` to hold
+/// `held` afterwards.
 fn expect_fetch(
     reader: &mut Port<Faulty>,
     into: &mut [u8],

@@ -68,7 +68,8 @@ fn at_offsets(rt: HostRuntime) -> Result<(), Fail> {
     Ok(())
 }
 
-/// Instants around the two transitions of 2024, among them two at which the clock shows the same local time.
+/// Instants around the two transitions of 2024, each with how it is printed. At two of these instants, the clock shows
+/// the same local time.
 static IN_2024: [(i64, &str); 6] = [
     (1_711_762_200, "Sat 2024-03-30 02:30:00 +01:00"),
     (1_711_846_799, "Sun 2024-03-31 01:59:59 +01:00"),

@@ -1,5 +1,5 @@
-//! Timer files: which expressions and exceptions a file ends up with, and why a file is rejected. Exceptions are
-//! expressions at whose elapses the timer doesn't elapse.
+//! Timer files: which expressions and exceptions a file ends up with, and why a file is rejected. An exception is an
+//! expression after `X-ExceptOnCalendar=`; when it elapses, the timer doesn't.
 
 use crate::shared::{TIMER_FILE, ensure};
 use cal_base::Port;
@@ -74,7 +74,7 @@ fn fault_of(alloc: Global, file: &[u8]) -> Option<TimerFault> {
     read(alloc, file).err()
 }
 
-/// Returns whether parsing the file has the result `expected`: these expressions or, if it is an error, this error.
+/// Returns whether parsing the file has the result `expected`: a timer with exactly these expressions, or this error.
 fn is_read(alloc: Global, file: &[u8], expected: &Result<Lines, TimerFault>) -> bool {
     match (read(alloc, file), expected) {
         (Ok(timer), Ok(lines)) => has_lines(timer.lines(), lines),

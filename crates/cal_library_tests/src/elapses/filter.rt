@@ -19,9 +19,9 @@ struct TestedRange {
     max_offset: i64,
 }
 
-/// Appends the places of the local seconds that the expression matches, as far as they are in the range. (The place of
-/// a local second is the instant at which the zone's clock first shows it.) Every local second whose place could be in
-/// the range is tested.
+/// Appends to `instants` the instants in the range at which the expression elapses in the zone. They are found by
+/// testing every local second that the zone's clock can show in the range. A local second that the expression matches
+/// gives the instant at which the clock first shows this local second, or no instant if the clock skips it.
 fn push_places(
     instants: &mut Vec<i64>,
     expr: &Expr,

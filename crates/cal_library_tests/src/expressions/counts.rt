@@ -5,11 +5,11 @@ use cal_spec::SpecFault::{self, *};
 use std::alloc::{AllocError, Global};
 use std::test::Fail;
 
-/// Long expressions. Each line begins with a count, and `#` in the line stands for `piece`, repeated as often as the
-/// count says.
+/// Long expressions, each on a line of its own. The line begins with a count, and `#` in the line stands for that many
+/// copies of `piece`.
 struct Table {
     piece: &'static str,
-    /// After the count, each line has an expression, an arrow and the normal form of the expression.
+    /// Valid expressions: after the count, each line has an expression, an arrow and the expression's normal form.
     accepted: &'static str,
     refused: &'static [(SpecFault, &'static str)],
 }

@@ -13,8 +13,8 @@ weekly utc -> Mon *-*-* 00:00:00 UTC|*-*~* -> *-*-* 00:00:00|93..00-*-* -> 1993.
 mon,fri 12-1/2-3,1 *:30:45 -> Mon,Fri 2012-01/2-01,03 *:30:45|00:00:20..40/1 -> *-*-* 00:00:20..40|\
 *:4,30:0/1 -> *-*-* *:04,30:*|12,14,13,12:20,10,30 -> *-*-* 12,13,14:10,20,30:00";
 
-/// In the normal form, a range with a step ends with the last value that the steps reach. If that is its first value,
-/// the range becomes a single value.
+/// In the normal form, a range with a step ends with the last value that the steps reach. If this value is also the
+/// first value of the range, the range becomes a single value.
 const RANGE_ENDS: &str = "\
 *:05..10/6 -> *-*-* *:05:00|*:05..05 -> *-*-* *:05:00|*:20..39/5 -> *-*-* *:20..35/5:00|\
 *-*~3..10/3 -> *-*~03..09/3 00:00:00";
@@ -66,8 +66,8 @@ const DATES: &str = "\
 *~28/27 -> *-*~28/27 00:00:00|*~28..28/5 -> *-*~28 00:00:00|6/6-1 -> *-06/6-01 00:00:00|\
 1..12/1-1 -> *-01..12-01 00:00:00";
 
-/// Expects each expression to have the normal form next to it, and the normal form to be its own normal form. The lines
-/// are separated by `|`.
+/// Splits `lines` at each `|` into pairs of an expression and its normal form, such as `12:30 -> *-*-* 12:30:00`. For
+/// each pair, expects both the expression and the normal form to have this normal form.
 pub(super) fn expect_normal_texts(alloc: Global, lines: &str) -> Result<(), Fail> {
     for line in lines.split('|') {
         let (text, normal) = line.split_once(" -> ").ok_or("no arrow")?;

@@ -1,5 +1,5 @@
-//! Timer files with exceptions, which are expressions at whose elapses the timer doesn't elapse: the lists of
-//! expressions and of exceptions, and why a file is rejected.
+//! Timer files with exceptions: the lists of expressions and of exceptions, and why a file is rejected. An exception is
+//! an expression after `X-ExceptOnCalendar=`; when it elapses, the timer doesn't.
 
 use super::{EXCEPT_EXCEPTIONS, EXCEPT_LINES, Lines, expect_lists, fault_of};
 use crate::shared::{EXCEPT_FILE, ensure};

@@ -1,5 +1,5 @@
-//! Finding all errors in the texts of a timer, instead of only the first one. Exceptions are expressions at whose
-//! elapses the timer doesn't elapse.
+//! Finding all errors in the texts of a timer, instead of only the first one. An exception is an expression after
+//! `X-ExceptOnCalendar=`; when it elapses, the timer doesn't.
 
 use super::counts::{DAILY, EXCEPTION, RESET, counted_file};
 use super::texts::unit_texts;

@@ -1,5 +1,5 @@
-//! Timers that are read from several texts, such as a unit file and its drop-ins. Exceptions are expressions at whose
-//! elapses the timer doesn't elapse.
+//! Timers that are read from several texts, such as a unit file and its drop-ins. An exception is an expression after
+//! `X-ExceptOnCalendar=`; when it elapses, the timer doesn't.
 
 ghost use Rattle.std.specs.Prelude.{◌+◌, ◌<◌, ◌^◌, All, IfOk, length};
 
@@ -21,8 +21,8 @@ static READ: [Row; 9] = [
         &[(2, "daily"), (2, "hourly")],
         &[],
     ),
-    // In the next two rows, an empty value clears what all earlier lines set, in the same text and in earlier texts,
-    // but nothing after it.
+    // In the next two rows, an empty value clears the expressions of all earlier lines, in the same text and in earlier
+    // texts, but not the expressions of later lines.
     (
         &[
             "[Timer]\nOnCalendar=daily",

@@ -1,5 +1,5 @@
-//! The form of zone names (a letter, then letters, digits, `/`, `_`, `+` or `-`, at most 255 bytes in all) and finding
-//! zones by name.
+//! The form of zone names, and finding zones by name. The name of a zone begins with a letter, continues with letters,
+//! digits, `/`, `_`, `+` or `-`, and has at most 255 bytes.
 
 use crate::shared::{NEW_YEAR, ensure, posix};
 use cal_base::{Zone, ZoneFault, ZoneTable, is_zone_name, place};
@@ -62,7 +62,7 @@ fn expect_found(table: &ZoneTable, rows: &[(&str, Option<i64>)]) -> Result<(), F
     Ok(())
 }
 
-/// Names that can't be added to a table that has `Test/Fixed`. `UTC` is in every table.
+/// Names that can't be added to a table that has `Test/Fixed`, each with the error. `UTC` is in every table.
 static REFUSED: [(&str, ZoneFault); 7] = [
     ("Test/Fixed", ZoneFault::NameTaken),
     ("utc", ZoneFault::NameTaken),
