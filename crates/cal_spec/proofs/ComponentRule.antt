@@ -56,7 +56,7 @@ pub no_first_fault : (slot : Slot) (ps : List Part) → AllByRecursion (IsValidP
 no_first_fault slot [] sound = refl
 no_first_fault slot (p ∷ ps) sound = rw (no_fault_of slot p sound.0) (no_first_fault slot ps sound.1)
 
--- If a component is parsed, the grammar allows it
+-- If parsing a component succeeds, the grammar allows the component
 
 parts_found : (slot : Slot) (room : ℕ) (ts : List (List ℕ)) (ps : List Part) → parts_of slot room ts ≡ Ok ps → AllZip (IsPartOf slot) ts ps
 parts_found slot room [] ps at = let none : [] ≡ ps = cc in rw (← none) tt
@@ -136,7 +136,7 @@ pub component_bytes : (slot : Slot) (text : List ℕ) (c : Option (List Part)) �
 component_bytes slot text None is = rw is refl
 component_bytes slot text (Some ps) is = rw is.whole (joined_bytes slot is.texts ps is.parts)
 
--- If the grammar allows a component, it is parsed
+-- If the grammar allows a component, parsing it succeeds
 
 part_due_only : (slot : Slot) (room : ℕ) (text : List ℕ) (p : Part) → IsPartOf slot text p → 0 < room → part_due slot room text ≡ Ok p
 unfolding part_due

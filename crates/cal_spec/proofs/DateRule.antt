@@ -119,7 +119,7 @@ component_no_colon b h = grind (arith, nat_tests)
 component_clear : (p : ℕ → Bool) (slot : Slot) (text : List ℕ) (c : Option (List Part)) → Apart is_component_byte p → IsComponent slot text c → IsClear p text
 component_clear p slot text c apart is = clear_of is_component_byte p text apart (component_bytes slot text c is)
 
--- If a date or a time is parsed, the grammar allows it
+-- If parsing a date or a time succeeds, the grammar allows it
 
 pub is_date : (word : List ℕ) (weekdays : List Bool) (d : DateFields) (h : TimeFields) (name : Option ZoneSuffix) → date_in_word word ≡ Ok d → IsDate word (fields_with weekdays d h name)
 is_date word weekdays d h name at =
@@ -148,7 +148,7 @@ is_time room word weekdays d h name at =
       second = component_found Second (room - counted Hour h.hour - counted Minute h.minute) t.second h.second read.second;
     }
 
--- If the grammar allows a date or a time, it is parsed
+-- If the grammar allows a date or a time, parsing it succeeds
 
 -- no component has more counted parts than are left of the 240 after the components before it
 pub record AreFew (f : Fields) : Type 0 where

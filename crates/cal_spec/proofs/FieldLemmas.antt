@@ -43,7 +43,7 @@ use Rattle.cal_spec.proofs.ComponentLemmas.{IsRead, component_read}
 use Rattle.cal_text.proofs.General.{some_piece}
 use Rattle.cal_spec.proofs.ReadLemmas.{bind_ok, cond_ok, three_ok, four_ok}
 
--- If a date or a time is parsed, so is each of its components
+-- If parsing a date or a time succeeds, parsing each of its components succeeds
 
 pub record DateRead (t : DateTexts) (d : DateFields) : Type 0 where
   pub year : component_of Year max_counted_parts t.year ≡ Ok d.year
@@ -209,7 +209,7 @@ is_zone [] (Some suffix) at = cc
 is_zone (w ∷ []) suffix at = zone_by w (is_zone_name w) suffix refl at
 is_zone (w ∷ v ∷ ws) suffix at = cc
 
--- If a whole text is parsed, so are its weekdays, date, time and zone
+-- If parsing a whole text succeeds, parsing its weekdays, its date, its time and its zone succeeds
 
 abbrev pub fields_with : List Bool → DateFields → TimeFields → Option ZoneSuffix → Fields
 fields_with weekdays date time name = record {

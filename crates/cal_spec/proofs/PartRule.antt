@@ -54,7 +54,7 @@ written-symbols (b ∷ []) = written-byte b [] (is_ascii_digit b)
 written-symbols (b ∷ c ∷ bs) =
     written-pair b c (symbols bs) (symbols (c ∷ bs)) (is_point b && is_point c) refl (written-symbols (c ∷ bs) ∙ ap (λ more. c ∷ more) (sym (written-symbols bs))) ∙ ap (λ more. b ∷ c ∷ more) (written-symbols bs)
 
--- If a part is parsed, the grammar allows it
+-- If parsing a part succeeds, the grammar allows the part
 
 pub record NumberRead (ss : List Symbol) (r : Counted) : Type 0 where
   pub text : List ℕ
@@ -179,7 +179,7 @@ part_found slot text p at =
     let whole : text ≡ read.text ++ (rest.middle ++ rest.back) = sym (written-symbols text) ∙ ap written read.is ∙ ap (λ more. read.text ++ more) rest.whole in
     part_by text read.text rest.middle rest.back one.value.number rest.last rest.step p rest.is whole read.number rest.end_is rest.step_is
 
--- If the grammar allows a part, it is parsed
+-- If the grammar allows a part, parsing it succeeds
 
 number_due_is : (slot : Slot) (ds : List ℕ) (n : ℕ) (ss : List Symbol) → IsNumber ds n → starts_with_point ss ≡ false → number_due slot (digits ds ∷ ss) ≡ Ok (record { number = n; after = ss })
 number_due_is slot ds n ss number apart =

@@ -86,7 +86,7 @@ letters_at xs rest all stop =
     let len = front_len xs rest all stop in
     (ap (λ n. take n (xs ++ rest)) len ∙ take_at xs rest _ refl, ap (λ n. drop n (xs ++ rest)) len ∙ drop_at xs rest _ refl)
 
--- If an item is parsed, the grammar allows it
+-- If parsing an item succeeds, the grammar allows the item
 
 pub record JointRead (text : List ℕ) (name : List ℕ) : Type 0 where
   pub joint : List ℕ
@@ -145,7 +145,7 @@ unfolding days_of
 item_found item days at =
     rw take-append-drop at (item_by (leading_letters item) (after_letters item) (day_named (leading_letters item)) days refl at)
 
--- If the grammar allows an item, it is parsed
+-- If the grammar allows an item, parsing it succeeds
 
 joint_passed : (joint last : List ℕ) → (joint ≡ codes "..") ⊎ (joint ≡ codes "-") → 0 < length last → (begins_with_letter (joint ++ last) ≡ false) × (after_joint (joint ++ last) ≡ Some last)
 joint_passed joint last (inl dots) some = rw dots (refl, refl)
@@ -171,7 +171,7 @@ item_only text days (inr two) =
     let letters = letters_at two.first (two.joint ++ two.last) (name_letters two.first days.first two.first_name) passed.0 in
     rw (two.whole, letters.0, letters.1, name_only two.first days.first two.first_name, days_joined days.first (two.joint ++ two.last) two.last passed.1, name_only two.last days.last two.last_name) refl
 
--- If a weekday list is parsed, the grammar allows it
+-- If parsing a weekday list succeeds, the grammar allows the list
 
 items_found : (ts : List (List ℕ)) (items : List WeekdayRange) → items_of ts ≡ Ok items → AllZip IsItem ts items
 items_found [] items at = let none : [] ≡ items = cc in rw (← none) tt
@@ -317,7 +317,7 @@ trimmed_is : (word : List ℕ) (text : List ℕ) → EndsInLetter text → (word
 trimmed_is word text ends (inl same) = ap without_comma same ∙ kept text ends
 trimmed_is word text ends (inr more) = ap without_comma more ∙ taken_by text
 
--- If the grammar allows a weekday list, it begins with the name of a weekday, and it is parsed
+-- If the grammar allows a weekday list, the list begins with the name of a weekday, and parsing it succeeds
 
 pub record BeginsWithName (text : List ℕ) (day : Weekday) : Type 0 where
   pub name : List ℕ

@@ -26,7 +26,8 @@ use Rattle.cal_spec.specs.declared.shorthand.Shorthand.{Shorthand}
 use Rattle.cal_spec.proofs.FieldLemmas.{time_found}
 use Rattle.cal_text.proofs.General.{split_alone}
 
--- A word is parsed as a zone if and only if the grammar allows it as a zone; it then begins with a letter, `+` or `-`
+-- Parsing a word as a zone succeeds if and only if the grammar allows the word as a zone. Such a word begins with a
+-- letter, `+` or `-`.
 
 pub record ZoneRead (rest : List (List ℕ)) (suffix : Option ZoneSuffix) : Type 0 where
   pub last : Option (List ℕ)
@@ -73,7 +74,7 @@ pub zone_begins : (last : Option (List ℕ)) (suffix : Option ZoneSuffix) → Is
 zone_begins None suffix is = tt
 zone_begins (Some word) suffix is = word_begins word suffix is
 
--- A word that is parsed as a time has a colon
+-- If parsing a word as a time succeeds, the word has a colon
 
 time_needs : (word : List ℕ) (t : TimeTexts) → time_texts word ≡ Some t → list_any is_colon word ≡ false → ⊥
 unfolding time_texts

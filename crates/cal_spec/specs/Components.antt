@@ -1,6 +1,5 @@
 -- Parsing of a component of a date or time: systemd.time(7), Calendar Events. "Counted" parts are those that count
 -- towards the limit of 240: all parts of a year, month or day, and all but the first part of an hour, minute or second.
--- `room` is how many counted parts are still allowed.
 use Rattle.std.specs.Prelude.{ℕ, ◌+◌, ◌-◌, ◌==◌, Bool, if◌then◌else◌, List, [], ◌∷◌, length, map, codes, Option, None, Some, Result, Ok, Err}
 use Rattle.std.specs.List.{slice_split}
 use Rattle.std.specs.Str.{bytes_eq}
@@ -44,7 +43,8 @@ parts_of slot room (t ∷ ts) =
 abbrev pub first_value_fault : Slot → List Part → Option SpecFault
 first_value_fault slot ps = first_of (map (fault_of slot) ps)
 
--- parses parts separated by commas: first the syntax of all parts is checked, then their values
+-- parses parts separated by commas, with at most `room` counted parts among them: first the syntax of all parts is
+-- checked, then their values
 unfoldable pub parts_listed : Slot → ℕ → List ℕ → Result (List Part) SpecFault
 parts_listed slot room text =
     parts_of slot (room_in slot room) (slice_split is_comma text) >>= λ ps. unless (first_value_fault slot ps) ps

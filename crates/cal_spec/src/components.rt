@@ -1,7 +1,7 @@
 //! Parsing of one component of a date or time: `*`, or parts separated by commas.
 //!
 //! An expression may have at most 240 parts, not counting the first part of the hour, of the minute and of the second.
-//! All other parts are the *counted* parts, and `room` is how many of them are still allowed.
+//! All other parts are the *counted* parts.
 
 ghost use Rattle.std.specs.Prelude.{◌≡◌, ◌≤◌};
 ghost use Rattle.std.specs.List.{slice_split};
@@ -50,7 +50,8 @@ pub(crate) fn count_parts(slot: Slot, component: &Option<Vec<Part>>) -> usize
     }
 }
 
-/// Parses parts separated by commas, and then checks their values.
+/// Parses parts separated by commas, with at most `room` counted parts among them, and then checks the values of all
+/// parts.
 #[tactic(auto, unfolding(crate::specs::Components::parts_listed))]
 fn read_listed(alloc: Global, slot: Slot, room: usize, text: &[u8]) -> Result<Vec<Part>, SpecFault>
     requires { room ≤ max_counted_parts }

@@ -16,7 +16,7 @@ use std::marker::Model;
 
 /// A valid calendar expression in normal form (systemd.time(7), Calendar Events).
 ///
-/// In contracts, the value of an expression is its fields.
+/// Contracts see an expression as its fields.
 #[derive(Debug, Drop)]
 pub struct Expr {
     fields: Fields,

@@ -1,4 +1,4 @@
-//! The enum that names the six components of a calendar expression.
+//! Names for the six components of a calendar expression.
 
 /// A component of a calendar expression.
 #[derive(Clone, Copy, PartialEq, Eq, Debug)]

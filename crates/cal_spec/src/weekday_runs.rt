@@ -48,7 +48,7 @@ fn put_runs<W: Sink>(out: &mut W, days: &[bool]) -> Result<(), WriteFault>
     Ok(())
 }
 
-/// Returns the number of leading days that match.
+/// Returns how many days match at the start of the list, before the first day, if any, that doesn't match.
 #[tactic(auto, using(crate::proofs::WeekdayLemmas::front_within))]
 fn leading_days(days: &[bool]) -> usize
     ensures value { result ≡ prefix_len (λ day. day) days.now }
