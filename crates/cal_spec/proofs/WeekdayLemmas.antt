@@ -60,8 +60,8 @@ runs_skip day [] h = refl
 runs_skip day (true ∷ bs) h = absurd (omega arith)
 runs_skip day (false ∷ bs) h = refl
 
--- if the first `n + 1` days match, and the day after them, if there is one, doesn't match, then these days are the first
--- run, and the other runs are those of the days from `day + n + 2` on
+-- if the first `n + 1` days match, and the day after them, if there is one, doesn't match, then these days are the
+-- first run, and the other runs are those of the days from `day + n + 2` on
 pub runs_front : (n day : ℕ) (bs : List Bool) → front bs ≡ suc n
     → runs_from day bs ≡ record { first = day; last = day + n } ∷ runs_from (day + n + 2) (drop (suc (suc n)) bs)
 runs_front n day [] h = absurd (omega arith)
