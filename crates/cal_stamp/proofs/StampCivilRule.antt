@@ -146,7 +146,7 @@ unfolding time_written
 time_begins word micros h =
     let p = time_word word _ micros refl h in rw p.whole (digit_first p.hour (58 ∷ p.after) p.is_hour)
 
--- Words that satisfy `IsCivilTime` are parsed as that civil time
+-- If words and a civil time satisfy `IsCivilTime`, parsing the words gives this civil time
 
 pub means_from : (find : List ℕ → Option TimeZone) (word : List ℕ) (zone : TimeZone) → MeansZone find word zone → zone_of_word find word ≡ Ok zone
 means_from find word zone (inl name) = rw (name.0, name.1) refl
@@ -192,7 +192,7 @@ pub only : (at : Setting) (ws : List (List ℕ)) (c : CivilStamp) → IsCivilTim
 only at ws c h =
     ap (civil_time at) h.whole ∙ civil_from at h.weekday h.date h.time h.zone c.weekday c.day c.micros c.zone h.some h.has_weekday h.has_date h.has_time h.has_zone
 
--- Words that are parsed without an error satisfy `IsCivilTime`
+-- If parsing words gives a civil time, the words and the civil time satisfy `IsCivilTime`
 
 means_name : (found : Option TimeZone) (zone : TimeZone) → name_found found ≡ Ok zone → found ≡ Some zone
 means_name None zone h = cc

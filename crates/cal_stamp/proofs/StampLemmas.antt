@@ -20,7 +20,7 @@ use Rattle.cal_stamp.specs.declared.fault.StampFault.TheVariants.{OutOfRange}
 
 -- Fractions of a second
 
--- the value of a fraction is at most 9 * `size` times the number of its digits
+-- the value of a fraction of a unit that is worth `size` is at most 9 * `size` for each digit of the fraction
 pub fraction_bound : (size place : ℕ) (ds : List ℕ) → list_all is_ascii_digit ds ≡ true → fraction_worth size place ds ≤ length ds * (9 * size)
 fraction_bound size place [] h = omega arith
 fraction_bound size place (d ∷ ds) h =

@@ -51,7 +51,8 @@ use Rattle.cal_stamp.specs.StampTime.{time_written}
 use Rattle.cal_stamp.specs.StampViews.{setting}
 use Rattle.cal_stamp.specs.declared.fault.StampFault.TheVariants.{NoSuchDate, StrayWord}
 
--- The form of a line. A line is a printed instant: weekday, date, time and zone.
+-- The form of a printed instant, which consists of a weekday, a date, a time and a zone. The names of definitions and
+-- lemmas say `line` for a printed instant.
 
 abbrev after_name : List ℕ → List ℕ → List ℕ → List ℕ
 after_name date time zone = 32 ∷ (date ++ (32 ∷ (time ++ (32 ∷ zone))))
@@ -97,7 +98,7 @@ no_relative_day core name word rest shift are short long other p =
     absurd (omega (arith, short, long, ap length first))
 
 -- `name` is the name of the weekday `day`; `date`, `time` and `zone` are words, and `zone` can be the last word of a
--- line
+-- printed instant
 record IsLine (day : Weekday) (name date time zone : List ℕ) : Type 0 where
   named : IsDayName day name
   date_word : IsWord date
@@ -118,7 +119,7 @@ module _ (day : Weekday) (name date time zone : List ℕ) (is : IsLine day name 
       let capital = leb-true 65 (get_or name 0 0) is.named.capital in
       omega (arith, capital, get_or-append name (after_name date time zone) 0 0 (omega (arith, is.named.long)))
 
-  -- the last byte of a line is the last byte of its zone
+  -- the last byte of a printed instant is the last byte of its zone
   line_last : last_byte (line name date time zone) ≡ last_byte zone
   line_last =
       last_of name (after_name date time zone) (omega arith)
@@ -159,7 +160,7 @@ module _ (day : Weekday) (name date time zone : List ℕ) (is : IsLine day name 
       let core = line name date time zone in
       inr (no_sign core 43 later line_capital (omega arith), inr (no_sign core 45 earlier line_capital (omega arith), inr (no_sign core 64 counted line_capital (omega arith), fits_end)))
 
-  -- a line has the form of a civil time
+  -- a printed instant has the form of a civil time
   line_form : HasForm (line name date time zone) (civil (line_words name date time zone))
   line_form = record {
     core = line name date time zone;
@@ -167,7 +168,7 @@ module _ (day : Weekday) (name date time zone : List ℕ) (is : IsLine day name 
     fits = inr (λ other p. absurd (omega (arith, line_long, ap length p.0)), inr (λ other p. absurd (omega (arith, line_long, ap length p.0)), fits_sign));
   }
 
--- Parsing the words of a line, from left to right
+-- Parsing the words of a printed instant, from left to right
 
 date_first : (at : Setting) (day : Weekday) (name date time zone : List ℕ) → IsDayName day name → list_any is_colon date ≡ false
     → civil_time at (line_words name date time zone) ≡ (day_written date >>= λ number. after_date at (Some day) number (time ∷ zone ∷ []))
@@ -184,7 +185,7 @@ then_zone at day number micros word zone meant = rw meant refl
 no_zone : (at : Setting) (day : Option Weekday) (number : Option ℤ) (micros : ℕ) (word : List ℕ) → zone_of_word at.find word ≡ Err StrayWord → civil_stamp_in at day number micros (word ∷ []) ≡ Err StrayWord
 no_zone at day number micros word meant = rw meant refl
 
--- The line that is printed for a date, a second of the day and the word for a zone
+-- The text that is printed for a date, a second of the day and the word for a zone
 
 abbrev date_in : Date → List ℕ
 date_in date = date_word (year_of date) date.month date.day
@@ -250,7 +251,7 @@ unfolding instant_text civil_of
 printed_line zone secs =
     fields_printed (shown_date zone secs) (second_of_day (local_in zone secs)) (shown_offset zone secs) (shown_word zone secs)
 
--- The moment of a line
+-- The moment to which a printed instant resolves
 
 second_below : (secs : ℤ) → second_of_day secs < 86_400
 second_below secs = omega (arith, signed_arith)
@@ -273,7 +274,8 @@ shown_since zone secs h =
     let within = local_within zone secs h in
     year-from_1969 (shown_date zone secs) (omega (arith, signed_arith, shown_day zone secs h, within.0))
 
--- parsing a line comes down to parsing its date, then its time and its zone, and converting the civil time to a moment
+-- parsing a printed instant comes down to parsing its date, then its time and its zone, and converting the civil time
+-- to a moment
 words_read : (now : ℤ) (at : Setting) (date : Date) (second : ℕ) (zone : List ℕ) → second < 86_400 → IsLastWord zone
     → moment_in now at (line_of date second zone)
     ≡ ((day_written (date_in date) >>= λ number. after_date at (Some (day_in date)) number (time_in second ∷ zone ∷ [])) >>= λ stamp. moment_of_civil_stamp now stamp)
@@ -319,7 +321,8 @@ moment_back now local secs zone date h back e =
 
 -- The proof of `printed_instants_read_back` in `cal_stamp::laws`
 
--- if the year of a line is from 1970 to 2199, its date and its time are valid, so only its zone can still be invalid
+-- if the year of a printed instant is from 1970 to 2199, its date and its time are valid, so only its zone can still be
+-- invalid
 zone_judged : (now local : ℤ) (at : Setting) (date : Date) (zone : List ℕ) → IsLastWord zone → IsBetween (pos 1_970) (pos 2_199) date.year → epoch_day date ≡ day_of local
     → moment_in now at (line_of date (second_of_day local) zone)
     ≡ (civil_stamp_in at (Some (day_in date)) (Some (day_of local)) (micros_in (second_of_day local)) (zone ∷ []) >>= λ stamp. moment_of_civil_stamp now stamp)
