@@ -18,7 +18,8 @@ use Rattle.cal_timer.specs.declared.fault.TimerFault.TheVariants.{NothingToDo}
 use Rattle.cal_timer.proofs.TimerLemmas.{first_is_of_line, is_of_line}
 use Rattle.cal_text.proofs.General.{after_last_here, after_last_more, option_or_none}
 
--- without any header, all lines are in the section `Timer` if `inside` is true, and no lines are if it is false
+-- if none of the lines is a header, all of them are in the section `Timer` if `inside` is true, and none of them is if
+-- `inside` is false
 pub no_header : (inside : Bool) (lines : List Line) → list_any (λ line. is_header line.text) lines ≡ false → timer_lines inside lines ≡ (if inside then lines else [])
 unfolding timer_lines
 no_header true [] h = refl
