@@ -50,7 +50,8 @@ abbrev pub form_by_left : Option (List ℕ) → List ℕ → Form
 form_by_left None text = form_by_ago (before_word (codes "ago") text) text
 form_by_left (Some span) text = later span
 
--- the form of a text by its last word, `left` or `ago`, or otherwise by its first word
+-- the form of a text that isn't `now` and begins with no sign: if the last word is `left` or `ago`, this word decides,
+-- and otherwise the first word does
 unfoldable pub form_by_end : List ℕ → Form
 form_by_end text = form_by_left (before_word (codes "left") text) text
 

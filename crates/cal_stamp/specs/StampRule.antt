@@ -25,7 +25,7 @@ abbrev pub IsBeforeWord : List ℕ → (List ℕ → Form) → List ℕ → Form
 IsBeforeWord word means core form =
     (span : List ℕ) × (blank : ℕ) × (is_blank blank ≡ true) × (core ≡ span ++ (blank ∷ word)) × (form ≡ means span)
 
--- form 6: `today`, `yesterday` or `tomorrow`, followed by the words of a zone
+-- form 6: `today`, `yesterday` or `tomorrow`, and after it the words for a zone, if there are any
 abbrev pub IsRelativeDay : List ℕ → ℤ → List ℕ → Form → Type 0
 IsRelativeDay word shift core form =
     (after : List (List ℕ)) × (words core ≡ word ∷ after) × (form ≡ from_today shift after)
