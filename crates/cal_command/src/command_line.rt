@@ -1,5 +1,5 @@
-//! The parsing of the command line: a `clap` command with a subcommand for each verb, and the checks of the values that
-//! `clap` found.
+//! Parsing the command line: a `clap` command with a subcommand for each verb, and the checks of the values that `clap`
+//! found.
 
 ghost use Rattle.std.specs.Prelude.{◌≡◌, ◌<◌, [], false, codes, length, map, IfOk, IfErr};
 ghost use Rattle.clap.specs.Words.{app_of, kind_of, rule_of, shape_of, subcommand_rows_of};

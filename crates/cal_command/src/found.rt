@@ -1,4 +1,4 @@
-//! The reading of what `clap` found in the arguments: a verb with its texts, and the values of its options.
+//! Reading what `clap` found in the arguments: a verb with its texts, and the values of its options.
 
 ghost use Rattle.std.specs.Prelude.{◌≡◌, ◌≤◌, None, IfSome, false, length, option_map, true};
 ghost use Rattle.std.specs.Option.{option_copied};

@@ -1,5 +1,5 @@
-//! The parsing of option values: `--iterations` and `--base-time` of systemd-analyze(1), and this project's own
-//! `--now`, `--zones` and `--local`.
+//! Parsing option values: `--iterations` and `--base-time` of systemd-analyze(1), and this project's own `--now`,
+//! `--zones` and `--local`.
 //!
 //! A function whose name ends in `_of` takes the value of an option, or `None` if the option wasn't given; in that case
 //! it returns the default. A function whose name ends in `_in` parses a value. Functions of both kinds that check a
