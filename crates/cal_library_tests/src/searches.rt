@@ -97,8 +97,8 @@ fn each_once_rising(rt: HostRuntime) -> Result<(), Fail> {
     Ok(())
 }
 
-/// Tries no words at all, and as many words as the set of pending instants has: first with all words 0, and then with
-/// all words 0 but the last one.
+/// Calls `first_set` with no words at all, and then with as many words as the set of pending instants has: first with
+/// all words 0, and then with all words 0 but the last one.
 #[test]
 fn first_set_word() -> Result<(), Fail> {
     let mut cells = [0; 2_925];

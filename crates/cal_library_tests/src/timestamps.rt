@@ -41,8 +41,8 @@ struct Place<'a> {
     table: &'a ZoneTable,
 }
 
-/// Valid and invalid timestamps of many forms, in three settings: at +08:00, in UTC, and in UTC one minute after the
-/// start of 1970.
+/// Valid and invalid timestamps of many forms, in three settings: at +08:00, in UTC, and in UTC when the present is one
+/// minute after the start of 1970.
 static EACH_FORM: [Setting; 3] = [
     Setting {
         now: PRESENT,

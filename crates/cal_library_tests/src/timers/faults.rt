@@ -9,12 +9,12 @@ use cal_spec::SpecFault;
 use std::alloc::Global;
 use std::test::Fail;
 
-/// Texts, and all their errors, each after the index of its text and the number of its line.
+/// Texts, and all errors in them. The index of its text and the number of its line stand before each error.
 type Row = (&'static [&'static str], &'static [(usize, u32, SpecFault)]);
 
 static BAD_LINES: [Row; 5] = [
     (&[], &[]),
-    // In the next row, there is no expression, which `find_faults` doesn't report.
+    // In the next row, the texts end up without an expression, but `find_faults` doesn't report this.
     (&["[Timer]\nOnCalendar=daily", "[Timer]\nOnCalendar="], &[]),
     // In the next row, each invalid expression and each invalid exception is reported, with the index of its text and
     // the number of its line in this text.
