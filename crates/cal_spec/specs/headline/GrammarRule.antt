@@ -1,5 +1,5 @@
--- The grammar of calendar expressions, as productions over whole texts: systemd.time(7), Calendar Events. It is stated
--- independently of the parser.
+-- The grammar of calendar expressions: systemd.time(7), Calendar Events. It says which texts are valid and which fields
+-- they have, independently of the parser.
 use Rattle.std.specs.Prelude.{ℕ, ℤ, ◌<◌, ◌≤◌, ◌≡◌, ◌⊎◌, Bool, true, false, List, [], ◌∷◌, ◌++◌, length, map, drop, codes, Option, None, Some, IfSome}
 use Rattle.std.specs.List.{AllByRecursion, AllZip, list_all, list_any, join_with_byte}
 use Rattle.std.specs.Option.{option_to_list, unwrap_or}
