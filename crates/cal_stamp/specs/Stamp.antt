@@ -47,7 +47,7 @@ before_second second (Err fault) = Err (BadSpan fault)
 
 -- Days
 
--- the day that the zone's clock shows at present, as a day number
+-- the number of the day that the zone's clock shows at present, counted from 1970-01-01
 unfoldable pub today : ℤ → TimeZone → ℤ
 today now zone = day_of (local_shown_at zone now)
 
