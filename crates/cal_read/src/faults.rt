@@ -96,7 +96,8 @@ fn fault_beside(
     }
 }
 
-/// Appends `fault`, if it is an error, to `found`, together with `place`, the index of the text that has the error.
+/// Appends the error `fault`, if there is one, to `found`, together with `place`, the index of the text that has the
+/// error.
 fn push_fault(
     found: &mut Vec<FileFault>,
     place: usize,
