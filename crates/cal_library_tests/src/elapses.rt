@@ -60,7 +60,7 @@ fn expect_answers(
 /// An expression, a base time, and the first elapses after it, followed by `None` if there are no more.
 type Row = (&'static str, i64, &'static [Option<i64>]);
 
-/// Expects the first elapses of the expression to be those of the row.
+/// Expects the expression of a row to have the elapses of this row as its first elapses after the base time.
 fn expect_elapses(alloc: Global, zone: Zone<'_>, row: &Row) -> Result<(), Fail> {
     let (text, base, answers) = row;
     let mut elapses = elapses_of(alloc, text, zone, *base)?;

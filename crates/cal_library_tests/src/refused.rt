@@ -136,8 +136,8 @@ fn merged_lists(rt: HostRuntime) -> Result<(), Fail> {
     }
 }
 
-/// Checks that an exception (a source whose numbers the merge leaves out) is returned to the caller if it can't be
-/// added, and that the merge is then unchanged.
+/// Adds an exception, a source whose numbers the merge leaves out. Checks that, if the exception can't be added, it is
+/// returned to the caller and the merge is unchanged.
 #[test]
 fn an_exception(rt: HostRuntime) -> Result<(), Fail> {
     let mut merge = merge_two(rt.alloc(), &[1, 5, 9], &[5, 7])?;

@@ -1,5 +1,5 @@
-//! Timestamps (systemd.time(7), Parsing Timestamps): valid ones with their moments (the microseconds of Unix time to
-//! which they resolve), and invalid ones with their errors. The values are worked out by hand.
+//! Timestamps (systemd.time(7), Parsing Timestamps): valid ones with their moments, in microseconds of Unix time, and
+//! invalid ones with their errors. The values are worked out by hand.
 
 use crate::shared::{ensure, instant};
 use cal_base::{Instant, SpanFault, Zone, ZoneTable};

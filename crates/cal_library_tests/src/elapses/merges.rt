@@ -60,7 +60,7 @@ fn exceptions(rt: HostRuntime) -> Result<(), Fail> {
     expect_without(rt.alloc(), &[], &[], &[5, 8], &[])
 }
 
-/// Adds two sources and an exception, none of which can tell which numbers it still has.
+/// Adds two sources and an exception to a merge. None of the three can tell which numbers are still to come.
 fn add_silent(alloc: Global, merge: &mut Merge<Silent<Listed>>) -> Result<(), Fail>
     requires { merge.old.started ≡ false }
 {

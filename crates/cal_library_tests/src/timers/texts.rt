@@ -90,8 +90,8 @@ static READ: [Row; 9] = [
     ),
 ];
 
-/// Texts that are rejected, the index of the text with the error (`None` if the texts together lack an expression), and
-/// the error.
+/// Texts that are rejected, the index of the text with the error, and the error. The index is `None` if the texts
+/// together lack an expression.
 static REFUSED: [(&[&str], Option<usize>, TimerFault); 7] = [
     (&[], None, TimerFault::NothingToDo),
     (&["[Unit]", "[Timer]"], None, TimerFault::NothingToDo),
