@@ -33,8 +33,8 @@ pub(crate) fn read_zone<'t>(text: &str, at: Setting<'t>) -> Result<Zone<'t>, Sta
 }
 
 /// Parses one word as a zone. If the word begins with a letter, it must be a name in the table (systemd.time(7),
-/// Parsing Timestamps), or the call fails with `NoSuchZone`. Otherwise the word must be an offset, `+hh:mm` or `-hh:mm`,
-/// with hh from 00 to 25 and mm from 00 to 59, or the call fails with `StrayWord`.
+/// Parsing Timestamps), or the call fails with `NoSuchZone`. Otherwise the word must be an offset, `+hh:mm` or
+/// `-hh:mm`, with hh from 00 to 25 and mm from 00 to 59, or the call fails with `StrayWord`.
 fn zone_of_word<'t>(word: &str, table: &'t ZoneTable) -> Result<Zone<'t>, StampFault>
     ensures { zone_or_fault result ≡ zone_of_word (zone_named table.now) word.now }
 {
