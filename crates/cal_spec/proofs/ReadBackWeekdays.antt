@@ -17,8 +17,8 @@ gives_days : Result (List Bool) SpecFault → List Bool → Bool
 gives_days (Ok ds) days = same_bools ds days
 gives_days (Err e) days = false
 
--- Tests whether `word` can only be a weekday list, and whether parsing it returns `days`. A word can only be a weekday
--- list if it has no blank, begins with a letter and isn't a shorthand.
+-- Tests whether `word` can only be a weekday list, and whether parsing it returns `days`. A word without blanks that
+-- begins with a letter and isn't a shorthand can only be a weekday list.
 is_read_back : List ℕ → List Bool → Bool
 is_read_back word days =
     not (list_any is_blank word)

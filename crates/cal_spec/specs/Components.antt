@@ -32,8 +32,8 @@ unfoldable pub part_due : Slot → ℕ → List ℕ → Result Part SpecFault
 part_due slot room text =
     if room == 0 then Err TooManyParts else (part_of slot text >>= λ p. Ok (with_values slot p))
 
--- parses the parts of a component, without checking their values; fails with the first error, and it is an error, too,
--- if there are more than `room` parts
+-- parses the parts of a component without checking their values, and fails with the first error; more than `room` parts
+-- are an error, too
 abbrev pub parts_of : Slot → ℕ → List (List ℕ) → Result (List Part) SpecFault
 parts_of slot room [] = Ok []
 parts_of slot room (t ∷ ts) =
