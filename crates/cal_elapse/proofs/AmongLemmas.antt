@@ -1,5 +1,5 @@
--- Comparing the masks of two expressions, which have one bit for each value that a field matches, can show that one
--- expression has all values of the other.
+-- How comparing the masks of two expressions shows that one expression has all values of the other. A mask has one bit
+-- for each value that a field of an expression matches.
 use Rattle.std.proofs.Common.{◌≡◌, ℕ, List, arith, bit_or, get_or, length}
 use Rattle.std.proofs.lemmas.Bool.{or_right}
 use Rattle.std.proofs.Math.ListN.{get_or-eq_default}

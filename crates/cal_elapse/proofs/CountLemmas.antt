@@ -36,8 +36,8 @@ count_from-with passes start local low holds =
     let ends : local + 1 - start ≡ k + 1 = omega arith in
     ap (count_from passes start) ends ∙ count_from-one passes start k (subst (λ (t : ℕ). passes t ≡ true) here holds)
 
--- if no number from `middle` up to but not including `bound` passes, as many numbers from `start` on pass below `bound`
--- as below `middle`
+-- if no number from `middle` up to but not including `bound` passes, the range `start..bound` contains as many numbers
+-- that pass as the range `start..middle`
 pub count_from-on : (passes : ℕ → Bool) (start middle bound : ℕ) → start ≤ middle → middle ≤ bound → NonePasses passes middle bound
     → count_from passes start (bound - start) ≡ count_from passes start (middle - start)
 count_from-on passes start middle bound low high none =

@@ -1,5 +1,5 @@
--- Expressions whose elapses are all elapses of exceptions (expressions at whose elapses a timer doesn't elapse), and
--- why they can be left out.
+-- Expressions whose elapses are all elapses of exceptions, and why these expressions can be left out. An exception is
+-- an expression at whose elapses a timer doesn't elapse.
 use Rattle.std.proofs.Common.{◌≡◌, ◌⊎◌, ◌↔◌, ◌++◌, ℕ, Bool, true, false, List, [], ◌∷◌, ℤ, pos, ◌-ℤ◌, ◌<ℤ◌, inl, inr, refl, sym, subst, ◌∙◌, arith, int_eq}
 use Rattle.std.proofs.lemmas.Bool.{false≢true}
 use Rattle.std.proofs.lemmas.Int.{ints}

@@ -26,8 +26,8 @@ record IsPlaceFrom (e : Timed) (a n : ℕ) (i : ℤ) : Type 0 where
   is_match : e.matches local ≡ true
   placed : e.place local ≡ Some i
 
--- if `b` is true and `o` is a number, this number is put in front of `rest` and becomes an element; otherwise `rest` is
--- unchanged
+-- adding the number `o` in front of `rest`, if `b` is true and `o` isn't `None`, adds this number to the elements and
+-- changes nothing else
 Has-one : (b : Bool) (o : Option ℤ) (rest : List ℤ) (i : ℤ) → Has (cond b (cons_option o rest) rest) i ↔ (((b ≡ true) × (o ≡ Some i)) ⊎ Has rest i)
 Has-one b o rest i = grind arith
 
@@ -70,8 +70,8 @@ not_above b x i ge lt e = omega (arith, ints)
 not_both : (x e i : ℤ) → x <ℤ e → e <ℤ i → x ≡ i → ⊥
 not_both x e i h k f = omega (arith, ints)
 
--- filtering keeps exactly the numbers that are after `b`: first for one element, and then for a whole list
--- (`Has-above`)
+-- if the numbers up to `b` are removed from a list, exactly the numbers after `b` remain; this lemma is about the first
+-- element, and `Has-above` is about the whole list
 above-one : (b x : ℤ) (keep : Bool) (rest : List ℤ) (i : ℤ) → int_lt b x ≡ keep → Has (cond keep (x ∷ rest) rest) i ↔ (((b <ℤ i) × (x ≡ i)) ⊎ Has rest i)
 above-one b x keep rest i h = grind (arith, ints, not_above)
 
@@ -110,7 +110,7 @@ AreAbove-elapses_after es b =
     }
 
 -- `elapses_except` is strictly increasing and contains exactly the elapses of `es` after `b` that aren't elapses of
--- exceptions, the expressions at whose elapses a timer doesn't elapse
+-- exceptions; an exception is an expression at whose elapses a timer doesn't elapse
 pub AreElapses-elapses_except : (es exceptions : List Timed) (b : ℤ) → AreElapses es exceptions b (elapses_except es exceptions b)
 unfolding elapses_except
 AreElapses-elapses_except es exceptions b =
@@ -137,7 +137,7 @@ AreAbove-only es b xs h = same_above b xs (elapses_after es b) h (AreAbove-elaps
 pub AreElapses-only : (es exceptions : List Timed) (b : ℤ) (xs : List ℤ) → AreElapses es exceptions b xs → xs ≡ elapses_except es exceptions b
 AreElapses-only es exceptions b xs h = same_above b xs (elapses_except es exceptions b) h (AreElapses-elapses_except es exceptions b)
 
--- without exceptions, nothing is left out
+-- if there are no exceptions, `elapses_except` contains all elapses after `b`
 pub elapses_except-none : (es : List Timed) (b : ℤ) → elapses_except es [] b ≡ elapses_after es b
 unfolding elapses_except elapses_after union
 elapses_except-none es b = without-none (elapses_after es b)

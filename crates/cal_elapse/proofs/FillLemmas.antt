@@ -1,4 +1,4 @@
--- Setting several cells at once, and the elements of the ring after that.
+-- Setting several cells of the ring at once, and which instants the ring contains after that.
 use Rattle.std.proofs.Common.{◌≡◌, ◌≢◌, ◌⊎◌, ◌↔◌, ◌<ℤ◌, ◌+ℤ◌, ◌≤ℤ◌, ℕ, ℤ, ◌+◌, ◌-◌, ◌*◌, ◌/◌, ◌%◌, ◌^◌, ◌<◌, ◌≤◌, ◌||◌, Bool, true, List, Option, None, Some, bit_or, length, get_or, set, pos, IsSomeAnd, inl, inr, refl, sym, ap, ◌∙◌, subst, arith, get_or-set_same, get_or-set_other, slice_get}
 use Rattle.std.proofs.Math.ListN.{length-set}
 use Rattle.std.proofs.lemmas.Bool.{cases_eq, cases_lt, or_cases, or_left, or_right}
@@ -13,7 +13,7 @@ use Rattle.cal_elapse.proofs.CellLemmas.{in_word}
 use Rattle.cal_elapse.proofs.RingLemmas.{Has-instants, IsIn, first_found, found_kept, kept_some, member, none_found, none_kept, same_second}
 use Rattle.cal_text.proofs.General.{below_end, lt_from_pos, or_false}
 
--- The cells
+-- Which cells are set after `set_cells`
 
 -- after the bits of `more` are set in a word, a cell of that word is set if and only if it was set before or its bit in
 -- `more` is set
@@ -79,7 +79,7 @@ filled cells cell bits next i long inside fits turn next_in there =
           ]
     ]
 
--- The instants
+-- Which instants the ring contains once their cells are set
 
 -- a cell is set if and only if it was set before or is the cell of one of the new instants
 pub record AreFilled (old new : List ℕ) (start bits : ℕ) : Type 0 where
@@ -145,7 +145,7 @@ filled_seen old new least start bits i all round fits =
 one_early : (start bit : ℕ) (i : ℤ) → pos start +ℤ pos bit ≡ i → start + bit ≤ 7_258_211_998 → i ≤ℤ pos 7_258_211_998
 one_early start bit i is early = omega (arith, ints)
 
--- The set of instants
+-- What `put_bits` requires and ensures about the set of instants
 
 -- the ring isn't empty, and its smallest second is before `start`
 pub record IsBegun (cells : List ℕ) (least : ℕ) (start : ℤ) : Type 0 where

@@ -51,9 +51,9 @@ pub is_next : (masks : Masks) (zone : Zone) (from : ℕ) (found : Option ℤ) �
 unfolding timed_by
 is_next masks zone from found h first = next_by (timed_by masks zone) from found h first
 
--- Suppose that `searcher` has the masks of the window (one bit for each value that a field matches), and that `ahead`,
--- `pending` and the counts in `searcher` are as `IsReady` requires. Then the window is ready once `searcher`, `ahead`
--- and `pending` are stored in it.
+-- Suppose that `searcher` has the same masks as the window's own searcher, and that `ahead`, `pending` and the counts
+-- in `searcher` are as `IsReady` requires. Then the window is ready once `searcher`, `ahead` and `pending` are stored
+-- in it.
 pub ready_after : (v : Window) (searcher : Searcher) (ahead : Option ℤ) (pending : List ℤ) → searcher.masks ≡ v.searcher.masks → pos 0 ≤ℤ v.base → v.base ≤ℤ v.last
     → Windowed (timed_of v) (start_of v.base) (bound_of ahead) v.last pending → IsMatchAhead (timed_of v) ahead → start_of v.base ≤ bound_of ahead
     → searcher.searches ≡ count_from (timed_of v).matches (start_of v.base) (bound_of ahead - start_of v.base) + 1

@@ -20,7 +20,7 @@ use Rattle.cal_elapse.proofs.ElapsesLemmas.{first-least, first-none}
 use Rattle.cal_text.proofs.General.{int_cmp-less, list-first, list-no_first, get_or-zeros, lt_from_pos, lt_of_pos, rises-drop}
 use Rattle.cal_rising.proofs.RisingLemmas.{Has-insert_key, rises-insert_key, later_members, same_rising}
 
--- Consecutive numbers
+-- Which of several consecutive numbers pass a test
 
 -- `i` is one of the `n` consecutive numbers from `from` on, and passes
 record IsAmong (passes : ℕ → Bool) (from n : ℕ) (i : ℤ) : Type 0 where
@@ -169,8 +169,9 @@ none_kept cells least first none = let test : (least == no_second) ≡ true = gr
 
 -- Adding an instant
 
--- The range `from..from + 187_200` contains `at`, and every second of `low..low + 187_200` that is less than 187,200
--- seconds before or after `at`. So a ring that starts at `low` can start at `from` once `at` is added.
+-- The range `from..from + 187_200` contains `at`. It also contains every second of the range `low..low + 187_200` that
+-- is less than 187,200 seconds away from `at`. So if `at` is added to a ring that starts at `low`, the ring can start
+-- at `from` instead, provided that all its elements are less than 187,200 seconds away from `at`.
 record IsRoundWith (low at from : ℕ) : Type 0 where
   above : from ≤ at
   below : at < from + 187_200
@@ -199,8 +200,8 @@ was_held : (old new : List ℕ) (at t : ℕ) → HasMore old new at → t % 187_
 unfolding is_held
 was_held old new at t more other holds = sym (more.others (t % 187_200) other) ∙ holds
 
--- if a ring that starts at `low` can start at `from` once `at` is added (`IsRoundWith`), and all old elements are near
--- `at` (`IsNear`), then each old element is in the range `from..from + 187_200`
+-- if `IsRoundWith` is true, and all old elements are less than 187,200 seconds away from `at` (`IsNear`), then each old
+-- element is in the range `from..from + 187_200`
 kept_in : (old : List ℕ) (low at from t : ℕ) → IsRoundWith low at from → ((i : ℤ) → Has (instants_in old low) i → IsNear i (pos at))
     → low ≤ t → t < low + 187_200 → is_held old t ≡ true → (from ≤ t) × (t < from + 187_200)
 kept_in old low at from t round near above below holds =
@@ -253,8 +254,8 @@ put_round old new low at from more round near high whole was =
       members = λ i m. elim (put_there old new low at from i more round near ((Has-instants new from i).0 m)) [ inl e ↦ last_at at i e high | inr n ↦ was.members i n ];
     }
 
--- if `at` is before `least`, or less than 187,200 seconds after it, then a ring that started at `least` can start at
--- the smaller of `least` and `at` once `at` is added
+-- `IsRoundWith` is true for a ring that starts at `least`, and for the smaller of `least` and `at` as its new start,
+-- unless `at` is 187,200 seconds or more after `least`
 with_least : (least at : ℕ) → (least ≤ at → at ≤ least + 187_199) → IsRoundWith least at (min least at)
 with_least least at near = grind (arith, min)
 

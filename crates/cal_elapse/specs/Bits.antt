@@ -11,6 +11,6 @@ is_bit mask i = bit_at mask i == 1
 unfoldable pub is_bit_in : List ℕ → ℕ → Bool
 is_bit_in masks i = is_bit (slice_index_or masks (i / 64) 0) (i % 64)
 
--- whether a word of masks isn't 0
+-- whether a word has at least one set bit, that is, whether it isn't 0
 abbrev pub is_set : ℕ → Bool
 is_set x = not (x == 0)

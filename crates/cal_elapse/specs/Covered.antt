@@ -1,5 +1,5 @@
--- Expressions whose elapses are all elapses of exceptions, which are expressions at whose elapses a timer doesn't
--- elapse. systemd has no exceptions; they are this project's own.
+-- Expressions whose elapses are all elapses of exceptions. An exception is an expression at whose elapses a timer
+-- doesn't elapse. systemd has no exceptions; they are this project's own.
 use Rattle.std.specs.Prelude.{◌≡◌, ◌⊎◌, ℕ, ℤ, Bool, true, List}
 use Rattle.cal_elapse.specs.headline.Elapses.{IsElapse, IsPlace, Timed}
 use Rattle.cal_spec.specs.headline.Match.{Sets}

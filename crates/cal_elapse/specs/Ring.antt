@@ -14,7 +14,7 @@ pub cells_in_all-is : cells_in_all ≡ 187_200
 unfolding cells_in_all
 cells_in_all-is = refl
 
--- the number of cells once more, for statements in which no list has this length
+-- the number of cells again, under a name that proofs may unfold; no list gets its length from this name
 abbrev pub cell_count : ℕ
 cell_count = 187_200
 
@@ -36,7 +36,7 @@ pub record IsOneOf (start : ℤ) (bits : ℕ) (i : ℤ) : Type 0 where
   pub set : is_bit bits bit ≡ true
   pub is : (start +ℤ pos bit) ≡ i
 
--- those of the `n` numbers from `from` on that pass, in increasing order
+-- of the `n` numbers from `from` on, the list of those that pass, in increasing order
 abbrev pub rising_from : (ℕ → Bool) → ℕ → ℕ → List ℤ
 rising_from passes from zero = []
 rising_from passes from (suc n) = cond (passes from) (pos from ∷ rising_from passes (suc from) n) (rising_from passes (suc from) n)

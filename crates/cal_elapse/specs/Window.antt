@@ -1,4 +1,5 @@
--- The state of the source of elapses: pending instants, and the matches that have already been converted to instants.
+-- The state of a source of elapses: the local second before which all matches have been converted to instants, and the
+-- pending instants, which have been found but not returned yet.
 use Rattle.std.specs.Prelude.{◌≡◌, ◌↔◌, ◌+◌, ◌-◌, ◌<◌, ◌≤◌, cond, ℕ, true, List, Option, None, Some, ℤ, pos, negsuc, ◌+ℤ◌, ◌-ℤ◌, ◌<ℤ◌, ◌≤ℤ◌, int_lt, unsigned_abs, IfSome, unwrap_or}
 use Rattle.std.specs.Option.{option_map}
 use Rattle.std.specs.Ordering.{int_cmp}
@@ -59,8 +60,8 @@ abbrev pub with_place : Option ℤ → ℤ → List ℤ → List ℤ
 with_place None last xs = xs
 with_place (Some i) last xs = cond (int_lt last i) (insert_key int_cmp xs i) xs
 
--- the meaning of masks, the bits of the values that an expression's fields match, in a zone: the local seconds that
--- match, and the instants to which they resolve
+-- What the masks of an expression mean in a zone: which local seconds match, and to which instants local seconds
+-- resolve. A mask has one bit for each value that a field of the expression matches.
 unfoldable pub timed_by : Masks → Zone → Timed
 timed_by masks zone = record { matches = matches (sets_in masks); place = λ local. place_of (zone_of zone) (pos local) }
 

@@ -4,7 +4,7 @@ ghost use Rattle.std.specs.Prelude.{◌≡◌, ◌≢◌, ◌<◌, ℕ, true, fa
 ghost use Rattle.cal_elapse.specs.Bits.{is_bit};
 ghost use Rattle.cal_elapse.specs.Search.{IsFirstPassing};
 
-/// Returns whether the set contains the number `index`, which must be below 64.
+/// Returns whether the set `mask` contains the number `index`, which must be below 64.
 pub(crate) fn has_bit(mask: u64, index: u32) -> bool
     requires { index < 64 }
     ensures { result ≡ is_bit mask index }
@@ -12,7 +12,7 @@ pub(crate) fn has_bit(mask: u64, index: u32) -> bool
     mask >> index & 1 == 1
 }
 
-/// Adds the number `index`, which must be below 64, to the set and returns the result.
+/// Returns the set `mask` with the number `index` added. `index` must be below 64.
 pub(crate) fn with_bit(mask: u64, index: u32) -> u64
     requires { index < 64 }
     ensures set { is_bit result index ≡ true }
@@ -21,7 +21,7 @@ pub(crate) fn with_bit(mask: u64, index: u32) -> u64
     mask | 1 << index
 }
 
-/// Returns the set without the number `index`, which must be below 64.
+/// Returns the set `mask` without the number `index`, which must be below 64.
 pub(crate) fn without_bit(mask: u64, index: u32) -> u64
     requires { index < 64 }
     ensures cleared { is_bit result index ≡ false }
@@ -30,7 +30,7 @@ pub(crate) fn without_bit(mask: u64, index: u32) -> u64
     mask & !(1 << index)
 }
 
-/// Returns the set, which must not be empty, without its smallest number.
+/// Returns the set `mask`, which must not be empty, without its smallest number.
 pub(crate) fn without_lowest(mask: u64) -> u64
     requires { 0 < mask }
     ensures cleared { (lowest : ℕ) → IsFirstPassing (is_bit mask) 0 64 (Some lowest) → is_bit result lowest ≡ false }
@@ -40,7 +40,7 @@ pub(crate) fn without_lowest(mask: u64) -> u64
     mask & (mask - 1)
 }
 
-/// Returns the smallest number of the set at or above `from`, or `None` if there is none. `from` must be below 64.
+/// Returns the smallest number of `mask` at or above `from`, or `None` if there is none. `from` must be below 64.
 pub(crate) fn next_bit(mask: u64, from: u32) -> Option<u32>
     requires { from < 64 }
     ensures { IsFirstPassing (is_bit mask) from 64 result }
@@ -53,7 +53,7 @@ pub(crate) fn next_bit(mask: u64, from: u32) -> Option<u32>
     }
 }
 
-/// Returns the smallest number of the set, which must not be empty.
+/// Returns the smallest number of `mask`, which must not be empty.
 pub(crate) fn lowest_bit(mask: u64) -> u32
     requires { 0 < mask }
     ensures { IsFirstPassing (is_bit mask) 0 64 (Some result) }

@@ -1,5 +1,5 @@
-//! A comparison of two calendar expressions, field by field: whether one matches all values that the other one matches
-//! (systemd.time(7), Calendar Events). The values that a field matches are the set bits of a mask.
+//! A comparison of two calendar expressions: whether, in each field, one of them matches all values that the other one
+//! matches (systemd.time(7), Calendar Events). The values that a field matches are the set bits of a mask.
 
 ghost use Rattle.std.specs.Prelude.{◌≡◌, true};
 ghost use Rattle.cal_elapse.specs.Bits.{is_bit, is_bit_in};
@@ -9,9 +9,9 @@ ghost use Rattle.cal_elapse.specs.Masks.{sets_in};
 use crate::masks::Masks;
 
 impl Masks {
-    /// Returns `true` if `self` has every value that `others` has, field by field. Then every local second that
-    /// `others` matches is also matched by `self`. Returns `false` if only one of them counts days from the end of the
-    /// month, because days of the month and counts from its end aren't compared.
+    /// Returns `true` if `self` has every value that `others` has, field by field. Then `self` matches every local
+    /// second that `others` matches. Returns `false` if only one of the two counts days from the end of the month,
+    /// because a day of the month isn't compared with a count from the end.
     pub fn covers(&self, others: &Masks) -> bool
         ensures { result ≡ true → AreAmong (sets_in others.now) (sets_in self.now) }
     {

@@ -10,8 +10,8 @@ use cal_zone::{Instant, Zone};
 use std::alloc::Global;
 use std::marker::Model;
 
-/// The elapses of an expression in a zone after a base: the instants after the base to which the matching local seconds
-/// of the years 1970 to 2199 resolve, each once, in increasing order.
+/// A source of the elapses of an expression in a zone after a base. These are the instants after the base to which the
+/// matching local seconds of the years 1970 to 2199 resolve, each once, in increasing order.
 ///
 /// Matches are found in the order of local time. If the clock is turned back, a later match can resolve to an earlier
 /// instant. An instant is therefore returned only when no later match can resolve to the same instant or an earlier
@@ -68,8 +68,8 @@ impl<'z> Elapses<'z> {
     }
 
     /// Returns how many searches have been made: one by `new`, and one after each match that `next` has converted to an
-    /// instant or passed over because it is in a gap. One search finds the first match at or after a local second, as
-    /// one call of [`next_local`](crate::next_local) does.
+    /// instant or, if the match is in a gap, has skipped. One search finds the first match at or after a local second,
+    /// as one call of [`next_local`](crate::next_local) does.
     pub fn searches(&self) -> u64
         ensures { result ≡ self.now.searcher.searches }
     {

@@ -1,5 +1,5 @@
-//! Laws about the elapses of expressions, with and without exceptions, which are expressions at whose elapses a timer
-//! doesn't elapse. Each law is a function with an empty body, whose contract states the law.
+//! Laws about the elapses of expressions, with and without exceptions. An exception is an expression at whose elapses a
+//! timer doesn't elapse. Each law is a function with an empty body, whose contract states the law.
 
 ghost use Rattle.std.specs.Prelude.{◌≡◌, ◌↔◌, ◌+◌, ◌++◌, ◌∷◌, [], ℕ, ℤ, pos, ◌≤ℤ◌, List, Some, map, suc, take, drop, slice_get};
 ghost use Rattle.jiff.specs.Types.{TimeZone};
@@ -16,8 +16,8 @@ ghost use Rattle.cal_elapse.specs.headline.Timed.{timed};
 
 /// The elapses of expressions after a base, without those of exceptions, form exactly one list. The list is strictly
 /// increasing. It contains an instant if and only if the instant is after the base, a matching local second of an
-/// expression resolves to it, and it is not an elapse of an exception. No other list has both properties. Without
-/// exceptions, it is the list of all elapses after the base.
+/// expression resolves to it, and it is not an elapse of an exception. No other list has both properties. If there are
+/// no exceptions, this list is the list of all elapses of the expressions after the base.
 pub fn elapses_are_one_list()
     ensures these { (es exceptions : List Timed) (base : ℤ) → AreElapses es exceptions base (elapses_except es exceptions base) }
     ensures only { (es exceptions : List Timed) (base : ℤ) (xs : List ℤ) → AreElapses es exceptions base xs
@@ -35,9 +35,10 @@ pub fn elapses_of_each()
 
 /// An expression is covered by exceptions if and only if, whatever the base is, none of its elapses after the base is
 /// left once the elapses of the exceptions are removed. In the same zone, an expression is covered by another one that
-/// matches all its values, field by field, and counts days from the same end of the month. If each elapse of the
-/// expressions left out is also an elapse of an exception or of an expression that is kept, leaving them out doesn't
-/// change which elapses remain once those of the exceptions are removed. So covered expressions may be left out.
+/// matches all its values, field by field, and counts days from the same end of the month. Suppose that some
+/// expressions are left out, and that each of their elapses is also an elapse of an exception or of an expression that
+/// is kept. Then the same elapses remain once the elapses of the exceptions are removed. So covered expressions may be
+/// left out.
 pub fn covered_are_left_out()
     ensures covered { (e : Timed) (exceptions : List Timed) → IsCovered e exceptions
         ↔ ((base : ℤ) → elapses_except (e ∷ []) exceptions base ≡ []) }
@@ -47,7 +48,8 @@ pub fn covered_are_left_out()
         → elapses_except kept exceptions base ≡ elapses_except all exceptions base }
 {}
 
-/// Starting again with one of the elapses as the base yields exactly the elapses after it.
+/// If one of the elapses becomes the new base, the elapses after this base are exactly those that follow it in the
+/// list.
 pub fn elapses_go_on()
     ensures { (es exceptions : List Timed) (base e : ℤ) (k : ℕ) → slice_get (elapses_except es exceptions base) k ≡ Some e
         → elapses_except es exceptions e ≡ drop (suc k) (elapses_except es exceptions base) }

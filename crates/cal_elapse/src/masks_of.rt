@@ -118,8 +118,8 @@ fn bits_between(low: u32, high: u32) -> u64
 }
 
 /// Returns a word in which bit i stands for the value `first` + i. A bit with an index from `low` up to but not
-/// including `high` is set if its value is below `start`, or if it exceeds `start` by a multiple of `step`. No other
-/// bits are set. The caller's `low` excludes the values below `start`.
+/// including `high` is set if its value is at most `start`, or exceeds `start` by a multiple of `step`. No other bits
+/// are set. The caller's `low` excludes the values below `start`.
 fn steps(low: u32, high: u32, first: u16, start: u16, step: u16) -> u64
     requires few { high ≤ 64 }
     requires within { first ≤ 2_200 }

@@ -66,7 +66,7 @@ impl Pending {
     }
 
     /// Adds the instant `start` + i for each set bit i of `bits`. The set must not be empty. All new instants must be
-    /// later than its smallest element, and must differ from each element by at most 187,199 seconds.
+    /// later than the smallest element of the set, and must differ from each element by at most 187,199 seconds.
     pub fn put_bits(&mut self, start: i64, bits: u64)
         requires begun { IsSomeAnd (slice_get self.old 0) (λ least. least <ℤ start) }
         requires instants { (i : ℤ) → IsOneOf start bits i → IsInstant i }

@@ -21,9 +21,9 @@ pub fn first_set(cells: &[u64]) -> Option<usize>
     None
 }
 
-/// Returns the number of words before the first group of `LANES` words that has a word other than 0, or, if there is no
-/// such group, the number of words in all groups. The groups are consecutive, and the first one begins at index 0. The
-/// words after the last whole group aren't tested.
+/// Returns how many words come before the first group that has a word other than 0. If there is no such group, returns
+/// the number of words in all groups. A group is `LANES` words; the groups are consecutive, and the first one begins at
+/// index 0. The words after the last whole group aren't tested.
 fn zeros_in_front(cells: &[u64]) -> usize
     ensures inside { result ≤ length cells.now }
     ensures zeros { (k : ℕ) → k < result → is_set (slice_index_or cells.now k 0) ≡ false }

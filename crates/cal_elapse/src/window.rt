@@ -102,10 +102,10 @@ impl<'z> Window<'z> {
         self.ahead = ahead;
     }
 
-    /// If no later match in the minute of `local` is known, calls `convert_hour`. Otherwise, searches for all remaining
-    /// matches in this minute and converts them together, but only if three conditions are met. If they aren't, nothing
-    /// changes. `local` is a match that has already been converted. Returns the last match that has been converted,
-    /// which can be `local`.
+    /// Searches for all remaining matches in the minute of `local` and converts them together, if three conditions are
+    /// met; otherwise, nothing changes. If no later match in this minute is known, calls `convert_hour` instead.
+    /// `local` is a match that has already been converted. Returns the last match that has been converted, which can be
+    /// `local`.
     ///
     /// The conditions are:
     ///
@@ -151,9 +151,9 @@ impl<'z> Window<'z> {
     }
 
     /// Searches for the matches after `local` in its hour, up to the first match of the last minute with matches, and
-    /// converts them. Does this only if a later minute with matches in this hour is known and two conditions are met;
-    /// otherwise, nothing changes. `local` is a match that has already been converted. Returns the last match that has
-    /// been converted, which can be `local`.
+    /// converts them. Does this only if a later minute with matches in this hour is known, and if two conditions are
+    /// met; otherwise, nothing changes. `local` is a match that has already been converted. Returns the last match that
+    /// has been converted, which can be `local`.
     ///
     /// The conditions for the 3,600 local seconds from `local` on are:
     ///

@@ -23,7 +23,7 @@ abbrev pub IsElapse : List Timed → ℤ → Type 0
 IsElapse [] i = ⊥
 IsElapse (e ∷ es) i = IsPlace e i ⊎ IsElapse es i
 
--- `i` is an elapse of at least one of the expressions `es`, and isn't an elapse of an exception, which is an expression
+-- `i` is an elapse of at least one of the expressions `es` and of none of the exceptions; an exception is an expression
 -- at whose elapses a timer doesn't elapse
 abbrev pub IsElapseExcept : List Timed → List Timed → ℤ → Type 0
 IsElapseExcept es exceptions i = IsElapse es i × (IsElapse exceptions i → ⊥)

@@ -212,8 +212,8 @@ impl Searcher {
         found
     }
 
-    /// Finds the next match after `local`, which must itself match. Takes it from the stored bits if `local` is the
-    /// match that was found last and another one follows in its minute or hour.
+    /// Finds the next match after `local`, which must itself match. Takes the result from the stored bits if `local` is
+    /// the match that was found last and another match follows in the same minute or hour.
     #[inline(always)]
     fn find_after(&mut self, local: i64) -> Found
         requires inside { IsLocalSecond local }
