@@ -1,5 +1,5 @@
--- Lemmas for the law `cut_output_resumes`, which is the contract of a function that does nothing, on several texts: the
--- whole output consists of the reports of the accepted texts.
+-- Lemmas for the law `cut_output_resumes`, about requests with several texts: the whole output consists of the reports
+-- of the accepted texts. A law is the contract of a function that does nothing.
 use Rattle.std.proofs.Common.{◌≡◌, ◌∙◌, ℕ, ℤ, List, [], ◌∷◌, Option, None, Some, Result, Ok, Err, map, codes, refl, sym, ap}
 use Rattle.std.specs.Prelude.{is_err}
 use Rattle.std.specs.List.{AllByRecursion, AllZip, filter_map, flat_map, join_by}

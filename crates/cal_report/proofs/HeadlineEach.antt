@@ -1,5 +1,5 @@
--- Lemmas for the law `headline`, which is the contract of a function that does nothing: the answer to each text,
--- whether or not other texts are rejected.
+-- Lemmas for the law `headline`: the answer to each text, whether or not other texts are rejected. A law is the
+-- contract of a function that does nothing.
 use Rattle.std.proofs.Common.{◌≡◌, ◌++◌, ◌∙◌, ◌||◌, ℕ, ℤ, Bool, List, [], ◌∷◌, Option, Result, Ok, Err, map, codes, refl, rules, sym, ap, subst}
 use Rattle.std.specs.Prelude.{is_err, if◌then◌else◌}
 use Rattle.std.specs.Io.KnownBytes.{Appends}

@@ -1,5 +1,5 @@
--- Lemmas for the law `headline`, which is the contract of a function that does nothing: what is printed for accepted
--- expressions and timer files, and that nothing else can be printed.
+-- Lemmas for the law `headline`: what is printed for accepted expressions and timer files, and that nothing else can be
+-- printed. A law is the contract of a function that does nothing.
 use Rattle.std.proofs.Common.{◌≡◌, ◌<◌, ◌++◌, ◌∙◌, ℕ, ℤ, Bool, true, false, List, [], ◌∷◌, Option, None, Some, Result, Ok, map, take, length, codes, refl, sym, ap, subst, arith, append-nil}
 use Rattle.std.specs.Prelude.{is_err, nat_le, if◌then◌else◌}
 use Rattle.std.specs.Io.KnownBytes.{Appends}
@@ -74,8 +74,7 @@ is_answered one asked base e verb h =
     ∙ ap (answer_with asked base e.text) (spelled_is_read one e.text e.fields h.spelled)
     ∙ ap (answer_in asked base e.text e.fields) (zone_is_found asked e.fields.zone e.tz h.zone)
 
--- if there are no exceptions (expressions at whose elapse times a timer doesn't elapse), `elapses_after` computes
--- exactly the elapse times of an expression
+-- if there are no exceptions, `elapses_after` computes exactly the elapse times of an expression
 alone_elapses : (t : Timed) (base : ℤ) → AreElapses (t ∷ []) [] base (elapses_after (t ∷ []) base)
 alone_elapses t base = subst (AreElapses (t ∷ []) [] base) (elapses_except-none (t ∷ []) base) (AreElapses-elapses_except (t ∷ []) [] base)
 
@@ -168,8 +167,8 @@ no_fault one before a false false e f h = rw (e, f) refl
 all_fine : HaveOneNormalForm → (all : List Assignment) → AreSpelled all → AreFine expr_in all
 all_fine one all h before a after split = no_fault one before a (is_expression a) (is_exception a) refl refl (h before a after split)
 
--- the entry, a line of a parsed timer file, has the text and the fields of the expression `e`, and `e` is in the zone
--- of its zone suffix
+-- the entry, a line of a parsed timer file, has the text and the fields of the expression `e`, and the zone of `e` is
+-- the zone for its zone suffix
 record IsEntryOf (asked : Request) (entry : TimerLine Fields) (e : Expression) : Type 0 where
   text : entry.text ≡ e.text
   expr : entry.expr ≡ e.fields

@@ -1,5 +1,5 @@
--- Lemmas for the law `cut_output_resumes`, which is the contract of a function that does nothing, on several texts: an
--- output that was cut off consists of complete reports and a prefix of the next report.
+-- Lemmas for the law `cut_output_resumes`, about requests with several texts: an output that was cut off consists of
+-- complete reports and a prefix of the next report. A law is the contract of a function that does nothing.
 use Rattle.std.proofs.Common.{◌≡◌, ◌⊎◌, ◌<◌, ◌++◌, ◌∙◌, inl, inr, ℕ, ℤ, Bool, List, [], ◌∷◌, Option, None, Some, Result, Ok, map, length, codes, refl, sym, ap, subst, arith, append-nil, append_assoc, length-append, take}
 use Rattle.std.proofs.Math.Seq.{take-append_seam}
 use Rattle.std.proofs.lemmas.List.{append_cancel_left, length-map}

@@ -30,7 +30,7 @@ pub error_reported : (r : Result Status RunFault) (a d e : Option (List ℕ)) (r
     → answer ≡ Err line → IfOk r (λ status. status ≡ Refused) → HadMemory read → Writes d e r line → IsReported r a a d e read (whole_report answer)
 error_reported r a d e read line answer is status had err = rw is (record { status = status; had = if_ok r (HadMemory read) had; out = writes_nothing a r; err = err; unread = λ h. absurd (had h) })
 
--- The contract of `run`: an invalid base time, and a verb other than `timer`
+-- The contract of `run` for an invalid base time, and for a verb other than `timer`
 
 nothing_had : HadMemory (Ok [])
 nothing_had h = cc

@@ -1,6 +1,6 @@
--- Lemmas for the law `cut_output_resumes`, which is the contract of a function that does nothing, on one report: how
--- many elapse times have a complete first line in a prefix of the report, and what a request that continues after these
--- elapse times shows.
+-- Lemmas for the law `cut_output_resumes`, about one report: how many elapse times have a complete first line in a
+-- prefix of the report, and what a request that continues after these elapse times shows. A law is the contract of a
+-- function that does nothing.
 use Rattle.std.proofs.Common.{◌≡◌, ◌↔◌, ◌≤◌, ◌<◌, ◌+◌, ◌++◌, ◌∙◌, ℕ, zero, suc, ℤ, Bool, true, false, List, [], ◌∷◌, Option, None, Some, Result, Ok, Err, map, take, drop, length, codes, nat_le, refl, sym, ap, subst, arith, append-nil, append_assoc, length-append}
 use Rattle.std.proofs.Math.Seq.{take-append_seam}
 use Rattle.std.proofs.lemmas.Bool.Decides.{nat_tests}

@@ -155,7 +155,7 @@ two_spans-status : (report two_spans (Ok [])).status ≡ Refused
 unfolding two_spans report texts_report base_in texts_status timespan_answer timespan_report units_text counts_in_row span_of pairs_in words_in worth_of is_number unit_named number_worth spellings_of unit_name digits
 two_spans-status = refl
 
--- An accepted request, to which the law `headline` (the contract of a function that does nothing) applies
+-- An accepted request, to which the law `headline` applies
 
 -- `*:*:*`
 every_second : Fields

@@ -65,7 +65,7 @@ abbrev pub whole_report : Result (List ℕ) (List ℕ) → Report
 whole_report (Ok text) = record { out = text; err = []; status = Fine }
 whole_report (Err line) = record { out = []; err = line; status = Refused }
 
--- the name of the timer file, the only argument of a request of `timer`
+-- the name of the timer file, which is the only argument of a request for the verb `timer`
 abbrev pub file_name : Request → List ℕ
 file_name asked = slice_index_or asked.texts 0 []
 

@@ -1,4 +1,5 @@
--- The definitions of this crate that its law `headline`, the contract of a function that does nothing, depends on.
+-- The definitions of this crate on which its law `headline` depends. A law is the contract of a function that does
+-- nothing.
 pub mod CalendarReport
 pub mod ElapseLines
 pub mod Headline

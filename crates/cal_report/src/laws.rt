@@ -111,7 +111,8 @@ pub fn headline()
         → IsPlace (timed fields tz) j → local_shown_at tz i ≡ local_shown_at tz j → i ≡ j }
     // A local second that the clock never shows (in a gap) has no instant. If `jiff` finds that the clock shows a local
     // second twice (in a fold), and the local second has an instant, then this instant is computed with the UTC offset
-    // before the transition. If this offset is the larger one, the instant is the earlier of the two.
+    // before the transition. If this offset is larger than the one after the transition, the instant is the earlier of
+    // the two instants at which the clock shows the local second.
     ensures gap { (tz : TimeZone) (local : ℤ) → ((second : ℤ) → local_shown_at tz second ≡ local → ⊥)
         → place_of tz local ≡ None }
     ensures fold { (tz : TimeZone) (local i : ℤ) (before after : Offset)
@@ -122,18 +123,18 @@ pub fn headline()
 }
 
 /// States how to continue a report of which only a prefix was written. Count the elapse times whose first line is
-/// complete in the prefix. The same request, with the last of these elapse times as its base time and with `iterations`
-/// reduced by their number, prints exactly the remaining ones, with labels that count from 1 again. If no elapse time
-/// has a complete first line, the original request has to be run again.
+/// complete in the prefix. If there are any, run the same request with the last of them as its base time, and with
+/// `iterations` reduced by their number: it prints exactly the remaining elapse times, or `never` if none remain, with
+/// labels that count from 1 again. If no elapse time has a complete first line, run the original request again.
 pub fn cut_output_resumes()
     // If the request is for one accepted calendar expression, its report can be continued after every prefix `front`.
     ensures calendar { (asked : Request) (read : Result (List ℕ) WholeFault) (base : ℤ) (e : Expression)
         (front rest : List ℕ) → asked.verb ≡ Calendar → base_in asked ≡ Ok base → asked.texts ≡ e.text ∷ []
         → IsAccepted asked e → (report asked read).out ≡ front ++ rest → Resumes asked base (alone e) read front }
     // If at least one of the texts of a request for `calendar` is accepted, the output can be continued after every
-    // prefix `front`. `es` are the expressions of the accepted texts. The prefix consists of some complete
-    // reports and of a prefix of the next report, which can be continued as if its expression had been requested alone.
-    // There is only one way to divide `front` into complete reports and a prefix of the next one (`one_place`).
+    // prefix `front`. `es` are the expressions of the accepted texts. The prefix consists of complete reports and of a
+    // prefix of the next report. This next report can be continued as if its expression had been requested alone. There
+    // is only one way to divide `front` into complete reports and a prefix of the next one (`one_place`).
     ensures several { (asked : Request) (read : Result (List ℕ) WholeFault) (base : ℤ) (es : List Expression)
         (front rest : List ℕ) → asked.verb ≡ Calendar → base_in asked ≡ Ok base → AreAcceptedAmong asked asked.texts es
         → 0 < length es → (report asked read).out ≡ front ++ rest → ResumesAmong asked base es read front }

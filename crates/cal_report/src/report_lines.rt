@@ -11,11 +11,12 @@ use cal_bytes::{ShortText, Sink, WriteFault, push, put_pieces};
 use cal_span::{Span, push_span};
 use cal_zone::{Instant, MICROS_PER_SECOND, Moment};
 
-/// The label before an expression or a timestamp, which is shown as the user gave it.
+/// The label before an expression or a timestamp in its original form: as the user gave it, or as it is written in the
+/// timer file.
 pub const ORIGINAL_LABEL: &[u8] = b"  Original form: ";
 
-/// The label before an exception of a timer file, which is an expression at whose elapse times a timer doesn't elapse.
-/// The exception is shown as it is written in the file.
+/// The label before an exception of a timer file, as it is written in the file. An exception is an expression at whose
+/// elapse times a timer doesn't elapse.
 pub const EXCEPT_LABEL: &[u8] = b"    Except form: ";
 
 /// Writes a line with `label` and `text`, and begins the next line with the label `Normalized form:`.

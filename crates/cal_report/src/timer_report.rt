@@ -1,6 +1,6 @@
-//! The report of a timer file: its expressions, its exceptions (expressions at whose elapse times a timer doesn't
-//! elapse), and the next elapse times of the timer, each with its distance from the present (systemd.timer(5),
-//! OnCalendar=).
+//! The report of a timer file: its expressions, its exceptions, and the next elapse times of the timer, each with its
+//! distance from the present (systemd.timer(5), OnCalendar=). An exception is an expression at whose elapse times a
+//! timer doesn't elapse.
 
 ghost use Rattle.std.specs.Prelude.{◌≡◌, ◌≢◌, ℕ, List, Result, Ok, Err, MatchResult, false, map};
 ghost use Rattle.cal_bytes.specs.Puts.{Puts};

@@ -34,8 +34,9 @@ pub record Expression : Type 0 where
 abbrev pub meaning : Expression → Timed
 meaning e = timed e.fields e.tz
 
--- `tz` is the zone for this zone suffix: the zone of that name, which is UTC for `UTC` and otherwise in the table, the
--- fixed zone with that UTC offset, or the local zone if the expression has no zone suffix
+-- `tz` is the zone for this zone suffix: the local zone if there is no suffix, the fixed zone with this UTC offset if
+-- the suffix is an offset, and the zone of this name if the suffix is a name. The name `UTC`, ignoring case, stands for
+-- UTC; any other name must be in the zone table.
 abbrev pub IsZoneFor : Request → Option ZoneSuffix → TimeZone → Type 0
 IsZoneFor asked None tz = tz ≡ zone_of asked.local
 IsZoneFor asked (Some (of_name name)) tz = zone_named asked.zones name ≡ Some tz

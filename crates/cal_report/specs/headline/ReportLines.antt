@@ -7,20 +7,23 @@ use Rattle.cal_span.specs.headline.SpanText.{span_text}
 use Rattle.cal_zone.specs.headline.Zone.{is_utc, utc}
 use Rattle.cal_zone.specs.declared.zone.Zone.{Zone}
 
--- the label before an expression or a timestamp, which is shown as the user gave it
+-- the label before an expression or a timestamp in its original form: as the user gave it, or as it is written in the
+-- timer file
 abbrev pub original_label : List ℕ
 original_label = codes "  Original form: "
 
--- the label before an exception of a timer file (an expression at whose elapse times a timer doesn't elapse); the
--- exception is shown as it is written in the file
+-- the label before an exception of a timer file, as it is written in the file; an exception is an expression at whose
+-- elapse times a timer doesn't elapse
 abbrev pub except_label : List ℕ
 except_label = codes "    Except form: "
 
--- a line with the label and the text as it was given, and the label of the next line
+-- a line with the label and the text as it was given, and then the label `Normalized form:`, with which the next line
+-- begins
 unfoldable pub text_line : List ℕ → List ℕ → List ℕ
 text_line label text = joined (label ∷ text ∷ codes "\nNormalized form: " ∷ [])
 
--- the line with an instant in UTC, or nothing if the local zone is UTC itself; a zone with the fixed offset 0 isn't
+-- the line with an instant in UTC, or nothing if the local zone is UTC; a zone with the fixed offset 0 is a different
+-- zone
 unfoldable pub utc_line : Zone → ℤ → List ℕ
 utc_line local secs =
     if is_utc local then []
