@@ -1,5 +1,5 @@
--- Lemmas for the law `known_systems_decide`, which is the contract of a function that does nothing: if everything about
--- a system is known, the program sees exactly what is known, unless memory runs out.
+-- Lemmas for the law `known_systems_decide`: if everything about a system is known, the program sees exactly what is
+-- known, unless memory runs out. A law is the contract of a function that does nothing.
 use Rattle.std.proofs.Common.{◌≡◌, ◌⊎◌, inl, inr, ℕ, ℤ, ◌<◌, ◌≤◌, Bool, true, false, List, [], ◌∷◌, length, Option, None, Some, Result, Ok, Err, IfOk, IfNone, refl, sym, arith, nat_le}
 use Rattle.std.specs.Prelude.{IsSome}
 use Rattle.std.specs.FinMap.{empty}

@@ -110,7 +110,7 @@ tells_stop LocalName r out1 out' err1 err' t expected out err s = early_written 
 tells_stop Clock r out1 out' err1 err' t expected out err s = early_written Clock r expected out out1 out' err err1 err' s.0 s.1 s.2 OnErr refl (texts_fit Clock) t
 tells_stop (Open path) r out1 out' err1 err' t expected out err s = early_written (Open path) r expected out out1 out' err err1 err' s.0 s.1 s.2 OnErr refl (texts_fit (Open path)) t
 
--- What of a text has reached standard output, and what is left in its buffer
+-- Which part of a text has reached standard output, and which part is still in its buffer
 
 -- if a prefix of the text was written, then the bytes that reached the output and those still in the buffer make up a
 -- prefix of the text

@@ -1,4 +1,4 @@
--- The example system meets the conditions of the law `known_systems_decide`, which is the contract of a function that
+-- The example system meets the conditions of the law `known_systems_decide`. A law is the contract of a function that
 -- does nothing.
 use Rattle.std.proofs.Common.{refl}
 use Rattle.cal_command.proofs.WorkedRows.{daily_asked}

@@ -1,4 +1,4 @@
--- What the program reports if its work ends before everything is done, which is a stop, and its exit status then.
+-- A stop: what the program reports if its work ends before everything is done, and its exit status in that case.
 use Rattle.std.specs.Prelude.{ℕ, Bool, true, false, List, [], ◌∷◌, string_bytes, codes}
 use Rattle.cal_bytes.specs.headline.Bytes.{joined}
 use Rattle.cal_zone.specs.declared.zone_fault.ZoneFault.{ZoneFault}

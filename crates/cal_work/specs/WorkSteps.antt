@@ -1,6 +1,6 @@
--- What each step of the code returns, compared with what the definitions in Outcome.antt return for it, in a world (all
--- that the outcome depends on) that agrees with what is known about the system. A stop is the report if the work ends
--- early.
+-- What each step of the code returns, compared with what the definitions in Outcome.antt return for the same step. The
+-- definitions are applied to a world that agrees with what is known about the system; a world is everything that the
+-- outcome depends on. A stop is what is reported if the work ends early.
 use Rattle.std.specs.Prelude.{◌≡◌, ℕ, ℤ, Bool, false, List, Option, None, Some, Result, Ok, Err, IsErr, IsSome, IfOk, IfNone}
 use Rattle.std.specs.FinMap.{empty}
 use Rattle.std.specs.Io.KnownBytes.{Appends}

@@ -1,5 +1,6 @@
--- From the arguments to the bytes: some world (all that the outcome depends on) agrees with everything that is known
--- about the system, and the bytes written and the status are those of the outcome in that world.
+-- From the arguments to the bytes: there is a world that agrees with everything that is known about the system, and the
+-- bytes written and the status are those of the outcome in this world. A world is everything that the outcome depends
+-- on.
 use Rattle.std.specs.Prelude.{◌≡◌, ℕ, Bool, true, false, List, [], ◌∷◌, Option, None, Some, Result, Ok, Err, IfOk, IfNone}
 use Rattle.std.specs.FinMap.{empty}
 use Rattle.std.specs.Io.KnownBytes.{Keeps, Appends, append_known}

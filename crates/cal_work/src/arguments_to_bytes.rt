@@ -1,7 +1,7 @@
 //! The program's whole work, from the arguments to the bytes on both outputs and the exit status (systemd-analyze(1)).
 //!
 //! The order is: the arguments, the zone files one after another, the local zone, the clock (unless `--now` is given),
-//! opening the timer file, and the run. The first step that fails ends the work, and later steps aren't taken.
+//! opening the timer file, and the run. The first step that fails ends the work; the steps after it aren't done.
 
 ghost use Rattle.std.specs.Prelude.{◌≡◌, ℕ, List, Option, Result, Ok, Err, Some, None, true, false, is_err, map, option_map, IfOk, IfErr};
 ghost use Rattle.cal_bytes.specs.Bytes.{Writes};
@@ -45,8 +45,8 @@ pub struct Ended {
 /// The status is 0 for success, help and the version. It is 1 if an expression, a timestamp, a span or the timer file
 /// is rejected, if the timer file can't be opened, if `out` fails or memory runs out, or if `err` fails while the error
 /// lines of rejected texts are written. It is 2 if the arguments, a zone file, the local zone or the clock are invalid,
-/// even if `err` fails while that is reported; but if [`Ended::written`] says that `out` failed, because it couldn't be
-/// flushed, the status is 1.
+/// even if `err` fails while this error is reported. But if the error could be reported, and `out` can't be flushed
+/// after that, the status is 1, and [`Ended::written`] says that `out` failed.
 ///
 /// If an output or an allocation fails, each output has a prefix of its whole text. On `err`, the line that reports the
 /// failure follows, unless `err` is what failed.
@@ -145,8 +145,8 @@ fn answer<S: System, O: Sink, E: Sink>(
 
 // The steps of `answer`
 
-/// Reads the zone files, in order, into a new table. If a file can't be loaded, returns the stop for it, and doesn't
-/// open the files after it.
+/// Reads the zone files, in order, into a new table. If a file can't be loaded, returns the stop for this file, and
+/// doesn't open the files after it.
 fn read_zones<S: System>(alloc: Global, system: &S, items: &[ZoneItem]) -> Result<ZoneTable, Stop>
     ensures { ReadsZones (λ table. table) (S.tells system.now) (map shown_item items.now) result }
 {
@@ -229,7 +229,8 @@ fn local_zone<'t>(
     }
 }
 
-/// Returns the present instant: the instant given with `--now`, or else the time of the clock.
+/// Returns the present instant: the instant given with `--now`, or else the time of the clock. Fails with `Stop::Clock`
+/// if the clock is needed and has no time, or a time outside the supported range.
 fn find_present<S: System>(system: &S, given: Option<Instant>) -> Result<Instant, Stop>
     ensures { Presents (λ now. now.secs) (S.tells system.now) (option_map (λ now. now.secs) given) result }
 {
@@ -345,7 +346,7 @@ fn tell<O: Sink, E: Sink>(answered: &Result<Status, Stop>, out: &mut O, err: &mu
 }
 
 /// Reports a stop right away: help on `out`, other stops on `err`. Fails if the report can't be written. If the stop
-/// has to be reported later, writes nothing and returns the error in its outlet.
+/// has to be reported later, writes nothing, and fails with the error that the outlet of the stop holds.
 fn tell_stop<O: Sink, E: Sink>(stop: &Stop, out: &mut O, err: &mut E) -> Result<(), RunFault>
     requires out { O.is_failed out.old ≡ is_out_stop stop.now }
     requires err { E.is_failed err.old ≡ is_err_stop stop.now }
