@@ -60,7 +60,7 @@ const CALENDAR: Row<'static> = Row {
     err: "",
 };
 
-/// Two elapses of one time of day.
+/// A request for the next two elapses of one time of day.
 const NOON_THIRTY: Row<'static> = Row {
     about: "noon thirty",
     texts: &["*-*-* 12:30:00"],
@@ -175,7 +175,7 @@ fn local_zone<'z>(local: Local, zones: &'z KnownZones) -> Result<Zone<'z>, Fail>
     }
 }
 
-/// Copies texts.
+/// Returns copies of the texts.
 fn copies(alloc: Global, texts: &[&str]) -> Result<Vec<String>, AllocError> {
     let mut all = Vec::new(alloc);
     for text in texts {
@@ -184,7 +184,7 @@ fn copies(alloc: Global, texts: &[&str]) -> Result<Vec<String>, AllocError> {
     Ok(all)
 }
 
-/// Makes the request of a row.
+/// Creates the request of a row.
 fn request(alloc: Global, row: &Row<'_>) -> Result<Request, Fail> {
     let (verb, iterations) = (row.verb, row.iterations);
     if iterations < 1 || iterations > 1_000_000 {
@@ -207,7 +207,8 @@ fn request(alloc: Global, row: &Row<'_>) -> Result<Request, Fail> {
     })
 }
 
-/// The texts of requests, each with what `file_name` returns: the first text, or an empty name if there are no texts.
+/// Lists of texts, each with what `file_name` returns for a request with these texts: the first text, or an empty name
+/// if there are no texts.
 static NAMES: [(&[&str], &str); 3] = [(&["t"], "t"), (&["a/b", "c"], "a/b"), (&[], "")];
 
 #[test]

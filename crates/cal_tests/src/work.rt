@@ -1,5 +1,5 @@
-//! Tests of `work`, which does all that the program does. The files and the clock are in memory. The tests check the
-//! bytes on both outputs, and the status.
+//! Tests of `work`, which does everything between the arguments and the exit status. The files and the clock are in
+//! memory. The tests check the bytes on both outputs, and the status.
 
 mod disk;
 mod memory;

@@ -100,9 +100,9 @@ const CUTTING_LIMIT: usize = 9;
 /// A limit that lets a source return the whole zone file.
 const AMPLE_LIMIT: usize = 999;
 
-/// A name, the limit in bytes of the source, what the source does at its limit, and the expected error. If there are
-/// several errors, an invalid name is reported first, then an error in reading, then invalid contents, and last a name
-/// that is taken.
+/// Files that can't be loaded: the name, how many bytes the source returns, what it does after them, and the expected
+/// error. If a file has several errors, an invalid name is reported first, then an error in reading, then invalid
+/// contents, and last a name that is taken.
 static REFUSALS: [(&str, usize, Then, LoadFault); 8] = [
     ("1x", CUTTING_LIMIT, Then::Error, Zone(BadName)),
     ("1x", CUTTING_LIMIT, Then::Endless, Zone(BadName)),

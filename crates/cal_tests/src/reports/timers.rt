@@ -1,5 +1,5 @@
-//! Reports on timer files, some of them with exceptions, which are expressions at whose elapses the timer doesn't
-//! elapse.
+//! Reports on timer files, some of them with exceptions. An exception is an expression at whose elapses the timer
+//! doesn't elapse.
 
 use super::{CALENDAR, KnownZones, Local, Row, check, check_input, known_zones};
 use cal_faulty::{Faulty, Then};
@@ -16,7 +16,7 @@ const TIMER: Row<'static> = Row {
     ..CALENDAR
 };
 
-/// Two expressions that both elapse at 11:00, which is listed once.
+/// The report on two expressions that both elapse at 11:00. This instant is listed only once.
 const SHARED: &str = "  Original form: *:0/15
 Normalized form: *-*-* *:00/15:00
   Original form: *:0/20
@@ -205,9 +205,9 @@ Normalized form: *-*-* *:00:00
 
 const TOMORROW: &str = "    Next elapse: Tue 2024-01-02 00:00:00 UTC\n       From now: 1d left\n";
 
-/// The number of lines `OnCalendar=daily`, the lines after them, the number of headings in the report, the text after
-/// the headings, and the error line. A file may have up to 256 expressions, and an empty `OnCalendar=` starts the count
-/// again.
+/// Files, each with the number of its lines `OnCalendar=daily`, the lines after them, the number of headings in its
+/// report, the text after the headings, and its error line. A file may have up to 256 expressions, and an empty
+/// `OnCalendar=` starts the count again.
 static MANY: [(usize, &str, usize, &str, &str); 3] = [
     (256, "", 256, TOMORROW, ""),
     (256, RESET, 0, HOURLY, ""),

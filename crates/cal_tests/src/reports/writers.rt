@@ -21,7 +21,7 @@ const ONE_REFUSED: Row<'static> = Row {
     ..NOON_THIRTY
 };
 
-/// Rows of every verb.
+/// Rows for every verb.
 static ROWS: [Row<'static>; 6] = [
     ONE_REFUSED,
     EVERY_SECOND,
@@ -50,8 +50,8 @@ fn slow_writers(rt: HostRuntime) -> Result<(), Fail> {
     Ok(())
 }
 
-/// The bytes that the failing writer got, the result of the run, and whether the writer of reports and the writer of
-/// error lines failed.
+/// How a run with a failing writer ended: the bytes that this writer got, the result of the run, and whether the writer
+/// of reports and the writer of error lines failed.
 type Cut<'a> = (&'a [u8], Result<Status, RunFault>, (bool, bool));
 
 /// Returns the expected result of a run: `fault` if an output was cut off, and otherwise the row's status.
@@ -59,7 +59,7 @@ fn end_of_cut(row: &Row<'_>, is_cut: bool, fault: RunFault) -> Result<Status, Ru
     if is_cut { Err(fault) } else { Ok(status(row)) }
 }
 
-/// Expects `cut`, the end of the row's run, to equal `wanted`.
+/// Expects the run of the row to have ended as `wanted` says; `cut` is how it ended.
 fn expect_cut(row: &Row<'_>, cut: Cut<'_>, wanted: Cut<'_>) -> Result<(), Fail> {
     ensure(cut.0 == wanted.0, row.about)?;
     ensure(cut.1 == wanted.1, row.about)?;

@@ -106,7 +106,7 @@ Normalized form: *-*-* *:*:*
     ..CALENDAR
 };
 
-/// A report from before the last supported local second, in a zone ten hours behind UTC.
+/// A report made before the last supported local second, in a zone ten hours behind UTC.
 const BEFORE_THE_LAST_SECOND: Row<'static> = Row {
     about: "last second west",
     texts: &["*-*-* 23:59:59"],

@@ -109,8 +109,8 @@ fn refusals(rt: HostRuntime) -> Result<(), Fail> {
     check_refused(rt.alloc(), &memory, REFUSED_TEXTS, 1)
 }
 
-/// Arguments, each with the line of the first error, which is the only one reported. The clock has no valid time, `f`
-/// is neither a zone file nor a timer file, and there is no file `g`.
+/// Lines of arguments, each with the error line of its first error, which is the only error reported. The clock has no
+/// valid time, `f` is neither a zone file nor a timer file, and there is no file `g`.
 const WITHOUT_CLOCK: &str = "\
 calendar|--now=5|--zones=A=f|daily -> calendar-analyze: bad now
 calendar|--zones=A=f|daily -> calendar-analyze: --zones: A: bad zone file
