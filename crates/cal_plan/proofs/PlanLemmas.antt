@@ -73,9 +73,9 @@ timed_entries at (line ∷ list) (e ∷ es) h =
     ap (λ (o : Option TimeZone). timed line.expr (unwrap_or o UTC) ∷ map (timed_entry at) list) h.0.1
     ∙ (ap (λ (t : Timed). t ∷ map (timed_entry at) list) (sym h.0.2) ∙ ap (λ (ts : List Timed). e ∷ ts) (timed_entries at list es h.1))
 
--- if `es` and `exceptions` are the meanings of a timer's expressions and exceptions (expressions at whose elapse times
--- a timer doesn't elapse) in their zones, which are all known, then `elapses_of_lists` returns exactly the elapse times
--- of `es` after the base time, without those of `exceptions`
+-- Suppose that `es` and `exceptions` are the meanings of a timer's expressions and exceptions in their zones, which are
+-- all known. Then `elapses_of_lists` returns exactly the elapse times of `es` after the base time, without those of
+-- `exceptions`. An exception is an expression at whose elapse times a timer doesn't elapse.
 pub elapses_of_zones : (at : Setting) (base : ℤ) (lists : Timer Fields) (es exceptions : List Timed) → AllZip (IsTimed at) lists.expressions es → AllZip (IsTimed at) lists.exceptions exceptions
     → AreElapses es exceptions base (elapses_of_lists at base lists)
 unfolding elapses_of_lists

@@ -1,5 +1,5 @@
--- The error for expressions and exceptions (expressions at whose elapses a timer doesn't elapse) that name a zone
--- missing from the zone table.
+-- The error for an expression or exception that names a zone missing from the zone table. An exception is an expression
+-- at whose elapses a timer doesn't elapse.
 use Rattle.std.specs.Prelude.{◌≡◌, ℕ, Option, None, Some}
 use Rattle.cal_plan.specs.declared.plan_fault.PlanFault.{PlanFault}
 use Rattle.cal_plan.specs.declared.plan_fault.PlanFault.TheVariants.{NoSuchZone}

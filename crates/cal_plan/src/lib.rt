@@ -1,5 +1,5 @@
-//! The elapses of calendar expressions and exceptions (expressions at whose elapses a timer doesn't elapse) in a
-//! setting: the zone of each, and all elapses merged.
+//! The zone in which each calendar expression is evaluated, and the elapses of several expressions together, without
+//! those of the exceptions. An exception is an expression at whose elapses a timer doesn't elapse.
 #![tactic(auto)]
 
 pub mod laws;

@@ -1,5 +1,5 @@
-//! The elapses of all expressions together, without those of the exceptions, which are expressions at whose elapses a
-//! timer doesn't elapse (systemd.timer(5), OnCalendar=).
+//! The elapses of all expressions together, without those of the exceptions (systemd.timer(5), OnCalendar=). An
+//! exception is an expression at whose elapses a timer doesn't elapse.
 
 ghost use Rattle.std.specs.Prelude.{◌≡◌, ◌≢◌, ◌++◌, [], ◌∷◌, None, MatchResult, false, true, map, IfOk, OnOk};
 ghost use Rattle.cal_zone.specs.Setting.{setting_seen};
@@ -94,8 +94,8 @@ fn masks_of_lines(alloc: Global, lines: &[TimerLine]) -> Result<Vec<Masks>, Allo
 /// matches all values that the same field of the expression matches. Such an exception suppresses every elapse time of
 /// the expression.
 ///
-/// `masks` are the masks of the exceptions, in the same order; the bits of a mask are the values that one field
-/// matches. Returns `false` if the expression is covered only by several exceptions together.
+/// `masks` are the masks of the exceptions, in the same order; a mask has one bit for each value that a field matches.
+/// Returns `false` if the expression is covered only by several exceptions together.
 fn has_covering_exception(line: &TimerLine, exceptions: &[TimerLine], masks: &[Masks]) -> bool
     requires { map sets_in masks.now ≡ map entry_sets (map shown exceptions.now) }
     ensures { result ≡ true → IsCoveredEntry (shown line.now) (map shown exceptions.now) }

@@ -1,5 +1,5 @@
-//! Why the elapses of expressions and exceptions (expressions at whose elapses a timer doesn't elapse) can't be
-//! computed.
+//! Why the elapses of expressions and exceptions can't be computed. An exception is an expression at whose elapses a
+//! timer doesn't elapse.
 
 ghost use Rattle.std.specs.Prelude.{◌≡◌};
 ghost use Rattle.cal_plan.specs.declared.plan_fault.PlanFault.TheVariants.{NoMemory};

@@ -1,4 +1,5 @@
-//! The first expression or exception (an expression at whose elapses a timer doesn't elapse) whose zone isn't known.
+//! The first expression or exception whose zone isn't known. An exception is an expression at whose elapses a timer
+//! doesn't elapse.
 
 ghost use Rattle.std.specs.Prelude.{◌≡◌, map};
 ghost use Rattle.cal_zone.specs.Setting.{setting_seen};
@@ -24,7 +25,7 @@ pub fn first_unzoned(setting: Setting<'_>, lines: &[TimerLine]) -> Option<u32>
 }
 
 /// Returns the number of the first line, among the expressions and the exceptions, that names a zone missing from the
-/// zone table.
+/// zone table, or `None` if there is no such line.
 #[tactic(auto, unfolding(crate::specs::ZoneFor::unzoned))]
 pub(crate) fn find_unzoned(
     setting: Setting<'_>,

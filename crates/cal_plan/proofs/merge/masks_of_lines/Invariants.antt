@@ -1,4 +1,4 @@
--- `masks` holds the masks of the lines before the loop's index; the bits of a mask are the values that one field of an
+-- `masks` holds the masks of the lines before the loop's index. A mask has one bit for each value that a field of an
 -- expression matches.
 use Rattle.std.proofs.Common.{◌≡◌, map, take}
 use Rattle.cal_elapse.specs.Masks.{sets_in}
