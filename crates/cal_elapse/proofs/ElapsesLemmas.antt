@@ -26,8 +26,8 @@ record IsPlaceFrom (e : Timed) (a n : ℕ) (i : ℤ) : Type 0 where
   is_match : e.matches local ≡ true
   placed : e.place local ≡ Some i
 
--- adding the number `o` in front of `rest`, if `b` is true and `o` isn't `None`, adds this number to the elements and
--- changes nothing else
+-- the list is `rest`, with the number in `o` before it if `b` is true and `o` isn't `None`; the elements of the list
+-- are this number and the elements of `rest`
 Has-one : (b : Bool) (o : Option ℤ) (rest : List ℤ) (i : ℤ) → Has (cond b (cons_option o rest) rest) i ↔ (((b ≡ true) × (o ≡ Some i)) ⊎ Has rest i)
 Has-one b o rest i = grind arith
 
@@ -147,7 +147,7 @@ has_at [] k e h = absurd (cc)
 has_at (x ∷ xs) zero e h = inl (cc)
 has_at (x ∷ xs) (suc k) e h = inr (has_at xs k e h)
 
--- the elements after the one with index `k` in a strictly increasing list are those greater than it
+-- in a strictly increasing list, the elements after index `k` are exactly those greater than the element at index `k`
 Has-drop : (xs : List ℤ) (k : ℕ) (e : ℤ) → IsStrictlySortedBy int_cmp xs → slice_get xs k ≡ Some e → (i : ℤ) → Has (drop (suc k) xs) i ↔ ((e <ℤ i) × Has xs i)
 Has-drop [] k e h at i = absurd (cc)
 Has-drop (x ∷ xs) zero e h at i =
@@ -160,8 +160,8 @@ Has-drop (x ∷ xs) (suc k) e h at i =
       λ p. elim p.1 [ inl f ↦ absurd (not_both x e i up p.0 f) | inr n ↦ rest.1 (p.0, n) ],
     )
 
--- Let `xs` be the list of the numbers after `b` that satisfy `Holds`, and `ys` the list of those after `e`. If `e` has
--- the index `k` in `xs`, then `ys` is what follows `e` in `xs`.
+-- Let `xs` be the list of the numbers after `b` that satisfy `Holds`, and `ys` the list of the numbers after `e` that
+-- satisfy it. If `e` has the index `k` in `xs`, then `ys` is what follows `e` in `xs`.
 later_above : {Holds : ℤ → Type 0} (b e : ℤ) (xs ys : List ℤ) (k : ℕ) → AreAbove Holds b xs → AreAbove Holds e ys → slice_get xs k ≡ Some e → ys ≡ drop (suc k) xs
 later_above b e xs ys k all again at =
     let up = ((all.members e).0 (has_at xs k e at)).0 in
@@ -201,7 +201,7 @@ pub first-none : (xs : List ℤ) → ((i : ℤ) → Has xs i → ⊥) → slice_
 first-none [] h = refl
 first-none (x ∷ xs) h = absurd (h x (inl refl))
 
--- the smallest element of a strictly increasing list is its first
+-- the smallest element of a strictly increasing list is its first element
 pub first-least : (xs : List ℤ) (i : ℤ) → IsStrictlySortedBy int_cmp xs → Has xs i → ((j : ℤ) → Has xs j → i ≤ℤ j) → slice_get xs 0 ≡ Some i
 first-least [] i h m least = absurd m
 first-least (x ∷ xs) i h (inl e) least = ap Some e

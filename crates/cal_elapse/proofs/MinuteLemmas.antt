@@ -73,8 +73,8 @@ by_low passes high low limit found t s within holds same =
     let here : high (found / 60) ≡ true = both.0 in
     split_at s (found / 60) t within same ∙ rw here refl
 
--- if `found` passes, the bits of `mask` above the low part of `found` stand for the greater numbers that pass in its
--- unit of 60
+-- if `found` passes, the bits of `mask` above the low part of `found` stand for the greater numbers that pass and are
+-- in the same unit of 60
 left_after : (passes high : ℕ → Bool) (mask limit found : ℕ) → Splits passes high (is_bit mask) 60 limit → ((i : ℕ) → 60 ≤ i → is_bit mask i ≡ false) → found / 60 < limit
     → passes found ≡ true → AreRemaining passes found (found + 1) (mask / 2 ^ (found % 60 + 1))
 left_after passes high mask limit found s last within holds = record {

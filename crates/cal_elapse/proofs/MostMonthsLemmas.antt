@@ -1,4 +1,5 @@
--- The largest number of months that one of several searches examines, and how it changes when more searches are made.
+-- The largest number of months that a single one of several searches examines, and how it changes when more searches
+-- are made.
 use Rattle.std.proofs.Common.{◌≡◌, ◌∙◌, ℕ, ◌+◌, ◌<◌, ◌≤◌, Bool, true, Option, max, unwrap_or, IsSome, ◌-◌, arith, inl, inr, option_map, refl, subst, sym, unsigned_abs, ℤ}
 use Rattle.std.proofs.lemmas.Bool.{cases_lt}
 use Rattle.cal_spec.specs.headline.Match.{Sets, matches}
@@ -21,14 +22,14 @@ pub most_begun : (sets : Sets) (from before : ℕ) → IsMostAfter sets from fro
 most_begun sets from before = record { not_below = omega arith; all = λ months one. absurd (let low = one.low in let high = one.high in omega arith); one = inl refl }
 
 -- if `t` is the only match from `t` up to but not including `next`, and the search after `t` examines `months` months,
--- then the largest number of months rises from `before` to the larger of `before` and `months`
+-- then this search changes the largest number of months from `before` to the larger of `before` and `months`
 pub most_next : (sets : Sets) (t next before months : ℕ) → matches sets t ≡ true → IsExamined sets (t + 1) months → t < next → NonePasses (matches sets) (t + 1) next
     → IsMostAfter sets t next before (max before months)
 most_next sets t next before months holds examined later none = grind (arith, max_is)
 
--- Suppose that the searches after the matches of one range raise the largest number of months from `x` to `y`, and that
--- the searches after the matches of the adjacent range raise this number from `y` to `z`. All these searches together
--- then raise it from `x` to `z`.
+-- Suppose that the searches after the matches of one range change the largest number of months from `x` to `y`, and
+-- that the searches after the matches of the adjacent range change it from `y` to `z`. All these searches together then
+-- change it from `x` to `z`.
 pub most_on : (sets : Sets) (a b c x y z : ℕ) → a ≤ b → b ≤ c → IsMostAfter sets a b x y → IsMostAfter sets b c y z → IsMostAfter sets a c x z
 most_on sets a b c x y z low high one two =
     record {
@@ -71,7 +72,7 @@ most_same sets start a b most same h = record {
 }
 
 -- Suppose that `most` is the largest number of months for the range that ends before `a`, and that the searches after
--- the matches from `a` up to but not including `b` raise this number to `more`. Then `more` is the largest number of
+-- the matches from `a` up to but not including `b` change this number to `more`. Then `more` is the largest number of
 -- months for the range that ends before `b`.
 pub most_more : (sets : Sets) (start a b most more : ℕ) → start ≤ a → a ≤ b → IsMost sets start a most → IsMostAfter sets a b most more → IsMost sets start b more
 most_more sets start a b most more low high h later = record { first = h.first; begun = h.begun; later = most_on sets start a b h.first most more low high h.later later }

@@ -117,8 +117,7 @@ impl Rising for Elapses<'_> {
         self.window.take()
     }
 
-    /// Returns whether `number` is an elapse that `next` has yet to return. The result is never `None`. Makes no
-    /// search.
+    /// Returns whether `number` is an elapse that `next` has yet to return. The result is never `None`. Doesn't search.
     fn has(&mut self, number: i64) -> Option<bool>
         ensures has { IfSome result (λ has. has ≡ is_member int_eq (remaining_elapses self.old) number) }
         ensures says { IsSome result }

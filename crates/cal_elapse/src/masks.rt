@@ -12,8 +12,8 @@ ghost use Rattle.cal_elapse.specs.Bits.{is_bit, is_bit_in};
 /// one value.
 #[derive(Clone, Copy)]
 pub struct Masks {
-    /// The weekdays from Monday on, repeated for six weeks. Shifted to the weekday of a month's first day, they cover
-    /// the whole month.
+    /// The weekdays from Monday on, repeated for six weeks. So if the mask is shifted to begin with the weekday of a
+    /// month's first day, it still has a bit for each day of the month.
     pub(crate) weekdays: u64,
     pub(crate) years: [u64; 4],
     pub(crate) months: u64,

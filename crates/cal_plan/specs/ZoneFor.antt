@@ -11,8 +11,8 @@ use Rattle.cal_spec.specs.headline.ZoneSuffix.{ZoneSuffix, of_name, ahead}
 use Rattle.cal_timer.specs.TimerText.{TimerLine, Timer}
 
 -- The zone in which an expression with this zone suffix is evaluated: the local zone if there is no suffix, the fixed
--- zone at a UTC offset, or the zone that `at.find` returns for a name, which is UTC for `UTC`. The result is `None` if
--- `at.find` finds no zone of that name.
+-- zone at this offset if the suffix is a UTC offset, and the zone that `at.find` returns if the suffix is a name.
+-- `at.find` returns UTC for `UTC`, and `None` if it finds no zone of that name; the result is then `None` too.
 unfoldable pub zone_for : Setting → Option ZoneSuffix → Option TimeZone
 zone_for at None = Some at.local
 zone_for at (Some (of_name name)) = at.find name

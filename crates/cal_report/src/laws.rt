@@ -74,7 +74,7 @@ pub fn headline()
         → (text : List ℕ) × IsReportOf asked base s text × Appends out_old out_new text
         × Appends err_old err_new [] × (status ≡ Fine) }
 
-    // If the status is `Fine`, every text (or the timer file) was accepted.
+    // If the status is `Fine`, every text was accepted, or, for the verb `timer`, the timer file was.
     ensures accepted { (asked : Request) (read : Result (List ℕ) WholeFault) (base : ℤ) → asked.verb ≡ Calendar
         → base_in asked ≡ Ok base → (report asked read).status ≡ Fine → AreAccepted asked asked.texts }
     ensures accepted_file { (asked : Request) (bytes : List ℕ) (base : ℤ) → asked.verb ≡ Timer

@@ -226,7 +226,7 @@ fn check_values(alloc: Global, option: &str, values: &str, want: &str) -> Result
     Ok(())
 }
 
-/// Options, each with bad values (separated by `|`) and the message that they are rejected with.
+/// Options, each with bad values, which are separated by `|`, and the message that they are rejected with.
 static BAD_VALUES: [(&str, &str, &str); 4] = [
     (
         "iterations",

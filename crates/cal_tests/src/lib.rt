@@ -1,5 +1,5 @@
-//! Tests of the program as a whole (command line, reports, and the work from arguments to status) through public
-//! functions, one module for each subject. What a contract proves for all arguments is not tested again.
+//! Tests of the whole program through public functions: the command line, the reports, and the work from the arguments
+//! to the status. Each subject has a module of its own. What a contract proves for all arguments is not tested again.
 #![tactic(auto)]
 
 #[cfg(test)]

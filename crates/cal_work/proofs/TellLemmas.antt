@@ -28,7 +28,7 @@ use Rattle.cal_text.proofs.General.{append_known-nil}
 
 -- What is written for a stop
 
--- if a run wrote a prefix of each text, because an output or an allocation failed, then `WritesOf` holds
+-- if a run wrote a prefix of each text of the outcome, because an output or an allocation failed, then `WritesOf` holds
 fault_written : (fault : RunFault) (expected : Result Report Stop) (out out' err err' : Option (List ℕ)) → ended_status {T = Unit} (Err fault) expected ≡ 1 → AppendsFront out out' (out_text expected) → AppendsFront err err' (err_text expected)
     → WritesOf {T = Unit} (Err fault) (fault_stop fault).status expected out out' err err'
 fault_written OutFailed expected out out' err err' status o e = record { by_status = refl; out_bytes = o; err_bytes = e }

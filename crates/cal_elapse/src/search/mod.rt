@@ -94,7 +94,7 @@ pub(crate) fn next_after(masks: &Masks, local: i64) -> Found
     }
 }
 
-/// Returns the local second of a day number and a time of day.
+/// Returns the local second that is `second` seconds after the start of the day with the number `day`.
 fn local_on(day: u32, second: u32) -> i64
     requires day { day < days_in_all }
     requires second { second < seconds_per_day }

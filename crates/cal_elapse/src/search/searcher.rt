@@ -41,8 +41,9 @@ pub struct RestOfMinute {
     ghost last_in: { IsLocalSecond last },
 }
 
-/// The masks of an expression (one bit for each value that a field matches), the number of searches made with them, and
-/// the largest number of months that a single search examined. The fields are private, so that every search is counted.
+/// The masks of an expression, the number of searches made with them, and the largest number of months that a single
+/// search examined. A mask has one bit for each value that a field matches. The fields of this type are private, so
+/// that every search is counted.
 ///
 /// If an expression matches often, most searches start after a match and end in the same minute or hour. Two words of
 /// bits are therefore stored: the remaining matches in the minute of the match found last, and the remaining minutes

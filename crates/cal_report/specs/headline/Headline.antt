@@ -54,7 +54,7 @@ pub record IsAccepted (asked : Request) (e : Expression) : Type 0 where
   pub spelled : Spells e.text e.fields
   pub zone : IsZoneFor asked e.fields.zone e.tz
 
--- what a timer file says: expressions, and exceptions, whose elapse times are suppressed
+-- the expressions of a timer file, and its exceptions; at the elapse times of an exception, the timer doesn't elapse
 pub record Schedule : Type 0 where
   pub expressions : List Expression
   pub exceptions : List Expression

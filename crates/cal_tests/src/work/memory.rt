@@ -74,9 +74,9 @@ fn reports(rt: HostRuntime) -> Result<(), Fail> {
     check(rt.alloc(), &timer, ("timer|f", HOURLY, "", 0))
 }
 
-/// Options that are rejected, each with its error line: bad values (on the first line two at once, of which one is
-/// reported); an empty rule and an unknown name for the local zone; zone names that are taken; and a zone file that
-/// can't be opened.
+/// Options that are rejected, each with its error line. The first line has two bad values, of which only the first one
+/// is reported. The other lines have one error each: a bad value, an empty rule or an unknown name for the local zone,
+/// a zone name that is taken, or a zone file that can't be opened.
 const REFUSED_OPTIONS: &str = "\
 calendar|--iterations=0|--now=5|daily -> calendar-analyze: bad iterations
 calendar|--iterations=0|daily -> calendar-analyze: bad iterations
