@@ -35,7 +35,7 @@ in_order d w y m h = grind arith
 weekday_at : (m : Masks) (first k : ℕ) → k < 31 → is_bit m.weekdays ((first + 3) % 7 + k) ≡ (nat_lt ((first + k + 3) % 7) 7 && is_bit m.weekdays ((first + k + 3) % 7))
 weekday_at m first k small = grind (arith, nat_lt, nat_tests)
 
--- Suppose that the expression matches the year and the number of month `n`. If the mask of days and the mask of
+-- Suppose that the expression matches the year and the month number of month `n`. If the mask of days and the mask of
 -- weekdays are shifted so that bit 0 of both stands for the first of the month, the bits set in both stand for exactly
 -- the matching days of the month.
 pub days_are : (m : Masks) (n first length lowest ones k : ℕ) → n < 2_760 → first ≡ first_day n → length ≡ length_of n

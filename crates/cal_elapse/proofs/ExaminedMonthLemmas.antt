@@ -10,7 +10,7 @@ use Rattle.cal_elapse.proofs.CountLemmas.{count_from-most, count_from-none, coun
 use Rattle.cal_elapse.proofs.MonthLemmas.{first_day-end, length_bounds, located, month_low, month_of-is, months_none, no_day}
 use Rattle.cal_spec.specs.headline.Match.{Sets}
 
--- unless the expression matches both the year and the number of month `n`, no day of that month matches
+-- unless the expression matches both the year and the month number of month `n`, no day of that month matches
 pub none_of_month : (sets : Sets) (n first length from : ℕ) → n < 2_760 → first ≡ first_day n → length ≡ length_of n → first ≤ from → month_in sets n ≡ false
     → NonePasses (day_in sets) from (first + length)
 none_of_month sets n first length from within begins long low fails = λ t above below.
@@ -56,7 +56,7 @@ count_front passes a (suc k) =
     rw here (omega (arith, before))
 
 -- if a search from month `n` on has the same result as a search from month `n + 1` on, it examines as many months as
--- that search, plus 1 if the expression matches the year and the number of month `n`
+-- that search, plus 1 if the expression matches the year and the month number of month `n`
 pub examined_on : (sets : Sets) (n : ℕ) (r : Option ℕ) → n < 2_760 → IsFirstPassing (day_in sets) (first_day (n + 1)) 84_006 r
     → cond (month_in sets n) 1 0 + examined_from sets (n + 1) r ≡ examined_from sets n r
 examined_on sets n None within none =
@@ -70,8 +70,8 @@ examined_on sets n (Some day) within found =
     let next : n + 1 ≡ suc n = omega arith in
     rw (ends, next) (sym (rw next at (count_front (month_in sets) n (suc m - (n + 1)))))
 
--- a search that starts and ends in month `n` examines one month if the expression matches both the year and the number
--- of that month, and no month otherwise
+-- a search that starts and ends in month `n` examines one month if the expression matches both the year and the month
+-- number of that month, and no month otherwise
 pub examined_here : (sets : Sets) (n first length day : ℕ) → n < 2_760 → first ≡ first_day n → length ≡ length_of n → first ≤ day → day < first + length
     → cond (month_in sets n) 1 0 ≡ examined_from sets n (Some day)
 unfolding count_from
@@ -84,7 +84,7 @@ examined_here sets n first length day within begins long low high =
     rw (month, one, here) (omega arith)
 
 -- Suppose that a search starts in month `from` and examines `old` months before month `index`. If it ends in month
--- `next`, the first month from `index` on whose year and number match, it examines `old` + 1 months.
+-- `next`, the first month from `index` on whose year and month number match, it examines `old` + 1 months.
 pub examined_some : (sets : Sets) (from index next place old new : ℕ) → from ≤ index → index ≤ next → next < 2_760 → place < length_of next
     → NonePasses (month_in sets) index next → month_in sets next ≡ true → old ≡ count_from (month_in sets) from (index - from)
     → examined_from sets from (Some (first_day next + place)) ≡ old + 1
@@ -104,7 +104,7 @@ examined_end sets =
     let last : month_of (civil_date 84_006) ≡ 2_760 = subst (λ (t : ℕ). month_of (civil_date t) ≡ 2_760) place month in
     rw last
 
--- if the expression matches a day, it matches the year and the number of its month
+-- if the expression matches a day, it matches the year and the month number of its month
 month_of_match : (sets : Sets) (day : ℕ) → day < 84_006 → day_in sets day ≡ true → month_in sets (month_of (civil_date day)) ≡ true
 month_of_match sets day within holds = true_from_ne_false (month_in sets (month_of (civil_date day))) (λ fails. let none = no_day sets day within fails in cc)
 

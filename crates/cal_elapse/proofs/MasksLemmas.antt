@@ -48,11 +48,11 @@ pub day_both : (from_end : Bool) (c : Option (List Part)) (v : ℕ) → IsValidC
     → (1 ≤ v) × (v < 1 + 31)
 day_both from_end c v sound h = grind (arith, component_both)
 
--- a word is filled bit by bit, from the lowest bit on; before the first bit is filled, no bit is set
+-- a mask is computed bit by bit, from the lowest bit on; before the first bit is computed, no bit is set
 pub filled_none : (has : ℕ → Bool) (i : ℕ) → is_bit 0 i ≡ (nat_lt i 0 && has i)
 filled_none has i = let out = le-ltb i 0 (omega arith) in rw out (is_bit-none i)
 
--- if only bits below bit `n` were filled, no bit from `n` on is set
+-- if only the bits below bit `n` have been computed, no bit from `n` on is set
 pub filled_end : (mask n : ℕ) (has : ℕ → Bool) → ((i : ℕ) → is_bit mask i ≡ (nat_lt i n && has i)) → (i : ℕ) → n ≤ i → is_bit mask i ≡ false
 filled_end mask n has filled i high = let out = le-ltb i n high in filled i ∙ rw out
 
@@ -67,8 +67,8 @@ filled_some mask v holds =
           let clash : true ≡ false = sym nothing ∙ is_bit-none v in absurd (cc))
     ]
 
--- if `mask` was filled with the numbers below `n` that satisfy the test `holds`, and no other numbers satisfy it, then
--- bit `v` is set if and only if `v` satisfies the test
+-- if the set bits of `mask` stand for exactly the numbers below `n` that satisfy the test `holds`, and no other numbers
+-- satisfy it, then bit `v` is set if and only if `v` satisfies it
 pub members_are : (mask n : ℕ) (holds : ℕ → Bool) → ((i : ℕ) → is_bit mask i ≡ (nat_lt i n && holds (0 + i)))
     → ((v : ℕ) → holds v ≡ true → (0 ≤ v) × (v < n)) → (v : ℕ) → is_bit mask v ≡ holds v
 members_are mask n holds filled within v = grind (arith, false_from_ne_true)
@@ -77,8 +77,8 @@ pub numbers_are : (bit : ℕ → Bool) (first n : ℕ) (holds : ℕ → Bool) �
     → ((v : ℕ) → holds v ≡ true → (first ≤ v) × (v < first + n)) → (v : ℕ) → (nat_le first v && bit (v - first)) ≡ holds v
 numbers_are bit first n holds filled within v = grind (arith, nat_le, nat_tests, false_from_ne_true)
 
--- if the mask of days was filled with the days, or with the counts from the end of the month, that satisfy the test
--- `holds`, and only numbers from 1 to 31 satisfy it, then the mask contains exactly the numbers that satisfy it
+-- if the set bits of the mask of days stand for exactly the days, or the counts from the end of the month, that satisfy
+-- the test `holds`, and only numbers from 1 to 31 satisfy it, then the mask contains exactly these numbers
 pub days_are : (mask : ℕ) (from_end : Bool) (holds : ℕ → Bool)
     → ((i : ℕ) → is_bit mask i ≡ (nat_lt i 31 && holds (if from_end then 31 - i else i + 1)))
     → ((v : ℕ) → holds v ≡ true → (1 ≤ v) × (v < 1 + 31)) → (v : ℕ)
@@ -94,9 +94,9 @@ pub weeks_repeat : (mask : ℕ) (days : List Bool) → ((i : ℕ) → is_bit mas
     → (i : ℕ) → i < 42 → is_bit mask i ≡ is_bit mask (i % 7)
 weeks_repeat mask days filled i low = grind (arith, lt-ltb)
 
--- If a word of years, which begins with the year `first`, was filled with those of its years that satisfy the test
--- `holds`, then its bit for the year 1970 + `i` is set if and only if that year satisfies the test. `years_filled` says
--- this of the four words together.
+-- Suppose that a word of years begins with the year `first`, and that its set bits stand for exactly those of its years
+-- that satisfy the test `holds`. Then its bit for the year 1970 + `i` is set if and only if that year satisfies the
+-- test. `years_filled` says this of the four words together.
 year_word : (word first n i j : ℕ) (holds : ℕ → Bool) → ((p : ℕ) → is_bit word p ≡ (nat_lt p n && holds (first + p)))
     → first + j ≡ 1_970 + i → j < n → i < 230 → is_bit word j ≡ (nat_lt i 230 && holds (1_970 + i))
 year_word word first n i j holds filled same low inside = grind (arith, lt-ltb)

@@ -199,7 +199,7 @@ day_in-month sets n k low small = ap (date_in sets) (date_is n k low small) ∙ 
 no_month : (w y m d : Bool) → (y && m) ≡ false → (w && (y && (m && d))) ≡ false
 no_month w y m d h = grind arith
 
--- unless the expression matches both the year and the number of a day's month, the day doesn't match
+-- unless the expression matches both the year and the month number of a day's month, the day doesn't match
 pub no_day : (sets : Sets) (day : ℕ) → day < 84_006 → month_in sets (month_of (civil_date day)) ≡ false → day_in sets day ≡ false
 unfolding month_in
 no_day sets day h fails =

@@ -9,8 +9,8 @@ use Rattle.cal_elapse.specs.Search.{count_from, IsFirstLocal}
 use Rattle.cal_elapse.specs.Months.{month_in, month_of, months_in_all}
 use Rattle.cal_elapse.specs.declared.search.Found.{Found}
 
--- the number of months that a search for a day examines if it starts in month `n`: those whose year and number match,
--- up to the month of the day that the search finds, or up to the end of 2199 if it finds none
+-- the number of months that a search for a day examines if it starts in month `n`: those whose year and month number
+-- match, up to the month of the day that the search finds, or up to the end of 2199 if it finds none
 abbrev pub examined_from : Sets → ℕ → Option ℕ → ℕ
 examined_from sets n None = count_from (month_in sets) n (months_in_all - n)
 examined_from sets n (Some day) = count_from (month_in sets) n (suc (month_of (civil_date day)) - n)

@@ -20,7 +20,7 @@ minutes_in_all = 120_968_640
 abbrev pub year_of : ℕ → ℕ
 year_of n = first_year + n / 12
 
--- the number of month `n` in its year, 1 to 12
+-- the month number of month `n`, 1 to 12
 abbrev pub number_of : ℕ → ℕ
 number_of n = n % 12 + 1
 
@@ -45,7 +45,7 @@ first_day-suc n = refl
 unfoldable pub month_of : Date → ℕ
 month_of date = (unsigned_abs date.year - first_year) * 12 + (date.month - 1)
 
--- whether the expression matches the year and the number of month `n`
+-- whether the expression matches the year and the month number of month `n`
 unfoldable pub month_in : Sets → ℕ → Bool
 month_in sets n = sets.year (year_of n) && sets.month (number_of n)
 

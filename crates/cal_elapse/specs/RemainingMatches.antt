@@ -20,8 +20,8 @@ pub record AreRemaining (passes : ℕ → Bool) (found from left : ℕ) : Type 0
   pub unit : (i : ℕ) → is_bit left i ≡ true → (from + i) / 60 ≡ found / 60
   pub passing : (t : ℕ) → found < t → t / 60 ≡ found / 60 → passes t ≡ is_bit left (t - from)
 
--- `Some next` means that `next` is the first local second after `local` that passes, and that it is in the minute of
--- `local`; `None` makes no claim
+-- if the result is `Some next`, `next` is the first local second after `local` that passes, and is in the minute of
+-- `local`; nothing is said about the result `None`
 abbrev pub IsNextInMinute : (ℕ → Bool) → ℕ → Option ℕ → Type 0
 IsNextInMinute passes local None = Unit {0}
 IsNextInMinute passes local (Some next) = (next / 60 ≡ local / 60) × IsFirstPassing passes (local + 1) seconds_in_all (Some next)

@@ -19,9 +19,9 @@ pub(crate) struct MonthDays {
 }
 
 impl MonthDays {
-    /// Creates the set for a month whose year and number the expression matches, and adds 1 to `examined`. Shifts the
-    /// mask of days and the mask of weekdays, which have one bit for each value that the expression matches, so that
-    /// both start with the first of the month.
+    /// Creates the set of the matching days of `month`, and adds 1 to `examined`. The expression must match the year
+    /// and the month number of `month`. Shifts the mask of days and the mask of weekdays so that bit 0 of both stands
+    /// for the first of the month. A mask has one bit for each value that the expression matches.
     #[tactic(auto, using(crate::proofs::MonthLemmas::month_bounds))]
     pub(crate) fn of(masks: &Masks, month: Month, examined: &mut u32) -> MonthDays
         requires member { month_in (sets_in masks.now) month.index ≡ true }

@@ -30,7 +30,7 @@ pub(crate) fn next_day(masks: &Masks, month: Month, from: u32, examined: &mut u3
 }
 
 /// Returns the first matching day of `month` at or after `from`, or `None` if there is none. Sets `examined`, which
-/// must be 0, to 1 if the expression matches the year and the number of the month.
+/// must be 0, to 1 if the expression matches the year and the month number of the month.
 #[tactic(auto, using(crate::proofs::MonthLemmas::month_bounds))]
 fn next_in_month(masks: &Masks, month: Month, from: u32, examined: &mut u32) -> Option<u32>
     requires low { month.first ≤ from }

@@ -27,7 +27,7 @@ pub(crate) fn next_month(masks: &Masks, from: u32) -> Option<u32>
     }
 }
 
-/// Returns whether the expression matches the year and the number of the month with this index.
+/// Returns whether the expression matches the year and the month number of the month with this index.
 pub(crate) fn has_month(masks: &Masks, index: u32) -> bool
     requires { index < months_in_all }
     ensures { result ≡ month_in (sets_in masks.now) index }
