@@ -6,6 +6,7 @@ use crate::answer::{Answer, Asked, INVALID, fault_lines};
 use cal_lint::{Finding, Kind, findings};
 use cal_load::{Loaded, LoadedTimer, TargetFault, TargetReason, load_files, load_timers};
 use cal_plan::PlanFault;
+use cal_read::TimerFault;
 use cal_tasks::{IdleLine, idle_lines};
 use cal_timers_json::{LintRow, lint_json};
 use cal_timers_text::{Style, fault_text, finding_text, idle_text, idle_words, message_of};
@@ -35,10 +36,11 @@ pub(crate) fn lint<T: Tree>(alloc: Global, tree: &T, asked: Asked<'_>) -> Result
     ensures { IfOk result (λ answer. answer.status ≤ 2) }
 {
     let mut problems = Vec::new(alloc);
-    let mut err = add_files(alloc, tree, asked, &mut problems)?;
+    let of_files = add_files(alloc, tree, asked, &mut problems)?;
     let loaded = load_whole_timers(alloc, tree, asked)?;
     add_idle(alloc, asked, loaded.timers.as_slice(), &mut problems)?;
-    add_faults(alloc, loaded.faults.as_slice(), &mut err)?;
+    let mut err = fault_lines(alloc, of_files.as_slice())?;
+    add_faults(alloc, of_files.as_slice(), loaded.faults.as_slice(), &mut err)?;
     let status = if err.is_empty() && !has_error(problems.as_slice()) {
         0
     } else {
@@ -52,13 +54,13 @@ pub(crate) fn lint<T: Tree>(alloc: Global, tree: &T, asked: Asked<'_>) -> Result
     Ok(Answer { out, err, status })
 }
 
-/// Adds the problems of the files, each checked by itself, and returns the error lines about files that can't be read.
+/// Adds the problems of the files, each checked by itself, and returns the targets whose files can't be read.
 fn add_files<T: Tree>(
     alloc: Global,
     tree: &T,
     asked: Asked<'_>,
     problems: &mut Vec<Problem>,
-) -> Result<String, AllocError> {
+) -> Result<Vec<TargetFault>, AllocError> {
     let loaded = load_files(alloc, tree, asked.path, asked.targets)?;
     for file in &loaded.files {
         // systemd accepts comments that aren't UTF-8, so such bytes are replaced instead of being an error.
@@ -71,7 +73,7 @@ fn add_files<T: Tree>(
             problems,
         )?;
     }
-    fault_lines(alloc, loaded.faults.as_slice())
+    Ok(loaded.faults)
 }
 
 /// Adds the problems of a file. Adds nothing if the text is longer than [`MAX_TEXT`], but no file is that long.
@@ -168,21 +170,34 @@ fn idle_problem(
     })
 }
 
-/// Appends the error lines about timers that name a zone that can't be loaded, or that have no setting that starts
-/// their unit. Errors of other kinds are left out here: [`add_files`] decides which of them `lint` reports. For
-/// example, a comment that isn't UTF-8 is not an error for `lint`.
-fn add_faults(alloc: Global, faults: &[TargetFault], err: &mut String) -> Result<(), AllocError> {
+/// Appends the error lines about timers that can't be loaded, except for errors that the files by themselves have:
+/// [`add_files`] decides which of those `lint` reports. For example, a comment that isn't UTF-8 is not an error for
+/// `lint`. `of_files` are the targets whose files can't be read; they have lines already.
+fn add_faults(
+    alloc: Global,
+    of_files: &[TargetFault],
+    faults: &[TargetFault],
+    err: &mut String,
+) -> Result<(), AllocError> {
     for fault in faults {
-        if matches!(
-            fault.reason,
-            TargetReason::Zone(..) | TargetReason::NothingToDo
-        ) {
+        if is_of_timer(fault, of_files) {
             let line = fault_text(alloc, fault)?;
             err.push_str(line.as_str())?;
             err.push('\n')?;
         }
     }
     Ok(())
+}
+
+/// Returns whether an error is one of the timer as a whole: it names a zone that can't be loaded, has no setting that
+/// starts its unit or too many expressions, or its file is a link to nothing.
+fn is_of_timer(fault: &TargetFault, of_files: &[TargetFault]) -> bool {
+    match &fault.reason {
+        TargetReason::Zone(..) | TargetReason::NothingToDo => true,
+        TargetReason::Line(_, _, TimerFault::TooMany(_)) => true,
+        TargetReason::NotFound => !of_files.iter().any(|other| other.target == fault.target),
+        _ => false,
+    }
 }
 
 fn has_error(problems: &[Problem]) -> bool {
