@@ -1,6 +1,7 @@
 //! The real system: its folders, files and links, and the variables of the environment. Nothing is proved about what
 //! they contain.
 
+use crate::below_root;
 use cal_streams::Port;
 use cal_units::{Entry, Names, Tree, TreeFault};
 use std::alloc::Global;
@@ -9,9 +10,6 @@ use std::io::{Error, ErrorKind};
 use std::rt::{Env, Files};
 use std::time::{Clock, SystemTime, UNIX_EPOCH};
 use std::{env, fs, io};
-
-/// A path below a root can't be followed if it leads through this many links or more.
-const MAX_LINKS: usize = 40;
 
 /// The system that the program runs on, or the part of it below a root folder.
 #[derive(Clone, Copy)]
@@ -34,44 +32,25 @@ impl<'a, R: Clock> Machine<'a, R> {
 }
 
 impl<'a, R: Files + Env + AllocGlobal + Clone + Drop> Machine<'a, R> {
-    /// Returns the path on the system for a path on this machine. An absolute path is prefixed with the root; a
-    /// relative path is unchanged.
-    fn path_of(&self, alloc: Global, path: &str) -> Result<String, TreeFault> {
-        let root = if path.starts_with('/') { self.root } else { "" };
-        Ok(format!(in alloc; "{root}{path}")?)
-    }
-
-    /// Returns the path on the system to which `path` leads. Below a root, a link at `path` itself is followed here,
-    /// since the system would look for an absolute target in its own root.
+    /// Returns the path on the system to which `path` leads.
     fn followed(&self, alloc: Global, path: &str) -> Result<String, TreeFault> {
-        let mut path = self.path_of(alloc, path)?;
         if self.root.is_empty() {
-            return Ok(path);
+            return Ok(String::from_str(alloc, path)?);
         }
-        for _ in 0..MAX_LINKS {
-            let Some(next) = self.next_path(alloc, path.as_str())? else {
-                return Ok(path);
-            };
-            path = next;
-        }
-        Err(TreeFault::ReadFailed)
+        below_root::followed(self.rt, alloc, self.root, path)
     }
 
-    /// Returns the path on the system to which the link at `path` leads, or `None` if no link can be read there.
-    fn next_path(&self, alloc: Global, path: &str) -> Result<Option<String>, TreeFault> {
-        let link = match fs::read_link(self.rt, path) {
-            Ok(link) => link,
-            Err(error) if error.kind() == ErrorKind::OutOfMemory => return Err(TreeFault::NoMemory),
-            Err(_) => return Ok(None),
-        };
-        let Some(target) = link.as_path().to_str() else {
-            return Err(TreeFault::NotUtf8);
-        };
-        if target.starts_with('/') {
-            return Ok(Some(self.path_of(alloc, target)?));
+    /// Returns the path on the system of what is at `path`: a link there is not followed, but the links to its folder
+    /// are.
+    fn path_of(&self, alloc: Global, path: &str) -> Result<String, TreeFault> {
+        match path.rsplit_once('/') {
+            Some((folder, name)) if !self.root.is_empty() => {
+                let folder = format!(in alloc; "{folder}/")?;
+                let folder = self.followed(alloc, folder.as_str())?;
+                Ok(format!(in alloc; "{folder}/{name}")?)
+            }
+            _ => Ok(String::from_str(alloc, path)?),
         }
-        let folder = path.rsplit_once('/').map_or("", |parts| parts.0);
-        Ok(Some(format!(in alloc; "{folder}/{target}")?))
     }
 }
 

@@ -2,6 +2,7 @@
 //! systemd.time(7)).
 #![tactic(auto)]
 
+mod below_root;
 pub mod machine;
 
 use crate::machine::Machine;

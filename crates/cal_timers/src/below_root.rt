@@ -1,0 +1,97 @@
+//! Paths below a root folder. Their links are followed here, since the system would look for the absolute targets of links
+//! in its own root.
+
+use cal_units::TreeFault;
+use std::alloc::{AllocError, Global};
+use std::fs;
+use std::io::ErrorKind;
+use std::rt::Files;
+
+/// A path can't be followed if it has more parts than this, counting the parts of the links through which it leads. A
+/// loop of links exceeds this.
+const MAX_PARTS: usize = 1_000;
+
+/// Returns the path on the system to which `path` leads. Absolute paths and absolute targets of links are relative to
+/// the root. Nothing has to be at the path.
+///
+/// Fails with [`TreeFault::ReadFailed`] if the path has too many parts, [`TreeFault::NotUtf8`] if the target of a link
+/// is not UTF-8, and [`TreeFault::NoMemory`] if allocation fails.
+pub(crate) fn followed<R: Files + AllocGlobal>(
+    rt: &R,
+    alloc: Global,
+    root: &str,
+    path: &str,
+) -> Result<String, TreeFault> {
+    let start = if path.starts_with('/') { root } else { "" };
+    let mut done = String::from_str(alloc, start)?;
+    let mut rest = String::from_str(alloc, path)?;
+    for _ in 0..MAX_PARTS {
+        let Some((part, after)) = first_part(alloc, rest.as_str())? else {
+            return Ok(done);
+        };
+        let next = next_path(alloc, root, done.as_str(), part.as_str())?;
+        match link_at(rt, alloc, next.as_str())? {
+            Some(target) => {
+                rest = format!(in alloc; "{target}/{after}")?;
+                if target.as_str().starts_with('/') {
+                    done = String::from_str(alloc, root)?;
+                }
+            }
+            None => {
+                done = next;
+                rest = after;
+            }
+        }
+    }
+    Err(TreeFault::ReadFailed)
+}
+
+/// Returns the first part of a path and what follows it, or `None` if the path has no parts.
+fn first_part(alloc: Global, path: &str) -> Result<Option<(String, String)>, AllocError> {
+    let path = path.trim_start_matches('/');
+    if path.is_empty() {
+        return Ok(None);
+    }
+    let (part, after) = path.split_once('/').unwrap_or((path, ""));
+    Ok(Some((
+        String::from_str(alloc, part)?,
+        String::from_str(alloc, after)?,
+    )))
+}
+
+/// Returns the path one part on from `done`, in which no link is left. `..` doesn't lead out of the root.
+fn next_path(alloc: Global, root: &str, done: &str, part: &str) -> Result<String, AllocError> {
+    match part {
+        "." if done.is_empty() => String::from_str(alloc, "."),
+        "." => String::from_str(alloc, done),
+        ".." if done == root => String::from_str(alloc, root),
+        ".." if !is_outside(done) => {
+            let folder = done.rsplit_once('/').map_or(".", |parts| parts.0);
+            String::from_str(alloc, folder)
+        }
+        _ if done.is_empty() => String::from_str(alloc, part),
+        _ => format!(in alloc; "{done}/{part}"),
+    }
+}
+
+/// Returns whether a relative path leads to the current folder or out of it, so that `..` can't be left out after it.
+fn is_outside(path: &str) -> bool {
+    matches!(path, "" | "." | "..") || path.ends_with("/..")
+}
+
+/// Returns the target of the link at a path, or `None` if no link can be read there.
+fn link_at<R: Files + AllocGlobal>(
+    rt: &R,
+    alloc: Global,
+    path: &str,
+) -> Result<Option<String>, TreeFault> {
+    let link = match fs::read_link(rt, path) {
+        Ok(link) => link,
+        Err(error) if error.kind() == ErrorKind::OutOfMemory => return Err(TreeFault::NoMemory),
+        Err(_) => return Ok(None),
+    };
+    match link.as_path().to_str() {
+        Some(target) => Ok(Some(String::from_str(alloc, target)?)),
+        None => Err(TreeFault::NotUtf8),
+    }
+}
