@@ -79,7 +79,7 @@ filled cells cell bits next i long inside fits turn next_in there =
           ]
     ]
 
--- Which instants the ring contains once their cells are set
+-- Which instants the ring contains after the cells of new instants have been set
 
 -- a cell is set if and only if it was set before or is the cell of one of the new instants
 pub record AreFilled (old new : List ℕ) (start bits : ℕ) : Type 0 where

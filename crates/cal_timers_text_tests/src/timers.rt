@@ -1,4 +1,4 @@
-//! Timers that are made in memory, and the present of the tests.
+//! Timers that are built in memory, and the instant that the tests take as the present.
 
 use cal_load::{Calendar, LoadedTimer};
 use cal_streams::Port;

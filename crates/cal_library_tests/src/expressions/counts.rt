@@ -9,7 +9,7 @@ use std::test::Fail;
 /// copies of `piece`.
 struct Table {
     piece: &'static str,
-    /// Valid expressions: after the count, each line has an expression, an arrow and the expression's normal form.
+    /// Valid expressions. A line has the count, a colon, the expression, an arrow, and the expression's normal form.
     accepted: &'static str,
     refused: &'static [(SpecFault, &'static str)],
 }
