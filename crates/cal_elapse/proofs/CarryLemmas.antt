@@ -35,7 +35,7 @@ module _ {passes high low : ℕ → Bool} {size limit : ℕ} (s : Splits passes 
   next_high : (a : ℕ) → (a + 1) * size ≡ a * size + size
   next_high a = add-mul a 1 size ∙ ap (λ (n : ℕ). a * size + n) (one-mul size)
 
-  -- if the high part `a` doesn't pass, no number from `from` on with this high part passes
+  -- if the high part `a` doesn't pass, then no number that is at least `from` and has this high part passes
   pub none_by_high : (a l from : ℕ) → a * size + l ≡ from → a < limit → high a ≡ false → NonePasses passes from ((a + 1) * size)
   none_by_high a l from parts inside fails = λ t above below.
       let same = quotient_part size a t s.positive (omega arith) below in

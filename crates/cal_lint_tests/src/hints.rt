@@ -43,7 +43,7 @@ static WORDS: [Row; 19] = [
     ("Daly UTC", Mistake::Shorthand, "daily UTC"),
     ("montly", Mistake::Shorthand, "monthly"),
     ("anually", Mistake::Shorthand, "annually"),
-    // In the next row, the hint has the mistake of the first word, and its suggestion corrects both words.
+    // In the next row, the hint names only the mistake in the first word, but its suggestion corrects both words.
     ("Mo 9am", Mistake::Weekday, "Mon 09:00"),
 ];
 
