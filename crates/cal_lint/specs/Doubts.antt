@@ -50,13 +50,14 @@ is_hour_list hour (p ∷ []) = false
 is_hour_list hour (p ∷ q ∷ []) = are_zero_and_later hour (number_of p.start p.end p.step) (number_of q.start q.end q.step)
 is_hour_list hour (p ∷ q ∷ r ∷ ps) = false
 
--- whether the minutes of this hour have the form of this doubt
+-- whether these minutes, written after this hour, look like the mistake that the doubt is about: a range or a list of
+-- hours
 abbrev pub are_hours : Doubt → ℕ → List Part → Bool
 are_hours HourRange hour minutes = is_hour_range hour minutes
 are_hours HourList hour minutes = is_hour_list hour minutes
 are_hours MonthDay hour minutes = false
 
--- whether the hour and the second are one number each, and the minutes have the form of this doubt
+-- whether the hour and the second are one number each, and the minutes look like the mistake that the doubt is about
 abbrev pub has_hours_by : Doubt → Option ℕ → Option ℕ → Option (List Part) → Bool
 has_hours_by doubt (Some hour) (Some second) (Some minutes) = are_hours doubt hour minutes
 has_hours_by doubt hour second minutes = false

@@ -103,9 +103,9 @@ pub record IsReported (result : Result Status RunFault) (out_old out_new err_old
   pub err : Writes err_old err_new result report.err
   pub unread : read ≡ Err NoMemory → (out_new ≡ out_old) × (err_new ≡ err_old)
 
--- There is a result `read` of reading the input such that `holds_of` is true of `read` and of the report of the request
--- for `read`. `failed` says whether the source of the input has failed. It is true if and only if `read` says that a
--- read failed.
+-- Reading the input has some result `read`, and `holds_of` relates `read` to the report that the request gets for this
+-- result. `failed` says whether the source of the input has failed. It is true if and only if `read` says that a read
+-- failed.
 pub record ByReading (asked : Request) (old new : Option (List ℕ)) (failed : Bool) (holds_of : Result (List ℕ) WholeFault → Report → Type 0) : Type 0 where
   pub read : Result (List ℕ) WholeFault
   pub input : ReadsIf (reads_input asked) old new read
