@@ -172,11 +172,21 @@ fn search_path<T: Tree>(
 pub(crate) fn fault_lines(alloc: Global, faults: &[TargetFault]) -> Result<String, AllocError> {
     let mut lines = String::new(alloc);
     for fault in faults {
-        let line = fault_text(alloc, fault)?;
-        lines.push_str(line.as_str())?;
-        lines.push('\n')?;
+        push_fault_line(alloc, &mut lines, fault)?;
     }
     Ok(lines)
+}
+
+/// Appends the error line about a timer or file that couldn't be loaded.
+pub(crate) fn push_fault_line(
+    alloc: Global,
+    lines: &mut String,
+    fault: &TargetFault,
+) -> Result<(), AllocError> {
+    let line = fault_text(alloc, fault)?;
+    lines.push_str(line.as_str())?;
+    lines.push('\n')?;
+    Ok(())
 }
 
 /// Returns the exit status of a verb that fails only if a timer can't be loaded: [`INVALID`] if there are errors, and

@@ -2,14 +2,14 @@
 
 ghost use Rattle.std.specs.Prelude.{◌≤◌, IfOk};
 
-use crate::answer::{Answer, Asked, INVALID, fault_lines};
+use crate::answer::{Answer, Asked, INVALID, fault_lines, push_fault_line};
 use cal_lint::{Finding, Kind, findings};
 use cal_load::{Loaded, LoadedTimer, TargetFault, TargetReason, load_files, load_timers};
 use cal_plan::PlanFault;
 use cal_read::TimerFault;
 use cal_tasks::{IdleLine, idle_lines};
 use cal_timers_json::{LintRow, lint_json};
-use cal_timers_text::{Style, fault_text, finding_text, idle_text, idle_words, message_of};
+use cal_timers_text::{Style, finding_text, idle_text, idle_words, message_of};
 use cal_units::Tree;
 use std::alloc::{AllocError, Global};
 
@@ -40,7 +40,11 @@ pub(crate) fn lint<T: Tree>(alloc: Global, tree: &T, asked: Asked<'_>) -> Result
     let loaded = load_whole_timers(alloc, tree, asked)?;
     add_idle(alloc, asked, loaded.timers.as_slice(), &mut problems)?;
     let mut err = fault_lines(alloc, of_files.as_slice())?;
-    add_faults(alloc, of_files.as_slice(), loaded.faults.as_slice(), &mut err)?;
+    for fault in &loaded.faults {
+        if is_of_timer(fault, of_files.as_slice(), problems.as_slice()) {
+            push_fault_line(alloc, &mut err, fault)?;
+        }
+    }
     let status = if err.is_empty() && !has_error(problems.as_slice()) {
         0
     } else {
@@ -170,31 +174,20 @@ fn idle_problem(
     })
 }
 
-/// Appends the error lines about timers that can't be loaded, except for errors that the files by themselves have:
-/// [`add_files`] decides which of those `lint` reports. For example, a comment that isn't UTF-8 is not an error for
-/// `lint`. `of_files` are the targets whose files can't be read; they have lines already.
-fn add_faults(
-    alloc: Global,
-    of_files: &[TargetFault],
-    faults: &[TargetFault],
-    err: &mut String,
-) -> Result<(), AllocError> {
-    for fault in faults {
-        if is_of_timer(fault, of_files) {
-            let line = fault_text(alloc, fault)?;
-            err.push_str(line.as_str())?;
-            err.push('\n')?;
-        }
-    }
-    Ok(())
-}
-
-/// Returns whether an error is one of the timer as a whole: it names a zone that can't be loaded, has no setting that
-/// starts its unit or too many expressions, or its file is a link to nothing.
-fn is_of_timer(fault: &TargetFault, of_files: &[TargetFault]) -> bool {
+/// Returns whether an error is one of the timer as a whole, so that it isn't among the problems of its files: the timer
+/// names a zone that can't be loaded, has no setting that starts its unit, has too many expressions in several files,
+/// or its file is a link to nothing. `of_files` are the targets whose files can't be read.
+///
+/// [`add_files`] decides which errors of the files by themselves `lint` reports. For example, a comment that isn't
+/// UTF-8 is none.
+fn is_of_timer(fault: &TargetFault, of_files: &[TargetFault], problems: &[Problem]) -> bool {
     match &fault.reason {
         TargetReason::Zone(..) | TargetReason::NothingToDo => true,
-        TargetReason::Line(_, _, TimerFault::TooMany(_)) => true,
+        TargetReason::Line(path, _, TimerFault::TooMany(_)) => {
+            !problems
+                .iter()
+                .any(|problem| problem.is_error && problem.file == *path)
+        }
         TargetReason::NotFound => !of_files.iter().any(|other| other.target == fault.target),
         _ => false,
     }
