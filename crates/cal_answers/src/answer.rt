@@ -2,6 +2,7 @@
 
 ghost use Rattle.std.specs.Prelude.{◌≤◌, IfOk};
 
+use crate::aliases::{aliases_for, with_folder_faults};
 use crate::between::between;
 use crate::compare::same;
 use crate::lint::lint;
@@ -13,7 +14,7 @@ use cal_plan::PlanFault;
 use cal_tasks::Clocked;
 use cal_timers_command::{Question, Verb};
 use cal_timers_text::{Style, fault_text, zones_text};
-use cal_units::{Entry, Tree, TreeFault};
+use cal_units::{Alias, Entry, Tree, TreeFault};
 use cal_zone::Instant;
 use std::alloc::{AllocError, Global};
 
@@ -44,6 +45,8 @@ pub(crate) struct Asked<'a> {
     pub targets: &'a [&'a str],
     /// The search path of units, the most important folder first.
     pub path: &'a [String],
+    /// The aliases of units.
+    pub aliases: &'a [Alias],
     pub at: Clocked<'a>,
     /// The number of elapses to show.
     pub count: u32,
@@ -133,15 +136,37 @@ fn answer_at<T: Tree>(
         .iter()
         .map(|target| target.as_str())
         .collect(alloc)?;
+    let (targets, path) = (targets.as_slice(), path.as_slice());
+    let found = aliases_for(alloc, tree, question.verb, path, targets)?;
     let asked = Asked {
-        targets: targets.as_slice(),
-        path: path.as_slice(),
+        targets,
+        path,
+        aliases: found.aliases.as_slice(),
         at,
         count: question.count.unwrap_or(DEFAULT_COUNT),
         is_json: question.is_json,
         style,
     };
-    match question.verb {
+    let answer = answer_verb(alloc, tree, question.verb, asked)?;
+    with_folder_faults(
+        alloc,
+        question.verb,
+        targets,
+        path,
+        found.faults.as_slice(),
+        answer,
+    )
+}
+
+fn answer_verb<T: Tree>(
+    alloc: Global,
+    tree: &T,
+    verb: Verb,
+    asked: Asked<'_>,
+) -> Result<Answer, PlanFault>
+    ensures { IfOk result (λ answer. answer.status ≤ 2) }
+{
+    match verb {
         Verb::List => list(alloc, tree, asked),
         Verb::Show => show(alloc, tree, asked),
         Verb::Lint => lint(alloc, tree, asked),

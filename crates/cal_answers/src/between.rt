@@ -34,7 +34,7 @@ pub(crate) fn between<T: Tree>(
         Ok(instant) => instant,
         Err(fault) => return bad_time(alloc, before, fault),
     };
-    let loaded = load_timers(alloc, tree, asked.path, targets)?;
+    let loaded = load_timers(alloc, tree, asked.path, asked.aliases, targets)?;
     range_of(alloc, asked, &loaded, from, before)
 }
 

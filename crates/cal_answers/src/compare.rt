@@ -34,7 +34,7 @@ fn load_one<T: Tree>(
     asked: Asked<'_>,
     target: &str,
 ) -> Result<Loaded, AllocError> {
-    let loaded = load_timers(alloc, tree, asked.path, &[target])?;
+    let loaded = load_timers(alloc, tree, asked.path, asked.aliases, &[target])?;
     match loaded.faults.first() {
         Some(fault) if matches!(fault.reason, TargetReason::NotFound) => {
             let expression = load_expressions(alloc, tree, &[target])?;

@@ -2,6 +2,7 @@
 //! status.
 #![tactic(auto)]
 
+mod aliases;
 mod answer;
 mod between;
 mod compare;

@@ -65,7 +65,7 @@ fn add_files<T: Tree>(
     asked: Asked<'_>,
     problems: &mut Vec<Problem>,
 ) -> Result<Vec<TargetFault>, AllocError> {
-    let loaded = load_files(alloc, tree, asked.path, asked.targets)?;
+    let loaded = load_files(alloc, tree, asked.path, asked.aliases, asked.targets)?;
     for file in &loaded.files {
         // systemd accepts comments that aren't UTF-8, so such bytes are replaced instead of being an error.
         let text = String::from_utf8_lossy(alloc, file.bytes.as_slice())?;
@@ -135,7 +135,7 @@ fn load_whole_timers<T: Tree>(
             faults: Vec::new(alloc),
         });
     }
-    load_timers(alloc, tree, asked.path, timers.as_slice())
+    load_timers(alloc, tree, asked.path, asked.aliases, timers.as_slice())
 }
 
 /// Adds a warning about each expression that never elapses, and about each exception that suppresses nothing.

@@ -22,7 +22,7 @@ struct Elapsing {
 pub(crate) fn list<T: Tree>(alloc: Global, tree: &T, asked: Asked<'_>) -> Result<Answer, PlanFault>
     ensures { IfOk result (λ answer. answer.status ≤ 2) }
 {
-    let loaded = load_timers(alloc, tree, asked.path, asked.targets)?;
+    let loaded = load_timers(alloc, tree, asked.path, asked.aliases, asked.targets)?;
     let next = next_of_timers(alloc, asked.at, loaded.timers.as_slice())?;
     let out = if asked.is_json {
         list_json(alloc, asked.at, &loaded, &next)?
@@ -36,7 +36,7 @@ pub(crate) fn list<T: Tree>(alloc: Global, tree: &T, asked: Asked<'_>) -> Result
 pub(crate) fn show<T: Tree>(alloc: Global, tree: &T, asked: Asked<'_>) -> Result<Answer, PlanFault>
     ensures { IfOk result (λ answer. answer.status ≤ 2) }
 {
-    let loaded = load_timers(alloc, tree, asked.path, asked.targets)?;
+    let loaded = load_timers(alloc, tree, asked.path, asked.aliases, asked.targets)?;
     show_loaded(alloc, asked, &loaded)
 }
 

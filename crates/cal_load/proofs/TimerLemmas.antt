@@ -2,6 +2,7 @@
 use Rattle.std.proofs.Common.{◌≡◌, ℕ, List, ◌++◌, All, Ok, Err, Result, append-nil, inl, inr}
 use Rattle.std.specs.Prelude.{IfOk}
 use Rattle.std.proofs.lemmas.List.Elements.{All-push}
+use Rattle.cal_units.specs.Aliases.{Alias}
 use Rattle.cal_units.specs.Machine.{Machine}
 use Rattle.cal_load.specs.Found.{IsFileFound, IsFound, IsUnitFound, timers_in}
 use Rattle.cal_load.specs.Loaded.{IsTimerOn}
@@ -10,20 +11,20 @@ use Rattle.cal_load.specs.declared.loaded.Found as founds
 use Rattle.cal_load.specs.declared.loaded.LoadedTimer.{LoadedTimer}
 
 -- if what was found is a timer of the machine, the list with it has timers of the machine alone
-pub timers_more : (Shows : Machine → Type 0) (path : List (List ℕ)) (found : Result founds.Found LoadFault) (before after : List LoadedTimer)
-    → IfOk found (λ found. (machine : Machine) → Shows machine → IsFound machine path found) → after ≡ before ++ timers_in found
-    → (machine : Machine) → Shows machine → All (IsTimerOn machine path) before → All (IsTimerOn machine path) after
-timers_more Shows path (Ok (founds.TheVariants.Timer timer)) before after h e machine shows held =
-    rw e (All-push (IsTimerOn machine path) before timer held (h machine shows))
-timers_more Shows path (Ok founds.TheVariants.Masked) before after h e machine shows held = rw (e, append-nil before) held
-timers_more Shows path (Err fault) before after h e machine shows held = rw (e, append-nil before) held
+pub timers_more : (Shows : Machine → Type 0) (path : List (List ℕ)) (aliases : List Alias) (found : Result founds.Found LoadFault) (before after : List LoadedTimer)
+    → IfOk found (λ found. (machine : Machine) → Shows machine → IsFound machine path aliases found) → after ≡ before ++ timers_in found
+    → (machine : Machine) → Shows machine → All (IsTimerOn machine path aliases) before → All (IsTimerOn machine path aliases) after
+timers_more Shows path aliases (Ok (founds.TheVariants.Timer timer)) before after h e machine shows held =
+    rw e (All-push (IsTimerOn machine path aliases) before timer held (h machine shows))
+timers_more Shows path aliases (Ok founds.TheVariants.Masked) before after h e machine shows held = rw (e, append-nil before) held
+timers_more Shows path aliases (Err fault) before after h e machine shows held = rw (e, append-nil before) held
 
 -- a unit is a timer of the machine
-pub unit_found : (machine : Machine) (path : List (List ℕ)) (stem : List ℕ) (found : founds.Found) → IsUnitFound machine path stem found → IsFound machine path found
-unit_found machine path stem (founds.TheVariants.Timer timer) h = inl (stem, h)
-unit_found machine path stem founds.TheVariants.Masked h = tt
+pub unit_found : (machine : Machine) (path : List (List ℕ)) (aliases : List Alias) (stem : List ℕ) (found : founds.Found) → IsUnitFound machine path aliases stem found → IsFound machine path aliases found
+unit_found machine path aliases stem (founds.TheVariants.Timer timer) h = inl (stem, h)
+unit_found machine path aliases stem founds.TheVariants.Masked h = tt
 
 -- a file is a timer of the machine
-pub file_found : (machine : Machine) (path : List (List ℕ)) (found : founds.Found) → IsFileFound machine found → IsFound machine path found
-file_found machine path (founds.TheVariants.Timer timer) h = inr h
-file_found machine path founds.TheVariants.Masked h = tt
+pub file_found : (machine : Machine) (path : List (List ℕ)) (aliases : List Alias) (found : founds.Found) → IsFileFound machine found → IsFound machine path aliases found
+file_found machine path aliases (founds.TheVariants.Timer timer) h = inr h
+file_found machine path aliases founds.TheVariants.Masked h = tt

@@ -1,5 +1,6 @@
 -- What was found for a target.
 use Rattle.std.specs.Prelude.{◌≡◌, ℕ, List, [], ◌∷◌, Result, Ok, Err}
+use Rattle.cal_units.specs.Aliases.{Alias}
 use Rattle.cal_units.specs.Machine.{Machine}
 use Rattle.cal_units.specs.Units.{unit_in}
 use Rattle.cal_units.specs.Units.Unit.{MaskedBy}
@@ -14,16 +15,17 @@ timers_in (Ok founds.TheVariants.Masked) = []
 timers_in (Err fault) = []
 
 -- what was found is the unit with this stem, or this unit is masked
-abbrev pub IsUnitFound : Machine → List (List ℕ) → List ℕ → founds.Found → Type 0
-IsUnitFound machine path stem (founds.TheVariants.Timer timer) = IsUnitOn machine path stem timer
-IsUnitFound machine path stem founds.TheVariants.Masked = (file : List ℕ) × (unit_in machine path stem ≡ MaskedBy file)
+abbrev pub IsUnitFound : Machine → List (List ℕ) → List Alias → List ℕ → founds.Found → Type 0
+IsUnitFound machine path aliases stem (founds.TheVariants.Timer timer) = IsUnitOn machine path aliases stem timer
+IsUnitFound machine path aliases stem founds.TheVariants.Masked = (file : List ℕ) × (unit_in machine path stem ≡ MaskedBy file)
 
--- if a timer was found, it is a unit of the machine, or a file of the machine by itself
-abbrev pub IsFound : Machine → List (List ℕ) → founds.Found → Type 0
-IsFound machine path (founds.TheVariants.Timer timer) = IsTimerOn machine path timer
-IsFound machine path founds.TheVariants.Masked = Unit {0}
+-- a timer that was found is a unit of the machine with its drop-ins, or a file of the machine without them; this says
+-- nothing about what is masked
+abbrev pub IsFound : Machine → List (List ℕ) → List Alias → founds.Found → Type 0
+IsFound machine path aliases (founds.TheVariants.Timer timer) = IsTimerOn machine path aliases timer
+IsFound machine path aliases founds.TheVariants.Masked = Unit {0}
 
--- if a timer was found, it is a file of the machine
+-- a timer that was found is a file of the machine; this says nothing about what is masked
 abbrev pub IsFileFound : Machine → founds.Found → Type 0
 IsFileFound machine (founds.TheVariants.Timer timer) = IsFileOn machine timer
 IsFileFound machine founds.TheVariants.Masked = Unit {0}

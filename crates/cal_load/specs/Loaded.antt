@@ -1,5 +1,5 @@
 -- Timers that are loaded from the files of a machine: systemd.unit(5), Description, and systemd.timer(5), OnCalendar=.
-use Rattle.std.specs.Prelude.{◌≡◌, ◌⊎◌, ◌+◌, ◌||◌, ℕ, false, List, [], ◌∷◌, ◌++◌, Some, Ok, Err, codes, is_some, length, map, string_bytes}
+use Rattle.std.specs.Prelude.{◌≡◌, ◌⊎◌, ◌+◌, ◌||◌, ℕ, false, List, [], ◌∷◌, ◌++◌, Ok, Err, codes, is_some, length, map, string_bytes}
 use Rattle.std.specs.List.{flat_map, list_any}
 use Rattle.std.specs.Option.{option_to_list}
 use Rattle.std.specs.Str.{bytes_eq}
@@ -16,9 +16,9 @@ use Rattle.cal_timer.specs.headline.TimerText.{without_mark}
 use Rattle.cal_timer.specs.TimerText.{TimerLine, lists_of}
 use Rattle.cal_timer.specs.TimerView.{shown}
 use Rattle.cal_timer.specs.declared.fault.TimerFault.TheVariants.{NothingToDo}
+use Rattle.cal_units.specs.Aliases.{Alias, stems_of}
 use Rattle.cal_units.specs.Files.{UnitText, file_at, files_at, shown_text}
 use Rattle.cal_units.specs.Machine.{Machine, disk_of}
-use Rattle.cal_units.specs.declared.files.UnitText as texts
 use Rattle.cal_units.specs.Units.{Unit, unit_in}
 use Rattle.cal_units.specs.Units.Unit.{Unfound, TemplateOnly, MaskedBy, FoundAt, Endless}
 use Rattle.cal_zone.specs.headline.ZoneMap.{ZoneMap}
@@ -26,21 +26,18 @@ use Rattle.cal_zone.specs.headline.ZoneTable.{zone_named}
 use Rattle.cal_load.specs.declared.calendar.Calendar as calendars
 use Rattle.cal_load.specs.declared.loaded.LoadedTimer.{LoadedTimer}
 
--- the file is one of the machine
-abbrev pub IsStoredOn : Machine → texts.UnitText → Type 0
-IsStoredOn machine file = machine.file (string_bytes file.path) ≡ Some file.bytes.items
-
 -- the paths of a unit's files: its own file, and then its drop-ins, in the order in which they are read
-abbrev pub paths_of : Machine → List (List ℕ) → Unit → List (List ℕ)
-paths_of machine path Unfound = []
-paths_of machine path TemplateOnly = []
-paths_of machine path (MaskedBy file) = []
-paths_of machine path (FoundAt file stems) = file ∷ drop_ins (disk_of machine) path stems
-paths_of machine path Endless = []
+abbrev pub paths_of : Machine → List (List ℕ) → List Alias → Unit → List (List ℕ)
+paths_of machine path aliases Unfound = []
+paths_of machine path aliases TemplateOnly = []
+paths_of machine path aliases (MaskedBy file) = []
+paths_of machine path aliases (FoundAt file followed own) =
+    file ∷ drop_ins (disk_of machine) path (stems_of aliases followed own)
+paths_of machine path aliases Endless = []
 
--- the files of the unit with this stem
-abbrev pub unit_files : Machine → List (List ℕ) → List ℕ → List UnitText
-unit_files machine path stem = files_at machine (paths_of machine path (unit_in machine path stem))
+-- the files of the unit with this stem, if the machine has these aliases
+abbrev pub unit_files : Machine → List (List ℕ) → List Alias → List ℕ → List UnitText
+unit_files machine path aliases stem = files_at machine (paths_of machine path aliases (unit_in machine path stem))
 
 -- The assignments in the sections `Timer` of files. The first line of the first file has the number `first`, and the
 -- numbers continue from file to file.
@@ -94,14 +91,14 @@ pub record IsReadFrom (machine : Machine) (files : List UnitText) (timer : Loade
   pub has_zones : HasZones machine timer.calendar timer.zones
 
 -- the timer is the unit with this stem, with its drop-ins
-abbrev pub IsUnitOn : Machine → List (List ℕ) → List ℕ → LoadedTimer → Type 0
-IsUnitOn machine path stem timer =
-    (string_bytes timer.name ≡ stem ++ codes ".timer") × IsReadFrom machine (unit_files machine path stem) timer
+abbrev pub IsUnitOn : Machine → List (List ℕ) → List Alias → List ℕ → LoadedTimer → Type 0
+IsUnitOn machine path aliases stem timer =
+    (string_bytes timer.name ≡ stem ++ codes ".timer") × IsReadFrom machine (unit_files machine path aliases stem) timer
 
 -- the timer is the file with this path by itself
 abbrev pub IsFileOn : Machine → LoadedTimer → Type 0
 IsFileOn machine timer = IsReadFrom machine (file_at machine (string_bytes timer.name)) timer
 
 -- the timer is a unit of the machine, or a file
-abbrev pub IsTimerOn : Machine → List (List ℕ) → LoadedTimer → Type 0
-IsTimerOn machine path timer = ((stem : List ℕ) × IsUnitOn machine path stem timer) ⊎ IsFileOn machine timer
+abbrev pub IsTimerOn : Machine → List (List ℕ) → List Alias → LoadedTimer → Type 0
+IsTimerOn machine path aliases timer = ((stem : List ℕ) × IsUnitOn machine path aliases stem timer) ⊎ IsFileOn machine timer

@@ -9,9 +9,9 @@ use cal_timer::{Timer, TimerLine};
 /// The calendar expressions of a timer, and its exceptions.
 #[derive(Debug, Drop)]
 pub enum Calendar {
-    /// The timer has none: other settings start its unit.
+    /// The timer has no expressions: other settings start its unit.
     Nothing,
-    /// Those of a unit's files.
+    /// The expressions and exceptions in a unit's files.
     Timer(Timer),
     /// Expressions that were given by themselves. Each has its index, counted from 1, as its line number.
     Expressions(Vec<TimerLine>),

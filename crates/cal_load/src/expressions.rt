@@ -36,7 +36,7 @@ pub fn load_expressions<T: Tree>(
     with_zones(alloc, tree, expressions, lines)
 }
 
-/// Returns that nothing was loaded because of this error.
+/// Returns no timer, and this error of a target.
 fn only_fault(alloc: Global, target: &str, fault: LoadFault) -> Result<Loaded, AllocError>
     ensures { IfOk result (λ loaded. loaded.timers.items ≡ []) }
 {
@@ -45,7 +45,7 @@ fn only_fault(alloc: Global, target: &str, fault: LoadFault) -> Result<Loaded, A
     Ok(loaded)
 }
 
-/// Appends an expression. Its number is the number of expressions with it.
+/// Appends an expression. Expressions are numbered from 1.
 fn push_line(alloc: Global, lines: &mut Vec<TimerLine>, expression: &str) -> Result<(), LoadFault>
     ensures { OnOk result ((texts : List (List ℕ)) → AreOf texts (map shown lines.old.items)
         → AreOf (texts ++ expression.now ∷ []) (map shown lines.new.items)) }
@@ -102,7 +102,7 @@ fn only_timer(
     Ok(loaded)
 }
 
-/// Returns the error for the first line with the zone whose file is at the path `zone`.
+/// Returns no timer, and the error of the first line that names the zone whose file is at the path `zone`.
 fn only_zone_fault(
     alloc: Global,
     lines: Vec<TimerLine>,

@@ -51,7 +51,7 @@ impl LoadFault {
         }
     }
 
-    /// Returns the error for a path, if a call of a `Tree` about it failed with `fault`.
+    /// Returns the error for a path, given the error of a method of a `Tree` that was called with this path.
     pub(crate) fn of_tree(alloc: Global, path: &str, fault: TreeFault) -> LoadFault {
         match fault {
             TreeFault::ReadFailed => LoadFault::at(alloc, path, Reason::ReadFailed),

@@ -1,17 +1,16 @@
-//! The files that a user names.
+//! Reading the files that a user names, each once.
 
 ghost use Rattle.std.specs.Prelude.{◌≡◌, ◌++◌, [], All, IfOk, OnOk};
 ghost use Rattle.cal_units.specs.Machine.{Machine};
-ghost use Rattle.cal_load.specs.Loaded.{IsStoredOn};
+ghost use Rattle.cal_units.specs.Files.{IsStoredOn};
 
 use crate::fault::LoadFault;
 use crate::loaded::push_fault;
 use crate::names::{Wanted, files_in, names_in_path};
 use crate::paths::{Kind, is_path, kind_at, path_in, without_slashes};
 use crate::target_fault::{TargetFault, TargetReason};
-use crate::unit::drop_ins_of;
 use cal_drop_ins::unit_stem;
-use cal_units::{Tree, Unit, UnitFile, UnitText, find_unit, read_files};
+use cal_units::{Alias, Tree, Unit, UnitFile, UnitText, find_unit, find_unit_drop_ins, read_files};
 use std::alloc::{AllocError, Global};
 use std::collections::BTreeSet;
 
@@ -20,46 +19,54 @@ use std::collections::BTreeSet;
 pub struct LoadedFiles {
     /// The files in the order in which they were named, each once. Their bytes may not be UTF-8.
     pub files: Vec<UnitText>,
-    /// Why the others couldn't be read.
+    /// The targets that couldn't be read and the folders of the search path that couldn't be listed, and why.
     pub faults: Vec<TargetFault>,
 }
 
 /// Reads the files that the targets stand for, in their order, each once. Without a target, these are the files of all
 /// timers in the folders of the search path.
 ///
-/// Targets are as for [`crate::load_timers`]: a timer stands for its file and its drop-ins, a folder for all its files
-/// with the suffix `.timer` or `.conf`, and any other file for itself. Masked units have no files. What can't be read
-/// is in [`LoadedFiles::faults`], and all the others are still read. Fails only if allocation fails.
+/// `path` is the search path, the most important folder first, and `aliases` are the aliases of the units in it. A
+/// target is a path or the name of a timer, as for [`crate::load_timers`]. A timer stands for its file and its
+/// drop-ins, a folder for all its files with the suffix `.timer` or `.conf`, and any other file for itself. A masked unit
+/// has no files. What can't be read is in [`LoadedFiles::faults`], and all other files are still read. Fails only if
+/// allocation fails.
 pub fn load_files<T: Tree>(
     alloc: Global,
     tree: &T,
     path: &[String],
+    aliases: &[Alias],
     targets: &[&str],
 ) -> Result<LoadedFiles, AllocError>
     ensures { IfOk result (λ loaded. (machine : Machine) → T.shows tree.now machine
         → All (IsStoredOn machine) loaded.files.items) }
 {
     if targets.is_empty() {
-        return all_files(alloc, tree, path);
+        return all_files(alloc, tree, path, aliases);
     }
     let mut reading = Reading::new(alloc);
     for target in targets {
-        reading.take_target(alloc, tree, path, target)?;
+        reading.take_target(alloc, tree, path, aliases, target)?;
     }
     Ok(reading.loaded)
 }
 
 /// Reads the files of all timers in the folders of the search path.
-fn all_files<T: Tree>(alloc: Global, tree: &T, path: &[String]) -> Result<LoadedFiles, AllocError>
+fn all_files<T: Tree>(
+    alloc: Global,
+    tree: &T,
+    path: &[String],
+    aliases: &[Alias],
+) -> Result<LoadedFiles, AllocError>
     ensures { IfOk result (λ loaded. (machine : Machine) → T.shows tree.now machine
         → All (IsStoredOn machine) loaded.files.items) }
 {
     let mut reading = Reading::new(alloc);
-    reading.take_all(alloc, tree, path)?;
+    reading.take_all(alloc, tree, path, aliases)?;
     Ok(reading.loaded)
 }
 
-/// The files so far, and all paths at which files were read or couldn't be read.
+/// The files that were read so far, and all paths that were tried.
 #[derive(Drop)]
 struct Reading {
     seen: BTreeSet<String>,
@@ -79,20 +86,21 @@ impl Reading {
         }
     }
 
-    /// Reads the files of all timers in the folders of the search path. What is listed there, but isn't a unit, has
-    /// none.
+    /// Reads the files of all timers in the folders of the search path. A name there that is not a unit's, such as the
+    /// name of a folder, is skipped.
     fn take_all<T: Tree>(
         &mut self,
         alloc: Global,
         tree: &T,
         path: &[String],
+        aliases: &[Alias],
     ) -> Result<(), AllocError>
         ensures { OnOk result ((machine : Machine) → T.shows tree.now machine
             → All (IsStoredOn machine) self.old.loaded.files.items → All (IsStoredOn machine) self.new.loaded.files.items) }
     {
         let names = names_in_path(alloc, tree, path, &mut self.loaded.faults)?;
         for name in names {
-            self.take_listed(alloc, tree, path, name.as_str())?;
+            self.take_listed(alloc, tree, path, aliases, name.as_str())?;
         }
         Ok(())
     }
@@ -102,6 +110,7 @@ impl Reading {
         alloc: Global,
         tree: &T,
         path: &[String],
+        aliases: &[Alias],
         name: &str,
     ) -> Result<(), AllocError>
         ensures { OnOk result ((machine : Machine) → T.shows tree.now machine
@@ -109,7 +118,7 @@ impl Reading {
     {
         match find_named(alloc, tree, path, name) {
             Err(LoadFault::Target(TargetReason::NotFound)) => Ok(()),
-            found => self.take_unit(alloc, tree, path, name, found),
+            found => self.take_unit(alloc, tree, path, aliases, name, found),
         }
     }
 
@@ -118,6 +127,7 @@ impl Reading {
         alloc: Global,
         tree: &T,
         path: &[String],
+        aliases: &[Alias],
         target: &str,
     ) -> Result<(), AllocError>
         ensures { OnOk result ((machine : Machine) → T.shows tree.now machine
@@ -131,6 +141,7 @@ impl Reading {
             alloc,
             tree,
             path,
+            aliases,
             target,
             find_named(alloc, tree, path, target),
         )
@@ -142,6 +153,7 @@ impl Reading {
         alloc: Global,
         tree: &T,
         path: &[String],
+        aliases: &[Alias],
         target: &str,
         found: Result<Option<UnitFile>, LoadFault>,
     ) -> Result<(), AllocError>
@@ -150,7 +162,7 @@ impl Reading {
     {
         match found {
             Ok(Some(file)) => {
-                let drop_ins = drop_ins_of(alloc, tree, path, &file);
+                let drop_ins = drop_ins_of(alloc, tree, path, aliases, &file);
                 self.take_path(alloc, tree, target, file.path)?;
                 self.take_paths(alloc, tree, target, drop_ins)
             }
@@ -234,6 +246,18 @@ fn folder_paths<T: Tree>(alloc: Global, tree: &T, folder: &str) -> Result<Vec<St
         paths.push(path_in(alloc, folder, name.as_str())?)?;
     }
     Ok(paths)
+}
+
+/// Returns the paths of a unit's drop-ins that are read, in order.
+fn drop_ins_of<T: Tree>(
+    alloc: Global,
+    tree: &T,
+    path: &[String],
+    aliases: &[Alias],
+    file: &UnitFile,
+) -> Result<Vec<String>, LoadFault> {
+    let found = find_unit_drop_ins(alloc, tree, path, aliases, file)?;
+    Ok(found.paths)
 }
 
 /// Finds the unit with this name. Returns `None` if it is masked.

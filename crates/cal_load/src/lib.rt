@@ -20,5 +20,6 @@ pub use calendar::Calendar;
 pub use expressions::load_expressions;
 pub use files::{LoadedFiles, load_files};
 pub use loaded::{Loaded, LoadedTimer};
+pub use paths::is_path;
 pub use target_fault::{TargetFault, TargetReason};
 pub use timers::load_timers;

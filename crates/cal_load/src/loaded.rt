@@ -107,7 +107,7 @@ pub struct Loaded {
     pub timers: Vec<LoadedTimer>,
     /// The names of the units that are masked, and the paths of the masked files that were named by their paths.
     pub masked: Vec<String>,
-    /// Why the others couldn't be loaded.
+    /// The targets that couldn't be loaded and the folders of the search path that couldn't be listed, and why.
     pub faults: Vec<TargetFault>,
 }
 
@@ -147,7 +147,7 @@ impl Loaded {
     }
 }
 
-/// Appends the reason why a target can't be loaded. Fails if there is no memory, also if that is the reason.
+/// Appends the reason why a target can't be loaded. Fails if allocation fails, and if the reason is that it failed.
 pub(crate) fn push_fault(
     alloc: Global,
     faults: &mut Vec<TargetFault>,

@@ -15,11 +15,12 @@ pub(crate) enum Kind {
 }
 
 /// Returns whether a target is a path: it has a `/`, or it is `.` or `..`. Any other target is the name of a unit.
-pub(crate) fn is_path(target: &str) -> bool {
+pub fn is_path(target: &str) -> bool {
     target.as_bytes().contains(&b'/') || target == "." || target == ".."
 }
 
-/// Returns what is at a path. A link that doesn't lead to a file is treated as a folder.
+/// Returns what is at a path. A link whose target can't be opened as a file is treated as a folder. Fails with
+/// [`TargetReason::NotFound`] if nothing is at the path, or only a link to nothing.
 pub(crate) fn kind_at<T: Tree>(alloc: Global, tree: &T, path: &str) -> Result<Kind, LoadFault> {
     match tree.look(alloc, path) {
         Ok(Entry::Missing) => Err(LoadFault::Target(TargetReason::NotFound)),
@@ -31,7 +32,7 @@ pub(crate) fn kind_at<T: Tree>(alloc: Global, tree: &T, path: &str) -> Result<Ki
     }
 }
 
-/// Returns what is at a path with a link, which has this target.
+/// Returns what is at a path at which there is a link with this target.
 fn kind_of_link<T: Tree>(
     alloc: Global,
     tree: &T,

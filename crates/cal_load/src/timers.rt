@@ -1,6 +1,7 @@
 //! The timers that a user names.
 
 ghost use Rattle.std.specs.Prelude.{ℕ, List, All, IfOk, OnOk, map, string_bytes};
+ghost use Rattle.cal_units.specs.Aliases.{Alias as Known, shown_alias};
 ghost use Rattle.cal_units.specs.Machine.{Machine};
 ghost use Rattle.cal_load.specs.Found.{IsFileFound, IsFound};
 ghost use Rattle.cal_load.specs.Loaded.{IsTimerOn};
@@ -12,18 +13,19 @@ use crate::paths::{Kind, is_path, kind_at, path_in, without_slashes};
 use crate::target_fault::TargetReason;
 use crate::unit::{read_file, read_unit};
 use cal_drop_ins::unit_stem;
-use cal_units::Tree;
+use cal_units::{Alias, Tree};
 use std::alloc::{AllocError, Global};
 
 /// Loads the timers that the targets stand for, in their order. Without a target, these are all timers in the folders
 /// of the search path, by name.
 ///
-/// `path` is the search path, the most important folder first. A target is
+/// `path` is the search path, the most important folder first. `aliases` are the aliases of the units in it, as
+/// [`cal_units::find_aliases`] finds them. If all targets are paths, they have no effect. A target is
 ///
 /// - a path, if it has a `/` or is `.` or `..`: a folder stands for all its files with the suffix `.timer`, by name,
 ///   and any other file for itself, without drop-ins;
-/// - otherwise the name of a timer, with or without `.timer`: its file is read, and then its drop-ins
-///   (systemd.unit(5)).
+/// - otherwise the name of a timer, with or without `.timer`: its file is read, and then its drop-ins, also those of
+///   its aliases (systemd.unit(5)).
 ///
 /// Templates are left out, unless they are named. What can't be loaded is in [`Loaded::faults`], and units that are
 /// masked are in [`Loaded::masked`]; all the others are still loaded. Fails only if allocation fails.
@@ -31,48 +33,55 @@ pub fn load_timers<T: Tree>(
     alloc: Global,
     tree: &T,
     path: &[String],
+    aliases: &[Alias],
     targets: &[&str],
 ) -> Result<Loaded, AllocError>
     ensures { IfOk result (λ loaded. (machine : Machine) → T.shows tree.now machine
-        → All (IsTimerOn machine (map string_bytes path.now)) loaded.timers.items) }
+        → All (IsTimerOn machine (map string_bytes path.now) (map shown_alias aliases.now)) loaded.timers.items) }
 {
     if targets.is_empty() {
-        return load_all(alloc, tree, path);
+        return load_all(alloc, tree, path, aliases);
     }
     let mut loaded = Loaded::new(alloc);
     for target in targets {
-        load_target(alloc, tree, path, target, &mut loaded)?;
+        load_target(alloc, tree, path, aliases, target, &mut loaded)?;
     }
     Ok(loaded)
 }
 
 /// Loads all timers in the folders of the search path.
-fn load_all<T: Tree>(alloc: Global, tree: &T, path: &[String]) -> Result<Loaded, AllocError>
+fn load_all<T: Tree>(
+    alloc: Global,
+    tree: &T,
+    path: &[String],
+    aliases: &[Alias],
+) -> Result<Loaded, AllocError>
     ensures { IfOk result (λ loaded. (machine : Machine) → T.shows tree.now machine
-        → All (IsTimerOn machine (map string_bytes path.now)) loaded.timers.items) }
+        → All (IsTimerOn machine (map string_bytes path.now) (map shown_alias aliases.now)) loaded.timers.items) }
 {
     let mut loaded = Loaded::new(alloc);
     let names = names_in_path(alloc, tree, path, &mut loaded.faults)?;
     for name in names {
-        load_listed(alloc, tree, path, name.as_str(), &mut loaded)?;
+        load_listed(alloc, tree, path, aliases, name.as_str(), &mut loaded)?;
     }
     Ok(loaded)
 }
 
-/// Loads the timer whose file has this name in a folder of the search path. If that is a folder, it isn't a unit, and
-/// nothing is loaded.
+/// Loads the timer whose file has this name in a folder of the search path. If no unit has this name, as when it is the
+/// name of a folder, nothing is loaded.
 fn load_listed<T: Tree>(
     alloc: Global,
     tree: &T,
     path: &[String],
+    aliases: &[Alias],
     name: &str,
     loaded: &mut Loaded,
 ) -> Result<(), AllocError>
     ensures { OnOk result ((machine : Machine) → T.shows tree.now machine
-        → All (IsTimerOn machine (map string_bytes path.now)) loaded.old.timers.items
-        → All (IsTimerOn machine (map string_bytes path.now)) loaded.new.timers.items) }
+        → All (IsTimerOn machine (map string_bytes path.now) (map shown_alias aliases.now)) loaded.old.timers.items
+        → All (IsTimerOn machine (map string_bytes path.now) (map shown_alias aliases.now)) loaded.new.timers.items) }
 {
-    let found = read_named(alloc, tree, path, name);
+    let found = read_named(alloc, tree, path, aliases, name);
     if is_absent(&found) {
         return Ok(());
     }
@@ -87,17 +96,18 @@ fn load_target<T: Tree>(
     alloc: Global,
     tree: &T,
     path: &[String],
+    aliases: &[Alias],
     target: &str,
     loaded: &mut Loaded,
 ) -> Result<(), AllocError>
     ensures { OnOk result ((machine : Machine) → T.shows tree.now machine
-        → All (IsTimerOn machine (map string_bytes path.now)) loaded.old.timers.items
-        → All (IsTimerOn machine (map string_bytes path.now)) loaded.new.timers.items) }
+        → All (IsTimerOn machine (map string_bytes path.now) (map shown_alias aliases.now)) loaded.old.timers.items
+        → All (IsTimerOn machine (map string_bytes path.now) (map shown_alias aliases.now)) loaded.new.timers.items) }
 {
     if is_path(target) {
         return load_path(alloc, tree, without_slashes(target), loaded);
     }
-    let found = read_named(alloc, tree, path, target);
+    let found = read_named(alloc, tree, path, aliases, target);
     loaded.push(alloc, target, found)
 }
 
@@ -106,13 +116,14 @@ fn read_named<T: Tree>(
     alloc: Global,
     tree: &T,
     path: &[String],
+    aliases: &[Alias],
     name: &str,
 ) -> Result<Found, LoadFault>
     ensures { IfOk result (λ found. (machine : Machine) → T.shows tree.now machine
-        → IsFound machine (map string_bytes path.now) found) }
+        → IsFound machine (map string_bytes path.now) (map shown_alias aliases.now) found) }
 {
     match unit_stem(name) {
-        Some(stem) => read_unit(alloc, tree, path, stem),
+        Some(stem) => read_unit(alloc, tree, path, aliases, stem),
         None => Err(LoadFault::Target(TargetReason::NotFound)),
     }
 }
@@ -124,8 +135,9 @@ fn load_path<T: Tree>(
     target: &str,
     loaded: &mut Loaded,
 ) -> Result<(), AllocError>
-    ensures { OnOk result ((machine : Machine) (path : List (List ℕ)) → T.shows tree.now machine
-        → All (IsTimerOn machine path) loaded.old.timers.items → All (IsTimerOn machine path) loaded.new.timers.items) }
+    ensures { OnOk result ((machine : Machine) (path : List (List ℕ)) (aliases : List Known) → T.shows tree.now machine
+        → All (IsTimerOn machine path aliases) loaded.old.timers.items
+        → All (IsTimerOn machine path aliases) loaded.new.timers.items) }
 {
     match kind_at(alloc, tree, target) {
         Ok(Kind::Folder) => load_folder(alloc, tree, target, loaded),
@@ -140,8 +152,9 @@ fn load_folder<T: Tree>(
     folder: &str,
     loaded: &mut Loaded,
 ) -> Result<(), AllocError>
-    ensures { OnOk result ((machine : Machine) (path : List (List ℕ)) → T.shows tree.now machine
-        → All (IsTimerOn machine path) loaded.old.timers.items → All (IsTimerOn machine path) loaded.new.timers.items) }
+    ensures { OnOk result ((machine : Machine) (path : List (List ℕ)) (aliases : List Known) → T.shows tree.now machine
+        → All (IsTimerOn machine path aliases) loaded.old.timers.items
+        → All (IsTimerOn machine path aliases) loaded.new.timers.items) }
 {
     let names = match files_in(alloc, tree, folder, Wanted::Timers) {
         Ok(names) => names,

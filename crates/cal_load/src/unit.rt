@@ -3,6 +3,7 @@
 ghost use Rattle.std.specs.Prelude.{◌≡◌, ◌+◌, ◌<◌, ◌^◌, ◌∷◌, ◌++◌, All, IfOk, codes, length, map, string_bytes};
 ghost use Rattle.cal_drop_ins.specs.DropIns.{drop_ins};
 ghost use Rattle.cal_read.specs.TimerTexts as joined;
+ghost use Rattle.cal_units.specs.Aliases.{shown_alias, unit_stems};
 ghost use Rattle.cal_units.specs.Files.{files_at, shown_text};
 ghost use Rattle.cal_units.specs.Machine.{Machine, disk_of};
 ghost use Rattle.cal_load.specs.Found.{IsUnitFound};
@@ -17,7 +18,7 @@ use crate::texts::{first_lines, texts_of};
 use crate::zones::{first_with_zone, zones_of};
 use cal_machine_zones::{FileReason, ZonesFault};
 use cal_read::{FileFault, TimerFault, UnitText as Text, read_texts};
-use cal_units::{Tree, Unit, UnitFile, UnitText, find_drop_ins, find_unit, read_files};
+use cal_units::{Alias, Tree, Unit, UnitFile, UnitText, find_unit, find_unit_drop_ins, read_files};
 use std::alloc::{AllocError, Global};
 
 /// What the files of a timer say.
@@ -33,10 +34,11 @@ pub(crate) fn read_unit<T: Tree>(
     alloc: Global,
     tree: &T,
     path: &[String],
+    aliases: &[Alias],
     stem: &str,
 ) -> Result<Found, LoadFault>
     ensures { IfOk result (λ found. (machine : Machine) → T.shows tree.now machine
-        → IsUnitFound machine (map string_bytes path.now) stem.now found) }
+        → IsUnitFound machine (map string_bytes path.now) (map shown_alias aliases.now) stem.now found) }
 {
     let file = match find_unit(alloc, tree, path, stem)? {
         Unit::NotFound => return Err(LoadFault::Target(TargetReason::NotFound)),
@@ -44,7 +46,7 @@ pub(crate) fn read_unit<T: Tree>(
         Unit::Masked(_) => return Ok(Found::Masked),
         Unit::Found(file) => file,
     };
-    let files = unit_files(alloc, tree, path, &file)?;
+    let files = unit_files(alloc, tree, path, aliases, &file)?;
     let name = format!(in alloc; "{stem}.timer")?;
     Ok(Found::Timer(timer_of(alloc, tree, name, files)?))
 }
@@ -55,44 +57,19 @@ fn unit_files<T: Tree>(
     alloc: Global,
     tree: &T,
     path: &[String],
+    aliases: &[Alias],
     file: &UnitFile,
 ) -> Result<Vec<UnitText>, LoadFault>
     ensures { IfOk result (λ files. (machine : Machine) → T.shows tree.now machine
         → map shown_text files.items ≡ files_at machine (string_bytes file.now.path
-        ∷ drop_ins (disk_of machine) (map string_bytes path.now) (map string_bytes file.now.stems.items))) }
+        ∷ drop_ins (disk_of machine) (map string_bytes path.now) (unit_stems (map shown_alias aliases.now) file.now))) }
 {
-    let drop_ins = drop_ins_of(alloc, tree, path, file)?;
-    let files = read_files(alloc, tree, file.path.as_str(), drop_ins.as_slice())?;
+    let found = find_unit_drop_ins(alloc, tree, path, aliases, file)?;
+    let files = read_files(alloc, tree, file.path.as_str(), found.paths.as_slice())?;
     match files.first() {
         Some(first) if first.path == file.path => Ok(files),
         _ => Err(LoadFault::Target(TargetReason::NotFound)),
     }
-}
-
-/// Returns the paths of a unit's drop-ins that are read, in order.
-pub(crate) fn drop_ins_of<T: Tree>(
-    alloc: Global,
-    tree: &T,
-    path: &[String],
-    file: &UnitFile,
-) -> Result<Vec<String>, LoadFault>
-    ensures { IfOk result (λ paths. (machine : Machine) → T.shows tree.now machine
-        → map string_bytes paths.items
-        ≡ drop_ins (disk_of machine) (map string_bytes path.now) (map string_bytes file.now.stems.items)) }
-{
-    let stems = texts_in(alloc, file.stems.as_slice())?;
-    let found = find_drop_ins(alloc, tree, path, stems.as_slice())?;
-    Ok(found.paths)
-}
-
-fn texts_in(alloc: Global, strings: &[String]) -> Result<Vec<&str>, AllocError>
-    ensures { IfOk result (λ list. map (λ text. text.now) list.items ≡ map string_bytes strings.now) }
-{
-    let mut list = Vec::new(alloc);
-    for string in strings {
-        list.push(string.as_str())?;
-    }
-    Ok(list)
 }
 
 /// Reads the timer in the file at a path, without drop-ins.

@@ -4,6 +4,7 @@ use crate::shown::{check, shown};
 use cal_drop_ins::system_path;
 use cal_load::load_timers;
 use cal_unit_tests::memory::{Item, Memory};
+use cal_units::find_aliases;
 use std::alloc::Global;
 use std::test::Fail;
 
@@ -82,8 +83,20 @@ fn machine() -> Memory<'static> {
 
 /// Checks that loading these targets results in `wanted`, as [`shown`] writes it.
 fn loads(alloc: Global, targets: &[&str], wanted: &str) -> Result<(), Fail> {
+    loads_from(alloc, machine(), targets, wanted)
+}
+
+/// Checks what is loaded for these targets from a machine.
+fn loads_from(
+    alloc: Global,
+    machine: Memory<'_>,
+    targets: &[&str],
+    wanted: &str,
+) -> Result<(), Fail> {
     let path = system_path(alloc, "")?;
-    let loaded = load_timers(alloc, &machine(), path.as_slice(), targets)?;
+    let found = find_aliases(alloc, &machine, path.as_slice())?;
+    let aliases = found.aliases.as_slice();
+    let loaded = load_timers(alloc, &machine, path.as_slice(), aliases, targets)?;
     check(shown(alloc, &loaded)?.as_str(), wanted)
 }
 
@@ -148,5 +161,56 @@ fn loads_files(rt: HostRuntime) -> Result<(), Fail> {
         alloc,
         &["/usr/lib/systemd/system/a.timer"],
         "/usr/lib/systemd/system/a.timer [/usr/lib/systemd/system/a.timer ] OnUnitActiveSec=1h; ",
+    )
+}
+
+static ALIASED: [(&str, Item<'static>); 9] = [
+    (
+        "/usr/lib/systemd/system/a.timer",
+        Item::File(b"[Timer]\nOnCalendar=12:00\n"),
+    ),
+    ("/etc/systemd/system/b.timer", Item::Link("a.timer")),
+    (
+        "/etc/systemd/system/b.timer.d/x.conf",
+        Item::File(b"[Timer]\nOnCalendar=13:00\n"),
+    ),
+    (
+        "/usr/lib/systemd/system/d.timer",
+        Item::File(b"[Timer]\nOnCalendar=14:00\n"),
+    ),
+    (
+        "/run/systemd/system/c.timer",
+        Item::Link("/usr/lib/systemd/system/d.timer"),
+    ),
+    (
+        "/etc/systemd/system/c.timer.d/y.conf",
+        Item::File(b"[Timer]\nOnCalendar=15:00\n"),
+    ),
+    ("/etc/systemd/system/l.timer", Item::Link("m.timer")),
+    ("/etc/systemd/system/m.timer", Item::Link("l.timer")),
+    (
+        "/etc/systemd/system/l.timer.d/z.conf",
+        Item::File(b"[Timer]\nOnCalendar=16:00\n"),
+    ),
+];
+
+/// The drop-ins of all names of a unit, by whichever name it is loaded. Those of another unit's alias and of a loop of
+/// links are not read.
+#[test]
+fn loads_aliases(rt: HostRuntime) -> Result<(), Fail> {
+    let machine = Memory {
+        items: ALIASED.as_slice(),
+    };
+    loads_from(
+        rt.alloc(),
+        machine,
+        &["a", "b", "d", "l"],
+        "a.timer [/usr/lib/systemd/system/a.timer /etc/systemd/system/b.timer.d/x.conf ] \
+        /usr/lib/systemd/system/a.timer:2 12:00, /etc/systemd/system/b.timer.d/x.conf:2 13:00,; \
+        b.timer [/usr/lib/systemd/system/a.timer /etc/systemd/system/b.timer.d/x.conf ] \
+        /usr/lib/systemd/system/a.timer:2 12:00, /etc/systemd/system/b.timer.d/x.conf:2 13:00,; \
+        d.timer [/usr/lib/systemd/system/d.timer /etc/systemd/system/c.timer.d/y.conf ] \
+        /usr/lib/systemd/system/d.timer:2 14:00, /etc/systemd/system/c.timer.d/y.conf:2 15:00,; \
+        l: m TooManyLinks; ",
     )
 }

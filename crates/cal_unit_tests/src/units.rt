@@ -2,11 +2,14 @@
 
 use crate::memory::{Item, Memory};
 use cal_drop_ins::system_path;
-use cal_units::{Reason, Unit, UnitFault, find_drop_ins, find_unit, read_files};
+use cal_units::{
+    Alias, Reason, Unit, UnitFault, find_aliases, find_drop_ins, find_unit, find_unit_drop_ins,
+    read_files,
+};
 use std::alloc::Global;
 use std::test::Fail;
 
-static MACHINE: [(&str, Item<'static>); 19] = [
+static MACHINE: [(&str, Item<'static>); 22] = [
     ("/usr/lib/systemd/system/a.timer", Item::File(b"own")),
     (
         "/usr/lib/systemd/system/a.timer.d/20.conf",
@@ -40,6 +43,18 @@ static MACHINE: [(&str, Item<'static>); 19] = [
         "/run/systemd/system/also.timer.d/15.conf",
         Item::File(b"fifteen"),
     ),
+    (
+        "/usr/lib/systemd/system/too.timer",
+        Item::Link("also.timer"),
+    ),
+    (
+        "/run/systemd/system/too.timer.d/12.conf",
+        Item::File(b"twelve"),
+    ),
+    (
+        "/run/systemd/system/one.timer.d/13.conf",
+        Item::File(b"thirteen"),
+    ),
     ("/etc/systemd/system/masked.timer", Item::Link("/dev/null")),
     (
         "/usr/lib/systemd/system/masked.timer",
@@ -68,10 +83,7 @@ fn ensure(holds: bool, about: &str) -> Result<(), Fail> {
 /// Returns whether `unit` was found with its file at `path`, and with `own` as its own stem, which is the last one.
 fn is_found(unit: &Unit, path: &str, own: &str) -> bool {
     match unit {
-        Unit::Found(file) => {
-            let last = file.stems.as_slice().last();
-            file.path.as_str() == path && last.is_some_and(|stem| stem.as_str() == own)
-        }
+        Unit::Found(file) => file.path.as_str() == path && file.stem.as_str() == own,
         _ => false,
     }
 }
@@ -140,13 +152,73 @@ fn reports_a_loop_of_links(rt: HostRuntime) -> Result<(), Fail> {
     }
 }
 
-/// Reads the files of the unit `a`, which has the alias `also`, and joins their bytes, with a space after each file.
-fn texts(alloc: Global, machine: Memory<'_>) -> Result<Vec<u8>, UnitFault> {
+fn is_alias(alias: &Alias, stem: &str, unit: &str) -> bool {
+    alias.stem.as_str() == stem && alias.unit.as_str() == unit
+}
+
+/// Finds the aliases `also` and `too` of the unit `a`. The other links are not aliases, and the two links that form a
+/// loop are errors.
+#[test]
+fn finds_aliases(rt: HostRuntime) -> Result<(), Fail> {
+    let alloc = rt.alloc();
     let path = system_path(alloc, "")?;
-    let found = find_drop_ins(alloc, &machine, path.as_slice(), &["also", "a"])?;
-    let own = "/usr/lib/systemd/system/a.timer";
-    let files = read_files(alloc, &machine, own, found.paths.as_slice())?;
+    let found = find_aliases(alloc, &machine(), path.as_slice())?;
+    match found.aliases.as_slice() {
+        [also, too] => {
+            ensure(is_alias(also, "also", "a"), "an alias")?;
+            ensure(is_alias(too, "too", "a"), "an alias of an alias")?;
+        }
+        _ => return Err("other aliases".into()),
+    }
+    match found.faults.as_slice() {
+        [one, two] => {
+            ensure(is_at(one, "two", Reason::TooManyLinks), "the first error")?;
+            ensure(is_at(two, "one", Reason::TooManyLinks), "the second error")
+        }
+        _ => Err("other errors".into()),
+    }
+}
+
+/// Checks that a folder of units that can't be listed is reported, and that the aliases in other folders are found.
+#[test]
+fn reports_a_folder(rt: HostRuntime) -> Result<(), Fail> {
+    let alloc = rt.alloc();
+    let items = [
+        ("/etc/systemd/system", Item::Locked),
+        ("/etc/systemd/system/b.timer", Item::Link("a.timer")),
+        ("/run/systemd/system/c.timer", Item::Link("a.timer")),
+        ("/usr/lib/systemd/system/a.timer", Item::File(b"own")),
+    ];
+    let machine = Memory {
+        items: items.as_slice(),
+    };
+    let path = system_path(alloc, "")?;
+    let found = find_aliases(alloc, &machine, path.as_slice())?;
+    match (found.aliases.as_slice(), found.faults.as_slice()) {
+        ([alias], [fault]) => {
+            ensure(is_alias(alias, "c", "a"), "another alias")?;
+            ensure(
+                is_at(fault, "/etc/systemd/system", Reason::ReadFailed),
+                "another error",
+            )
+        }
+        _ => Err("other numbers of aliases and errors".into()),
+    }
+}
+
+/// Reads the files of the unit with this stem, and joins their bytes, with a space after each file. A unit without a
+/// file has no bytes.
+fn texts(alloc: Global, machine: Memory<'_>, stem: &str) -> Result<Vec<u8>, UnitFault> {
+    let path = system_path(alloc, "")?;
     let mut bytes = Vec::new(alloc);
+    let Unit::Found(file) = find_unit(alloc, &machine, path.as_slice(), stem)? else {
+        return Ok(bytes);
+    };
+    let known = find_aliases(alloc, &machine, path.as_slice())?;
+    let aliases = known.aliases.as_slice();
+    let found = find_unit_drop_ins(alloc, &machine, path.as_slice(), aliases, &file)?;
+    let own = file.path.as_str();
+    let files = read_files(alloc, &machine, own, found.paths.as_slice())?;
     for file in &files {
         bytes.extend_from_slice(file.bytes.as_slice())?;
         bytes.push(b' ')?;
@@ -154,16 +226,20 @@ fn texts(alloc: Global, machine: Memory<'_>) -> Result<Vec<u8>, UnitFault> {
     Ok(bytes)
 }
 
-const READ: &[u8] = b"own all ten fifteen twenty ";
+const READ: &[u8] = b"own all ten twelve fifteen twenty ";
 
-/// Tests that the unit's file is read first, and then its drop-ins in the order of their names. Masked drop-ins and
-/// links to nothing are left out.
+/// Tests that the unit's file is read first, and then its drop-ins in the order of their names, with those of its
+/// aliases among them. This doesn't depend on the name by which the unit is asked for. Masked drop-ins and links to
+/// nothing are left out.
 #[test]
 fn reads_drop_ins(rt: HostRuntime) -> Result<(), Fail> {
-    match texts(rt.alloc(), machine()) {
-        Ok(bytes) => ensure(bytes.as_slice() == READ, "other files"),
-        Err(_) => Err("an error".into()),
+    for stem in ["a", "also", "too"] {
+        match texts(rt.alloc(), machine(), stem) {
+            Ok(bytes) => ensure(bytes.as_slice() == READ, stem)?,
+            Err(_) => return Err("an error".into()),
+        }
     }
+    Ok(())
 }
 
 /// Tests that a folder with an entry whose name isn't UTF-8 is reported, and that the other drop-ins of the unit are
@@ -202,7 +278,7 @@ fn check_fault(
     let machine = Memory {
         items: items.as_slice(),
     };
-    match texts(alloc, machine) {
+    match texts(alloc, machine, "a") {
         Err(fault) => ensure(is_at(&fault, at, reason), at),
         Ok(_) => Err(at.into()),
     }

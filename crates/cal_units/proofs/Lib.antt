@@ -1,3 +1,4 @@
+pub mod AliasLemmas
 pub mod LinkLemmas
 pub mod UnitLemmas
 mod UnitRows

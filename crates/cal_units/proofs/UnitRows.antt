@@ -1,9 +1,10 @@
 -- Examples that check the definitions of units, after systemd.unit(5).
-use Rattle.std.proofs.Common.{◌≡◌, ℕ, List, [], ◌∷◌, ◌++◌, codes, map, refl, Option, Some, None}
+use Rattle.std.proofs.Common.{◌≡◌, ℕ, List, [], ◌∷◌, codes, map, refl, None}
 use Rattle.std.specs.Map.{lookup}
 use Rattle.std.specs.Option.{unwrap_or}
 use Rattle.std.specs.Str.{bytes_eq}
 use Rattle.cal_drop_ins.specs.UnitName.{is_stem, kind_of, template_of, unit_stem, without_suffix}
+use Rattle.cal_units.specs.Aliases.{aliases_in, stems_of}
 use Rattle.cal_units.specs.Machine.{Entry, Machine}
 use Rattle.cal_units.specs.Machine.Entry.{Missing, Empty, File, Folder, Link}
 use Rattle.cal_units.specs.Units.{Unit, after_prefix, alias_of, file_stem, stem_in, unit_in, unit_paths}
@@ -19,10 +20,20 @@ entries =
     ∷ (codes "/etc/s.timer", Link (codes "/lib/s.timer")) ∷ (codes "/etc/p.timer", Link (codes "q.timer"))
     ∷ (codes "/etc/q.timer", Link (codes "p.timer")) ∷ []
 
+-- the names in the folders of the machine
+abbrev listed : List (List ℕ × List (List ℕ))
+listed = (
+  codes "/etc",
+  codes "q.timer" ∷ codes "b.timer" ∷ codes "a.timer" ∷ codes "b.service" ∷ codes "m.timer" ∷ codes "t@.timer"
+      ∷ codes "l.timer" ∷ codes "s.timer" ∷ codes "p.timer" ∷ codes "a.timer.d" ∷ [],
+)
+    ∷ (codes "/lib", codes "c.timer" ∷ codes "a.timer" ∷ codes "m.timer" ∷ codes "e.timer" ∷ codes "t@.timer" ∷ codes "t@y.timer" ∷ [])
+    ∷ []
+
 abbrev machine : Machine
 machine =
     record {
-      names = λ folder. [];
+      names = λ folder. unwrap_or (lookup (bytes_eq folder) listed) [];
       entry = λ path. unwrap_or (lookup (bytes_eq path) entries) Missing;
       file = λ path. None;
       variable = λ name. None;
@@ -35,8 +46,8 @@ unit stem = unit_in machine (codes "/etc" ∷ codes "/lib" ∷ []) stem
 -- For `a`, the folder `/etc/a.timer` doesn't count. `b` is an alias of `a`, and `c` of `b`, so `c` has three names. `m`
 -- is masked by a link to `/dev/null`, and `e` by an empty file.
 plain_units : map unit (codes "a" ∷ codes "b" ∷ codes "c" ∷ codes "m" ∷ codes "e" ∷ codes "none" ∷ [])
-    ≡ FoundAt (codes "/lib/a.timer") (codes "a" ∷ []) ∷ FoundAt (codes "/lib/a.timer") (codes "b" ∷ codes "a" ∷ [])
-    ∷ FoundAt (codes "/lib/a.timer") (codes "c" ∷ codes "b" ∷ codes "a" ∷ []) ∷ MaskedBy (codes "/etc/m.timer")
+    ≡ FoundAt (codes "/lib/a.timer") [] (codes "a") ∷ FoundAt (codes "/lib/a.timer") (codes "b" ∷ []) (codes "a")
+    ∷ FoundAt (codes "/lib/a.timer") (codes "c" ∷ codes "b" ∷ []) (codes "a") ∷ MaskedBy (codes "/etc/m.timer")
     ∷ MaskedBy (codes "/lib/e.timer") ∷ Unfound ∷ []
 unfolding unit_paths template_of alias_of stem_in after_prefix file_stem unit_stem without_suffix is_stem kind_of
 plain_units = refl
@@ -44,13 +55,26 @@ plain_units = refl
 -- For the instance `t@y`, its own file counts, although its template's file is in a more important folder. `t@x` has no
 -- file of its own.
 instances : map unit (codes "t@" ∷ codes "t@x" ∷ codes "t@y" ∷ [])
-    ≡ TemplateOnly ∷ FoundAt (codes "/etc/t@.timer") (codes "t@x" ∷ []) ∷ FoundAt (codes "/lib/t@y.timer") (codes "t@y" ∷ []) ∷ []
+    ≡ TemplateOnly ∷ FoundAt (codes "/etc/t@.timer") [] (codes "t@x") ∷ FoundAt (codes "/lib/t@y.timer") [] (codes "t@y") ∷ []
 unfolding unit_paths template_of alias_of stem_in after_prefix file_stem unit_stem without_suffix is_stem kind_of
 instances = refl
 
 -- `l` is a link to a file outside the search path, `s` is a link to a file of the same name, and `p` and `q` are a loop
 -- of links.
 links : map unit (codes "l" ∷ codes "s" ∷ codes "p" ∷ [])
-    ≡ FoundAt (codes "/etc/l.timer") (codes "l" ∷ []) ∷ FoundAt (codes "/etc/s.timer") (codes "s" ∷ []) ∷ Endless ∷ []
+    ≡ FoundAt (codes "/etc/l.timer") [] (codes "l") ∷ FoundAt (codes "/etc/s.timer") [] (codes "s") ∷ Endless ∷ []
 unfolding unit_paths template_of alias_of stem_in after_prefix file_stem unit_stem without_suffix is_stem kind_of
 links = refl
+
+-- The aliases are `b` and `c`, which lead to `a`. The links `m`, `l` and `s` and the loop of links have no other unit.
+aliases : aliases_in machine (codes "/etc" ∷ codes "/lib" ∷ [])
+    ≡ record { stem = codes "b"; unit = codes "a" } ∷ record { stem = codes "c"; unit = codes "a" } ∷ []
+unfolding unit_paths template_of alias_of stem_in after_prefix file_stem unit_stem without_suffix is_stem kind_of
+aliases = refl
+
+-- If `a` is found as `b`, its stems are also that of its other alias `c`, but not that of `y`, an alias of another unit.
+stems : stems_of
+    (record { stem = codes "b"; unit = codes "a" } ∷ record { stem = codes "y"; unit = codes "x" }
+    ∷ record { stem = codes "c"; unit = codes "a" } ∷ []) (codes "b" ∷ []) (codes "a")
+    ≡ codes "b" ∷ codes "c" ∷ codes "b" ∷ codes "a" ∷ []
+stems = refl

@@ -1,5 +1,5 @@
 -- The files of a unit that are read, in this order: its own, and then its drop-ins (systemd.unit(5), Description).
-use Rattle.std.specs.Prelude.{ℕ, List, string_bytes}
+use Rattle.std.specs.Prelude.{◌≡◌, ℕ, List, Some, string_bytes}
 use Rattle.std.specs.List.{flat_map}
 use Rattle.std.specs.Option.{option_map, option_to_list}
 use Rattle.cal_units.specs.Machine.{Machine}
@@ -18,3 +18,7 @@ files_at machine paths = flat_map (file_at machine) paths
 
 abbrev pub shown_text : texts.UnitText → UnitText
 shown_text file = record { path = string_bytes file.path; bytes = file.bytes.items }
+
+-- the machine has this file: these bytes at this path
+abbrev pub IsStoredOn : Machine → texts.UnitText → Type 0
+IsStoredOn machine file = machine.file (string_bytes file.path) ≡ Some file.bytes.items

@@ -1,3 +1,4 @@
+pub mod Aliases
 pub mod Files
 pub mod Machine
 pub mod Units

@@ -27,7 +27,7 @@ is_there Missing = false
 is_there Folder = false
 is_there _ = true
 
--- the first path with a unit's file, which counts
+-- the first of the paths at which there is a unit's file
 abbrev pub first_there : Machine → List (List ℕ) → Option (List ℕ)
 first_there machine paths = find (λ path. is_there (machine.entry path)) paths
 
@@ -92,19 +92,20 @@ place_of machine path stem (Some file) = place_at path stem file (machine.entry 
 abbrev pub place_in : Machine → List (List ℕ) → List ℕ → Place
 place_in machine path stem = place_of machine path stem (first_there machine (unit_paths path stem))
 
--- A unit: it doesn't exist, it is a template, it is masked by what is at a path, or it has a file and these stems, of
--- which its own is the last. `Endless` stands for too many links, as in a loop.
+-- A unit: it doesn't exist, it is a template, it is masked by what is at a path, or it has a file. `followed` are the
+-- stems of the aliases from which links led to the unit, and `own` is its own stem. `Endless` stands for too many links,
+-- as in a loop.
 pub data Unit : Type 0 where
   Unfound : Unit
   TemplateOnly : Unit
   MaskedBy : (path : List ℕ) → Unit
-  FoundAt : (path : List ℕ) → (stems : List (List ℕ)) → Unit
+  FoundAt : (path : List ℕ) → (followed : List (List ℕ)) → (own : List ℕ) → Unit
   Endless : Unit
 
 abbrev pub followed : (List (List ℕ) → List ℕ → Unit) → List (List ℕ) → List ℕ → Place → Unit
 followed more aliases stem Nowhere = Unfound
 followed more aliases stem (MaskedAt file) = MaskedBy file
-followed more aliases stem (FileAt file) = FoundAt file (aliases ++ stem ∷ [])
+followed more aliases stem (FileAt file) = FoundAt file aliases stem
 followed more aliases stem (AliasOf other) = more (aliases ++ stem ∷ []) other
 
 -- the unit with this stem, found by following fewer than `n` links from unit to unit; `aliases` are the stems from
@@ -133,4 +134,5 @@ abbrev pub shown_unit : units.Unit → Unit
 shown_unit units.TheVariants.NotFound = Unfound
 shown_unit units.TheVariants.Template = TemplateOnly
 shown_unit (units.TheVariants.Masked path) = MaskedBy (string_bytes path)
-shown_unit (units.TheVariants.Found file) = FoundAt (string_bytes file.path) (map string_bytes file.stems.items)
+shown_unit (units.TheVariants.Found file) =
+    FoundAt (string_bytes file.path) (map string_bytes file.aliases.items) (string_bytes file.stem)

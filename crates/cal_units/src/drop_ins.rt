@@ -99,7 +99,7 @@ fn push_folder<T: Tree>(
     Ok(())
 }
 
-/// Returns the paths at which there isn't a link to `/dev/null`.
+/// Returns the paths without those that are links to `/dev/null`.
 fn without_masked<T: Tree>(
     alloc: Global,
     tree: &T,
@@ -116,7 +116,7 @@ fn without_masked<T: Tree>(
     Ok(kept)
 }
 
-/// Appends a path, unless there is a link to `/dev/null` at it.
+/// Appends a path, unless it is a link to `/dev/null`.
 fn keep_unmasked<T: Tree>(
     alloc: Global,
     tree: &T,

@@ -60,7 +60,7 @@ impl UnitFault {
         }
     }
 
-    /// Returns the error for a path if a method of a [`crate::Tree`] failed with `fault` for it.
+    /// Returns the error for a path, given the error of a method of a [`crate::Tree`] that was called with this path.
     pub(crate) fn of_tree(alloc: Global, path: &str, fault: TreeFault) -> UnitFault {
         match fault {
             TreeFault::ReadFailed => UnitFault::at(alloc, path, Reason::ReadFailed),

@@ -46,7 +46,7 @@ pub fn read_files<T: Tree>(
     Ok(files)
 }
 
-/// Reads the file at a path and appends it, unless there is a link to nothing.
+/// Reads the file at a path and appends it. A link to nothing is skipped.
 fn push_file<T: Tree>(
     alloc: Global,
     tree: &T,

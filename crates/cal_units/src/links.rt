@@ -42,7 +42,7 @@ fn after_prefix<'t>(prefix: &str, text: &'t str) -> Option<&'t str>
 /// Returns the stem of a timer from the name of its file. Returns `None` if the name doesn't end in `.timer` or isn't a
 /// valid name.
 #[tactic(auto, unfolding(crate::specs::Units::file_stem))]
-fn file_stem(name: &str) -> Option<&str>
+pub(crate) fn file_stem(name: &str) -> Option<&str>
     ensures { option_map (λ stem. stem.now) result ≡ file_stem name.now }
 {
     if !name.as_bytes().ends_with(b".timer") {

@@ -132,8 +132,15 @@ fn push_path(
     ensures { OnOk result (map string_bytes paths.new.items
         ≡ map string_bytes paths.old.items ++ unit_path stem.now folder.now ∷ []) }
 {
-    paths.push(format!(in alloc; "{folder}/{stem}.timer")?)?;
+    paths.push(unit_path(alloc, folder, stem)?)?;
     Ok(())
+}
+
+/// Returns the path of the file with this stem in a folder.
+pub(crate) fn unit_path(alloc: Global, folder: &str, stem: &str) -> Result<String, AllocError>
+    ensures { IfOk result (λ path. string_bytes path ≡ unit_path stem.now folder.now) }
+{
+    Ok(format!(in alloc; "{folder}/{stem}.timer")?)
 }
 
 /// Returns the first path with a unit's file, and what is there. A folder is not a unit's file.

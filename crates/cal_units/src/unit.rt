@@ -14,13 +14,15 @@ use std::alloc::Global;
 /// The maximum number of links from unit to unit.
 const MAX_LINKS: usize = 8;
 
-/// The file of a unit, and the names for which its drop-ins are read.
+/// The file of a unit, and the names by which it was found.
 #[derive(Debug, Drop)]
 pub struct UnitFile {
     /// The path of the file. For an instance without a file of its own, this is the path of its template's file.
     pub path: String,
-    /// The stems of the unit's names: first the aliases that were followed, and last the unit's own.
-    pub stems: Vec<String>,
+    /// The stems of the aliases that were followed, in this order. The unit can have more aliases.
+    pub aliases: Vec<String>,
+    /// The unit's own stem.
+    pub stem: String,
 }
 
 /// What is found under the name of a unit.
@@ -100,14 +102,17 @@ fn follow<T: Tree>(
         return Err(UnitFault::At(stem, Reason::TooManyLinks));
     }
     let place = find_place(alloc, tree, path, stem.as_str())?;
-    aliases.push(stem)?;
     match place {
         Place::Nowhere => Ok(Unit::NotFound),
         Place::MaskedAt(path) => Ok(Unit::Masked(path)),
         Place::FileAt(path) => Ok(Unit::Found(UnitFile {
             path,
-            stems: aliases,
+            aliases,
+            stem,
         })),
-        Place::AliasOf(other) => follow(alloc, tree, path, count - 1, aliases, other),
+        Place::AliasOf(other) => {
+            aliases.push(stem)?;
+            follow(alloc, tree, path, count - 1, aliases, other)
+        }
     }
 }

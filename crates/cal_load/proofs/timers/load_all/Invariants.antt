@@ -1,8 +1,9 @@
 use Rattle.std.proofs.Common.{All, map, string_bytes}
+use Rattle.cal_units.specs.Aliases.{shown_alias}
 use Rattle.cal_units.specs.Machine.{Machine}
 use Rattle.cal_load.specs.Loaded.{IsTimerOn}
 use Rattle.cal_load.proofs.timers.load_all.Given as goal
 
 abbrev pub invariant-loop-name : goal.invariant-loop-name
 invariant-loop-name g l =
-    (machine : Machine) → g.T.Tree.shows l.tree machine → All (IsTimerOn machine (map string_bytes l.path)) l.loaded.timers.items
+    (machine : Machine) → g.T.Tree.shows l.tree machine → All (IsTimerOn machine (map string_bytes l.path) (map shown_alias l.aliases)) l.loaded.timers.items

@@ -1,14 +1,15 @@
 use Rattle.std.proofs.Common.{map, string_bytes}
 use Rattle.std.proofs.lemmas.Result.{on_ok_weaker}
+use Rattle.cal_units.specs.Aliases.{shown_alias}
 use Rattle.cal_load.proofs.TimerLemmas.{timers_more}
 use Rattle.cal_load.proofs.timers.load_target.Goals as goal
 
 pub returns : goal.returns
 returns g c =
     on_ok_weaker c.push.result (λ pushed machine shows held.
-    timers_more (λ machine. g.T.Tree.shows c.args.tree.now machine) (map string_bytes c.args.path.now) c.read_named-found.result c.args.loaded.now.timers.items c.push.new.self.timers.items
+    timers_more (λ machine. g.T.Tree.shows c.args.tree.now machine) (map string_bytes c.args.path.now) (map shown_alias c.args.aliases.now) c.read_named-found.result c.args.loaded.now.timers.items c.push.new.self.timers.items
     c.read_named-found.ensures pushed machine shows held) c.push.ensures
 
 pub returns-then-is_path : goal.returns-then-is_path
 returns-then-is_path g c =
-    on_ok_weaker c.load_path.result (λ loaded machine shows held. loaded machine (map string_bytes c.args.path.now) shows held) c.load_path.ensures
+    on_ok_weaker c.load_path.result (λ loaded machine shows held. loaded machine (map string_bytes c.args.path.now) (map shown_alias c.args.aliases.now) shows held) c.load_path.ensures

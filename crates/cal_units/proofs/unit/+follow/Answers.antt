@@ -6,8 +6,8 @@ use Rattle.cal_units.specs.Units.Place.{AliasOf}
 use Rattle.cal_units.proofs.UnitLemmas.{follow_alias}
 use Rattle.cal_units.proofs.unit.+follow.Goals as goal
 
-pub returns-in-AliasOf : goal.returns-in-AliasOf
-returns-in-AliasOf g t c =
+pub returns-in_ok-push-in-AliasOf : goal.returns-in_ok-push-in-AliasOf
+returns-in_ok-push-in-AliasOf g t c =
     IfOk-weaker c.follow.result _ _ (λ unit told machine shows.
     let path = map string_bytes c.args.path.now in
     let other = string_bytes c.in-AliasOf.other in
@@ -15,5 +15,5 @@ returns-in-AliasOf g t c =
     ap (place_in machine path) (sym c.as_str.ensures.value) ∙ sym (c.in_ok-place.ensures machine shows) ∙ ap shown_place c.in-AliasOf.is in
     let more : c.args.count ≡ suc (c.args.count - 1) = omega arith in
     told machine shows
-    ∙ ap (λ aliases. follow machine path (c.args.count - 1) aliases other) (ap (map string_bytes) c.in_ok-push.ensures.items ∙ map-append string_bytes c.args.aliases.items _)
+    ∙ ap (λ aliases. follow machine path (c.args.count - 1) aliases other) (ap (map string_bytes) c.in_ok-push-in-AliasOf.ensures.items ∙ map-append string_bytes c.args.aliases.items _)
     ∙ follow_alias machine path c.args.count (c.args.count - 1) (map string_bytes c.args.aliases.items) (string_bytes c.args.stem) other more place) c.follow.ensures

@@ -1,0 +1,12 @@
+use Rattle.std.proofs.Common.{◌≡◌, [], map, take, string_bytes}
+use Rattle.std.specs.List.{flat_map}
+use Rattle.cal_units.specs.Aliases.{aliases_below, shown_alias}
+use Rattle.cal_units.specs.Machine.{Machine}
+use Rattle.cal_units.proofs.aliases.find_aliases.Given as goal
+
+-- the aliases found are those in the folders so far, if there is no error
+abbrev pub invariant-loop-folder : goal.invariant-loop-folder
+invariant-loop-folder g l =
+    (machine : Machine) → g.T.Tree.shows l.tree machine → l.found.faults.items ≡ []
+    → map shown_alias l.found.aliases.items
+    ≡ flat_map (aliases_below machine (map string_bytes l.path)) (map string_bytes (take l.folder-index l.path))

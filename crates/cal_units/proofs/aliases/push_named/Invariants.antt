@@ -1,0 +1,13 @@
+use Rattle.std.proofs.Common.{◌≡◌, ◌++◌, [], map, string_bytes}
+use Rattle.std.specs.List.{filter_map}
+use Rattle.cal_units.specs.Aliases.{alias_named, shown_alias}
+use Rattle.cal_units.specs.Machine.{Machine}
+use Rattle.cal_units.proofs.aliases.push_named.Given as goal
+
+-- the aliases with the names so far have been appended, if there is no error
+abbrev pub invariant-loop-name : goal.invariant-loop-name
+invariant-loop-name g l =
+    (machine : Machine) → g.T.Tree.shows l.tree machine → l.found.faults.items ≡ []
+    → (l.fn.found.faults.items ≡ []) × (map shown_alias l.found.aliases.items
+    ≡ map shown_alias l.fn.found.aliases.items
+    ++ filter_map (alias_named machine (map string_bytes l.path) l.folder) (map string_bytes l.yielded))

@@ -1,0 +1,75 @@
+-- The aliases of units, and the stems whose drop-ins are read for a unit: systemd.unit(5), Description. Search paths
+-- have the most important folder first. A stem is a unit's name without its suffix `.timer`.
+use Rattle.std.specs.Prelude.{ℕ, Bool, true, false, if◌then◌else◌, List, [], ◌∷◌, ◌++◌, Option, None, Some, map, string_bytes}
+use Rattle.std.specs.List.{filter_map, flat_map}
+use Rattle.std.specs.Str.{bytes_eq}
+use Rattle.cal_units.specs.Machine.{Entry, Machine}
+use Rattle.cal_units.specs.Machine.Entry.{Missing, Empty, File, Folder, Link}
+use Rattle.cal_units.specs.Units.{Unit, file_stem, unit_in, unit_path}
+use Rattle.cal_units.specs.Units.Unit.{Unfound, TemplateOnly, MaskedBy, FoundAt, Endless}
+use Rattle.cal_units.specs.declared.aliases.Alias as links
+use Rattle.cal_units.specs.declared.unit.UnitFile as files
+
+-- `stem` is that of another name of the unit whose own stem is `unit`
+pub record Alias : Type 0 where
+  pub stem : List ℕ
+  pub unit : List ℕ
+
+abbrev pub is_link : Entry → Bool
+is_link Missing = false
+is_link Empty = false
+is_link File = false
+is_link Folder = false
+is_link (Link target) = true
+
+abbrev pub alias_unless_own : List ℕ → List ℕ → Option Alias
+alias_unless_own stem own = if bytes_eq own stem then None else Some (record { stem = stem; unit = own })
+
+-- the stem is an alias of the unit that was found for it, unless it is the unit's own
+abbrev pub alias_of_unit : List ℕ → Unit → Option Alias
+alias_of_unit stem Unfound = None
+alias_of_unit stem TemplateOnly = None
+alias_of_unit stem (MaskedBy file) = None
+alias_of_unit stem (FoundAt file followed own) = alias_unless_own stem own
+alias_of_unit stem Endless = None
+
+-- the alias with this stem, if there is a link of this name in the folder
+abbrev pub alias_at : Machine → List (List ℕ) → List ℕ → List ℕ → Option Alias
+alias_at machine path folder stem =
+    if is_link (machine.entry (unit_path stem folder)) then alias_of_unit stem (unit_in machine path stem) else None
+
+abbrev pub alias_if_named : Machine → List (List ℕ) → List ℕ → Option (List ℕ) → Option Alias
+alias_if_named machine path folder None = None
+alias_if_named machine path folder (Some stem) = alias_at machine path folder stem
+
+-- the alias whose link has this name in the folder, if the name is that of a timer's file
+abbrev pub alias_named : Machine → List (List ℕ) → List ℕ → List ℕ → Option Alias
+alias_named machine path folder name = alias_if_named machine path folder (file_stem name)
+
+-- the aliases whose links are in this folder
+abbrev pub aliases_below : Machine → List (List ℕ) → List ℕ → List Alias
+aliases_below machine path folder = filter_map (alias_named machine path folder) (machine.names folder)
+
+-- the aliases of all units in the search path
+abbrev pub aliases_in : Machine → List (List ℕ) → List Alias
+aliases_in machine path = flat_map (aliases_below machine path) path
+
+abbrev pub stem_if_of : List ℕ → Alias → List (List ℕ)
+stem_if_of own alias = if bytes_eq alias.unit own then alias.stem ∷ [] else []
+
+-- the stems of the unit with this own stem that are aliases
+abbrev pub stems_leading_to : List ℕ → List Alias → List (List ℕ)
+stems_leading_to own aliases = flat_map (stem_if_of own) aliases
+
+-- the stems whose drop-ins are read for a unit: those of its aliases, then those that were followed to it, and last its
+-- own
+abbrev pub stems_of : List Alias → List (List ℕ) → List ℕ → List (List ℕ)
+stems_of aliases followed own = stems_leading_to own aliases ++ followed ++ own ∷ []
+
+-- the stems of the unit that has this file
+abbrev pub unit_stems : List Alias → files.UnitFile → List (List ℕ)
+unit_stems aliases file = stems_of aliases (map string_bytes file.aliases.items) (string_bytes file.stem)
+
+-- the struct `Alias`, with its strings as lists of bytes
+abbrev pub shown_alias : links.Alias → Alias
+shown_alias alias = record { stem = string_bytes alias.stem; unit = string_bytes alias.unit }

@@ -1,0 +1,190 @@
+//! The aliases of units: links that give a unit more names (systemd.unit(5), Description). A stem is a unit's name
+//! without its suffix `.timer`.
+
+ghost use Rattle.std.specs.Prelude.{◌≡◌, ◌++◌, [], IfOk, MatchResult, OnOk, map, option_map, string_bytes};
+ghost use Rattle.std.specs.List.{filter_map};
+ghost use Rattle.std.specs.Option.{option_to_list};
+ghost use Rattle.cal_units.specs.Aliases.{alias_at, alias_named, alias_of_unit, alias_unless_own, aliases_below, aliases_in, is_link, shown_alias};
+ghost use Rattle.cal_units.specs.Machine.{Machine, shown_entry};
+ghost use Rattle.cal_units.specs.Units.{shown_unit};
+
+use crate::fault::UnitFault;
+use crate::links::file_stem;
+use crate::places::{look, unit_path};
+use crate::tree::{Entry, Names, Tree};
+use crate::unit::{Unit, find_unit};
+use std::alloc::{AllocError, Global};
+
+/// Another name of a unit.
+#[derive(Debug, Drop)]
+pub struct Alias {
+    /// The stem of this name.
+    pub stem: String,
+    /// The unit's own stem.
+    pub unit: String,
+}
+
+/// The aliases of all units in the search path.
+#[derive(Debug, Drop)]
+pub struct Aliases {
+    /// The aliases, in the order of the folders with their links. If several folders have a link of the same name, the
+    /// alias is in this list several times.
+    pub aliases: Vec<Alias>,
+    /// The errors: folders that can't be listed, files that can't be looked at, and links that can't be followed to a
+    /// unit. Their aliases are missing in `aliases`.
+    pub faults: Vec<UnitFault>,
+}
+
+/// Finds the aliases of all units in the search path, which has the most important folder first.
+///
+/// The name of a link in one of the folders is an alias if [`find_unit`] finds a unit with another name for it. If a
+/// folder can't be listed, or looking at a file or following a link fails, the error is in [`Aliases::faults`], and the
+/// other aliases are still found. The errors are [`UnitFault::At`] with the path of the folder and
+/// [`crate::Reason::ReadFailed`], and the errors of [`find_unit`]. Fails only if allocation fails.
+pub fn find_aliases<T: Tree>(
+    alloc: Global,
+    tree: &T,
+    path: &[String],
+) -> Result<Aliases, AllocError>
+    ensures { IfOk result (λ found. (machine : Machine) → T.shows tree.now machine → found.faults.items ≡ []
+        → map shown_alias found.aliases.items ≡ aliases_in machine (map string_bytes path.now)) }
+{
+    let mut found = Aliases {
+        aliases: Vec::new(alloc),
+        faults: Vec::new(alloc),
+    };
+    for folder in path {
+        push_folder(alloc, tree, path, folder.as_str(), &mut found)?;
+    }
+    Ok(found)
+}
+
+/// Appends the aliases whose links are in a folder.
+fn push_folder<T: Tree>(
+    alloc: Global,
+    tree: &T,
+    path: &[String],
+    folder: &str,
+    found: &mut Aliases,
+) -> Result<(), AllocError>
+    ensures { OnOk result ((machine : Machine) → T.shows tree.now machine → found.new.faults.items ≡ []
+        → (found.old.faults.items ≡ []) × (map shown_alias found.new.aliases.items
+        ≡ map shown_alias found.old.aliases.items ++ aliases_below machine (map string_bytes path.now) folder.now)) }
+{
+    match tree.names(alloc, folder) {
+        Ok(Names { names, unnamed: _ }) => push_named(alloc, tree, path, folder, names, found),
+        Err(fault) => push_fault(&mut found.faults, UnitFault::of_tree(alloc, folder, fault)),
+    }
+}
+
+/// Appends the aliases whose links have these names in a folder.
+fn push_named<T: Tree>(
+    alloc: Global,
+    tree: &T,
+    path: &[String],
+    folder: &str,
+    names: Vec<String>,
+    found: &mut Aliases,
+) -> Result<(), AllocError>
+    ensures { OnOk result ((machine : Machine) → T.shows tree.now machine → found.new.faults.items ≡ []
+        → (found.old.faults.items ≡ []) × (map shown_alias found.new.aliases.items
+        ≡ map shown_alias found.old.aliases.items
+        ++ filter_map (alias_named machine (map string_bytes path.now) folder.now) (map string_bytes names.items))) }
+{
+    for name in names {
+        let alias = alias_named(alloc, tree, path, folder, name.as_str());
+        found.push(alias)?;
+    }
+    Ok(())
+}
+
+impl Aliases {
+    /// Appends an alias, if there is one, or the error in looking for it.
+    fn push(&mut self, alias: Result<Option<Alias>, UnitFault>) -> Result<(), AllocError>
+        ensures { OnOk result (self.new.faults.items ≡ []
+            → (self.old.faults.items ≡ []) × MatchResult alias (λ alias. map shown_alias self.new.aliases.items
+            ≡ map shown_alias self.old.aliases.items ++ option_to_list (option_map shown_alias alias)) (λ _. ⊥)) }
+    {
+        match alias {
+            Ok(Some(alias)) => self.aliases.push(alias)?,
+            Ok(None) => {}
+            Err(fault) => push_fault(&mut self.faults, fault)?,
+        }
+        Ok(())
+    }
+}
+
+/// Appends an error. Fails if allocation fails, and if the error is that it failed before.
+fn push_fault(faults: &mut Vec<UnitFault>, fault: UnitFault) -> Result<(), AllocError>
+    ensures { OnOk result (faults.new.items ≡ [] → ⊥) }
+{
+    if let UnitFault::NoMemory = fault {
+        return Err(AllocError);
+    }
+    faults.push(fault)?;
+    Ok(())
+}
+
+/// Returns the alias whose link has this name in a folder. Returns `None` if the name isn't that of a timer's file, if
+/// it isn't the name of a link, or if the link isn't an alias.
+fn alias_named<T: Tree>(
+    alloc: Global,
+    tree: &T,
+    path: &[String],
+    folder: &str,
+    name: &str,
+) -> Result<Option<Alias>, UnitFault>
+    ensures { IfOk result (λ alias. (machine : Machine) → T.shows tree.now machine
+        → option_map shown_alias alias ≡ alias_named machine (map string_bytes path.now) folder.now name.now) }
+{
+    match file_stem(name) {
+        Some(stem) => alias_at(alloc, tree, path, folder, stem),
+        None => Ok(None),
+    }
+}
+
+/// Returns the alias with this stem, if there is a link of this name in the folder.
+fn alias_at<T: Tree>(
+    alloc: Global,
+    tree: &T,
+    path: &[String],
+    folder: &str,
+    stem: &str,
+) -> Result<Option<Alias>, UnitFault>
+    ensures { IfOk result (λ alias. (machine : Machine) → T.shows tree.now machine
+        → option_map shown_alias alias ≡ alias_at machine (map string_bytes path.now) folder.now stem.now) }
+{
+    let file = unit_path(alloc, folder, stem)?;
+    let entry = look(alloc, tree, file.as_str())?;
+    if !is_link(&entry) {
+        return Ok(None);
+    }
+    let unit = find_unit(alloc, tree, path, stem)?;
+    Ok(alias_of_unit(alloc, stem, unit)?)
+}
+
+fn is_link(entry: &Entry) -> bool
+    ensures { result ≡ is_link (shown_entry entry.now) }
+{
+    matches!(entry, Entry::Link(_))
+}
+
+/// Returns a stem as an alias of the unit that was found for it, unless it is the unit's own stem.
+fn alias_of_unit(alloc: Global, stem: &str, unit: Unit) -> Result<Option<Alias>, AllocError>
+    ensures { IfOk result (λ alias. option_map shown_alias alias ≡ alias_of_unit stem.now (shown_unit unit)) }
+{
+    match unit {
+        Unit::Found(file) => alias_unless_own(alloc, stem, file.stem),
+        _ => Ok(None),
+    }
+}
+
+fn alias_unless_own(alloc: Global, stem: &str, own: String) -> Result<Option<Alias>, AllocError>
+    ensures { IfOk result (λ alias. option_map shown_alias alias ≡ alias_unless_own stem.now (string_bytes own)) }
+{
+    if own.as_str() == stem {
+        return Ok(None);
+    }
+    let stem = String::from_str(alloc, stem)?;
+    Ok(Some(Alias { stem, unit: own }))
+}
