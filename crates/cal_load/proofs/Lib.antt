@@ -1,4 +1,3 @@
 pub mod ExpressionLemmas
-pub mod FileLemmas
 pub mod TextLemmas
 pub mod TimerLemmas

@@ -6,7 +6,7 @@ use Rattle.cal_units.specs.Aliases.{Alias}
 use Rattle.cal_units.specs.Machine.{Machine}
 use Rattle.cal_load.specs.Found.{IsFileFound, IsFound, IsUnitFound, timers_in}
 use Rattle.cal_load.specs.Loaded.{IsTimerOn}
-use Rattle.cal_load.specs.declared.fault.LoadFault.{LoadFault}
+use Rattle.cal_targets.specs.declared.fault.LoadFault.{LoadFault}
 use Rattle.cal_load.specs.declared.loaded.Found as founds
 use Rattle.cal_load.specs.declared.loaded.LoadedTimer.{LoadedTimer}
 

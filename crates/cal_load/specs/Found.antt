@@ -5,7 +5,7 @@ use Rattle.cal_units.specs.Machine.{Machine}
 use Rattle.cal_units.specs.Units.{unit_in}
 use Rattle.cal_units.specs.Units.Unit.{MaskedBy}
 use Rattle.cal_load.specs.Loaded.{IsFileOn, IsTimerOn, IsUnitOn}
-use Rattle.cal_load.specs.declared.fault.LoadFault.{LoadFault}
+use Rattle.cal_targets.specs.declared.fault.LoadFault.{LoadFault}
 use Rattle.cal_load.specs.declared.loaded.Found as founds
 use Rattle.cal_load.specs.declared.loaded.LoadedTimer.{LoadedTimer}
 

@@ -6,12 +6,11 @@ ghost use Rattle.cal_units.specs.Machine.{Machine};
 ghost use Rattle.cal_load.specs.Expressions.{AreOf, IsMadeOf, IsTimerOf};
 
 use crate::calendar::Calendar;
-use crate::fault::LoadFault;
-use crate::loaded::{Loaded, LoadedTimer, push_fault};
-use crate::target_fault::TargetReason;
+use crate::loaded::{Loaded, LoadedTimer};
 use crate::zones::{first_with_zone, zones_of};
 use cal_machine_zones::{FileReason, ZonesFault};
 use cal_spec::{SpecFault, read_expr};
+use cal_targets::{LoadFault, TargetReason, push_fault};
 use cal_timer::TimerLine;
 use cal_units::Tree;
 use cal_zone::ZoneTable;

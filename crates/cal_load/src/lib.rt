@@ -4,13 +4,8 @@
 
 mod calendar;
 mod expressions;
-mod fault;
-mod files;
 mod loaded;
-mod names;
 mod notes;
-mod paths;
-mod target_fault;
 mod texts;
 mod timers;
 mod unit;
@@ -18,8 +13,5 @@ mod zones;
 
 pub use calendar::Calendar;
 pub use expressions::load_expressions;
-pub use files::{LoadedFiles, load_files};
 pub use loaded::{Loaded, LoadedTimer};
-pub use paths::is_path;
-pub use target_fault::{TargetFault, TargetReason};
 pub use timers::load_timers;

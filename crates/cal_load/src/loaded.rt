@@ -7,8 +7,7 @@ ghost use Rattle.cal_load.specs.Found.{timers_in};
 ghost use Rattle.cal_load.specs.Place.{IsLastUntil, IsPlace};
 
 use crate::calendar::Calendar;
-use crate::fault::LoadFault;
-use crate::target_fault::TargetFault;
+use cal_targets::{LoadFault, TargetFault, push_fault};
 use cal_timer::TimerLine;
 use cal_units::UnitText;
 use cal_zone::ZoneTable;
@@ -144,22 +143,5 @@ impl Loaded {
             Err(fault) => push_fault(alloc, &mut self.faults, name, fault)?,
         }
         Ok(())
-    }
-}
-
-/// Appends the reason why a target can't be loaded. Fails if allocation fails, and if the reason is that it failed.
-pub(crate) fn push_fault(
-    alloc: Global,
-    faults: &mut Vec<TargetFault>,
-    target: &str,
-    fault: LoadFault,
-) -> Result<(), AllocError> {
-    match fault {
-        LoadFault::Target(reason) => {
-            let target = String::from_str(alloc, target)?;
-            faults.push(TargetFault { target, reason })?;
-            Ok(())
-        }
-        LoadFault::NoMemory => Err(AllocError),
     }
 }

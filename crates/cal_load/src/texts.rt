@@ -6,8 +6,8 @@ ghost use Rattle.cal_read.specs.TimerTexts as joined;
 ghost use Rattle.cal_units.specs.Files.{shown_text};
 ghost use Rattle.cal_load.specs.Loaded.{assignments_of};
 
-use crate::fault::LoadFault;
 use cal_read::UnitText as Text;
+use cal_targets::LoadFault;
 use cal_units::{Reason, UnitText};
 use std::alloc::{AllocError, Global};
 

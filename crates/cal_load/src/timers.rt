@@ -6,13 +6,13 @@ ghost use Rattle.cal_units.specs.Machine.{Machine};
 ghost use Rattle.cal_load.specs.Found.{IsFileFound, IsFound};
 ghost use Rattle.cal_load.specs.Loaded.{IsTimerOn};
 
-use crate::fault::LoadFault;
-use crate::loaded::{Found, Loaded, push_fault};
-use crate::names::{Wanted, files_in, names_in_path};
-use crate::paths::{Kind, is_path, kind_at, path_in, without_slashes};
-use crate::target_fault::TargetReason;
+use crate::loaded::{Found, Loaded};
 use crate::unit::{read_file, read_unit};
 use cal_drop_ins::unit_stem;
+use cal_targets::{
+    Kind, LoadFault, TargetReason, Wanted, files_in, is_path, kind_at, names_in_path, path_in,
+    push_fault, without_slashes,
+};
 use cal_units::{Alias, Tree};
 use std::alloc::{AllocError, Global};
 

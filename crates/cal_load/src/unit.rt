@@ -10,14 +10,13 @@ ghost use Rattle.cal_load.specs.Found.{IsUnitFound};
 ghost use Rattle.cal_load.specs.Loaded.{IsCalendarBy, IsCalendarOf, IsFileOn, IsReadFrom};
 
 use crate::calendar::Calendar;
-use crate::fault::LoadFault;
 use crate::loaded::{Found, LoadedTimer, place_in};
 use crate::notes::{can_start, notes_of, shown_notes};
-use crate::target_fault::TargetReason;
 use crate::texts::{first_lines, texts_of};
 use crate::zones::{first_with_zone, zones_of};
 use cal_machine_zones::{FileReason, ZonesFault};
 use cal_read::{FileFault, TimerFault, UnitText as Text, read_texts};
+use cal_targets::{LoadFault, TargetReason};
 use cal_units::{Alias, Tree, Unit, UnitFile, UnitText, find_unit, find_unit_drop_ins, read_files};
 use std::alloc::{AllocError, Global};
 

@@ -2,7 +2,7 @@
 
 use crate::shown::{check, push_faults, push_files};
 use cal_drop_ins::system_path;
-use cal_load::load_files;
+use cal_load_files::load_files;
 use cal_unit_tests::memory::{Item, Memory};
 use cal_units::find_aliases;
 use std::alloc::Global;

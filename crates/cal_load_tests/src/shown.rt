@@ -1,6 +1,7 @@
 //! Writing what was loaded as one line of text.
 
-use cal_load::{Loaded, LoadedTimer, TargetFault, TargetReason};
+use cal_load::{Loaded, LoadedTimer};
+use cal_targets::{TargetFault, TargetReason};
 use cal_units::UnitText;
 use std::alloc::{AllocError, Global};
 use std::test::Fail;

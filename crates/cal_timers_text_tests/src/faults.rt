@@ -1,9 +1,9 @@
 //! Tests of error lines.
 
 use crate::expect;
-use cal_load::{TargetFault, TargetReason};
 use cal_machine_zones::{FileReason, Origin, ZonesFault};
 use cal_spec::SpecFault;
+use cal_targets::{TargetFault, TargetReason};
 use cal_timer::TimerFault;
 use cal_timers_text::{fault_text, zones_text};
 use cal_units::Reason;

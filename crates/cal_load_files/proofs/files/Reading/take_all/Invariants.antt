@@ -1,9 +1,9 @@
 use Rattle.std.proofs.Common.{All}
 use Rattle.cal_units.specs.Machine.{Machine}
 use Rattle.cal_units.specs.Files.{IsStoredOn}
-use Rattle.cal_load.proofs.files.Reading.take_paths.Given as goal
+use Rattle.cal_load_files.proofs.files.Reading.take_all.Given as goal
 
-abbrev pub invariant-loop-path : goal.invariant-loop-path
-invariant-loop-path g l =
+abbrev pub invariant-loop-name : goal.invariant-loop-name
+invariant-loop-name g l =
     (machine : Machine) → g.T.Tree.shows l.tree machine
     → All (IsStoredOn machine) l.fn.self.loaded.files.items → All (IsStoredOn machine) l.self.loaded.files.items

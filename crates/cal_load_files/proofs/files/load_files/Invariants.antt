@@ -1,7 +1,7 @@
 use Rattle.std.proofs.Common.{All}
 use Rattle.cal_units.specs.Machine.{Machine}
 use Rattle.cal_units.specs.Files.{IsStoredOn}
-use Rattle.cal_load.proofs.files.load_files.Given as goal
+use Rattle.cal_load_files.proofs.files.load_files.Given as goal
 
 abbrev pub invariant-loop-target : goal.invariant-loop-target
 invariant-loop-target g l =

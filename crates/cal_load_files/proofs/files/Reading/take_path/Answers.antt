@@ -1,7 +1,7 @@
 use Rattle.std.proofs.Common.{[], ◌∷◌}
 use Rattle.std.proofs.lemmas.Result.{on_ok_weaker}
-use Rattle.cal_load.proofs.FileLemmas.{stored_more}
-use Rattle.cal_load.proofs.files.Reading.take_path.Goals as goal
+use Rattle.cal_load_files.proofs.FileLemmas.{stored_more}
+use Rattle.cal_load_files.proofs.files.Reading.take_path.Goals as goal
 
 pub returns-in-Ok : goal.returns-in-Ok
 returns-in-Ok g c =

@@ -1,12 +1,12 @@
 //! The errors of one target.
 
-use crate::target_fault::TargetReason;
+use crate::target_fault::{TargetFault, TargetReason};
 use cal_units::{Reason, TreeFault, UnitFault};
 use std::alloc::{AllocError, AllocFailed, Global};
 
 /// Why a target can't be loaded.
 #[derive(Debug, Drop)]
-pub(crate) enum LoadFault {
+pub enum LoadFault {
     /// The target is at fault. Others can still be loaded.
     Target(TargetReason),
     /// Out of memory.
@@ -36,7 +36,7 @@ impl From<UnitFault> for LoadFault {
 
 impl LoadFault {
     /// Returns the error for a path.
-    pub(crate) fn at(alloc: Global, path: &str, reason: Reason) -> LoadFault {
+    pub fn at(alloc: Global, path: &str, reason: Reason) -> LoadFault {
         match String::from_str(alloc, path) {
             Ok(path) => LoadFault::Target(TargetReason::Path(path, reason)),
             Err(_) => LoadFault::NoMemory,
@@ -44,7 +44,7 @@ impl LoadFault {
     }
 
     /// Returns the error for a file that is not UTF-8.
-    pub(crate) fn not_utf8(alloc: Global, path: &str) -> LoadFault {
+    pub fn not_utf8(alloc: Global, path: &str) -> LoadFault {
         match String::from_str(alloc, path) {
             Ok(path) => LoadFault::Target(TargetReason::NotUtf8(path)),
             Err(_) => LoadFault::NoMemory,
@@ -52,11 +52,28 @@ impl LoadFault {
     }
 
     /// Returns the error for a path, given the error of a method of a `Tree` that was called with this path.
-    pub(crate) fn of_tree(alloc: Global, path: &str, fault: TreeFault) -> LoadFault {
+    pub fn of_tree(alloc: Global, path: &str, fault: TreeFault) -> LoadFault {
         match fault {
             TreeFault::ReadFailed => LoadFault::at(alloc, path, Reason::ReadFailed),
             TreeFault::NotUtf8 => LoadFault::at(alloc, path, Reason::NotUtf8),
             TreeFault::NoMemory => LoadFault::NoMemory,
         }
+    }
+}
+
+/// Appends the reason why a target can't be loaded. Fails if allocation fails, and if the reason is that it failed.
+pub fn push_fault(
+    alloc: Global,
+    faults: &mut Vec<TargetFault>,
+    target: &str,
+    fault: LoadFault,
+) -> Result<(), AllocError> {
+    match fault {
+        LoadFault::Target(reason) => {
+            let target = String::from_str(alloc, target)?;
+            faults.push(TargetFault { target, reason })?;
+            Ok(())
+        }
+        LoadFault::NoMemory => Err(AllocError),
     }
 }

@@ -7,7 +7,7 @@ use std::alloc::{AllocError, Global};
 
 /// What is at a path that the user gave.
 #[derive(Clone, Copy, PartialEq, Eq, Debug)]
-pub(crate) enum Kind {
+pub enum Kind {
     File,
     /// An empty file, or a link to `/dev/null`.
     Masked,
@@ -21,7 +21,7 @@ pub fn is_path(target: &str) -> bool {
 
 /// Returns what is at a path. A link whose target can't be opened as a file is treated as a folder. Fails with
 /// [`TargetReason::NotFound`] if nothing is at the path, or only a link to nothing.
-pub(crate) fn kind_at<T: Tree>(alloc: Global, tree: &T, path: &str) -> Result<Kind, LoadFault> {
+pub fn kind_at<T: Tree>(alloc: Global, tree: &T, path: &str) -> Result<Kind, LoadFault> {
     match tree.look(alloc, path) {
         Ok(Entry::Missing) => Err(LoadFault::Target(TargetReason::NotFound)),
         Ok(Entry::Empty) => Ok(Kind::Masked),
@@ -51,13 +51,13 @@ fn kind_of_link<T: Tree>(
 }
 
 /// Removes the slashes at the end of a path. The path of the root keeps one.
-pub(crate) fn without_slashes(path: &str) -> &str {
+pub fn without_slashes(path: &str) -> &str {
     let shorter = path.trim_end_matches('/');
     if shorter.is_empty() { "/" } else { shorter }
 }
 
 /// Returns the path of a file in a folder, whose own path doesn't end in a slash unless it is the root.
-pub(crate) fn path_in(alloc: Global, folder: &str, name: &str) -> Result<String, AllocError> {
+pub fn path_in(alloc: Global, folder: &str, name: &str) -> Result<String, AllocError> {
     if folder == "/" {
         return format!(in alloc; "/{name}");
     }

@@ -1,5 +1,5 @@
 use Rattle.std.proofs.lemmas.Result.{on_ok_weaker}
-use Rattle.cal_load.proofs.files.Reading.take_unit.Goals as goal
+use Rattle.cal_load_files.proofs.files.Reading.take_unit.Goals as goal
 
 pub returns-in_ok-take_path-in-Ok-Some : goal.returns-in_ok-take_path-in-Ok-Some
 returns-in_ok-take_path-in-Ok-Some g c =

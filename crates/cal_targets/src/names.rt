@@ -1,7 +1,6 @@
 //! The names of timers in folders.
 
-use crate::fault::LoadFault;
-use crate::loaded::push_fault;
+use crate::fault::{LoadFault, push_fault};
 use crate::target_fault::TargetFault;
 use cal_drop_ins::{UnitKind, kind_of, unit_stem};
 use cal_units::{Names, Tree};
@@ -12,7 +11,7 @@ use std::collections::BTreeSet;
 /// are left out, and so are hidden files and names that no unit can have.
 ///
 /// A folder that can't be listed is added to `faults`, and the others are still listed.
-pub(crate) fn names_in_path<T: Tree>(
+pub fn names_in_path<T: Tree>(
     alloc: Global,
     tree: &T,
     path: &[String],
@@ -43,7 +42,7 @@ fn push_units<T: Tree>(
 
 /// Returns the names of the files in a folder that are to be read, sorted by their bytes. Names that are not UTF-8 are
 /// left out.
-pub(crate) fn files_in<T: Tree>(
+pub fn files_in<T: Tree>(
     alloc: Global,
     tree: &T,
     folder: &str,
@@ -60,7 +59,7 @@ pub(crate) fn files_in<T: Tree>(
 
 /// Which files of a folder are to be read. Hidden files never are.
 #[derive(Clone, Copy)]
-pub(crate) enum Wanted {
+pub enum Wanted {
     /// Files with the suffix `.timer`, except templates.
     Timers,
     /// Files with the suffix `.timer` or `.conf`.

@@ -4,12 +4,11 @@ ghost use Rattle.std.specs.Prelude.{◌≡◌, ◌++◌, [], All, IfOk, OnOk};
 ghost use Rattle.cal_units.specs.Machine.{Machine};
 ghost use Rattle.cal_units.specs.Files.{IsStoredOn};
 
-use crate::fault::LoadFault;
-use crate::loaded::push_fault;
-use crate::names::{Wanted, files_in, names_in_path};
-use crate::paths::{Kind, is_path, kind_at, path_in, without_slashes};
-use crate::target_fault::{TargetFault, TargetReason};
 use cal_drop_ins::unit_stem;
+use cal_targets::{
+    Kind, LoadFault, TargetFault, TargetReason, Wanted, files_in, is_path, kind_at, names_in_path,
+    path_in, push_fault, without_slashes,
+};
 use cal_units::{Alias, Tree, Unit, UnitFile, UnitText, find_unit, find_unit_drop_ins, read_files};
 use std::alloc::{AllocError, Global};
 use std::collections::BTreeSet;
@@ -27,7 +26,7 @@ pub struct LoadedFiles {
 /// timers in the folders of the search path.
 ///
 /// `path` is the search path, the most important folder first, and `aliases` are the aliases of the units in it. A
-/// target is a path or the name of a timer, as for [`crate::load_timers`]. A timer stands for its file and its
+/// target is a path or the name of a timer, as for `load_timers` of `cal_load`. A timer stands for its file and its
 /// drop-ins, a folder for all its files with the suffix `.timer` or `.conf`, and any other file for itself. A masked unit
 /// has no files. What can't be read is in [`LoadedFiles::faults`], and all other files are still read. Fails only if
 /// allocation fails.
