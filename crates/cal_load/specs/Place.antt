@@ -8,8 +8,9 @@ IsLastUntil numbers number index =
     (index < length numbers) × (slice_index numbers index ≤ number)
     × ((k : ℕ) → index < k → k < length numbers → number < slice_index numbers k)
 
--- The line with a continued number is this line of the file with this path: of the files that begin at or before the
--- line, it is the last. `first_lines` has the continued number of the first line of each file.
+-- Line numbers continue from file to file, and `first_lines` has the continued number of each file's first line. The
+-- line with the continued number `number` is line `line` of the file at `path`, the last file that begins at or before
+-- that line.
 pub record IsPlace (files : List UnitText) (first_lines : List ℕ) (number : ℕ) (path : List ℕ) (line : ℕ) : Type 0 where
   pub index : ℕ
   pub file : UnitText

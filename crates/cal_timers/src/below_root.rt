@@ -1,5 +1,5 @@
-//! Paths below a root folder. Their links are followed here, since the system would look for the absolute targets of links
-//! in its own root.
+//! Paths below a root folder. Their links are followed here, since the system would look for the absolute targets of
+//! links in its own root.
 
 use cal_units::TreeFault;
 use std::alloc::{AllocError, Global};

@@ -43,8 +43,8 @@ pub(crate) fn find_place<T: Tree>(
     }
 }
 
-/// Returns what is found under a unit's name, given the first path that has a file of the unit, `file`, and what is
-/// there, `entry`.
+/// Returns what is found under a unit's name. `file` is the first path that has a file of the unit, and `entry` is what
+/// is at that path.
 fn place_at(
     alloc: Global,
     path: &[String],
