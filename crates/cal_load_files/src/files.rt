@@ -27,9 +27,9 @@ pub struct LoadedFiles {
 ///
 /// `path` is the search path, the most important folder first, and `aliases` are the aliases of the units in it. A
 /// target is a path or the name of a timer, as for `load_timers` of `cal_load`. A timer stands for its file and its
-/// drop-ins, a folder for all its files with the suffix `.timer` or `.conf`, and any other file for itself. A masked unit
-/// has no files. What can't be read is in [`LoadedFiles::faults`], and all other files are still read. Fails only if
-/// allocation fails.
+/// drop-ins, a folder for all its files with the suffix `.timer` or `.conf`, and any other file for itself. A masked
+/// unit has no files. What can't be read is in [`LoadedFiles::faults`], and all other files are still read. Fails only
+/// if allocation fails.
 pub fn load_files<T: Tree>(
     alloc: Global,
     tree: &T,
