@@ -70,7 +70,8 @@ leading_digits part = take (prefix_len is_ascii_digit part) part
 abbrev pub after_digits : List ℕ → List ℕ
 after_digits part = drop (prefix_len is_ascii_digit part) part
 
--- whether two texts of digits are the same number, at most `most`, the greatest number in an expression
+-- whether two texts of digits stand for the same number, and it is at most `most`, the greatest number that an
+-- expression may have
 abbrev pub are_equal : List ℕ → List ℕ → Bool
 are_equal a b = (digits_value 10 a == digits_value 10 b) && nat_le (digits_value 10 a) most
 

@@ -56,8 +56,8 @@ impl LoadedTimer {
     }
 }
 
-/// Returns the path of the last file that begins at or before the line with this continued number, and the line's
-/// number in that file.
+/// Returns the path of the file that has the line with this continued number, and the line's number in that file. It is
+/// the last file that begins at or before the line.
 pub(crate) fn place_in<'f>(
     files: &'f [UnitText],
     first_lines: &[u32],

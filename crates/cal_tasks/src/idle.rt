@@ -172,8 +172,8 @@ fn never_elapses(alloc: Global, setting: Setting<'_>, line: &TimerLine) -> Resul
     Ok(elapses.next().is_none())
 }
 
-/// Returns whether none of `numbers` is an elapse after the present of the exception on `line`. The zone of the
-/// exception must be known.
+/// Returns whether the exception on `line` elapses, after the present, at none of `numbers`. The zone of the exception
+/// must be known.
 fn suppresses_nothing(
     alloc: Global,
     setting: Setting<'_>,
