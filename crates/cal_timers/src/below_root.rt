@@ -1,5 +1,5 @@
-//! Paths below a root folder. Their links are followed here, since the system would look for the absolute targets of
-//! links in its own root.
+//! Following paths below a root folder, with all their links. The system can't do this by itself, since it would look
+//! for the absolute targets of links in its own root.
 
 use cal_units::TreeFault;
 use std::alloc::{AllocError, Global};
@@ -7,8 +7,8 @@ use std::fs;
 use std::io::ErrorKind;
 use std::rt::Files;
 
-/// A path can't be followed if it has more parts than this, counting the parts of the links through which it leads. A
-/// loop of links exceeds this.
+/// A path can't be followed if it has this many parts or more. The parts of the targets of its links are counted, too,
+/// so a loop of links always reaches this number.
 const MAX_PARTS: usize = 1_000;
 
 /// Returns the path on the system to which `path` leads. Absolute paths and absolute targets of links are relative to
@@ -59,7 +59,8 @@ fn first_part(alloc: Global, path: &str) -> Result<Option<(String, String)>, All
     )))
 }
 
-/// Returns the path one part on from `done`, in which no link is left. `..` doesn't lead out of the root.
+/// Returns the path to which `part` leads from `done`. The links in `done` have been followed before, so `..` can
+/// remove its last part. `..` doesn't lead out of the root.
 fn next_path(alloc: Global, root: &str, done: &str, part: &str) -> Result<String, AllocError> {
     match part {
         "." if done.is_empty() => String::from_str(alloc, "."),
@@ -74,7 +75,8 @@ fn next_path(alloc: Global, root: &str, done: &str, part: &str) -> Result<String
     }
 }
 
-/// Returns whether a relative path leads to the current folder or out of it, so that `..` can't be left out after it.
+/// Returns whether a relative path leads to the current folder or to a folder above it. Then a `..` after the path has
+/// to be kept, since there is no last part that it could remove.
 fn is_outside(path: &str) -> bool {
     matches!(path, "" | "." | "..") || path.ends_with("/..")
 }

@@ -40,8 +40,8 @@ impl<'a, R: Files + Env + AllocGlobal + Clone + Drop> Machine<'a, R> {
         below_root::followed(self.rt, alloc, self.root, path)
     }
 
-    /// Returns the path on the system of what is at `path`: a link there is not followed, but the links to its folder
-    /// are.
+    /// Returns the path on the system that stands for `path`. Links in the path of the folder are followed. If there is
+    /// a link at `path` itself, it is not followed.
     fn path_of(&self, alloc: Global, path: &str) -> Result<String, TreeFault> {
         match path.rsplit_once('/') {
             Some((folder, name)) if !self.root.is_empty() => {
