@@ -34,7 +34,8 @@ enum Kind {
 /// Returns the arguments with the verb moved to the front. If there is no verb, `list` is inserted there, unless the
 /// arguments ask for the help or the version of the program.
 ///
-/// The verb is the first argument that is neither an option nor the value of an option, if it is the name of a verb.
+/// The verb is the first argument that is neither an option nor the value of an option, if it is the name of a verb or
+/// `help`.
 pub(crate) fn with_verb_first<'a, S: AsStr>(
     alloc: Global,
     arguments: &'a [S],
