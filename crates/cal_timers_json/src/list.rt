@@ -10,8 +10,8 @@ use cal_tasks::{Clocked, NextOfAll, TimerElapse};
 use serde::Serialize;
 use std::alloc::{AllocError, Global};
 
-/// A timer or a masked unit in the list. The fields `next`, `unix` and `left` are `None` if the unit is masked, or if
-/// the timer's calendar expressions and exceptions leave no next elapse.
+/// A timer or a masked unit in the list. The fields `next`, `unix` and `left` are `None` if the unit is masked or the
+/// timer has no next elapse.
 #[derive(Drop, Serialize)]
 pub(crate) struct ListRow<'a> {
     pub(crate) unit: &'a str,
