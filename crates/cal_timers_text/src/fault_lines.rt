@@ -8,7 +8,7 @@ use cal_units::Reason;
 use std::alloc::{AllocError, Global};
 
 /// Returns the error line about a timer that can't be loaded, without a line feed. The line begins with what is at
-/// fault, which is the timer, a path, or a line of a file, and ends with the message.
+/// fault, and ends with the message. What is at fault is the target as it was given, a path, or a line of a file.
 pub fn fault_text(alloc: Global, fault: &TargetFault) -> Result<String, AllocError> {
     let mut out = String::new(alloc);
     let target = fault.target.as_str();

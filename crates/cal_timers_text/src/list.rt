@@ -37,7 +37,8 @@ struct Widths {
 
 /// Returns a table: first the timers with a next elapse, soonest first, then the timers without one, and last the
 /// masked units. Each row has the next elapse, how long it is until then, the name of the unit and its notes. Notes
-/// that don't fit into the width of the terminal are cut. If there are no timers, returns the line `no timers`.
+/// that don't fit into the width of the terminal are cut. If there are neither timers nor masked units, returns the
+/// line `no timers`.
 pub fn list_text(
     alloc: Global,
     at: Clocked<'_>,

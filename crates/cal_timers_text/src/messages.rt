@@ -5,8 +5,8 @@ use cal_tasks::IdleKind;
 use cal_timer::TimerFault;
 use std::alloc::{AllocError, Global};
 
-/// Returns the message about a problem. If an expression is invalid, the message says why: it describes `mistake`, the
-/// known mistake that the expression resembles, if there is one, and otherwise the error.
+/// Returns the message about a problem. If an expression is invalid, the message says why: it describes `mistake` if
+/// the expression resembles a known mistake, and otherwise the error.
 pub fn message_of(
     alloc: Global,
     problem: Problem,
