@@ -98,8 +98,8 @@ fn cut_notes(rt: HostRuntime) -> Result<(), Fail> {
     expect(found.as_str(), NARROW_TABLE)
 }
 
-/// A timer with a line feed in its name, and with characters of two bytes: the widths of the table and of the note are
-/// counted in characters.
+/// A timer with a line feed in its name, and with characters of two bytes in its name and its note. The widths of
+/// columns are counted in characters, and so is the width to which the note is cut.
 const ONE: Made<'static> = Made {
     name: "größe\n.timer",
     text: "[Timer]\nOnCalendar=daily\n",

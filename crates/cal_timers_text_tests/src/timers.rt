@@ -26,7 +26,7 @@ pub struct Made<'a> {
 }
 
 impl Made<'_> {
-    /// Makes the timer. Its line numbers are those of files with 3 lines each.
+    /// Makes the timer. Its line numbers are counted on from file to file, as if each file had 3 lines.
     pub fn timer(&self, alloc: Global) -> Result<LoadedTimer, Fail> {
         let calendar = calendar_of(alloc, self.text)?;
         Ok(LoadedTimer {
