@@ -19,7 +19,8 @@ pub enum Item<'a> {
     Gone,
     /// A file or folder that can't be listed or opened. Looking at its path fails too.
     Locked,
-    /// An entry of a folder, with a name that isn't UTF-8. The last part of this item's path has no effect.
+    /// An entry whose name isn't UTF-8. This item's path says only in which folder the entry is: the last part of the
+    /// path stands for the name.
     Unnamed,
 }
 

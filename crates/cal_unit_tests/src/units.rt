@@ -80,7 +80,7 @@ fn ensure(holds: bool, about: &str) -> Result<(), Fail> {
     if holds { Ok(()) } else { Err(about.into()) }
 }
 
-/// Returns whether `unit` was found with its file at `path`, and with `own` as its own stem, which is the last one.
+/// Returns whether `unit` was found, its file is at `path`, and its own stem is `own`.
 fn is_found(unit: &Unit, path: &str, own: &str) -> bool {
     match unit {
         Unit::Found(file) => file.path.as_str() == path && file.stem.as_str() == own,
@@ -262,8 +262,8 @@ fn reports_other_names(rt: HostRuntime) -> Result<(), Fail> {
     )
 }
 
-/// Checks that reading the unit `a` fails with `reason` at the path `at`, on a machine that has only the unit's file
-/// and `item` at `path`.
+/// Checks that reading the unit `a` fails with `reason` at the path `at`. The machine has only the file of `a`, and
+/// `item` at `path`.
 fn check_fault(
     alloc: Global,
     path: &str,
