@@ -1,4 +1,4 @@
--- What `strip_prefix` returns is what `after_prefix` says.
+-- `strip_prefix` returns what the definition `after_prefix` says.
 use Rattle.std.proofs.Common.{◌≡◌, ℕ, true, false, List, Option, Some, None, refl, sym, ap, ◌∙◌, drop, Bor}
 use Rattle.std.specs.Prelude.{MatchOption, nat_eq}
 use Rattle.std.specs.List.{starts_with}

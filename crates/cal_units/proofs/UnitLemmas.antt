@@ -1,4 +1,5 @@
--- Following one more link.
+-- If a link to another unit is found under a stem, `follow` returns what it returns for the other unit, with one link
+-- fewer to follow.
 use Rattle.std.proofs.Common.{◌≡◌, ℕ, suc, List, [], ◌∷◌, ◌++◌, refl}
 use Rattle.cal_units.specs.Machine.{Machine}
 use Rattle.cal_units.specs.Units.{follow, place_in}

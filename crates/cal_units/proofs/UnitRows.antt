@@ -43,8 +43,8 @@ machine =
 abbrev unit : List ℕ → Unit
 unit stem = unit_in machine (codes "/etc" ∷ codes "/lib" ∷ []) stem
 
--- For `a`, the folder `/etc/a.timer` doesn't count. `b` is an alias of `a`, and `c` of `b`, so `c` has three names. `m`
--- is masked by a link to `/dev/null`, and `e` by an empty file.
+-- The folder `/etc/a.timer` isn't a file of `a`. `b` is an alias of `a`, and `c` is an alias of `b`, so the unit has
+-- three names. `m` is masked by a link to `/dev/null`, and `e` by an empty file.
 plain_units : map unit (codes "a" ∷ codes "b" ∷ codes "c" ∷ codes "m" ∷ codes "e" ∷ codes "none" ∷ [])
     ≡ FoundAt (codes "/lib/a.timer") [] (codes "a") ∷ FoundAt (codes "/lib/a.timer") (codes "b" ∷ []) (codes "a")
     ∷ FoundAt (codes "/lib/a.timer") (codes "c" ∷ codes "b" ∷ []) (codes "a") ∷ MaskedBy (codes "/etc/m.timer")
@@ -66,13 +66,15 @@ links : map unit (codes "l" ∷ codes "s" ∷ codes "p" ∷ [])
 unfolding unit_paths template_of alias_of stem_in after_prefix file_stem unit_stem without_suffix is_stem kind_of
 links = refl
 
--- The aliases are `b` and `c`, which lead to `a`. The links `m`, `l` and `s` and the loop of links have no other unit.
+-- `b` and `c` are aliases of `a`. The links `m`, `l` and `s` are not aliases, nor are the links `p` and `q`, which form
+-- a loop.
 aliases : aliases_in machine (codes "/etc" ∷ codes "/lib" ∷ [])
     ≡ record { stem = codes "b"; unit = codes "a" } ∷ record { stem = codes "c"; unit = codes "a" } ∷ []
 unfolding unit_paths template_of alias_of stem_in after_prefix file_stem unit_stem without_suffix is_stem kind_of
 aliases = refl
 
--- If `a` is found as `b`, its stems are also that of its other alias `c`, but not that of `y`, an alias of another unit.
+-- If `a` is found by its alias `b`, the stems are those of its aliases `b` and `c`, then again `b`, and last its own.
+-- The alias `y` belongs to another unit and is left out.
 stems : stems_of
     (record { stem = codes "b"; unit = codes "a" } ∷ record { stem = codes "y"; unit = codes "x" }
     ∷ record { stem = codes "c"; unit = codes "a" } ∷ []) (codes "b" ∷ []) (codes "a")

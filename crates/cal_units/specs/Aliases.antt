@@ -10,7 +10,7 @@ use Rattle.cal_units.specs.Units.Unit.{Unfound, TemplateOnly, MaskedBy, FoundAt,
 use Rattle.cal_units.specs.declared.aliases.Alias as links
 use Rattle.cal_units.specs.declared.unit.UnitFile as files
 
--- `stem` is that of another name of the unit whose own stem is `unit`
+-- another name of a unit: `stem` is the stem of this name, and `unit` is the unit's own stem
 pub record Alias : Type 0 where
   pub stem : List ℕ
   pub unit : List ℕ
@@ -25,7 +25,8 @@ is_link (Link target) = true
 abbrev pub alias_unless_own : List ℕ → List ℕ → Option Alias
 alias_unless_own stem own = if bytes_eq own stem then None else Some (record { stem = stem; unit = own })
 
--- the stem is an alias of the unit that was found for it, unless it is the unit's own
+-- the alias with this stem, given the unit that was found for the stem; None if no unit with a file was found, or if
+-- the stem is the unit's own
 abbrev pub alias_of_unit : List ℕ → Unit → Option Alias
 alias_of_unit stem Unfound = None
 alias_of_unit stem TemplateOnly = None
@@ -33,7 +34,7 @@ alias_of_unit stem (MaskedBy file) = None
 alias_of_unit stem (FoundAt file followed own) = alias_unless_own stem own
 alias_of_unit stem Endless = None
 
--- the alias with this stem, if there is a link of this name in the folder
+-- the alias with this stem; None if the folder has no link with this stem, or if the link isn't an alias
 abbrev pub alias_at : Machine → List (List ℕ) → List ℕ → List ℕ → Option Alias
 alias_at machine path folder stem =
     if is_link (machine.entry (unit_path stem folder)) then alias_of_unit stem (unit_in machine path stem) else None
@@ -57,12 +58,12 @@ aliases_in machine path = flat_map (aliases_below machine path) path
 abbrev pub stem_if_of : List ℕ → Alias → List (List ℕ)
 stem_if_of own alias = if bytes_eq alias.unit own then alias.stem ∷ [] else []
 
--- the stems of the unit with this own stem that are aliases
+-- the stems of the aliases of the unit whose own stem is `own`
 abbrev pub stems_leading_to : List ℕ → List Alias → List (List ℕ)
 stems_leading_to own aliases = flat_map (stem_if_of own) aliases
 
--- the stems whose drop-ins are read for a unit: those of its aliases, then those that were followed to it, and last its
--- own
+-- the stems whose drop-ins are read for a unit: those of its aliases, then those of the aliases that were followed to
+-- find it, and last its own
 abbrev pub stems_of : List Alias → List (List ℕ) → List ℕ → List (List ℕ)
 stems_of aliases followed own = stems_leading_to own aliases ++ followed ++ own ∷ []
 

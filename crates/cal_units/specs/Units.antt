@@ -92,9 +92,9 @@ place_of machine path stem (Some file) = place_at path stem file (machine.entry 
 abbrev pub place_in : Machine → List (List ℕ) → List ℕ → Place
 place_in machine path stem = place_of machine path stem (first_there machine (unit_paths path stem))
 
--- A unit: it doesn't exist, it is a template, it is masked by what is at a path, or it has a file. `followed` are the
--- stems of the aliases from which links led to the unit, and `own` is its own stem. `Endless` stands for too many links,
--- as in a loop.
+-- What is found for a stem: nothing, a template, a path that masks the unit, or the file of the unit. `followed` are
+-- the stems of the aliases from which links led to the unit, and `own` is its own stem. `Endless` stands for too many
+-- links, as in a loop.
 pub data Unit : Type 0 where
   Unfound : Unit
   TemplateOnly : Unit

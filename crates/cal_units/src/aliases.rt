@@ -99,7 +99,7 @@ fn push_named<T: Tree>(
 }
 
 impl Aliases {
-    /// Appends an alias, if there is one, or the error in looking for it.
+    /// Appends the alias that was found, if there is one. If looking for it failed, appends the error.
     fn push(&mut self, alias: Result<Option<Alias>, UnitFault>) -> Result<(), AllocError>
         ensures { OnOk result (self.new.faults.items ≡ []
             → (self.old.faults.items ≡ []) × MatchResult alias (λ alias. map shown_alias self.new.aliases.items
@@ -114,7 +114,7 @@ impl Aliases {
     }
 }
 
-/// Appends an error. Fails if allocation fails, and if the error is that it failed before.
+/// Appends an error. Fails if the error is [`UnitFault::NoMemory`], or if allocation fails.
 fn push_fault(faults: &mut Vec<UnitFault>, fault: UnitFault) -> Result<(), AllocError>
     ensures { OnOk result (faults.new.items ≡ [] → ⊥) }
 {
@@ -143,7 +143,8 @@ fn alias_named<T: Tree>(
     }
 }
 
-/// Returns the alias with this stem, if there is a link of this name in the folder.
+/// Returns the alias with this stem. Returns `None` if the folder has no link with this stem, or if the link isn't an
+/// alias.
 fn alias_at<T: Tree>(
     alloc: Global,
     tree: &T,
@@ -169,7 +170,8 @@ fn is_link(entry: &Entry) -> bool
     matches!(entry, Entry::Link(_))
 }
 
-/// Returns a stem as an alias of the unit that was found for it, unless it is the unit's own stem.
+/// Returns the alias with this stem, given the unit that was found for the stem. Returns `None` if no unit with a file
+/// was found, or if the stem is the unit's own.
 fn alias_of_unit(alloc: Global, stem: &str, unit: Unit) -> Result<Option<Alias>, AllocError>
     ensures { IfOk result (λ alias. option_map shown_alias alias ≡ alias_of_unit stem.now (shown_unit unit)) }
 {

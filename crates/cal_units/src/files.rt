@@ -25,10 +25,11 @@ pub struct UnitText {
 /// Reads the files of a unit to their ends: the file at `path`, and then the drop-ins. A link to nothing is left out,
 /// as in systemd.
 ///
-/// Fails with [`UnitFault::At`] and one of these reasons for the first file that can't be read: [`Reason::ReadFailed`]
-/// if it can't be opened, read or looked at, [`Reason::IsFolder`] if it is a folder, [`Reason::Vanished`] if nothing is
-/// there, [`Reason::NotUtf8`] if it is a link to nothing whose target is not UTF-8, or [`Reason::TooLarge`] if it has
-/// more than 1,048,576 bytes. Fails with [`UnitFault::NoMemory`] if allocation fails.
+/// Fails with [`UnitFault::At`] for the first file that can't be read. The reason is [`Reason::ReadFailed`] if the file
+/// can't be opened, read or looked at, [`Reason::IsFolder`] if it is a folder, [`Reason::Vanished`] if nothing is at
+/// its path, and [`Reason::TooLarge`] if it has more than 1,048,576 bytes. The reason is [`Reason::NotUtf8`] if there
+/// is only a link to nothing, and the target of this link is not UTF-8. Fails with [`UnitFault::NoMemory`] if
+/// allocation fails.
 pub fn read_files<T: Tree>(
     alloc: Global,
     tree: &T,

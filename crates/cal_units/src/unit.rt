@@ -40,11 +40,11 @@ pub enum Unit {
 
 /// Finds the unit with this stem in the search path, which has the most important folder first.
 ///
-/// The file in the first folder that has a file of the unit's name counts; a folder of this name is not a file. If
-/// there is no such file and the unit is an instance, its template's file is searched for in the same way. An empty
-/// file and a link to `/dev/null` mask the unit. A link is an alias of another unit if its target is that unit's name,
-/// or that name in a folder of the search path: that unit is searched for instead. Any other link is the unit's file,
-/// and so is a link to a template.
+/// Only the first file with the unit's name counts; folders with this name are skipped. If there is no such file and
+/// the unit is an instance, its template's file is searched for in the same way. An empty file or a link to `/dev/null`
+/// masks the unit. A link is an alias of another unit if its target is the name of that unit's file, with or without
+/// the path of a folder of the search path before it. Then that unit is searched for instead. Any other link is itself
+/// the unit's file, and so is a link to a template.
 ///
 /// Fails with [`UnitFault::At`] and [`Reason::ReadFailed`] if a path can't be looked at, or [`Reason::NotUtf8`] if the
 /// target of a link is not UTF-8. If more than 8 links lead from unit to unit, as in a loop of links, fails with

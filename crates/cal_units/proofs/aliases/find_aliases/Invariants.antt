@@ -4,7 +4,7 @@ use Rattle.cal_units.specs.Aliases.{aliases_below, shown_alias}
 use Rattle.cal_units.specs.Machine.{Machine}
 use Rattle.cal_units.proofs.aliases.find_aliases.Given as goal
 
--- the aliases found are those in the folders so far, if there is no error
+-- if there is no error so far, the aliases found are those in the folders before the loop's index
 abbrev pub invariant-loop-folder : goal.invariant-loop-folder
 invariant-loop-folder g l =
     (machine : Machine) → g.T.Tree.shows l.tree machine → l.found.faults.items ≡ []

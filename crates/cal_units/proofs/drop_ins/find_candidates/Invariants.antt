@@ -4,7 +4,7 @@ use Rattle.cal_drop_ins.specs.DropIns.{candidates, shown}
 use Rattle.cal_units.specs.Machine.{Machine}
 use Rattle.cal_units.proofs.drop_ins.find_candidates.Given as goal
 
--- the drop-ins found are those in the folders so far
+-- so far, the drop-ins found are those in the folders before the loop's index
 abbrev pub invariant-loop-folder : goal.invariant-loop-folder
 invariant-loop-folder g l =
     (machine : Machine) → g.T.Tree.shows l.tree machine

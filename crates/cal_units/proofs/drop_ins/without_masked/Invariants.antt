@@ -2,7 +2,7 @@ use Rattle.std.proofs.Common.{◌≡◌, filter, map, not, string_bytes}
 use Rattle.cal_units.specs.Machine.{Machine, is_null}
 use Rattle.cal_units.proofs.drop_ins.without_masked.Given as goal
 
--- the paths so far have been kept unless they are links to `/dev/null`
+-- of the paths that the loop has visited, all but the links to `/dev/null` have been kept
 abbrev pub invariant-loop-path : goal.invariant-loop-path
 invariant-loop-path g l =
     (machine : Machine) → g.T.Tree.shows l.tree machine

@@ -3,7 +3,7 @@ use Rattle.cal_units.specs.Files.{files_at, shown_text}
 use Rattle.cal_units.specs.Machine.{Machine}
 use Rattle.cal_units.proofs.files.read_files.Given as goal
 
--- the unit's file and the drop-ins so far have been read
+-- the unit's file and the drop-ins before the loop's index have been read
 abbrev pub invariant-loop-drop_in : goal.invariant-loop-drop_in
 invariant-loop-drop_in g l =
     (machine : Machine) → g.T.Tree.shows l.tree machine

@@ -1,7 +1,7 @@
 use Rattle.std.proofs.Common.{◌≡◌, ◌++◌, map, take, string_bytes}
 use Rattle.cal_units.proofs.stems.push_texts.Given as goal
 
--- the strings so far have been appended
+-- the strings before the loop's index have been appended
 abbrev pub invariant-loop-string : goal.invariant-loop-string
 invariant-loop-string l =
     map (λ text. text.now) l.texts.items
