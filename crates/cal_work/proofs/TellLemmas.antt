@@ -38,8 +38,8 @@ fault_written NoMemory expected out out' err err' status o e = record { by_statu
 same_status : (r : Result Unit RunFault) (shown : Stop) → ended_status r (Err shown) ≡ status_by r shown.status
 same_status r shown = grind arith
 
--- if the stop is reported right away, the report of the stop is `stop_text` on the output that the outlet names, and
--- nothing on the other output
+-- If the outlet of the stop is an output, the report of the stop is `stop_text` on this output, and nothing on the
+-- other one. If the stop is reported later, nothing is required.
 TextsFit : Outlet → declared_stop.Stop → Type 0
 TextsFit OnOut stop = ((shown_stop stop).out ≡ stop_text stop) × ((shown_stop stop).err ≡ [])
 TextsFit OnErr stop = ((shown_stop stop).out ≡ []) × ((shown_stop stop).err ≡ stop_text stop)

@@ -378,7 +378,8 @@ file_stops known asked stop out err timer opens s = record {
   ends = rw timer (early stop (Err (unopened_stop (file_name asked))) out err (stops_other stop (unopened_stop (file_name asked)) s));
 }
 
--- All steps together, for each step at which the work can end
+-- All steps together: the work stops at the zone files, at the local zone or at the present instant, or it gets to the
+-- run
 
 module _ (known : Known) (ask : Ask) (stop : declared_stop.Stop) (out err : Option (List ℕ)) where
   pub zones_stop : ReadsZones (λ table. table) known ask.zones (Err stop) → Answered known ask (Err stop) out out err err

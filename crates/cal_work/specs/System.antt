@@ -16,12 +16,13 @@ pub record Known : Type 0 where
 abbrev pub nothing_known : Known
 nothing_known = record { file = λ path. None; may_fail = λ path. true; time = None }
 
--- `came`, the time that the clock shows or `None` if it has no time, agrees with what is known about the clock
+-- `came` agrees with what is known about the clock. It is the time that the clock shows, or `None` if the clock has no
+-- time.
 abbrev pub GivesTime : Option (Option ℤ) → Option ℤ → Type 0
 GivesTime None came = Unit {0}
 GivesTime (Some time) came = came ≡ time
 
--- What opening a file returned, `opened`, agrees with what is known about the file. `opened` is `None` if the file
+-- `opened`, the result of opening a file, agrees with what is known about the file. `opened` is `None` if the file
 -- can't be opened, `Some (Some bytes)` if it was opened and these bytes are left to read, and `Some None` if it was
 -- opened and its bytes are not known.
 abbrev pub Opens : Option (Option (List ℕ)) → Option (Option (List ℕ)) → Type 0

@@ -34,8 +34,8 @@ abbrev pub known_time : Option (Option ℤ) → Option ℤ
 known_time None = None
 known_time (Some time) = time
 
--- what the program finds in each zone file if it sees the file as it is known to be; the zone that `jiff` reads from
--- the file is taken from `found`
+-- What the program finds in each zone file if no read fails and memory doesn't run out. The zones that `jiff` reads
+-- from the files are taken from `found`.
 unfoldable pub known_zones : Known → List ZoneItem → List ZoneFound → List ZoneFound
 known_zones known [] found = []
 known_zones known (item ∷ items) [] = []

@@ -36,9 +36,9 @@ abbrev pub is_err_cut : {T : Type 0} → Result T declared_stop.Stop → Bool
 is_err_cut (Ok x) = false
 is_err_cut (Err stop) = is_err_stop stop
 
--- The work ended with `stop` before the run, as `expected`, the result of the definitions, requires: `stop` doesn't
--- stand for a failed output, and `expected` is a stop too, equal to `stop` unless `stop` stands for running out of
--- memory.
+-- The work ended with `stop` before the run, and this agrees with `expected`, the result of the definitions. `stop`
+-- isn't due to a failed output, and `expected` is a stop too. Unless `stop` is due to running out of memory, `expected`
+-- is the report of `stop`.
 pub record StopsAs {X : Type 0} (stop : declared_stop.Stop) (expected : Result X Stop) : Type 0 where
   pub before_out : is_out_stop stop ≡ false
   pub before_err : is_err_stop stop ≡ false
@@ -97,8 +97,8 @@ pub record Reads {T : Type 0} (view : T → ℤ) (known : Known) (result : Resul
   pub is_time : GivesTime known.time clock
   pub answers : Answers view result (clock_by clock)
 
--- what determining the present instant returned agrees with `present_by`, for the time that the clock showed, which
--- matters only if the arguments give no instant
+-- What determining the present instant returned agrees with `present_by`. `clock` is the time that the clock showed; it
+-- matters only if the arguments give no instant.
 pub record Presents {T : Type 0} (view : T → ℤ) (known : Known) (given : Option ℤ) (result : Result T declared_stop.Stop) : Type 0 where
   pub clock : Option ℤ
   pub asked : IfNone given (GivesTime known.time clock)
@@ -161,8 +161,8 @@ IsFlushed (Ok all) (Ok flushed) = Unit {0}
 IsFlushed (Ok all) (Err fault) = fault ≡ OutFailed
 IsFlushed (Err fault) flushed = flushed ≡ Err fault
 
--- `text`, the report of a stop, is written to the output where it belongs; if the stop has to be reported later,
--- nothing is written
+-- The report `text` of a stop is written to the output that the outlet names. If the stop has to be reported later,
+-- nothing is written.
 abbrev pub TellsOn : Outlet → List ℕ → Result Unit RunFault → Option (List ℕ) → Option (List ℕ) → Option (List ℕ) → Option (List ℕ) → Type 0
 TellsOn OnOut text result out out' err err' = Writes out out' result text × (err' ≡ err)
 TellsOn OnErr text result out out' err err' = Writes err err' result text × (out' ≡ out)

@@ -44,8 +44,8 @@ pub record SeesZone (known : Known) (item : ZoneItem) (found : ZoneFound) : Type
   pub sees : Sees known file_limit item.path found.seen
   pub reads : ReadsZone item.name found.seen found.zone
 
--- `found`, what the program finds in each zone file, in order, agrees with what is known about the files. The files
--- after the first one that can't be loaded are not opened, so nothing is required of their entries in `found`.
+-- `found` is what the program finds in the zone files, in order, and agrees with what is known about the files. The
+-- files after the first one that can't be loaded are not opened, so nothing is required of their entries in `found`.
 abbrev pub SeesZones : Known → ZoneMap → List ZoneItem → List ZoneFound → Type 0
 SeesZones known table [] found = Unit {0}
 SeesZones known table (item ∷ items) [] = ⊥
