@@ -32,8 +32,8 @@ use Rattle.cal_zone.proofs.LocalOffsetRangeLemmas.{floor_second-whole, offset_be
 use Rattle.cal_text.proofs.General.{lt_test, not_lt_test}
 use Rattle.cal_zone.proofs.RuleLemmas.{IsApart, IsBeside, clamped, in_its_year, moment_on, next_after_table, offset_in, ordered_apart, ordered_rises, utc_year, window_apart, window_beside, window_of}
 
--- if `moment` isn't between `low` and `high`, then any two numbers `at` and `other` in `low..high` are on the same side
--- of `moment`
+-- if `moment` is at or before `low`, or at or after `high`, then any two numbers `at` and `other` in `low..high` are on
+-- the same side of `moment`
 beside_within : (low high moment at other : ℤ) → IsApart low high (pos 0) moment → low ≤ℤ at → at <ℤ high → low ≤ℤ other → other <ℤ high → IsBeside moment at other
 beside_within low high moment at other (inl h) a b c d = grind (arith, signed_arith, le_yes, not_lt_test)
 beside_within low high moment at other (inr h) a b c d = grind (arith, signed_arith, le_no, lt_test)
@@ -79,7 +79,7 @@ transition_some : (rule : Posix) (d : Dst) (w : ℤ × ℤ) (low high moment : �
 transition_some rule d w low high moment from to p e = grind (arith, signed_arith, no_none, int_le, and_from, le_yes)
 
 -- `o` is the start and the end of daylight saving time in the year `y`, in ascending order. If the rule has no
--- transition after `low`, then neither this start nor this end is between `low` and `high`.
+-- transition after `low`, then neither of the two is after `low` and before `high`.
 passed_ends : (rule : Posix) (d : Dst) (y first last low high : ℤ) (o : ℤ × ℤ) → o.0 ≤ℤ o.1 → (a b : Bool) → int_lt low o.0 ≡ a → int_lt low o.1 ≡ b
     → neg_ℤ (pos 377_705_023_201_000_000_000) ≤ℤ first → last ≤ℤ pos 253_402_207_200_999_999_999 → IsIn first last o.0 → IsIn first last o.1
     → (if a then transition_of rule d (utc_window d y rule.std_offset) o.0 else (if b then transition_of rule d (utc_window d y rule.std_offset) o.1 else next_year rule d y)) ≡ None
@@ -95,8 +95,8 @@ lowest = neg_ℤ (pos 377_705_023_201_000_000_000)
 abbrev highest : ℤ
 highest = pos 253_402_207_200_999_999_999
 
--- if the rule has no transition after `low` and before `high`, daylight saving time neither starts nor ends between
--- `low` and `high` in the year `y`
+-- if the rule has no transition after `low` and before `high`, daylight saving time neither starts nor ends in this
+-- range in the year `y`
 window_constant : (rule : Posix) (d : Dst) (y low high : ℤ) (next : Option (ℤ × OffsetInfo)) → next_by rule d y low ≡ next → IfSome next (λ change. high ≤ℤ change.0)
     → first_nanosecond y ≤ℤ last_nanosecond y → lowest ≤ℤ first_nanosecond y → last_nanosecond y ≤ℤ highest
     → IsApart low high (pos 0) (utc_window d y rule.std_offset).0 × IsApart low high (pos 0) (utc_window d y rule.std_offset).1

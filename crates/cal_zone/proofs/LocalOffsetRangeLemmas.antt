@@ -32,14 +32,15 @@ use Rattle.cal_civil.proofs.DayLemmas.{epoch_day-date_of}
 use Rattle.cal_zone.proofs.PlaceLemmas.{by_the_offset, place_at-there, place_of-Some, place_of-tried}
 use Rattle.cal_text.proofs.General.{none_by_view}
 
--- the smaller and the larger of two UTC offsets are in the range of UTC offsets too
+-- the smaller of two UTC offsets is in the range of UTC offsets, and so is the larger
 min_in_range : (x y : ℤ) → IsOffsetSeconds x → IsOffsetSeconds y → IsOffsetSeconds (int_min x y)
 min_in_range x y p q = elim (int_lt y x) as (λ b. IsOffsetSeconds (cond b y x)) [ true ↦ q | false ↦ p ]
 
 max_in_range : (x y : ℤ) → IsOffsetSeconds x → IsOffsetSeconds y → IsOffsetSeconds (int_max x y)
 max_in_range x y p q = elim (int_lt y x) as (λ b. IsOffsetSeconds (cond b x y)) [ true ↦ p | false ↦ q ]
 
--- the gap or fold of a transition starts and ends at most 93,599 seconds (the largest UTC offset) from the transition
+-- as numbers of seconds, the start and the end of a transition's gap or fold differ from the transition by at most
+-- 93,599, the largest UTC offset
 start_near : (row : Transition) → IsOffsetSeconds (civil_start row -ℤ row.second)
 start_near row = grind (arith, signed_arith, min_in_range)
 
@@ -155,8 +156,8 @@ count_of_copy z rows copy second count d bound point =
 pub type_after-last : (z : Table) (rows : ℕ) → 0 < rows → type_after z rows ≡ (transition_at z (rows - 1)).after
 type_after-last z rows some = grind (arith, signed_arith)
 
--- if the clock behaves the same around two local seconds, and `other` has a place, then `local` has a place too, and
--- the difference between local second and place is the same for both
+-- if the clock behaves the same around `local` and `other`, and `other` has a place, then `local` has a place too, and
+-- both differ from their places by the same number of seconds
 pub place_of-same_offsets : (tz : TimeZone) (local other place : ℤ) → HaveSameOffsets tz local other → place_of tz other ≡ Some place → place_of tz local ≡ Some (local -ℤ (other -ℤ place))
 unfolding settle_of
 place_of-same_offsets tz local other place same_offsets placed =
@@ -183,7 +184,8 @@ pub same_offsets_standard : (rule : Posix) (local other : ℤ) → rule.dst ≡ 
 unfolding offset_at ambiguous_at
 same_offsets_standard rule local other none = grind (arith, signed_arith, ambiguous_standard, offset_standard)
 
--- under the POSIX rule of a table, if it has one, the clock behaves the same around both local seconds
+-- The clock behaves the same around `local` and `other` under the POSIX rule of a table. If the table has no rule,
+-- nothing is required.
 abbrev pub HaveSameOffsetsBy : Option Posix → ℤ → ℤ → Type 0
 HaveSameOffsetsBy None local other = Unit {0}
 HaveSameOffsetsBy (Some rule) local other = HaveSameOffsets (ByRule rule) local other

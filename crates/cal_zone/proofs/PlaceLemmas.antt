@@ -1,6 +1,6 @@
--- Lemmas on the conversion of local seconds to Unix time. `settle_of` converts every local second. `place_of` returns
--- the result of `settle_of`, the place of the local second, only if the zone's clock shows the local second at that
--- time.
+-- Lemmas on the conversion of local seconds to Unix time. `settle_of` converts every local second to a second of Unix
+-- time. If the zone's clock shows the local second at that second of Unix time, it is the place of the local second,
+-- and `place_of` returns it. Otherwise, `place_of` returns `None`.
 use Rattle.std.proofs.Common.{◌≡◌, ◌∙◌, ℤ, pos, ◌-ℤ◌, Bool, Some, None, refl, sym, ap, arith, int_eq, true, false, if◌then◌else◌}
 use Rattle.std.proofs.lemmas.Bool.Decides.{Decides-int_eq}
 use Rattle.std.proofs.lemmas.Int.{ints}
@@ -75,7 +75,8 @@ pub settle_of-near : (tz : TimeZone) (local : ℤ) → IsOffsetSeconds (local -�
 unfolding settle_of
 settle_of-near tz local = grind (arith, signed_arith)
 
--- if the clock shows a local second at the instant that the local second is converted to, this instant is its place
+-- if `settle_of` converts a local second to an instant at which the clock shows this local second, the instant is its
+-- place
 pub place_of-shown : (tz : TimeZone) (local second : ℤ) → second ≡ settle_of tz local → local_shown_at tz second ≡ local → place_of tz local ≡ Some second
 unfolding place_of
 place_of-shown tz local second settled shown = grind (arith, signed_arith, Decides-int_eq)
@@ -84,7 +85,7 @@ pub place_of-skipped : (tz : TimeZone) (local second : ℤ) → second ≡ settl
 unfolding place_of
 place_of-skipped tz local second settled skipped = grind (arith, signed_arith, int_eq-other)
 
--- if a local second has a place, it is converted to this place, and the clock shows the local second at this instant
+-- if a local second has a place, `settle_of` returns this place, and the clock shows the local second at it
 pub place_of-Some : (tz : TimeZone) (local place : ℤ) → place_of tz local ≡ Some place → (settle_of tz local ≡ place) × (local_shown_at tz place ≡ local)
 unfolding place_of
 place_of-Some tz local place e = grind (arith, signed_arith, some_by_test, Decides-int_eq)

@@ -95,10 +95,10 @@ near_by low high a b kept other more p q some h (inr x) y = omega (arith, signed
 clamped_near : (low high a b more : ℤ) → low ≤ℤ high → pos 0 ≤ℤ more → a ≤ℤ (b +ℤ more) → clamp_to low high a ≤ℤ (clamp_to low high b +ℤ more)
 clamped_near low high a b more order some h = grind (arith, signed_arith, clamped, near_by)
 
--- The lemmas `kept_low` and `kept_high` are the two cases of `apart_kept`, for a range from `low` to `high` within the
--- civil times of `jiff`. If `moment` is outside this range, or at most `by` away from one of its ends (`IsApart`), and
--- `moved` differs from `moment` by at most `more`, then the same holds for `moved`, clamped to the civil times of
--- `jiff`, with `by` + `more` in place of `by`.
+-- Suppose that `moment` is outside the range from `low` to `high`, or at most `by` away from one of its ends
+-- (`IsApart`), and that `moved` differs from `moment` by at most `more`. Then `moved`, clamped to the civil times of
+-- `jiff`, is outside the range, or at most `by` plus `more` away from one of its ends. The range is within the civil
+-- times of `jiff`. The lemmas `kept_low` and `kept_high` are the two cases, and `apart_kept` is the whole statement.
 kept_low : (low high by more moment moved kept : ℤ) → moment ≤ℤ (low +ℤ by) → civil_min ≤ℤ low → pos 0 ≤ℤ by → pos 0 ≤ℤ more → moved ≤ℤ (moment +ℤ more)
     → (kept ≤ℤ moved) ⊎ (kept ≤ℤ civil_min) → IsApart low high (by +ℤ more) kept
 kept_low low high by more moment moved kept h from some also a (inl k) = inl (omega (arith, signed_arith))
@@ -178,8 +178,8 @@ window_ends rule d y low high next o rises true b e f g h = grind (arith, signed
 window_ends rule d y low high next o rises false true e f g h = grind (arith, signed_arith, transition_at_moment)
 window_ends rule d y low high next o rises false false e f g h = grind (arith, signed_arith)
 
--- if the first transition after `low` is at `high` or later, daylight saving time neither starts nor ends between `low`
--- and `high` in the year `y`
+-- if the first transition after `low` is at `high` or later, daylight saving time neither starts nor ends after `low`
+-- and before `high` in the year `y`
 window_by : (rule : Posix) (d : Dst) (y low high : ℤ) (next : ℤ × OffsetInfo) → next_by rule d y low ≡ Some next → high ≤ℤ next.0
     → IsApart low high (pos 0) (ordered (utc_window d y rule.std_offset)).0 × IsApart low high (pos 0) (ordered (utc_window d y rule.std_offset)).1
 window_by rule d y low high next e h =
@@ -191,9 +191,10 @@ window_apart rule d y low high next e h =
     let ends = window_by rule d y low high next e h in
     ordered_apart low high (utc_window d y rule.std_offset) ends.0 ends.1
 
--- If daylight saving time starts with the year, and its end, in standard time, is outside the year, then `utc_window`
--- has the last nanosecond of the year instead of the end. The two lemmas below show that the end is then outside the
--- range from `low` to `high`, or at most 93,599 seconds (the largest UTC offset) away from one of its ends.
+-- Suppose that daylight saving time starts with the year, and that its end, converted to standard time, is outside the
+-- year. Then `utc_window` has the last nanosecond of the year in place of the end. By the two lemmas below, for an end
+-- before the year and one after it, the end is outside the range from `low` to `high`, or at most 93,599 seconds (the
+-- largest UTC offset) away from one of its ends.
 end_passed : (low high first last end std : ℤ) → first ≤ℤ low → low ≤ℤ civil_max → IsOffsetSeconds std → clamp_to civil_min civil_max (end +ℤ nanos_of_seconds std) <ℤ first
     → ((end +ℤ nanos_of_seconds std) ≤ℤ clamp_to civil_min civil_max (end +ℤ nanos_of_seconds std)) ⊎ (civil_max ≤ℤ clamp_to civil_min civil_max (end +ℤ nanos_of_seconds std))
     → IsApart low high (pos 93_599_000_000_000) end
@@ -259,7 +260,8 @@ in_its_year d =
     let day = d.day_in in
     (omega (arith, signed_arith), omega (arith, signed_arith))
 
--- a date between the first and the last day of a year is in that year
+-- a date is in the year `y` if its day number is at least that of the first day of `y`, and less than that of the first
+-- day of the next year
 pub of_the_year : (d : Date) (y : ℤ) → IsYear y → first_day y ≤ℤ epoch_day d → epoch_day d <ℤ (first_day y +ℤ pos (days_in_year y)) → d.year ≡ y
 of_the_year d y year from to = grind (arith, signed_arith, days_from_civil-day_count, day_count-year_is, civil)
 
@@ -297,8 +299,8 @@ pub offset_in : (rule : Posix) (d : Dst) (y n : ℤ) → rule.dst ≡ Some d →
     → ByPosix.offset_at rule n ≡ match_some (if in_window (utc_window d y rule.std_offset) n then Some d else None) rule.std_offset (λ dst. dst.offset)
 offset_in rule d y n e f = rw (e, f) refl
 
--- how many nanoseconds the compared local times, `at` and `other` in the lemma below, stay away from both ends of the
--- range from `low` to `high`: four times the largest UTC offset, plus one second
+-- In the lemma below, the local times `at` and `other` are at least this many nanoseconds away from both ends of the
+-- range from `low` to `high`: four times the largest UTC offset, plus one second.
 abbrev pub far : ℤ
 far = pos 374_397_000_000_000
 

@@ -1,5 +1,5 @@
--- The place of a local second (the second of Unix time at which a zone's clock first shows it) if only one UTC offset
--- is tried.
+-- Trying one UTC offset to find the place of a local second. The place is the second of Unix time at which a zone's
+-- clock first shows the local second.
 use Rattle.std.specs.Prelude.{ℤ, ◌-ℤ◌, Option, Some, None, if◌then◌else◌}
 use Rattle.std.specs.Ordering.{int_eq}
 use Rattle.jiff.specs.Types.{Offset, TimeZone}

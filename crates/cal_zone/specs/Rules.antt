@@ -4,8 +4,8 @@ use Rattle.jiff_tz.specs.declared.tzif.Tzif.{Tzif as Table}
 use Rattle.cal_zone.specs.declared.rules.RulesKind.{RulesKind}
 use Rattle.cal_zone.specs.declared.rules.RulesKind.TheVariants.{Posix, File}
 
--- the zone with the table of a zone file; where the table is in memory makes no difference, so the pointer
--- to it is always 0
+-- the zone with the table of a zone file; the address of the table in memory makes no difference, so it is always 0
+-- here
 abbrev pub zone_of_table : Table → TimeZone
 zone_of_table table = Tzif (record { ref_ptr = (0, 0); now = table })
 

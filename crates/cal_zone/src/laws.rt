@@ -96,7 +96,7 @@ pub fn fixed_zones_place_every_local_second()
 {}
 
 /// A zone that was added to a table under a name other than `UTC` (ignoring case) is found under this name. Look-ups of
-/// every name but the added one are unchanged.
+/// all other names return the same as before.
 pub fn tables_change_at_one_name()
     ensures here { (table : ZoneMap) (name : List ℕ) (zone : TimeZone) → is_utc_name name ≡ false
         → zone_named (insert table name zone) name ≡ Some zone }

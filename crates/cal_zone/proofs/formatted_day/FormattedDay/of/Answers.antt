@@ -37,7 +37,7 @@ next_midnight c =
     let start = midnight c in
     omega (arith, signed_arith, c.civil_at-shown.ensures.ranges.hour, c.civil_at-shown.ensures.ranges.minute, c.civil_at-shown.ensures.ranges.second)
 
--- an instant that isn't before the start of the returned day isn't before the start of `range`, nor before midnight
+-- an instant at or after the start of the returned day is at or after the start of `range` and at or after midnight
 at_midnight : (c : goal.After-min) (second : ℤ) → to_z w64 (of_z w64 c.max.result) ≤ℤ second
     → (c.args.range.from ≤ℤ second) × (midnight_of c.secs.result c.since_midnight.result ≤ℤ second)
 at_midnight c second from = grind (arith, signed_arith, c.max.ensures.self_bound, c.max.ensures.other_bound)
