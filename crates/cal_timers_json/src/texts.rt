@@ -25,8 +25,9 @@ pub(crate) fn local_text(alloc: Global, zone: Zone<'_>, secs: i64) -> Result<Str
     copy_of(alloc, text.as_slice())
 }
 
-/// Returns the text of a local time, such as `Sun 2027-03-28 02:30:00`. `local` is in seconds since 1970-01-01 00:00:00
-/// on the same clock. So this is the text of the instant `local` in UTC, without the name of the zone.
+/// Returns the text of a local time, such as `Sun 2027-03-28 02:30:00`. `local` counts seconds from 1970-01-01 00:00:00
+/// on the clock that shows the local time. So this is the text of the instant `local` in UTC, without the name of the
+/// zone.
 pub(crate) fn clock_text(alloc: Global, local: i64) -> Result<String, AllocError> {
     let mut text = ShortText::new();
     push_instant(&mut text, Zone::utc(), instant_near(local));
