@@ -50,7 +50,7 @@ SeesBytes (Some None) limit seen = seen ≡ None
 SeesBytes (Some (Some bytes)) limit None = ⊥
 SeesBytes (Some (Some bytes)) limit (Some came) = Comes (Some bytes) limit came
 
--- whether a read failed
+-- whether reading the file failed
 abbrev pub is_cut : Seen → Bool
 is_cut None = false
 is_cut (Some came) = is_read_failed came
