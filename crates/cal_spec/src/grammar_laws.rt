@@ -1,5 +1,5 @@
-//! Laws which say that the parser accepts exactly the expressions of the grammar, and what the words of a text are.
-//! Each law is a function with an empty body, whose contract states the law.
+//! Laws about which texts the parser accepts, and about the words of a text. Each law is a function with an empty body,
+//! whose contract states the law.
 
 ghost use Rattle.std.specs.Prelude.{◌≡◌, ℕ, List, Ok};
 ghost use Rattle.std.specs.Result.{result_err};
@@ -13,8 +13,8 @@ ghost use Rattle.cal_text.specs.headline.Words.{words};
 
 /// Parsing a text succeeds if and only if the grammar of systemd.time(7), Calendar Events, allows the text (`IsValid`).
 /// Parsing then returns the fields that the grammar gives to the text. The grammar is unambiguous: it never gives the
-/// same text two different values of `Fields`. If parsing fails, the error is that of the first check that fails:
-/// `judgements_of` lists all checks of a text, in the order that docs/GRAMMAR.md states under "Rejected expressions".
+/// same text two different values of `Fields`. If parsing fails, the error is that of the first check that fails.
+/// `judgements_of` lists the checks of a text in the order that docs/GRAMMAR.md states under "Rejected expressions".
 pub fn expressions_are_those_of_the_rule()
     ensures found { (text : List ℕ) (f : Fields) → fields_in text ≡ Ok f → IsValid text f }
     ensures only { (text : List ℕ) (f : Fields) → IsValid text f → fields_in text ≡ Ok f }

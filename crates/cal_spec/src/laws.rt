@@ -22,8 +22,8 @@ ghost use Rattle.cal_spec.specs.declared.part.Part.{Part};
 ghost use Rattle.cal_spec.specs.declared.slot.Slot.{Slot};
 ghost use Rattle.cal_spec.specs.declared.slot.Slot.TheVariants.{Second};
 
-/// A list of parts has exactly one normal form if no range runs backwards and no step is zero; `normal_parts` returns
-/// it. A list that is already in normal form is its own normal form.
+/// If no range in a list of parts runs backwards and no step is zero, the list has exactly one normal form, which
+/// `normal_parts` returns. A list that is already in normal form is its own normal form.
 pub fn one_normal_form()
     ensures some { (raw : List Part) → AllByRecursion IsPart raw → AreNormalOf raw (normal_parts raw) }
     ensures only { (raw ps : List Part) → AllByRecursion IsPart raw → AreNormalOf raw ps → ps ≡ normal_parts raw }
@@ -31,8 +31,8 @@ pub fn one_normal_form()
     ensures stays { (ps : List Part) → AreNormal ps → normal_parts ps ≡ ps }
 {}
 
-/// A component has exactly one normal form if no range runs backwards and no step is zero. This is also true of the
-/// seconds, whose normal form differs in one case: the single part `0/1` becomes `*`.
+/// If no range in a component runs backwards and no step is zero, the component has exactly one normal form. This is
+/// also true of the seconds. Their normal form differs in one case: the single part `0/1` becomes `*`.
 pub fn one_normal_component()
     ensures some { (raw : Option (List Part)) → AreParts raw → IsNormalOf raw (normal_component raw) }
     ensures only { (raw normal : Option (List Part)) → AreParts raw → IsNormalOf raw normal

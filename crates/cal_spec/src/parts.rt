@@ -136,7 +136,7 @@ fn after_end(slot: Slot, start: u16, end: u16, text: &[u8]) -> Result<Part, Spec
     }
 }
 
-/// Parses what follows the slash of a part: the step, after which nothing may follow.
+/// Parses the text after the slash of a part. It must be the step and nothing else.
 #[tactic(auto, unfolding(crate::specs::Parts::with_step))]
 fn with_step(slot: Slot, start: u16, end: Option<u16>, text: &[u8]) -> Result<Part, SpecFault>
     ensures { Gives (λ part. part) result (with_step slot start end (symbols text.now)) }

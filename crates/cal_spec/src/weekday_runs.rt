@@ -48,7 +48,7 @@ fn put_runs<W: Sink>(out: &mut W, days: &[bool]) -> Result<(), WriteFault>
     Ok(())
 }
 
-/// Returns how many days match at the start of the list, before the first day, if any, that doesn't match.
+/// Returns the number of days before the first day that doesn't match, or the length of `days` if all of them match.
 #[tactic(auto, using(crate::proofs::WeekdayLemmas::front_within))]
 fn leading_days(days: &[bool]) -> usize
     ensures value { result ≡ prefix_len (λ day. day) days.now }

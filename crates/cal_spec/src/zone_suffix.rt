@@ -23,8 +23,9 @@ pub enum ZoneSuffix {
     Offset(i32),
 }
 
-/// Parses the text after the weekdays, date and time. It may have no words, or be the name of a zone (systemd.time(7),
-/// Calendar Events) or a UTC offset, which systemd doesn't accept. Fails with `StrayWord` if the text is anything else.
+/// Parses the text after the weekdays, date and time: it is blank, the name of a zone (systemd.time(7), Calendar
+/// Events), or a UTC offset. Fails with `StrayWord` if it is anything else. UTC offsets are this project's addition:
+/// systemd doesn't accept them.
 #[tactic(auto, unfolding(crate::specs::ZoneSuffix::suffix_of))]
 pub(crate) fn read_suffix(alloc: Global, text: &str) -> Result<Option<ZoneSuffix>, SpecFault>
     ensures { GivesUnlessNoMemory (λ suffix. option_map shown_suffix suffix) result (suffix_in (words text.now)) }
