@@ -71,7 +71,7 @@ pub zone_begins : (find : List ℕ → Option TimeZone) (word : List ℕ) (zone 
 zone_begins find word zone (inl name) = no_digit_first word name.0
 zone_begins find word zone (inr offset) = (offset_begins word offset.0 offset.1).1
 
--- `word` consists of three numbers with hyphens between them; the lemmas below say that every valid date does
+-- `word` is three numbers with hyphens between them; by `date_word`, this is true of every valid date
 record AreDatePieces (word : List ℕ) : Type 0 where
   year : List ℕ
   month : List ℕ
@@ -110,7 +110,7 @@ date_begins word day h =
     let p = date_word word _ day refl h in
     rw p.whole (no_letter_first (p.year ++ (45 ∷ (p.month ++ (45 ∷ p.day)))) (digit_first p.year (45 ∷ (p.month ++ (45 ∷ p.day))) p.is_year))
 
--- `word` begins with a number and a colon; the lemmas below say that every valid time does
+-- `word` begins with a number and a colon; by `time_word`, this is true of every valid time
 record AreTimePieces (word : List ℕ) : Type 0 where
   hour : List ℕ
   after : List ℕ

@@ -154,8 +154,8 @@ module _ (at : Setting) (first : Option (List ℕ)) (weekday : Option Weekday) (
         is_at_fault = h;
       })
 
-  -- the next three lemmas: if parsing the words from the zone on fails with `fault`, then `fault` is the first error of
-  -- all the words
+  -- the next three lemmas: if parsing the zone or the words after it fails with `fault`, then `fault` is the first
+  -- error of all the words
   second_zone : (date time : Option (List ℕ)) (day : Option ℤ) (micros : ℕ) (w : List ℕ) (zone : TimeZone) (ws : List (List ℕ)) → (is_some date || is_some time) ≡ true → WritesDate date day → WritesTime time micros → NamesZone at (Some w) zone
       → zone_alone zone ws ≡ Err fault → HasFirstError at (option_to_list first ++ (option_to_list date ++ (option_to_list time ++ (w ∷ ws)))) fault
   second_zone date time day micros w zone [] some d t z h = cc

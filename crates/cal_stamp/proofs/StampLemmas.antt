@@ -20,7 +20,8 @@ use Rattle.cal_stamp.specs.declared.fault.StampFault.TheVariants.{OutOfRange}
 
 -- Fractions of a second
 
--- the value of a fraction of a unit that is worth `size` is at most 9 * `size` for each digit of the fraction
+-- if a unit is worth `size`, a fraction of this unit is worth at most 9 * `size` times the number of digits in the
+-- fraction
 pub fraction_bound : (size place : ℕ) (ds : List ℕ) → list_all is_ascii_digit ds ≡ true → fraction_worth size place ds ≤ length ds * (9 * size)
 fraction_bound size place [] h = omega arith
 fraction_bound size place (d ∷ ds) h =
@@ -33,8 +34,8 @@ fraction_bound size place (d ∷ ds) h =
 
 -- Dates and times with too many pieces
 
--- a date that hyphens split into more than three pieces is invalid; so are a time that colons split into more than
--- three pieces, and seconds that points split into more than two
+-- the next three lemmas: a date is invalid if hyphens split it into more than three pieces, a time if colons split it
+-- into more than three, and seconds if points split them into more than two
 pub no_date : (word year month day b1 b2 b3 : List ℕ) → slice_split is_hyphen word ≡ year ∷ slice_split is_hyphen b1 → slice_split is_hyphen b1 ≡ month ∷ slice_split is_hyphen b2 → slice_split is_hyphen b2 ≡ day ∷ slice_split is_hyphen b3 → None ≡ date_numbers word
 unfolding date_numbers
 no_date word year month day b1 b2 b3 first next last =

@@ -79,12 +79,11 @@ solid_at : (text : List ℕ) → is_blank (get_or text 0 0) ≡ false → Starts
 solid_at [] h = tt
 solid_at (b ∷ bs) h = h
 
--- if the first byte of a text is at least 65 (`A`), the text doesn't begin with a sign that is below 65
+-- a text whose first byte is at least 65 (`A`) doesn't begin with `sign`, which is below 65
 no_sign : (core : List ℕ) (sign : ℕ) (means : List ℕ → Form) → 65 ≤ get_or core 0 0 → sign < 65 → (other : Form) → IsBehindSign (sign ∷ []) means core other → ⊥
 no_sign core sign means capital below other p = absurd (omega (arith, capital, below, ap (λ t. get_or t 0 0) p.1))
 
--- if the last byte of a text is at most 90 (`Z`), and the last byte of a word is greater, then the text doesn't end
--- with a blank followed by this word
+-- a text whose last byte is at most 90 (`Z`) doesn't end with a blank and `word` if the last byte of `word` is above 90
 no_word : (core word : List ℕ) (means : List ℕ → Form) → last_byte core ≤ 90 → ((blank : ℕ) → last_byte (blank ∷ word) ≤ 90 → ⊥) → (other : Form) → IsBeforeWord word means core other → ⊥
 no_word core word means last apart other p =
     let same : last_byte core ≡ last_byte (p.1 ∷ word) = ap last_byte p.3 ∙ last_of p.0 (p.1 ∷ word) (omega arith) in
@@ -214,7 +213,7 @@ is_line date second zone h last =
     }
 
 -- The printed date is three padded numbers with hyphens between them, and the printed time is three padded numbers with
--- colons between them. A padded number is zeros and digits; the first lemma only regroups these pieces.
+-- colons between them. A padded number is zeros followed by digits. The first lemma only regroups these pieces.
 pieces_row : (sign : ℕ) (a b c d e f : List ℕ) → a ++ (b ++ ((sign ∷ []) ++ (c ++ (d ++ ((sign ∷ []) ++ (e ++ (f ++ []))))))) ≡ (a ++ b) ++ (sign ∷ ((c ++ d) ++ (sign ∷ (e ++ f))))
 pieces_row sign a b c d e f = simp (append_assoc, append-nil)
 
@@ -256,8 +255,8 @@ printed_line zone secs =
 second_below : (secs : ℤ) → second_of_day secs < 86_400
 second_below secs = omega (arith, signed_arith)
 
--- At an instant, a clock shows a local second from -93,599 to 7,258,305,597. So the date that the clock shows has the
--- day number of this local second in `jiff`'s calendar, and the year of the date is 1969 or later.
+-- The next three lemmas: at an instant, a clock shows a local second from -93,599 to 7,258,305,597. The date that it
+-- shows has the day number of this local second. The year of this date is 1969 or later.
 local_within : (zone : Zone) (secs : ℤ) → IsInstant secs → IsBetween (neg_ℤ (pos 93_599)) (pos 7_258_305_597) (local_in zone secs)
 unfolding local_shown_at
 local_within zone secs h =
@@ -372,8 +371,8 @@ reads_as_none now local table zone secs h none =
     ∙ words_read now at (shown_date zone secs) (second_of_day shows) (shown_word zone secs) (second_below shows) (shown_last zone secs)
     ∙ rw (other_date_back (shown_date zone secs) (shown_since zone secs h) none) refl
 
--- at a second of the years 1970 to 2199, a clock in UTC shows one of these years; `utc_minute` adds that its UTC offset
--- is a whole number of minutes
+-- the next two lemmas: at a second from 1970 to 2199, the year on a clock in UTC is from 1970 to 2199; the UTC offset
+-- of this clock is a whole number of minutes
 utc_shows : (secs : ℤ) → IsLocalSecond secs → ShowsYear (civil_of (zone_of utc) secs)
 unfolding civil_of zone_of
 utc_shows secs h =

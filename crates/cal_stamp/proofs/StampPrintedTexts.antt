@@ -110,8 +110,8 @@ date_numbers_back year month day h =
     (clear_of is_ascii_digit is_hyphen (padded 2 day) digit_no_hyphen d.number.digits))
     ∙ rw (digits_read 4 year (padded 4 year) y, digits_read 2 month (padded 2 month) m, digits_read 2 day (padded 2 day) d) refl
 
--- the tests of `is_day` succeed if the year is from 1970 to 2199, the month from 1 to 12 and the day from 1 to `most`,
--- and they fail if the year isn't from 1970 to 2199
+-- The next two lemmas: the tests of `is_day` succeed if the year is from 1970 to 2199, the month from 1 to 12, and the
+-- day from 1 to `most`, the length of the month. They fail if the year isn't from 1970 to 2199.
 day_tests : (year month day most : ℕ) → 1_970 ≤ year → year ≤ 2_199 → 1 ≤ month → month ≤ 12 → 1 ≤ day → day ≤ most
     → (nat_le 1_970 year && nat_le year 2_199 && nat_le 1 month && nat_le month 12 && nat_le 1 day && nat_le day most) ≡ true
 day_tests year month day most from to first last one within =
@@ -151,8 +151,8 @@ due date from =
     ap day_due (date_numbers_back (year_of date) date.month date.day (writable date))
     ∙ ap (λ y. day_of_date y date.month date.day) (century_stays (year_of date) (omega (arith, signed_arith, year_is date.year from)))
 
--- parsing a printed date gives the day number of the date if the year is from 1970 to 2199, and fails with `NoSuchDate`
--- if the year is 1969, or 2200 or later
+-- The next two lemmas: if the year is from 1970 to 2199, parsing a printed date gives its day number. If the year is
+-- 1969, or 2200 or later, parsing fails with `NoSuchDate`.
 pub date_back : (date : Date) → IsBetween (pos 1_970) (pos 2_199) date.year → day_written (date_word (year_of date) date.month date.day) ≡ Ok (epoch_day date)
 unfolding day_of_date
 date_back date h =

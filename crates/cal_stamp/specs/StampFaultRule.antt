@@ -48,8 +48,8 @@ IsNoTimeOrZone find word fault =
     ((begins_with_digit word ≡ true) × (time_written word ≡ Err fault))
     ⊎ ((begins_with_digit word ≡ false) × IsNoZone find word fault)
 
--- `word` has the error `fault`, given the words for the weekday, the date, the time and the zone that came before it,
--- each `None` if it was left out
+-- `word` has the error `fault`. `weekday`, `date`, `time` and `zone` are the words before it, each `None` if it was
+-- left out.
 abbrev pub IsAtFault : Setting → Option (List ℕ) → Option (List ℕ) → Option (List ℕ) → Option (List ℕ) → List ℕ → StampFault → Type 0
 IsAtFault at weekday date time (Some zone) word fault = fault ≡ StrayWord
 IsAtFault at weekday date (Some time) None word fault = IsNoZone at.find word fault

@@ -6,8 +6,8 @@ use Rattle.cal_text.specs.headline.Trim.{trim_matches}
 use Rattle.cal_text.specs.headline.Words.{is_blank, words}
 
 -- The forms of a timestamp: nothing; the present; the present plus a time span; the present minus a time span;
--- 1970-01-01 00:00:00 UTC plus a time span; the midnight at which a day begins, given by how many days after today this
--- day is and by the words of the zone; and a civil time, given by its words.
+-- 1970-01-01 00:00:00 UTC plus a time span; the midnight at which a day begins; and a civil time. `from_today` has the
+-- number of days from today to that day, and the words of the zone. `civil` has the words of the civil time.
 pub data Form : Type 0 where
   nothing : Form
   present : Form
@@ -38,20 +38,20 @@ abbrev pub form_of_words : List (List ℕ) → Form
 form_of_words [] = civil []
 form_of_words (w ∷ ws) = form_by_day (day_shift w) w ws
 
--- the form of a text that doesn't end with the word `left`; the first argument is the part before the word `ago` if the
--- text ends with this word, and `None` otherwise
+-- the form of a text that doesn't end with a blank and `left`; the first argument is the part before the last blank if
+-- `ago` follows this blank, and `None` otherwise
 abbrev pub form_by_ago : Option (List ℕ) → List ℕ → Form
 form_by_ago None text = form_of_words (words text)
 form_by_ago (Some span) text = earlier span
 
--- the form of a text; the first argument is the part before the word `left` if the text ends with this word, and `None`
+-- the form of a text; the first argument is the part before the last blank if `left` follows this blank, and `None`
 -- otherwise
 abbrev pub form_by_left : Option (List ℕ) → List ℕ → Form
 form_by_left None text = form_by_ago (before_word (codes "ago") text) text
 form_by_left (Some span) text = later span
 
--- the form of a text that isn't `now` and begins with no sign: if the last word is `left` or `ago`, this word decides,
--- and otherwise the first word does
+-- The form of a text that isn't empty or `now`, and doesn't begin with `+`, `-` or `@`. If the text ends with a blank
+-- and `left` or `ago`, this last word decides. Otherwise the first word decides.
 unfoldable pub form_by_end : List ℕ → Form
 form_by_end text = form_by_left (before_word (codes "left") text) text
 

@@ -22,8 +22,8 @@ clock_number greatest word = up_to greatest (digits_number 2 word)
 abbrev pub kept_digits : ℕ
 kept_digits = 6
 
--- the microseconds of a fraction of a second, given by one or more digits, of which those after the sixth are dropped;
--- `None` for anything else
+-- The microseconds that the digits of a fraction of a second stand for. Digits after the sixth are dropped. `None` if
+-- `digits` is empty or has a byte that is not a digit.
 unfoldable pub fraction_in : List ℕ → Option ℕ
 fraction_in digits =
     if nat_le 1 (length digits) && list_all is_ascii_digit digits then Some (fraction_worth micros_per_second 1 (take kept_digits digits))
@@ -39,7 +39,7 @@ second_of_pieces (whole ∷ []) = both (clock_number 59 whole) (Some 0)
 second_of_pieces (whole ∷ digits ∷ []) = both (clock_number 59 whole) (fraction_in digits)
 second_of_pieces pieces = None
 
--- the seconds of a time, either `S` alone or `S.` and one or more digits, in microseconds; `None` for any other word
+-- the seconds of a time, in microseconds, if the word is `S`, or `S.` and one or more digits; `None` for any other word
 unfoldable pub second_written : List ℕ → Option ℕ
 second_written word = second_of_pieces (slice_split is_point word)
 
