@@ -1,5 +1,5 @@
--- What a call that reads a source to its end does to the source. The limit on the number of bytes is a choice of this
--- project, not taken from a manual.
+-- What reading a source to its end does to the source. The limit on the number of bytes is this project's own: no
+-- manual has one.
 use Rattle.std.specs.Prelude.{ℕ, ◌<◌, ◌≤◌, Bool, true, false, List, length, Option, Result, Ok, Err}
 use Rattle.std.specs.Io.KnownBytes.{Consumes, IsAtEnd}
 use Rattle.cal_streams.specs.declared.whole.WholeFault.{WholeFault}

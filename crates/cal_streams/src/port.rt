@@ -47,7 +47,7 @@ impl<T> Port<T> {
 }
 
 impl<T> Port<T> {
-    /// Records that a call has failed, and returns `None` for that call to return.
+    /// Records that a call has failed. Always returns `None`, so that the failed call can return this result.
     fn fail(&mut self) -> Option<usize>
         ensures answer { result ≡ None }
         ensures mark { self.new ≡ record self.old { has_failed = true } }

@@ -1,4 +1,4 @@
--- No read has failed, and `bytes` is what has been read so far, within the limit.
+-- No read has failed. `bytes` is what has been read so far, and has at most `limit` bytes.
 use Rattle.std.proofs.Common.{◌≡◌, ◌-◌, ◌≤◌, false, length}
 use Rattle.std.specs.Io.KnownBytes.{Consumes}
 use Rattle.cal_streams.proofs.whole.read_whole.Given as goal
