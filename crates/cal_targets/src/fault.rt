@@ -7,7 +7,7 @@ use std::alloc::{AllocError, AllocFailed, Global};
 /// Why a target can't be loaded.
 #[derive(Debug, Drop)]
 pub enum LoadFault {
-    /// The target is at fault. Others can still be loaded.
+    /// This target can't be loaded. Others still can.
     Target(TargetReason),
     /// Out of memory.
     NoMemory,
@@ -61,7 +61,8 @@ impl LoadFault {
     }
 }
 
-/// Appends the reason why a target can't be loaded. Fails if allocation fails, and if the reason is that it failed.
+/// Adds the target to `faults`, with the reason why it can't be loaded. Fails if allocation fails, and if `fault` is
+/// [`LoadFault::NoMemory`].
 pub fn push_fault(
     alloc: Global,
     faults: &mut Vec<TargetFault>,

@@ -1,4 +1,4 @@
-//! What the names and paths that a user gives stand for, and why they can't be loaded. Each is called a target.
+//! Targets, which are the names and paths that a user gives: what each target stands for, and why it can't be loaded.
 #![tactic(auto)]
 
 mod fault;

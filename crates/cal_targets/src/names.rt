@@ -40,7 +40,7 @@ fn push_units<T: Tree>(
     Ok(())
 }
 
-/// Returns the names of the files in a folder that are to be read, sorted by their bytes. Names that are not UTF-8 are
+/// Returns the names of those files in a folder that are `wanted`, sorted by their bytes. Names that are not UTF-8 are
 /// left out.
 pub fn files_in<T: Tree>(
     alloc: Global,
@@ -87,7 +87,8 @@ fn is_visible(name: &str, suffix: &[u8]) -> bool {
     name.ends_with(suffix) && !name.starts_with(b".")
 }
 
-/// Returns whether a file of this name, in a folder of the search path, can be that of a timer that isn't a template.
+/// Returns whether this can be the name of a timer's file: it ends with `.timer` and doesn't begin with a dot, it is
+/// valid for a unit, and it isn't that of a template.
 fn is_unit_file(name: &str) -> bool {
     is_visible(name, b".timer") && unit_stem(name).is_some() && !is_template_file(name)
 }

@@ -32,7 +32,7 @@ pub fn kind_at<T: Tree>(alloc: Global, tree: &T, path: &str) -> Result<Kind, Loa
     }
 }
 
-/// Returns what is at a path at which there is a link with this target.
+/// Returns what is at `path`, which is a link to `target`.
 fn kind_of_link<T: Tree>(
     alloc: Global,
     tree: &T,
@@ -56,7 +56,7 @@ pub fn without_slashes(path: &str) -> &str {
     if shorter.is_empty() { "/" } else { shorter }
 }
 
-/// Returns the path of a file in a folder, whose own path doesn't end in a slash unless it is the root.
+/// Returns the path of the file `name` in `folder`. The path of the folder must not end with a slash, unless it is `/`.
 pub fn path_in(alloc: Global, folder: &str, name: &str) -> Result<String, AllocError> {
     if folder == "/" {
         return format!(in alloc; "/{name}");

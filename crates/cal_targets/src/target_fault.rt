@@ -23,17 +23,19 @@ pub enum TargetReason {
     /// This line of the file at the first path names a zone whose file, at the second path, can't be used for this
     /// reason.
     Zone(String, u32, String, FileReason),
-    /// The expression, which was given by itself, is invalid.
+    /// The expression, which was given instead of a timer, is invalid.
     Expression(SpecFault),
-    /// The expression, which was given by itself, names a zone whose file at this path can't be used for this reason.
+    /// The expression, which was given instead of a timer, names a zone whose file at this path can't be used for this
+    /// reason.
     ExpressionZone(String, FileReason),
 }
 
-/// A timer or a file that can't be loaded.
+/// A timer, a file or a folder that can't be loaded.
 #[derive(Debug, Drop)]
 pub struct TargetFault {
-    /// The unit or the expression as it was given, or the path without slashes at its end. Of a timer that wasn't given
-    /// by itself, this is the name of the unit's file, or the path of the file in the folder that was given.
+    /// The unit or expression as it was given, or the path without slashes at its end. If a folder was given, this can
+    /// also be the path of a file in it. If all timers were asked for, it is the name of a unit's file. For a folder of
+    /// the search path that can't be listed, it is the path of this folder.
     pub target: String,
     pub reason: TargetReason,
 }
