@@ -58,7 +58,7 @@ fn between_two_instants(rt: HostRuntime) -> Result<(), Fail> {
     ensure(are_elapses(&found, &[(5, 0), (5, 2), (6, 2)]), "the range")
 }
 
-/// Tests that the base for a range is the instant before its start, and that the base for instant 0 is instant 0.
+/// Tests that the base for a range is the instant before its start, or instant 0 if the range starts there.
 #[test]
 fn bases(rt: HostRuntime) -> Result<(), Fail> {
     let _ = rt.alloc();

@@ -45,8 +45,8 @@ fn next_of_four(rt: HostRuntime) -> Result<(), Fail> {
     }
 }
 
-/// Tests a range from 18:00 to 18:00 on the next day. It includes the elapses of both timers at its start, but not
-/// those at its end, and all elapses between them of the timer that elapses every six hours.
+/// Tests a range from 18:00 to 18:00 on the next day. One timer elapses every day at 18:00, the other every six hours.
+/// All elapses from the start of the range on are returned, except those at its end.
 #[test]
 fn between_two_evenings(rt: HostRuntime) -> Result<(), Fail> {
     let rules = berlin(rt.alloc())?;

@@ -9,7 +9,7 @@ use std::test::Fail;
 /// Fri 2026-11-27 18:00:00 in Berlin, in seconds of Unix time.
 const FRIDAY: i64 = 1_795_798_800;
 
-/// A text, the instant after which a weekday with a time is searched for, and the expected instant or error.
+/// A text, the instant that is passed as `after`, and the expected instant or error.
 type Row = (&'static str, i64, Result<i64, StampFault>);
 
 /// In all rows, the present is Thu 2026-11-26 13:00:00 in Berlin.
