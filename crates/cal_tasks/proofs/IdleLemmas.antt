@@ -23,9 +23,9 @@ idle_one : (kind : IdleKind) (test : TimerLine Fields → Bool) (line : TimerLin
 idle_one kind test line true is = rw (← is) refl
 idle_one kind test line false is = rw (← is) refl
 
--- a line passes if `test` is true for it; if `found` is `old` followed by the passing lines among the first `i`, and
--- `new` is `found` followed by the line at index `i` if that line passes, then `new` is `old` followed by the passing
--- lines among the first `i + 1`
+-- A line passes if `test` is true for it. Suppose that `found` is `old`, followed by the passing lines among the first
+-- `i`, and that `new` is `found`, followed by the line at index `i` if this line passes. Then `new` is `old`, followed
+-- by the passing lines among the first `i + 1`.
 pub idle_more : (kind : IdleKind) (test : TimerLine Fields → Bool) (lines : List declared_line.TimerLine) (i : ℕ) (line : declared_line.TimerLine) (old found new : List IdleLine) (idle : Bool)
     → i < length lines → line ≡ get_or lines i line → found ≡ old ++ idle_as kind test (map shown (take i lines)) → idle ≡ test (shown line)
     → new ≡ found ++ cond idle (idle_line kind (shown line) ∷ []) [] → new ≡ old ++ idle_as kind test (map shown (take (i + 1) lines))

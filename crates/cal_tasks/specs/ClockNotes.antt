@@ -31,8 +31,8 @@ pub record IsRepeated (tz : TimeZone) (local : ℤ) : Type 0 where
   pub later : first <ℤ second
   pub shown : local_shown_at tz second ≡ local
 
--- the clock change is the one that happens to `local`: a skipped local second has no place, and a repeated local second
--- is shown twice
+-- what a clock change does to `local`: `Skipped` says that it has no place, and `Repeated` that the clock shows it
+-- twice
 abbrev pub IsChange : TimeZone → ℤ → ClockChange → Type 0
 IsChange tz local Skipped = place_of tz local ≡ None
 IsChange tz local Repeated = IsRepeated tz local

@@ -16,19 +16,19 @@ use Rattle.cal_tasks.specs.declared.idle.IdleLine.{IdleLine}
 abbrev pub max_elapses : ℕ
 max_elapses = 10_000
 
--- the elapses of the expression on this line after the base time
+-- all instants after `base` at which the expression on this line elapses
 abbrev pub elapses_of_line : Setting → ℤ → TimerLine Fields → List ℤ
 elapses_of_line at base line = elapses_after (timed_entry at line ∷ []) base
 
--- whether the expression on this line has no elapse after the base time
+-- whether the expression on this line never elapses after `base`
 abbrev pub never_elapses : Setting → ℤ → TimerLine Fields → Bool
 never_elapses at base line = is_none (slice_get (elapses_of_line at base line) 0)
 
--- whether at least one of these numbers is an elapse of the expression on this line after the base time
+-- whether the expression on this line elapses, after `base`, at one or more of `numbers`
 abbrev pub has_any : Setting → ℤ → List ℤ → TimerLine Fields → Bool
 has_any at base numbers line = list_any (is_member int_eq (elapses_of_line at base line)) numbers
 
--- the first `max_elapses` elapses of the expressions after the base time, as if there were no exceptions
+-- the first `max_elapses` instants after `base` at which any expression elapses, as if there were no exceptions
 abbrev pub next_elapses : Setting → ℤ → List (TimerLine Fields) → List ℤ
 next_elapses at base lines = take max_elapses (elapses_of_lists at base (record { expressions = lines; exceptions = [] }))
 
@@ -39,12 +39,12 @@ idle_line kind line = record { number = line.number; kind = kind }
 abbrev pub idle_as : IdleKind → (TimerLine Fields → Bool) → List (TimerLine Fields) → List IdleLine
 idle_as kind test lines = map (idle_line kind) (filter test lines)
 
--- whether none of these numbers is an elapse of the exception on this line after the base time
+-- whether none of `numbers` is an instant after `base` at which the exception on this line elapses
 abbrev pub suppresses_nothing : Setting → ℤ → List ℤ → TimerLine Fields → Bool
 suppresses_nothing at base numbers line = not (has_any at base numbers line)
 
--- the lines that have no effect: first the expressions that have no elapse after the base time, and then the exceptions
--- that suppress none of the `next_elapses` of the expressions
+-- the lines that have no effect: first the expressions that never elapse after `base`, and then the exceptions that
+-- suppress none of the `next_elapses` of the expressions
 abbrev pub idle_lines : Setting → ℤ → Timer Fields → List IdleLine
 idle_lines at base lists =
     idle_as NeverElapses (never_elapses at base) lists.expressions

@@ -17,7 +17,8 @@ use Rattle.cal_plan.specs.ZoneFor.{zone_for}
 use Rattle.cal_stamp.specs.Stamp.{moment_in}
 use Rattle.cal_tasks.specs.declared.clocked.Clocked.{Clocked}
 
--- the zones that such a text can refer to: the local zone by default, and `UTC`, the only zone that can be named
+-- the zones that the start or the end of a range can refer to: the local zone by default, and `UTC`, the only zone that
+-- can be named
 abbrev pub setting_without_names : Clocked → Setting
 setting_without_names at = record { local = zone_of at.local; find = zone_named map.empty }
 

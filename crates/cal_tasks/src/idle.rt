@@ -172,8 +172,8 @@ fn never_elapses(alloc: Global, setting: Setting<'_>, line: &TimerLine) -> Resul
     Ok(elapses.next().is_none())
 }
 
-/// Returns whether the exception on `line` elapses, after the present, at none of `numbers`. The zone of the exception
-/// must be known.
+/// Returns whether none of `numbers` is an instant after the present at which the exception on `line` elapses. The zone
+/// of the exception must be known.
 fn suppresses_nothing(
     alloc: Global,
     setting: Setting<'_>,
@@ -200,8 +200,8 @@ fn has_any(elapses: &mut Elapses<'_>, numbers: &[i64]) -> bool
     false
 }
 
-/// Creates the iterator over the elapses after the present of the expression on `line`. The zone of the expression must
-/// be known.
+/// Creates the iterator over all instants after the present at which the expression on `line` elapses. The zone of the
+/// expression must be known.
 #[tactic(auto, unfolding(cal_plan::specs::TimerElapses::timed_entry))]
 fn elapses_of_line<'a>(
     alloc: Global,

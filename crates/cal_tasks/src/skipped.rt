@@ -68,8 +68,8 @@ fn last_instant(now: Instant, elapses: &[i64]) -> Instant {
     }
 }
 
-/// Returns the notes about all expressions, in the order of the expressions. Each search goes from the day of the
-/// present to one day after `last`.
+/// Returns the notes about all expressions, in the order of the expressions. Each search goes from the beginning of the
+/// present day to one day after `last`.
 fn notes_of_lines(
     alloc: Global,
     setting: Setting<'_>,

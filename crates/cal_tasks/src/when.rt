@@ -21,8 +21,8 @@ use std::alloc::Global;
 /// Parses an instant: a weekday with a time, or a timestamp (systemd.time(7), Parsing Timestamps).
 ///
 /// A weekday with a time, such as `Fri 18:00`, is a calendar expression that begins with the name of a weekday and has
-/// no date. It resolves to its first elapse after `after`. It may name several weekdays, as in `Mon..Fri 9:00`, leave
-/// out the time, which is then midnight, and end in `UTC` or a UTC offset. As a timestamp, such a text would be
+/// no date. It resolves to its first elapse after `after`. It may name several weekdays, as in `Mon..Fri 9:00`, and it
+/// may end in `UTC` or a UTC offset. Without a time, it stands for midnight. As a timestamp, such a text would be
 /// accepted only if the present day is the weekday that it names.
 ///
 /// All other texts are parsed as timestamps, and so is a weekday with a time that doesn't elapse after `after` or for

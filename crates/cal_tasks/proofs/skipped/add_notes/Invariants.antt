@@ -1,4 +1,5 @@
--- Only notes about the expression have been appended, and the next local second to examine, if there is one, matches.
+-- Only notes about the expression have been appended. The next local second to examine, if there is one, is one that
+-- the expression matches.
 use Rattle.std.proofs.Common.{◌≡◌}
 use Rattle.std.specs.Prelude.{IfSome}
 use Rattle.cal_elapse.specs.Masks.{sets_in}
