@@ -53,7 +53,7 @@ fn push_ask(alloc: Global, line: &mut String, ask: &Ask) -> Result<(), Fail> {
     push_texts(line, ask.request.texts.as_slice())
 }
 
-/// Appends each text after a `|`.
+/// Appends the texts, with a `|` before each of them.
 fn push_texts(line: &mut String, texts: &[String]) -> Result<(), Fail> {
     for text in texts {
         line.push('|')?;
@@ -154,8 +154,9 @@ fn commands(rt: HostRuntime) -> Result<(), Fail> {
     check(rt.alloc(), COMMANDS)
 }
 
-/// Bad values, of which only the first one in the order `--iterations`, `--now`, `--zones`, `--local` is reported, and
-/// requests for help or the version. A missing text is reported before a bad value. After `--`, `--help` is a text.
+/// Bad values, and requests for help or the version. If several options have bad values, only the first one in the
+/// order `--iterations`, `--now`, `--zones`, `--local` is reported. A missing text is reported before a bad value.
+/// After `--`, `--help` is a text.
 const OTHERS: &str = "\
 calendar|--iterations=0|--now=5|daily -> bad iterations
 calendar|--local=5x|--zones=x|--now=5|--iterations=0|daily -> bad iterations
@@ -210,7 +211,7 @@ fn arguments_that_are_no_command(rt: HostRuntime) -> Result<(), Fail> {
     Ok(())
 }
 
-/// Tests no arguments at all, which is not the same as a single empty argument.
+/// Tests an empty list of arguments, which is not the same as one empty argument.
 #[test]
 fn no_word(rt: HostRuntime) -> Result<(), Fail> {
     let is_usage = matches!(Ask::of(rt.alloc(), &[]), Err(CommandFault::Usage(_)));
@@ -226,7 +227,7 @@ fn check_values(alloc: Global, option: &str, values: &str, want: &str) -> Result
     Ok(())
 }
 
-/// Options, each with bad values, which are separated by `|`, and the message that they are rejected with.
+/// Options, each with some bad values, separated by `|`, and with the message for all of these values.
 static BAD_VALUES: [(&str, &str, &str); 4] = [
     (
         "iterations",

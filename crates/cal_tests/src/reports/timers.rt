@@ -81,7 +81,7 @@ Normalized form: Sat,Sun *-*-* 12:00:00
        From now: 3d 12h left
 ";
 
-/// The report on `EXCEPT_FILE`, starting at midnight on a Friday.
+/// The report on `EXCEPT_FILE`, made at midnight on a Friday.
 pub(super) const EXCEPT_TIMER: Row<'static> = Row {
     about: "timer file with an exception",
     iterations: 2,

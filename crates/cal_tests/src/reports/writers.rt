@@ -184,8 +184,9 @@ fn push_resumed(
     Ok(())
 }
 
-/// Cuts the report off at every length. Expects that the elapses whose first line is then complete, followed by the
-/// elapses of the run that continues after them, are exactly the elapses of the report, in the same order.
+/// Cuts the report off at every length. Takes the elapses whose first line is complete in what remains, and then the
+/// elapses of the run that continues after them. Expects these to be the elapses of the whole report, in the same
+/// order.
 fn expect_resumed(alloc: Global, text: &'static str, runs: &[Row<'static>]) -> Result<(), Fail> {
     let mut all = Vec::new(alloc);
     push_instants(&mut all, text)?;
@@ -264,7 +265,7 @@ fn refusals_that_are_cut(rt: HostRuntime) -> Result<(), Fail> {
     Ok(())
 }
 
-/// Returns the beginning of `text`, up to the first occurrence of `part`.
+/// Returns the part of `text` before the first occurrence of `part`.
 fn before<'t>(text: &'t str, part: &str) -> Result<&'t str, Fail> {
     let end = text.find(part).ok_or("the part is missing")?;
     Ok(text.get(..end).unwrap_or(""))
