@@ -131,7 +131,7 @@ not_lt_test a b h = grind (arith, ints)
 pub none_between : (low high i : ℕ) → high ≤ low → (nat_le low i && nat_lt i high) ≡ false
 none_between low high i none = grind (arith, nat_tests)
 
--- if no number from `n` upwards passes the test, a number that passes it is below `n`
+-- if no number from `n` upwards passes the test, every number that passes is below `n`
 pub below_end : (passes : ℕ → Bool) (n s : ℕ) → ((i : ℕ) → n ≤ i → passes i ≡ false) → passes s ≡ true → s < n
 below_end passes n s none holds = grind (arith, none s)
 
@@ -307,8 +307,7 @@ pair_some o x y h k = grind arith
 pub unwrap_or_kept : {A : Type 0} (next : Option A) (local last : A) → IsSome next → IfSome next (λ l. l ≡ last) → unwrap_or next local ≡ last
 unwrap_or_kept next local last some kept = grind arith
 
--- if a choice returns `None` when the test `b` is `true`, and `Some x` when it is `false`, then the result `None` means
--- that `b` is `true`
+-- `cond` returns `None` if the test `b` is `true`, and `Some x` otherwise; so if the result is `None`, `b` is `true`
 pub none_chosen : {A : Type 0} (b : Bool) (x : A) → ◌≡◌ {A = Option A} (cond b None (Some x)) None → b ≡ true
 none_chosen b x h = grind arith
 
@@ -398,7 +397,8 @@ rises-next (x ∷ xs) (suc k) h = rises-next xs k h
 pub rises_after : (xs : List ℤ) (k : ℕ) → IsStrictlySortedBy int_cmp (drop k xs) → IsStrictlySortedBy int_cmp (drop (k + 1) xs)
 rises_after xs k h = rw (add-one k) (rises-next xs k h)
 
--- if a list `xs` overwrites a list `ys` of the same length `n`, the first `n` items of the result are those of `xs`
+-- if two lists `xs` and `ys` have `n` items each, and `xs` is written over `ys`, the first `n` items of the result are
+-- `xs`
 pub taken_whole : {X : Type 0} (xs ys : List X) (n : ℕ) → length xs ≡ length ys → n ≡ length ys → take n (xs ++ drop (length xs) ys) ≡ xs
 taken_whole xs ys n long e =
     let past : length ys ≤ length xs = omega arith in
@@ -693,8 +693,8 @@ letter_no_digit b h = grind (arith, nat_tests)
 pub boundary_at : (text : List ℕ) (m n : ℕ) → m ≡ n → IsCharBoundary text m → IsCharBoundary text n
 boundary_at text m n e h = let P : ℕ → Type 0 = λ k. IsCharBoundary text k in subst P e h
 
--- the byte before the longest suffix whose bytes all pass `p` doesn't pass `p`; by `in_suffix`, every byte of this
--- suffix passes `p`
+-- The next two lemmas are about the longest suffix whose bytes all pass `p`: the byte before this suffix doesn't pass,
+-- and each byte of the suffix does.
 pub before_suffix : (p : ℕ → Bool) (text : List ℕ) → suffix_len p text < length text → p (get_or text (length text - suffix_len p text - 1) 0) ≡ false
 before_suffix p text within =
     let n = suffix_len p text in

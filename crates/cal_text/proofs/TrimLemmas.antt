@@ -1,5 +1,5 @@
--- The results of `trim_start_matches` and `trim_matches` satisfy the relations of `TrimRule`, which say which blanks
--- are removed, and no other texts satisfy them.
+-- `trim_start_matches` and `trim_matches` follow the rules of `TrimRule`: their results satisfy its relations, and no
+-- other texts do.
 use Rattle.std.proofs.Common.{◌≡◌, ℕ, Bool, true, false, List, [], ◌∷◌, ◌++◌, reverse, refl, sym, subst, ap, ◌∙◌, append-nil}
 use Rattle.std.specs.List.{AllByRecursion, suffix_len}
 use Rattle.std.proofs.Math.Numerals.{one-add}
@@ -9,7 +9,8 @@ use Rattle.cal_text.specs.TrimRule.{StartsSolid, IsTrimmed, IsUnindented}
 use Rattle.cal_text.specs.headline.Trim.{trim_matches, trim_end_matches, trim_start_matches}
 use Rattle.cal_text.proofs.General.{all_append, all_reverse, take_front}
 
--- if `trim_start_matches` removes exactly the leading blanks of `bs`, it removes exactly those of `b ∷ bs`
+-- if `trim_start_matches` removes exactly the leading blanks from `bs`, it also removes exactly the leading blanks from
+-- `b ∷ bs`
 unindented_as : (p : ℕ → Bool) (blank : Bool) (b : ℕ) (bs : List ℕ) → p b ≡ blank → IsUnindented p bs (trim_start_matches p bs) → IsUnindented p (b ∷ bs) (trim_start_matches p (b ∷ bs))
 unfolding trim_start_matches
 unindented_as p true b bs e rest = rw (e, one-add) (record { indent = b ∷ rest.indent; blanks = (e, rest.blanks); whole = ap (λ xs. b ∷ xs) rest.whole; solid_start = rest.solid_start })
