@@ -160,8 +160,8 @@ Resumes read before after = resumed read (entries read before) after ≡ unless_
 abbrev AreAllRead : {E : Type 0} → (List ℕ → Result E SpecFault) → List Assignment → Type 0
 AreAllRead read before = AreAll read (listed before) × AreAll read (excepted before)
 
--- the first error after the assignments in `before` is the error `o` of the next assignment `a`, or else the first
--- error after `a`
+-- `o` is the error, if there is one, of the assignment `a`, which comes after those in `before`. The first error after
+-- `before` is `o`, or else the first error after `a`.
 ends : {E : Type 0} (read : List ℕ → Result E SpecFault) (before : List Assignment) (a : Assignment) (after : List Assignment) (o : Option TimerFault) → fault_following read before a ≡ o
     → unless_fault (option_or o (first_fault read (before ++ a ∷ []) after)) (Ok (entries read ((before ++ a ∷ []) ++ after)))
     ≡ unless_fault (first_fault read before (a ∷ after)) (Ok (entries read (before ++ (a ∷ after))))
@@ -242,8 +242,8 @@ resumes_from read before (a ∷ after) all =
     (either_fault read before a (is_expression a) refl) (resumes_from read (before ++ a ∷ []) after)
 
 -- In the next four lemmas, `o` is the first error of a file, if it has one, and `all` are its lists. The premise gives
--- the value of `unless_fault o (Ok all)`, to which `entries_or_fault` unfolds. The conclusion gives the value of
--- `unless_fault o (some_entries all)`, to which `lists_of` unfolds, or says what `o` is.
+-- the value of `unless_fault o (Ok all)`, to which `entries_or_fault` unfolds. The first two lemmas conclude what
+-- `unless_fault o (some_entries all)` is, to which `lists_of` unfolds. The last two conclude what `o` is.
 lists_by : {E : Type 0} (o : Option TimerFault) (all lists : Timer E) → unless_fault o (Ok all) ≡ Ok lists → unless_fault o (some_entries all) ≡ some_entries lists
 lists_by None all lists h = let same : all ≡ lists = cc in ap some_entries same
 lists_by (Some fault) all lists h = cc

@@ -82,7 +82,7 @@ pub excepted_without_reset : (all : List Assignment) → list_any is_exception_r
 unfolding excepted
 excepted_without_reset = kept_without_reset is_exception is_exception_reset
 
--- if the assignments in `all` come after those in `first`, none of the assignments in `all` has an error
+-- none of the assignments in `all`, which come after those in `first`, has an error
 abbrev AreFineBehind : {E : Type 0} → (List ℕ → Result E SpecFault) → List Assignment → List Assignment → Type 0
 AreFineBehind read first all = (before : List Assignment) (a : Assignment) (after : List Assignment) → all ≡ before ++ (a ∷ after) → fault_following read (first ++ before) a ≡ None
 
@@ -114,8 +114,8 @@ none_from_fine read first (x ∷ xs) fine =
     let rest : first_fault read (first ++ x ∷ []) xs ≡ None = none_from_fine read (first ++ x ∷ []) xs (λ before a after e. subst (λ (front : List Assignment). fault_following read front a ≡ None) (sym (append_assoc first (x ∷ []) before)) (fine (x ∷ before) a after (ap (λ ys. x ∷ ys) e))) in
     rw here rest
 
--- if the assignments in `all` come after those in `first`, then `at` is the first assignment in `all` that has an
--- error, and its error is `fault`
+-- The assignments in `all` come after those in `first`. `at` is the first assignment in `all` that has an error, and
+-- its error is `fault`.
 record FirstFault {E : Type 0} (read : List ℕ → Result E SpecFault) (first all : List Assignment) (fault : TimerFault) : Type 0 where
   before : List Assignment
   at : Assignment
@@ -149,8 +149,9 @@ unfolding first_fault
 fault_from_some read first [] fault h = cc
 fault_from_some read first (x ∷ xs) fault h = fault_at read first x xs fault (fault_following read first x) refl h (fault_from_some read (first ++ x ∷ []) xs fault)
 
--- The assignments in `first` are followed by those in `before`, and these by `a`. If none of the assignments in
--- `before` has an error, and `a` has one, then the error of `a` is the first error after the assignments in `first`.
+-- The assignments in `before` come after those in `first`, and `a` comes after those in `before`. If `a` has an error,
+-- and none of the assignments in `before` has one, then the error of `a` is the first error after the assignments in
+-- `first`.
 some_from_fault : {E : Type 0} (read : List ℕ → Result E SpecFault) (first before : List Assignment) (a : Assignment) (after : List Assignment) (fault : TimerFault) → AreFineBehind read first before → fault_following read (first ++ before) a ≡ Some fault → first_fault read first (before ++ (a ∷ after)) ≡ Some fault
 unfolding first_fault
 some_from_fault read first [] a after fault fine e =

@@ -108,7 +108,7 @@ timer_text read (Err fault) = Err (input_fault fault)
 abbrev pub timer_file_limit : ℕ
 timer_file_limit = 1_048_576
 
--- reading an input to its end has this result: all bytes of the input, or an error; `old` and `new` are the bytes that
+-- the result of reading an input to its end is all bytes of the input, or an error; `old` and `new` are the bytes that
 -- remain before and after reading, if they are known, and `limit` is the maximum number of bytes
 abbrev pub ReadsWhole : Option (List ℕ) → Option (List ℕ) → ℕ → Result (List ℕ) WholeFault → Type 0
 ReadsWhole old new limit (Ok bytes) = GivesAll old new limit bytes

@@ -11,7 +11,7 @@ use Rattle.cal_timer.specs.declared.timer.TimerLine as declared_line
 use Rattle.cal_timer.specs.declared.fault.TimerFault.{TimerFault}
 use Rattle.cal_timer.specs.declared.fault.TimerFault.TheVariants.{BadLine, TooMany}
 
--- the Rust struct `TimerLine`, an entry of the list of expressions or of exceptions, as a `TimerLine` of `TimerText`
+-- an entry of either list, converted from the struct `TimerLine` of the code to the record `TimerLine` of `TimerText`
 abbrev pub shown : declared_line.TimerLine → TimerLine Fields
 shown line = record { number = line.number; text = string_bytes line.text; expr = line.expr }
 
@@ -19,7 +19,8 @@ shown line = record { number = line.number; text = string_bytes line.text; expr 
 abbrev pub empty_lists : {E : Type 0} → Timer E
 empty_lists = record { expressions = []; exceptions = [] }
 
--- given the result of parsing the expression of `a`: the list `es` with the entry of `a` added, or the error of `a`
+-- the list `es` with the entry of `a` added, or the error of `a`; the last argument is the result of parsing the
+-- expression of `a`
 abbrev pub with_read : {E : Type 0} → List (TimerLine E) → Assignment → Result E SpecFault → Result (List (TimerLine E)) TimerFault
 with_read es a (Ok expr) = Ok (es ++ record { number = a.number; text = a.value; expr = expr } ∷ [])
 with_read es a (Err fault) = Err (BadLine a.number fault)
@@ -28,8 +29,8 @@ with_read es a (Err fault) = Err (BadLine a.number fault)
 unfoldable pub with_assignment : {E : Type 0} → (List ℕ → Result E SpecFault) → List (TimerLine E) → Assignment → Result (List (TimerLine E)) TimerFault
 with_assignment read es a = if nat_le max_expressions (length es) then Err (TooMany a.number) else with_read es a (read a.value)
 
--- the list `es` after the assignment `a`: if `adds`, an entry for `a` is added, or `a` has an error; otherwise the list
--- is empty if `empties`, and unchanged if not
+-- The list `es` after the assignment `a`. If `adds` is true, the entry of `a` is added to it, or the result is the
+-- error of `a`. Otherwise the list is cleared if `empties` is true, and unchanged if it is false.
 abbrev pub changed : {E : Type 0} → (List ℕ → Result E SpecFault) → (adds empties : Bool) → List (TimerLine E) → Assignment → Result (List (TimerLine E)) TimerFault
 changed read true empties es a = with_assignment read es a
 changed read false true es a = Ok []

@@ -61,7 +61,7 @@ fn read_bytes(alloc: Global, bytes: &[u8]) -> Result<Timer, TimerFault>
     }
 }
 
-/// Returns the number of the physical line that contains the byte after `bytes`, which are the beginning of a file.
+/// Returns the number of the physical line that contains the first byte after `bytes`, the beginning of a file.
 fn line_after(bytes: &[u8]) -> u32
     requires { length bytes.now ≤ timer_file_limit }
     ensures { result ≡ count_by (λ b. b == 10) bytes.now + 1 }

@@ -6,7 +6,8 @@ use Rattle.cal_text.specs.headline.Trim.{trim_matches}
 use Rattle.cal_lines.specs.headline.Lines.{Line, is_blank_or_return}
 use Rattle.cal_text.specs.headline.Separators.{is_equals}
 
--- a logical line that begins with `[` and ends with `]` opens the section that is named between the brackets
+-- whether a logical line opens a section: it begins with `[` and ends with `]`, and the name of the section is between
+-- the brackets
 abbrev pub is_header : List ℕ → Bool
 is_header text = (slice_index text 0 == 91) && (slice_index text (length text - 1) == 93)
 
@@ -31,7 +32,7 @@ pub record Assignment : Type 0 where
   pub key : List ℕ
   pub value : List ℕ
 
--- the key is before the first `=` and the value after it; a line without `=` is not an assignment
+-- the assignment in a line: the key is before the first `=`, and the value after it; `None` if the line has no `=`
 unfoldable pub assignment_of : Line → Option Assignment
 assignment_of line =
     if list_any is_equals line.text
