@@ -1,2 +1,3 @@
 pub mod AddedLemmas
+pub mod ElapseInstants
 pub mod PlanLemmas

@@ -2,12 +2,14 @@
 //! those of the exceptions. An exception is an expression at whose elapses a timer doesn't elapse.
 #![tactic(auto)]
 
+mod instants;
 pub mod laws;
 mod merge;
 mod plan_fault;
 mod unzoned;
 mod zones;
 
+pub use instants::Instants;
 pub use merge::merge_of;
 pub use plan_fault::PlanFault;
 pub use unzoned::first_unzoned;

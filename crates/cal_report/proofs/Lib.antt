@@ -9,6 +9,5 @@ pub mod HeadlineLemmas
 pub mod ManyLemmas
 pub mod ReportLemmas
 pub mod ResumeLemmas
-pub mod ElapseInstants
 pub mod TimerLemmas
 pub mod WorkedRows

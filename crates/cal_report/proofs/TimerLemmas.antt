@@ -2,7 +2,7 @@
 use Rattle.std.proofs.Common.{Result, Ok, ◌≡◌, ℕ, ◌+◌, ◌<◌, ◌++◌, List, length, map, drop, get_or, ℤ, refl, ap, ◌∙◌, string_bytes}
 use Rattle.std.specs.List.{flat_map}
 use Rattle.std.proofs.lemmas.List.Folds.{flat_map-map}
-use Rattle.cal_rising.specs.Merge.{Merge}
+use Rattle.cal_rising.specs.Merge.{Merge, merged}
 use Rattle.cal_timer.specs.TimerText.{Timer, timer_text}
 use Rattle.cal_timer.specs.TimerView.{shown}
 use Rattle.cal_timer.specs.declared.timer.TimerLine as declared_line
@@ -30,12 +30,12 @@ pub headings-all : (label : List ℕ) (lines : List declared_line.TimerLine) →
 unfolding headings_text
 headings-all label lines = flat_map-map (λ e. heading_text label e.text e.expr) shown lines
 
--- if a timer file was parsed to `lists`, and `merge` is the merge of `lists`, then the answer is the report that
--- `plan_text` returns for both
-pub plan_answers : (asked : Request) (base : ℤ) (read : Result (List ℕ) WholeFault) (lists : Timer Fields) (merge : Merge) → timer_text expr_in read ≡ Ok lists
-    → IsMergeOf (setting_of asked) base lists merge → (name : List ℕ) → timer_answer asked base name read ≡ Ok (plan_text asked (record { timer = lists; merge = merge }))
+-- if a timer file was parsed to `lists`, and `elapses` are the elapse times that the merge of `lists` yields, then the
+-- answer is the report that `plan_text` returns for `lists` and `elapses`
+pub plan_answers : (asked : Request) (base : ℤ) (read : Result (List ℕ) WholeFault) (lists : Timer Fields) (merge : Merge) (elapses : List ℤ) → timer_text expr_in read ≡ Ok lists
+    → IsMergeOf (setting_of asked) base lists merge → elapses ≡ merged merge → (name : List ℕ) → timer_answer asked base name read ≡ Ok (plan_text asked (record { timer = lists; elapses = elapses }))
 unfolding timer_answer timer_report
-plan_answers asked base read lists merge is m name = rw (is, m.found, m.is) refl
+plan_answers asked base read lists merge elapses is m same name = rw (is, m.found, same, m.is) refl
 
 -- if the timer file was parsed to `lists`, then reading it didn't run out of memory
 pub had_lists : (read : Result (List ℕ) WholeFault) (lists : Timer Fields) → timer_text expr_in read ≡ Ok lists → HadMemory read

@@ -1,11 +1,9 @@
 -- The report of a valid argument, and the error message for an invalid one.
 use Rattle.std.specs.Prelude.{ℕ, List, [], codes}
 use Rattle.cal_span.specs.SpanFault.{message_of as span_message}
-use Rattle.cal_elapse.specs.RemainingElapses.{remaining_elapses}
 use Rattle.cal_stamp.specs.StampFault.{message_of as stamp_message}
 use Rattle.cal_spec.specs.SpecFault.{message_of as spec_message}
 use Rattle.cal_report.specs.CalendarReport.{report_of_elapses}
-use Rattle.cal_plan.specs.Instants.{AreInstants}
 use Rattle.cal_request.specs.headline.Request.{Request}
 use Rattle.cal_report.specs.TimespanReport.{timespan_report}
 use Rattle.cal_report.specs.TimestampReport.{timestamp_report}
@@ -21,15 +19,9 @@ verb_of (Calendar expr elapses) = Verb.Calendar
 verb_of (Timestamp moment) = Verb.Timestamp
 verb_of (Timespan span) = Verb.Timespan
 
--- the elapse times of a calendar expression are all instants; nothing is required of other arguments
-abbrev pub HasInstants : Parsed → Type 0
-HasInstants (Calendar expr elapses) = AreInstants (remaining_elapses elapses)
-HasInstants (Timestamp moment) = Unit {0}
-HasInstants (Timespan span) = Unit {0}
-
 -- the report of a valid argument; `text` is the argument as the user gave it
 abbrev pub report_text : Request → List ℕ → Parsed → List ℕ
-report_text asked text (Calendar expr elapses) = report_of_elapses asked text expr (remaining_elapses elapses)
+report_text asked text (Calendar expr elapses) = report_of_elapses asked text expr elapses
 report_text asked text (Timestamp moment) = timestamp_report asked text moment.micros
 report_text asked text (Timespan span) = timespan_report text span.micros
 

@@ -1,7 +1,6 @@
 -- The report of a parsed timer file, and the error of an invalid one.
 use Rattle.std.specs.Prelude.{ℕ, List, [], ◌∷◌, take, Option, None, Some, codes}
 use Rattle.cal_bytes.specs.headline.Bytes.{joined}
-use Rattle.cal_rising.specs.Merge.{merged}
 use Rattle.cal_timer.specs.TimerFault.{line_of, message_of}
 use Rattle.cal_report.specs.headline.ElapseLines.{elapses_text}
 use Rattle.cal_request.specs.headline.Request.{Request}
@@ -13,7 +12,7 @@ use Rattle.cal_report.specs.declared.timer_report.TimerError.TheVariants as erro
 -- the report of a parsed timer file
 abbrev pub plan_text : Request → TimerPlan → List ℕ
 plan_text asked plan =
-    joined (lists_text plan.timer ∷ elapses_text asked.local asked.now (take asked.iterations (merged plan.merge)) ∷ [])
+    joined (lists_text plan.timer ∷ elapses_text asked.local asked.now (take asked.iterations plan.elapses) ∷ [])
 
 -- the message of an error, which is empty if memory ran out
 abbrev pub timer_error_message : TimerError → List ℕ

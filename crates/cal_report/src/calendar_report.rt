@@ -6,13 +6,13 @@ ghost use Rattle.cal_bytes.specs.Puts.{Puts};
 ghost use Rattle.cal_report.specs.CalendarReport.{report_of_elapses};
 ghost use Rattle.cal_report.specs.headline.CalendarReport.{heading_text, normal_line};
 ghost use Rattle.cal_report.specs.Context.{asked_by};
-ghost use Rattle.cal_plan.specs.Instants.{AreInstants};
 
 use crate::context::Context;
 use crate::elapse_lines::put_elapses;
 use crate::report_lines::{ORIGINAL_LABEL, put_text};
 use cal_bytes::{Sink, WriteFault, put_all};
 use cal_elapse::Rising;
+use cal_plan::Instants;
 use cal_spec::{Expr, write_expr};
 
 /// Writes the report of an expression: `text` as the user gave it, its normal form, and its next elapse times, at most
@@ -23,12 +23,11 @@ pub fn write_calendar<W: Sink, S: Rising>(
     context: Context<'_>,
     text: &str,
     expr: &Expr,
-    elapses: &mut S,
+    elapses: &mut Instants<S>,
 ) -> Result<(), WriteFault>
-    requires instants { AreInstants (S.rest elapses.old) }
-    requires out { W.is_failed out.old ≡ false }
+    requires { W.is_failed out.old ≡ false }
     ensures { Puts W.Sink out.old out.new result
-        (report_of_elapses (asked_by context.entry) text.now expr.now (S.rest elapses.old)) }
+        (report_of_elapses (asked_by context.entry) text.now expr.now elapses.old) }
 {
     put_heading(out, ORIGINAL_LABEL, text, expr)?;
     put_elapses(

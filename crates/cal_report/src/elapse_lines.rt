@@ -1,11 +1,10 @@
 //! The part of a report that lists elapse times, each with its distance from the present (systemd-analyze(1),
 //! calendar).
 
-ghost use Rattle.std.specs.Prelude.{◌≡◌, ◌+◌, ◌-◌, ◌≤◌, ◌++◌, length, false, option_map, take, slice_get, drop};
+ghost use Rattle.std.specs.Prelude.{◌≡◌, ◌+◌, ◌-◌, ◌≤◌, ◌++◌, length, false, take};
 ghost use Rattle.cal_bytes.specs.Puts.{Puts};
 ghost use Rattle.cal_bytes.specs.declared.short_text.TheConstants.{SHORT_TEXT_ROOM};
 ghost use Rattle.cal_span.specs.declared.span.text.TheConstants.{SPAN_ROOM};
-ghost use Rattle.cal_plan.specs.Instants.{AreInstants};
 ghost use Rattle.cal_report.specs.headline.ElapseLines.{label_text, elapse_text, elapse_texts, elapses_text};
 ghost use Rattle.cal_request.specs.Request.{IsCount};
 
@@ -13,24 +12,24 @@ use crate::local_and_utc::LocalAndUtc;
 use crate::report_lines::{first_moment, push_distance};
 use cal_bytes::{Fill, ShortText, Sink, WriteFault, padding, push, push_all, put_all};
 use cal_elapse::Rising;
+use cal_plan::Instants;
 use cal_zone::{Instant, Zone};
 use itoa::Buffer;
 
 /// Writes the next elapse times, at most `iterations` of them, or `never` if no elapse times remain.
 pub fn put_elapses<W: Sink, S: Rising>(
     out: &mut W,
-    elapses: &mut S,
+    elapses: &mut Instants<S>,
     iterations: u32,
     local: Zone<'_>,
     now: Instant,
 ) -> Result<(), WriteFault>
     requires iterations { IsCount iterations }
-    requires instants { AreInstants (S.rest elapses.old) }
     requires out { W.is_failed out.old ≡ false }
     ensures { Puts W.Sink out.old out.new result
-        (elapses_text local.entry now.secs (take iterations (S.rest elapses.old))) }
+        (elapses_text local.entry now.secs (take iterations elapses.old)) }
 {
-    match next_instant(elapses) {
+    match elapses.next() {
         None => put_all(out, b"    Next elapse: never\n"),
         Some(first) => {
             let mut formatter = LocalAndUtc::new(local);
@@ -44,40 +43,23 @@ pub fn put_elapses<W: Sink, S: Rising>(
 /// count from 2.
 fn put_more<W: Sink, S: Rising>(
     out: &mut W,
-    elapses: &mut S,
+    elapses: &mut Instants<S>,
     iterations: u32,
     formatter: &mut LocalAndUtc<'_>,
     now: Instant,
 ) -> Result<(), WriteFault>
     requires iterations { IsCount iterations }
-    requires instants { AreInstants (S.rest elapses.old) }
     requires out { W.is_failed out.old ≡ false }
     ensures { Puts W.Sink out.old out.new result
-        (elapse_texts formatter.old now.secs 2 (take (iterations - 1) (S.rest elapses.old))) }
+        (elapse_texts formatter.old now.secs 2 (take (iterations - 1) elapses.old)) }
 {
     for number in 2..iterations + 1 {
-        let Some(elapse) = next_instant(elapses) else {
+        let Some(elapse) = elapses.next() else {
             return Ok(());
         };
         put_elapse(out, number, elapse, formatter, now)?;
     }
     Ok(())
-}
-
-/// Removes and returns the next elapse time, or returns `None` if no elapse times remain.
-fn next_instant<S: Rising>(elapses: &mut S) -> Option<Instant>
-    requires { AreInstants (S.rest elapses.old) }
-    ensures given { option_map (λ instant. instant.secs) result ≡ slice_get (S.rest elapses.old) 0 }
-    ensures left { S.rest elapses.new ≡ drop 1 (S.rest elapses.old) }
-    ensures instants { AreInstants (S.rest elapses.new) }
-{
-    let Some(secs) = elapses.next() else {
-        return None;
-    };
-    let Some(instant) = Instant::new(secs) else {
-        unreachable!()
-    };
-    Some(instant)
 }
 
 /// Writes one elapse time in the local zone and in UTC, with its distance from the present.

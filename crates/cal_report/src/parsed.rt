@@ -1,7 +1,7 @@
 //! Parsing one argument of the verbs `calendar`, `timestamp` and `timespan`.
 
 ghost use Rattle.std.specs.Prelude.{◌≡◌, Ok, Err, IfOk, IfErr, IsErrOf, false};
-ghost use Rattle.cal_report.specs.Parsed.{HasInstants, report_text, text_error_message, verb_of};
+ghost use Rattle.cal_report.specs.Parsed.{report_text, text_error_message, verb_of};
 ghost use Rattle.cal_report.specs.CalendarReport.{calendar_answer};
 ghost use Rattle.cal_report.specs.Context.{asked_by};
 ghost use Rattle.cal_report.specs.Report.{answer_to};
@@ -11,7 +11,7 @@ ghost use Rattle.cal_request.specs.Request.{is_timer, seeks_elapses};
 use crate::context::Context;
 use crate::text_error::TextError;
 use cal_elapse::Elapses;
-use cal_plan::zone_for;
+use cal_plan::{Instants, zone_for};
 use cal_request::Verb;
 use cal_span::{Span, read_span};
 use cal_spec::{Expr, SpecFault, read_expr};
@@ -23,7 +23,7 @@ use std::alloc::{AllocError, Global};
 #[derive(Drop)]
 pub enum Parsed<'a> {
     /// A calendar expression, and the iterator over its elapse times.
-    Calendar(Expr, Elapses<'a>),
+    Calendar(Expr, Instants<Elapses<'a>>),
     /// The moment that a timestamp resolves to.
     Timestamp(Moment),
     /// A time span.
@@ -46,7 +46,6 @@ pub fn read_text<'a>(
     ensures refused { IfErr result (λ error. (error ≡ NoMemory → ⊥)
         → answer_to (asked_by context.entry) context.entry.base.secs text.now ≡ Err (text_error_message error)) }
     ensures verb { IfOk result (λ parsed. verb_of parsed ≡ context.entry.request.now.verb) }
-    ensures instants { IfOk result HasInstants }
     ensures memory { seeks_elapses context.entry.request.now.verb ≡ false → IsErrOf result NoMemory → ⊥ }
 {
     match context.request.verb {
@@ -70,7 +69,7 @@ pub fn read_text<'a>(
 ///
 /// Fails with [`TextError::Spec`] if the expression is invalid, with [`TextError::NoSuchZone`] if it names a zone that
 /// is neither `UTC` nor in the table, and with [`TextError::NoMemory`] if allocation fails.
-#[tactic(auto, using(crate::proofs::ElapseInstants::elapses_are_instants), unfolding(crate::specs::CalendarReport::calendar_answer, crate::specs::CalendarReport::calendar_report))]
+#[tactic(auto, using(cal_plan::proofs::ElapseInstants::elapses_are_instants), unfolding(crate::specs::CalendarReport::calendar_answer, crate::specs::CalendarReport::calendar_report))]
 fn read_calendar<'a>(
     alloc: Global,
     context: Context<'a>,
@@ -81,7 +80,6 @@ fn read_calendar<'a>(
     ensures refused { IfErr result (λ error. (error ≡ NoMemory → ⊥)
         → calendar_answer (asked_by context.entry) context.entry.base.secs text.now ≡ Err (text_error_message error)) }
     ensures verb { IfOk result (λ parsed. verb_of parsed ≡ Verb.Calendar) }
-    ensures instants { IfOk result HasInstants }
 {
     let expr = match read_expr(alloc, text) {
         Ok(expr) => expr,
@@ -92,7 +90,7 @@ fn read_calendar<'a>(
         return Err(TextError::NoSuchZone);
     };
     match Elapses::new(alloc, &expr, zone, context.base) {
-        Ok(elapses) => Ok(Parsed::Calendar(expr, elapses)),
+        Ok(elapses) => Ok(Parsed::Calendar(expr, Instants::new(elapses))),
         Err(AllocError) => Err(TextError::NoMemory),
     }
 }

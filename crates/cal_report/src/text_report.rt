@@ -5,7 +5,7 @@ ghost use Rattle.cal_bytes.specs.Puts.{Puts};
 ghost use Rattle.cal_bytes.specs.headline.Bytes.{joined};
 ghost use Rattle.cal_report.specs.Answer.{lead_text};
 ghost use Rattle.cal_report.specs.Context.{asked_by};
-ghost use Rattle.cal_report.specs.Parsed.{HasInstants, report_text};
+ghost use Rattle.cal_report.specs.Parsed.{report_text};
 
 use crate::calendar_report::write_calendar;
 use crate::context::Context;
@@ -24,8 +24,7 @@ pub fn put_report<W: Sink>(
     text: &str,
     parsed: Parsed<'_>,
 ) -> Result<(), WriteFault>
-    requires instants { HasInstants parsed }
-    requires out { W.is_failed out.old ≡ false }
+    requires { W.is_failed out.old ≡ false }
     ensures { Puts W.Sink out.old out.new result
         (joined (lead_text is_later ∷ report_text (asked_by context.entry) text.now parsed.entry ∷ [])) }
 {

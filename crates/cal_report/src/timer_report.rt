@@ -6,10 +6,8 @@ ghost use Rattle.std.specs.Prelude.{◌≡◌, ◌≢◌, ℕ, List, Result, Ok,
 ghost use Rattle.cal_bytes.specs.Puts.{Puts};
 ghost use Rattle.cal_streams.specs.Whole.{is_read_failed};
 ghost use Rattle.cal_streams.specs.declared.whole.WholeFault.{WholeFault};
-ghost use Rattle.cal_rising.specs.Merge.{merged};
 ghost use Rattle.cal_timer.specs.TimerText.{ReadsWhole, timer_file_limit};
 ghost use Rattle.cal_timer.specs.TimerView.{shown};
-ghost use Rattle.cal_plan.specs.Instants.{AreInstants};
 ghost use Rattle.cal_report.specs.Context.{asked_by};
 ghost use Rattle.cal_report.specs.TimerReport.{HadMemory, headings_text, lists_text, error_line_at, timer_answer};
 ghost use Rattle.cal_report.specs.TimerPlan.{plan_text, timer_error_line, timer_error_message};
@@ -21,7 +19,7 @@ use crate::elapse_lines::put_elapses;
 use crate::report_lines::{EXCEPT_LABEL, ORIGINAL_LABEL};
 use cal_bytes::{Sink, Source, WriteFault};
 use cal_elapse::{Elapses, Merge};
-use cal_plan::{PlanFault, merge_of};
+use cal_plan::{Instants, PlanFault, merge_of};
 use cal_timer::{Timer, TimerFault, TimerLine, read_timer};
 use std::alloc::Global;
 
@@ -30,7 +28,7 @@ use std::alloc::Global;
 #[derive(Drop)]
 pub struct TimerPlan<'a> {
     timer: Timer,
-    merge: Merge<Elapses<'a>>,
+    elapses: Instants<Merge<Elapses<'a>>>,
 }
 
 /// Why a timer file is rejected.
@@ -83,7 +81,7 @@ pub fn read_plan<'a, R: Source>(
         × ReadsWhole (R.remaining input.old) (R.remaining input.new) timer_file_limit read
         × (R.is_failed input.new ≡ is_read_failed read)
         × MatchResult result
-        (λ plan. HadMemory read × AreInstants (merged plan.merge) × ((name : List ℕ)
+        (λ plan. HadMemory read × ((name : List ℕ)
         → timer_answer (asked_by context.entry) context.entry.base.secs name read ≡ Ok (plan_text (asked_by context.entry) plan)))
         (λ error. error ≢ NoMemory → HadMemory read × ((name : List ℕ)
         → timer_answer (asked_by context.entry) context.entry.base.secs name read ≡ Err (error_line_at name (timer_error_line error) (timer_error_message error)))) }
@@ -96,7 +94,10 @@ pub fn read_plan<'a, R: Source>(
     let lines = timer.lines();
     let exceptions = timer.exceptions();
     match merge_of(alloc, context.setting, context.base, lines, exceptions) {
-        Ok(merge) => Ok(TimerPlan { timer, merge }),
+        Ok(merge) => Ok(TimerPlan {
+            timer,
+            elapses: Instants::new(merge),
+        }),
         Err(PlanFault::NoSuchZone(line)) => Err(TimerError::NoSuchZone(line)),
         Err(PlanFault::NoMemory) => Err(TimerError::NoMemory),
     }
@@ -109,15 +110,14 @@ pub fn write_timer<W: Sink>(
     context: Context<'_>,
     plan: TimerPlan<'_>,
 ) -> Result<(), WriteFault>
-    requires instants { AreInstants (merged plan.merge) }
-    requires out { W.is_failed out.old ≡ false }
+    requires { W.is_failed out.old ≡ false }
     ensures { Puts W.Sink out.old out.new result (plan_text (asked_by context.entry) plan.entry) }
 {
-    let TimerPlan { timer, mut merge } = plan;
+    let TimerPlan { timer, mut elapses } = plan;
     put_lists(out, &timer)?;
     put_elapses(
         out,
-        &mut merge,
+        &mut elapses,
         context.request.iterations,
         context.setting.local,
         context.setting.now,

@@ -1,19 +1,15 @@
--- All elapse times that the source still has are instants. What remains to be written are the next of these elapse
--- times, with labels that count from `number` to at most `iterations`. The writer hasn't failed, and the local zone is
--- the same as before the loop.
+-- What remains to be written are the next of the elapse times that the source still has, with labels that count from
+-- `number` to at most `iterations`. The writer hasn't failed, and the local zone is the same as before the loop.
 use Rattle.std.proofs.Common.{◌≡◌, ◌+◌, ◌-◌, take}
 use Rattle.cal_bytes.proofs.PutLemmas.{PutsUpTo}
-use Rattle.cal_plan.specs.Instants.{AreInstants}
 use Rattle.cal_report.specs.headline.ElapseLines.{elapse_texts}
 use Rattle.cal_report.proofs.elapse_lines.put_more.Given as goal
 
 abbrev pub invariant-loop-number : goal.invariant-loop-number
 invariant-loop-number g l =
-    let rest = g.S.Rising.rest in
     record {
       local : l.formatter ≡ l.fn.formatter;
-      instants : AreInstants (rest l.elapses);
       puts : PutsUpTo g.W.Sink l.fn.out l.out
-          (elapse_texts l.fn.formatter l.now.secs l.number (take (l.iterations + 1 - l.number) (rest l.elapses)))
-          (elapse_texts l.fn.formatter l.now.secs 2 (take (l.iterations - 1) (rest l.fn.elapses)));
+          (elapse_texts l.fn.formatter l.now.secs l.number (take (l.iterations + 1 - l.number) l.elapses))
+          (elapse_texts l.fn.formatter l.now.secs 2 (take (l.iterations - 1) l.fn.elapses));
     }

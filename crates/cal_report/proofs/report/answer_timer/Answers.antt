@@ -8,7 +8,7 @@ use Rattle.cal_report.proofs.report.answer_timer.Goals as goal
 pub returns-in-Err-Failed-clause-reported : goal.returns-in-Err-Failed-clause-reported
 returns-in-Err-Failed-clause-reported g c =
     let read = c.in-Ok.ensures.plan in
-    (read.0, read.1, read.2, report_reported _ _ _ _ _ _ _ (read.3.2 (file_name (asked_by c.args.context))) tt read.3.0 c.in-Err-Failed.ensures.bytes)
+    (read.0, read.1, read.2, report_reported _ _ _ _ _ _ _ (read.3.1 (file_name (asked_by c.args.context))) tt read.3.0 c.in-Err-Failed.ensures.bytes)
 
 pub returns-in-Err : goal.returns-in-Err
 returns-in-Err g c =

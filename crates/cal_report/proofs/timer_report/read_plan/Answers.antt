@@ -13,8 +13,7 @@ returns-in-Ok-merge_of g c =
         list.2,
         (
           had_lists _ _ list.3,
-          merge.instants,
-          λ name. plan_answers _ _ list.0 _ _ list.3 (rw (c.lines-lines.ensures, c.exceptions-exceptions.ensures) at merge.merge) name,
+          λ name. plan_answers _ _ list.0 _ _ _ list.3 (rw (c.lines-lines.ensures, c.exceptions-exceptions.ensures) at merge.merge) c.new.ensures name,
         ),
       );
     }

@@ -1,0 +1,44 @@
+//! A source that returns instants.
+
+use cal_elapse::Rising;
+use cal_zone::Instant;
+use std::marker::Model;
+
+/// A source of numbers that are all instants, such as elapse times. It returns each as an [`Instant`]. A contract sees
+/// the numbers that it has yet to return.
+#[derive(Drop)]
+pub struct Instants<S: Rising> {
+    source: S,
+}
+
+impl<S: Rising> Model for Instants<S> {
+    ghost use Rattle.std.specs.Prelude.{List, ℤ};
+    ghost use Rattle.cal_plan.specs.Instants.{AreInstants};
+
+    ghost Value = { List ℤ };
+
+    ghost view = { λ instants. S.rest instants.source };
+
+    ghost invariant = { λ instants. AreInstants (S.rest instants.source) };
+}
+
+impl<S: Rising> Instants<S> {
+    ghost use Rattle.std.specs.Prelude.{◌≡◌, drop, option_map, slice_get};
+    ghost use Rattle.cal_plan.specs.Instants.{AreInstants};
+
+    /// Wraps a source. All numbers that it has yet to return must be instants.
+    pub fn new(source: S) -> Self
+        requires { AreInstants (S.rest source) }
+        ensures { result ≡ S.rest source }
+    {
+        Instants { source }
+    }
+
+    /// Removes and returns the next instant. Returns `None` if there are no more.
+    pub fn next(&mut self) -> Option<Instant>
+        ensures given { option_map (λ instant. instant.secs) result ≡ slice_get self.old 0 }
+        ensures left { self.new ≡ drop 1 self.old }
+    {
+        Instant::new(self.source.next()?)
+    }
+}
