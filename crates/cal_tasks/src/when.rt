@@ -10,9 +10,8 @@ ghost use Rattle.cal_tasks.specs.When.{IsFirstElapse, IsNextWeekdayTime, IsStamp
 
 use crate::clocked::Clocked;
 use cal_elapse::Elapses;
-use cal_plan::zone_for;
+use cal_plan::{Instants, zone_for};
 use cal_read::{StampFault, read_stamp};
-use cal_rising::Rising;
 use cal_spec::{Expr, Field, find_day, read_expr};
 use cal_text::first_word;
 use cal_zone::{Instant, Setting, ZoneTable};
@@ -70,19 +69,17 @@ fn next_weekday_time(
 
 /// Returns the first elapse of an expression after `after`. Returns `None` if the zone of the expression isn't known,
 /// if the expression doesn't elapse after `after`, or if allocation fails.
+#[tactic(auto, using(cal_plan::proofs::ElapseInstants::elapses_are_instants))]
 fn first_elapse(alloc: Global, setting: Setting<'_>, after: Instant, expr: &Expr) -> Option<Instant>
     ensures { IfSome result (λ instant. IsFirstElapse (setting_seen setting.entry) after.secs expr.now instant.secs) }
 {
     let Some(zone) = zone_for(setting, expr) else {
         return None;
     };
-    let Ok(mut elapses) = Elapses::new(alloc, expr, zone, after) else {
+    let Ok(elapses) = Elapses::new(alloc, expr, zone, after) else {
         return None;
     };
-    let Some(secs) = elapses.next() else {
-        return None;
-    };
-    Instant::new(secs)
+    Instants::new(elapses).next()
 }
 
 /// Parses a calendar expression that begins with the name of a weekday and has no date. Returns `None` for any other
