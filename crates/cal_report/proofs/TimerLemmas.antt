@@ -17,7 +17,7 @@ use Rattle.cal_report.specs.TimerReport.{HadMemory, headings_text, timer_answer,
 use Rattle.cal_report.specs.headline.CalendarReport.{heading_text}
 use Rattle.cal_text.proofs.General.{item_first}
 
--- the heading of one line of a list, with this label
+-- the heading of a line of a timer file, with this label
 abbrev pub line_text : List ℕ → declared_line.TimerLine → List ℕ
 line_text label line = heading_text label (string_bytes line.text) line.expr
 

@@ -126,7 +126,7 @@ noon_thirty-matches_again : matches (sets_of noon_thirty) 1_704_198_600 ≡ true
 unfolding matches
 noon_thirty-matches_again = rw (inside 1_704_198_600 (omega arith), day_after-is, noon_thirty-on_again, noon_thirty-at) refl
 
--- every local second that matches `*-*-* 12:30:00` is an elapse time in UTC
+-- if a local second matches `*-*-* 12:30:00`, the instant with the same number is an elapse time in UTC
 elapse_at : (local : ℕ) → local < 7_258_118_400 → matches (sets_of noon_thirty) local ≡ true → IsElapse (timed noon_thirty UTC ∷ []) (pos local)
 unfolding timed
 elapse_at local h is =
@@ -273,7 +273,8 @@ every_file-is = record {
   some = omega arith;
 }
 
--- The request that continues `two_seconds` after its first elapse time, which is the new base time
+-- A request that continues `two_seconds` after its first elapse time: this elapse time is the base time, and one elapse
+-- time fewer is requested
 
 one_second : Request
 one_second = record { verb = Calendar; texts = codes "*:*:*" ∷ []; iterations = 1; base = Some (codes "@1704112201"); now = pos 1_704_112_200; local = utc; zones = empty }

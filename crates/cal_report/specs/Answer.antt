@@ -29,7 +29,7 @@ error_line_in text (Err message) = error_line text message
 abbrev pub lead_text : Bool → List ℕ
 lead_text is_later = if is_later then codes "\n" else []
 
--- the report, after an empty line unless it is the first report; nothing if the argument is invalid
+-- the report, or nothing if the argument is invalid; an empty line comes before the report unless it is the first one
 abbrev pub later_text : Bool → Answer → List ℕ
 later_text is_later (Ok report) = joined (lead_text is_later ∷ report ∷ [])
 later_text is_later (Err message) = []

@@ -60,7 +60,7 @@ texts_report asked base = record {
   status = texts_status (answer_to asked base) asked.texts;
 }
 
--- what a run writes and returns if it writes either one report or one error line
+-- the result of a run that writes a single report (`Ok`) or a single error line (`Err`)
 abbrev pub whole_report : Result (List ℕ) (List ℕ) → Report
 whole_report (Ok text) = record { out = text; err = []; status = Fine }
 whole_report (Err line) = record { out = []; err = line; status = Refused }
@@ -74,7 +74,7 @@ abbrev pub report_after : Request → ℤ → Result (List ℕ) WholeFault → R
 report_after asked base read =
     if is_timer asked.verb then whole_report (timer_answer asked base (file_name asked) read) else texts_report asked base
 
--- the report, which is one error line if the base time is invalid
+-- the report, given the result of parsing the base time; if the base time is invalid, the report is one error line
 abbrev pub report_from : Request → Result (List ℕ) WholeFault → Result ℤ StampFault → Report
 report_from asked read (Err fault) = whole_report (Err (error_line (codes "--base-time") (message_of fault)))
 report_from asked read (Ok base) = report_after asked base read
@@ -87,8 +87,8 @@ report asked read = report_from asked read (base_in asked)
 abbrev pub reads_input : Request → Bool
 reads_input asked = is_timer asked.verb && is_ok (base_in asked)
 
--- `read` is what reading the input returned: all of its bytes, or why reading them failed. `false` stands for an input
--- that isn't read: then `read` has no bytes, and the input is unchanged.
+-- `read` is what reading the input returned: all of its bytes, or why reading them failed. The first argument says
+-- whether the input is read at all. If it isn't, it stays unchanged, and `read` is an empty list of bytes.
 abbrev pub ReadsIf : Bool → Option (List ℕ) → Option (List ℕ) → Result (List ℕ) WholeFault → Type 0
 ReadsIf true old new read = ReadsWhole old new timer_file_limit read
 ReadsIf false old new read = (new ≡ old) × (read ≡ Ok [])
@@ -103,8 +103,8 @@ pub record IsReported (result : Result Status RunFault) (out_old out_new err_old
   pub err : Writes err_old err_new result report.err
   pub unread : read ≡ Err NoMemory → (out_new ≡ out_old) × (err_new ≡ err_old)
 
--- Reading the input has some result `read`, and `holds_of` relates `read` to the report that the request gets for this
--- result. `failed` says whether the source of the input has failed. It is true if and only if `read` says that a read
+-- There is a result `read` of reading the input such that `holds_of` is true of `read` and of the request's report for
+-- `read`. `failed` says whether the source of the input has failed. It is true if and only if `read` says that a read
 -- failed.
 pub record ByReading (asked : Request) (old new : Option (List ℕ)) (failed : Bool) (holds_of : Result (List ℕ) WholeFault → Report → Type 0) : Type 0 where
   pub read : Result (List ℕ) WholeFault

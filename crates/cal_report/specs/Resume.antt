@@ -1,6 +1,6 @@
--- How to continue an output that was cut off: which of the elapse times shown have a complete first line in a prefix of
--- a report, and which request shows the remaining ones (systemd-analyze(1), calendar, --iterations= and --base-time=;
--- systemd.timer(5), OnCalendar=).
+-- How to continue a report that was cut off. The definitions say which elapse times have a complete first line in a
+-- prefix of the report, and which request shows the remaining elapse times (systemd-analyze(1), calendar, --iterations=
+-- and --base-time=; systemd.timer(5), OnCalendar=).
 use Rattle.std.specs.Prelude.{◌≡◌, ◌↔◌, ◌≤◌, ◌<◌, ◌+◌, ◌-◌, ◌++◌, ℕ, zero, suc, ℤ, List, [], ◌∷◌, Option, None, Some, Result, Ok, take, drop, length, slice_get, codes, option_map}
 use Rattle.std.specs.List.{AllZip, filter_map, flat_map}
 use Rattle.cal_streams.specs.declared.whole.WholeFault.{WholeFault}
@@ -21,7 +21,7 @@ pub record AreShown (asked : Request) (base : ℤ) (s : Schedule) (shown : List 
 abbrev pub showing : Request → Schedule → List ℤ → List ℕ
 showing asked s shown = headings s ++ elapses_text asked.local asked.now shown
 
--- the report up to and including the line feed of the first line of `elapse`, if `before` are the elapse times shown
+-- the report up to the end of the first line of `elapse`, including the line feed; `before` are the elapse times shown
 -- before `elapse`
 abbrev pub up_to_line : Request → Schedule → List ℤ → ℤ → List ℕ
 up_to_line asked s before elapse =
@@ -68,7 +68,7 @@ abbrev pub begun_again : Request → List ℤ → ℕ → Request
 begun_again asked shown k = record asked { iterations = asked.iterations - k; base = base_after asked.base shown k }
 
 -- How to continue a prefix `front` of the report. Exactly the first `number` elapse times have a complete first line in
--- `front`, and this is true of no other number. Every request that continues after these elapse times shows exactly the
+-- `front`; the prefix determines this number. Every request that continues after these elapse times shows exactly the
 -- remaining ones.
 pub record Resumes (asked : Request) (base : ℤ) (s : Schedule) (read : Result (List ℕ) WholeFault) (front : List ℕ) : Type 0 where
   pub shown : List ℤ

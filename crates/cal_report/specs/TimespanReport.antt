@@ -7,8 +7,8 @@ use Rattle.cal_span.specs.headline.SpanText.{span_text}
 use Rattle.cal_span.specs.SpanValue.{span_of}
 use Rattle.cal_report.specs.Answer.{Answer}
 
--- the line feed after the first line, and the label of the microseconds, `μs: `, with μ (U+03BC) as the two bytes of
--- its UTF-8 encoding
+-- What stands between the time span as given and its microseconds: the end of the first line, and the label `μs: ` of
+-- the second. The letter μ (U+03BC) is written as the two bytes of its UTF-8 encoding.
 abbrev pub micro_label : List ℕ
 micro_label = codes "\n      " ++ (206 ∷ 188 ∷ codes "s: ")
 

@@ -14,7 +14,7 @@ use Rattle.cal_zone.specs.headline.Moment.{micros_of, micros_per_second}
 use Rattle.cal_report.specs.headline.ReportLines.{distance_text, original_label, text_line, utc_line}
 use Rattle.cal_request.specs.headline.Request.{Request}
 
--- the second in which a moment lies; moments are never negative
+-- the second in which a moment lies; `unsigned_abs` changes nothing, since moments are never negative
 abbrev pub second_at : ℤ → ℤ
 second_at micros = pos (unsigned_abs micros / micros_per_second)
 

@@ -39,8 +39,8 @@ pub fn put_elapses<W: Sink, S: Rising>(
     }
 }
 
-/// Writes the elapse times after the first one, which is already written, up to `iterations` in total. Their labels
-/// count from 2.
+/// Writes the elapse times after the first one, which is already written. Stops when `iterations` elapse times have
+/// been written in total, or when none remain. The labels count from 2.
 fn put_more<W: Sink, S: Rising>(
     out: &mut W,
     elapses: &mut Instants<S>,

@@ -54,8 +54,9 @@ pub fn headline()
         → asked.verb ≡ Timer → base_in asked ≡ Ok base → IsFileOf bytes s → AreAllAccepted asked s
         → IsReportOf asked base s (report asked (Ok bytes)).out × IsFine (report asked (Ok bytes)) }
 
-    // The three statements above, for the bytes that a run appends to its writers if it returns `Ok`, which means that
-    // no allocation and no write failed. The premise `ByReading` is what the contract of `run` promises.
+    // The three statements above again, now about the bytes that a run appends to its writers. They apply if the run
+    // returns `Ok`, that is, if no allocation and no write failed. The premise `ByReading` is what the contract of
+    // `run` promises.
     ensures written { (asked : Request) (base : ℤ) (es : List Expression) (old new : Option (List ℕ)) (failed : Bool)
         (status : Status) (out_old out_new err_old err_new : Option (List ℕ)) → asked.verb ≡ Calendar
         → base_in asked ≡ Ok base → asked.texts ≡ map (λ (e : Expression). e.text) es → AllByRecursion (IsAccepted asked) es
@@ -102,8 +103,8 @@ pub fn headline()
     ensures in_parts { (ts exceptions : List Timed) (base e : ℤ) (xs ys : List ℤ) (k m : ℕ) → AreElapses ts exceptions base xs
         → slice_get xs k ≡ Some e → AreElapses ts exceptions e ys → take (suc k) xs ++ take m ys ≡ take (suc k + m) xs }
 
-    // At an elapse time of an expression, the clock of its zone shows a matching local second, and it shows a different
-    // local second at every other elapse time of the expression.
+    // At each elapse time of an expression, the clock of its zone shows a local second that matches. At two different
+    // elapse times of the expression, the clock never shows the same local second.
     ensures shown { (fields : Fields) (tz : TimeZone) (i : ℤ) → IsPlace (timed fields tz) i
         → (local : ℕ) × (local < 7_258_118_400) × (matches (sets_of fields) local ≡ true)
         × (local_shown_at tz i ≡ pos local) }
@@ -160,8 +161,9 @@ pub fn cut_output_resumes()
         → IsInstant asked.now → base_in asked ≡ Ok base → (r : Resumes asked base s read front)
         → (report (begun_again asked r.shown r.number) read).out ≡ showing asked s (drop r.number r.shown) }
 
-    // Whatever a run returns, the bytes that it appended to its writer `out` are a prefix of the report, which can be
-    // continued as stated above. The premise `ByReading` is what the contract of `run` promises.
+    // Whatever a run returns, the bytes that it appended to its writer `out` are a prefix of the report. After this
+    // prefix, the report can be continued as stated above. The premise `ByReading` is what the contract of `run`
+    // promises.
     ensures written { (asked : Request) (base : ℤ) (e : Expression) (result : Result Status RunFault)
         (old new : Option (List ℕ)) (failed : Bool) (out_old out_new err_old err_new : Option (List ℕ))
         → asked.verb ≡ Calendar → base_in asked ≡ Ok base → asked.texts ≡ e.text ∷ [] → IsAccepted asked e

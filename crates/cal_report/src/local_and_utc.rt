@@ -51,7 +51,7 @@ impl<'z> LocalAndUtc<'z> {
     }
 
     /// Appends a line with a label and the instant in UTC, at most 102 bytes. Appends nothing if the local zone is
-    /// [`Zone::utc`]; a zone with the fixed offset 0 is a different zone.
+    /// [`Zone::utc`]. A zone with the fixed offset 0 doesn't count as [`Zone::utc`].
     #[tactic(auto, unfolding(crate::specs::headline::ReportLines::utc_line))]
     pub fn push_utc_line(&mut self, text: &mut ShortText, instant: Instant)
         requires room { length text.old.items + 102 ≤ SHORT_TEXT_ROOM }

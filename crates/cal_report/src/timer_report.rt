@@ -36,8 +36,8 @@ pub struct TimerPlan<'a> {
 pub enum TimerError {
     /// Reading the file failed, the file is too large, or it isn't a valid timer file.
     Timer(TimerFault),
-    /// The expression or exception on the line with this number, from 1, names a zone that is neither `UTC` nor in the
-    /// zone table.
+    /// The expression or exception on the line with this number (counted from 1) names a zone that is neither `UTC` nor
+    /// in the zone table.
     NoSuchZone(u32),
     /// Allocation failed.
     NoMemory,

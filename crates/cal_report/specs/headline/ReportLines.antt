@@ -22,8 +22,8 @@ except_label = codes "    Except form: "
 unfoldable pub text_line : List ℕ → List ℕ → List ℕ
 text_line label text = joined (label ∷ text ∷ codes "\nNormalized form: " ∷ [])
 
--- the line with an instant in UTC, or nothing if the local zone is UTC; a zone with the fixed offset 0 is a different
--- zone
+-- the line with an instant in UTC, or nothing if the local zone is UTC; here, a zone with the fixed offset 0 doesn't
+-- count as UTC
 unfoldable pub utc_line : Zone → ℤ → List ℕ
 utc_line local secs =
     if is_utc local then []

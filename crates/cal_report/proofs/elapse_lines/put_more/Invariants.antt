@@ -1,5 +1,6 @@
--- What remains to be written are the next of the elapse times that the source still has, with labels that count from
--- `number` to at most `iterations`. The writer hasn't failed, and the local zone is the same as before the loop.
+-- The first of the elapse times that remain in the source are still to be written, numbered from `number` to
+-- `iterations`; fewer are written if the source ends before that. The writer hasn't failed, and the local zone is the
+-- same as before the loop.
 use Rattle.std.proofs.Common.{◌≡◌, ◌+◌, ◌-◌, take}
 use Rattle.cal_bytes.proofs.PutLemmas.{PutsUpTo}
 use Rattle.cal_report.specs.headline.ElapseLines.{elapse_texts}

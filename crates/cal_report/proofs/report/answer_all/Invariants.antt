@@ -1,6 +1,5 @@
--- Neither writer has failed, and the answers to the texts before the loop's index are written completely. What remains
--- to be written are the answers to the texts from the index on. These answers and the status so far decide the final
--- status.
+-- Neither writer has failed. The answers to the texts before the loop's index are written completely, and the other
+-- answers are still to be written. The final status is decided by the status so far and these other answers.
 use Rattle.std.proofs.Common.{◌≡◌, false, drop, map, take}
 use Rattle.std.specs.String.{string_bytes}
 use Rattle.std.specs.Io.KnownBytes.{Appends}
