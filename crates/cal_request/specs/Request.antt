@@ -11,8 +11,8 @@ max_iterations = 1_000_000
 abbrev pub IsCount : ℕ → Type 0
 IsCount n = (1 ≤ n) × (n ≤ max_iterations)
 
--- whether a verb computes elapses; only verbs that do so have a base time, and only writing their reports can fail
--- because memory runs out
+-- whether a verb computes elapses; only such verbs have a base time, and only runs of such verbs can fail because
+-- memory runs out
 abbrev pub seeks_elapses : Verb → Bool
 seeks_elapses Calendar = true
 seeks_elapses Timestamp = false

@@ -21,8 +21,8 @@ impl Verb {
     ghost use Rattle.std.specs.Prelude.{◌≡◌};
     ghost use Rattle.cal_request.specs.Request.{has_zones, is_timer, seeks_elapses};
 
-    /// Returns whether the verb computes elapses. Only verbs that do so have a base time, and only for them can writing
-    /// the report fail because memory runs out.
+    /// Returns whether the verb computes elapses. Only such verbs have a base time, and only runs of such verbs can
+    /// fail because memory runs out.
     pub fn seeks_elapses(self) -> bool
         ensures { result ≡ seeks_elapses self }
     {
