@@ -1,5 +1,5 @@
--- The merge of strictly increasing lists: its first number is the smallest of their first numbers, and what remains
--- after that number is the merge of what remains of each list.
+-- Lemmas on the merge of strictly increasing lists. It begins with the smallest of their first numbers. Removing this
+-- number from each list that has it removes it from the merge.
 use Rattle.std.proofs.Common.{◌≡◌, ◌↔◌, ◌<◌, ◌+◌, ℕ, zero, suc, List, [], ◌∷◌, length, take, drop, get_or, set, inl, inr, Option, None, Some, ℤ, ◌<ℤ◌, ◌≤ℤ◌, refl, sym, ap, ◌∙◌, arith, map, add-one, slice_get}
 use Rattle.std.proofs.lemmas.Cmp.{int_ranked}
 use Rattle.std.proofs.lemmas.Int.{ints}
@@ -91,7 +91,8 @@ later_by_first : (m : ℤ) (xs : List ℤ) → IsStrictlySortedBy int_cmp xs →
 later_by_first m [] h e i = absurd (cc)
 later_by_first m (x ∷ xs) h e i = grind (arith, later_members x xs h i)
 
--- after the smallest number is returned, the union of what remains of each list is what remains of the union
+-- removing the smallest number from each list that has it, and then forming the union, gives the same list as removing
+-- the first number of the union
 pub union-advanced : (m : ℤ) (ss : List Peeked) → All HasHead ss
     → slice_get (union (map numbers ss)) 0 ≡ Some m → union (map (advanced m) (map numbers ss)) ≡ drop 1 (union (map numbers ss))
 union-advanced m ss h e =
@@ -101,9 +102,9 @@ union-advanced m ss h e =
     same_rising (union (map (advanced m) lists)) (drop 1 (union lists)) (rises-union (map (advanced m) lists)) (rises-drop (union lists) 1 rises)
     (λ i. grind (arith, HasAny-advanced m ss h low i, later_by_first m (union lists) rises e i, Has-union (map (advanced m) lists) i, Has-union lists i))
 
--- Suppose that applying `f` to the numbers of each of the first i sources of `ys` gives the numbers of the source of
--- `xs` at the same index. If the source of `xs` at index i is replaced by one for which this is also true, then it is
--- true for the first i + 1 sources.
+-- Suppose that, at each index below i, applying `f` to the numbers of the source in `ys` gives the numbers of the
+-- source in `xs`. Suppose also that applying `f` to the numbers of the source in `ys` at index i gives the numbers of
+-- `y`. If `y` then replaces the source in `xs` at index i, the first statement is true at each index below i + 1.
 changed_next : (f : List ℤ → List ℤ) (xs ys : List Peeked) (i : ℕ) (y d : Peeked) → i < length xs → i < length ys
     → map numbers (take i xs) ≡ map f (map numbers (take i ys)) → numbers y ≡ f (numbers (get_or ys i d))
     → map numbers (take (suc i) (set xs i y)) ≡ map f (map numbers (take (suc i) ys))

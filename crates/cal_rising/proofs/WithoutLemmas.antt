@@ -1,5 +1,6 @@
--- Lemmas on lists without the numbers of other lists, the exceptions; on one round of the loop in `Merge::next`; and on
--- the loop in `has_onward_in_any`, which tests whether at least one exception has a number.
+-- Lemmas on merges with exceptions: lists whose numbers a merge leaves out. The lemmas concern leaving numbers out of a
+-- list, one round of the loop in `Merge::next`, and the loop in `has_onward_in_any`, which tests whether at least one
+-- exception has a number.
 use Rattle.std.proofs.Common.{None, IfSome, ◌≡◌, ◌≢◌, ◌↔◌, ◌||◌, ◌&&◌, ◌<◌, ◌≤◌, ◌+◌, ℕ, suc, cond, Bool, true, false, not, List, [], ◌∷◌, length, drop, slice_get, get_or, get_or-set_other, set, map, zero, Option, Some, ℤ, ◌≤ℤ◌, int_eq, refl, sym, ap, ◌∙◌, arith}
 use Rattle.std.specs.List.{AllByRecursion, list_any}
 use Rattle.std.specs.List.Sorted.{IsStrictlySortedBy}
@@ -76,7 +77,8 @@ member_reached None [] n first rises at = refl
 member_reached None (x ∷ xs) n first rises at = absurd (cc)
 member_reached (Some m) xs n first rises at = int_eq_equiv.symm m n ∙ sym (is_member-head (Some m) xs m n rises refl at)
 
--- if a source was read up to the number `n`, it had `n` before if and only if `n` is the number read ahead now
+-- Suppose that only numbers below `n` were dropped from a source, and that the number now read ahead, if any, is at
+-- least `n`. Then the source had `n` before if and only if the number read ahead is `n`.
 pub is_member-reached : (s was : Peeked) (n : ℤ) → HasHead s → IfSome s.head (λ head. n ≤ℤ head) → IsSameFrom n (numbers s) (numbers was)
     → option_eq int_eq s.head (Some n) ≡ is_member int_eq (numbers was) n
 is_member-reached s was n h at same = member_reached s.head s.after n h.0 h.1 at ∙ same n (grind (arith, ints))

@@ -1,6 +1,6 @@
--- The merge of several strictly increasing lists into one that contains each number once and none of the numbers of
--- other lists, the exceptions. The merge models systemd.timer(5), OnCalendar=: a timer with several expressions elapses
--- whenever one of them does.
+-- The merge of several strictly increasing lists into one, which has each of their numbers once. The numbers of some
+-- other lists, the exceptions, are left out. The merge models systemd.timer(5), OnCalendar=: a timer with several
+-- expressions elapses whenever one of them does.
 use Rattle.std.specs.Prelude.{◌≡◌, cond, Bool, List, [], ◌∷◌, Option, None, Some, ℤ, int_lt, slice_get}
 use Rattle.std.specs.Ordering.{int_cmp}
 use Rattle.std.specs.List.Sorted.{IsStrictlySortedBy}
@@ -21,7 +21,7 @@ pub record Peeked : Type 0 where
   pub head : Option ℤ
   pub after : List ℤ
 
--- the numbers that a source has yet to return, the number read ahead first
+-- the numbers that a source has yet to return: the number read ahead, if there is one, and then the numbers after it
 abbrev pub numbers_by : Option ℤ → List ℤ → List ℤ
 numbers_by None xs = xs
 numbers_by (Some x) xs = x ∷ xs
@@ -33,7 +33,7 @@ numbers s = numbers_by s.head s.after
 abbrev pub HasHead : Peeked → Type 0
 HasHead s = (s.head ≡ slice_get (numbers s) 0) × IsStrictlySortedBy int_cmp (numbers s)
 
--- what remains of a strictly increasing list after `x` is returned, if no number of the list is below `x`
+-- what remains of a strictly increasing list after `x` is returned, provided that no number of the list is below `x`
 abbrev pub advanced : ℤ → List ℤ → List ℤ
 advanced x [] = []
 advanced x (y ∷ ys) = cond (int_lt x y) (y ∷ ys) ys

@@ -11,9 +11,9 @@ pub fn union_is_one_list()
     ensures only { (lists : List (List ℤ)) (list : List ℤ) → IsUnion lists list → list ≡ union lists }
 {}
 
-/// The union of lists without the numbers of other lists, the exceptions, is strictly increasing, and it contains a
-/// number if and only if at least one of the lists has the number and no exception has it. No other list has both
-/// properties. Without exceptions, the result is the union of the lists.
+/// If the numbers of some lists, the exceptions, are left out of the union of other lists, the result is strictly
+/// increasing. It contains a number if and only if at least one of the other lists has it and no exception has it. Only
+/// this list has both properties. Without exceptions, it is the union of the lists.
 pub fn union_without_is_one_list()
     ensures this { (lists exceptions : List (List ℤ)) → IsUnionWithout lists exceptions (without (union lists) (union exceptions)) }
     ensures only { (lists exceptions : List (List ℤ)) (list : List ℤ) → IsUnionWithout lists exceptions list

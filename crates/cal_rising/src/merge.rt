@@ -1,5 +1,5 @@
-//! The merge of several sources into one that returns each number once and skips the numbers of other sources, the
-//! exceptions.
+//! The merge of several sources into one, which returns each of their numbers once. It skips the numbers of some other
+//! sources, the exceptions.
 
 ghost use Rattle.std.specs.Prelude.{◌≡◌, ◌++◌, ◌∷◌, [], true, false, IfErr, OnErr, OnOk, slice_get, drop};
 ghost use Rattle.cal_rising.specs.Merge.{merged};

@@ -10,9 +10,9 @@ ghost use Rattle.cal_rising.specs.RisingList.{IsSameFrom};
 use crate::Rising;
 use std::marker::Model;
 
-/// How many misses are counted before the next miss makes [`Peeked::has_onward`] read a number from the source. A miss
-/// is an answer of the source that it does not have the number asked for. Reading is put off because, in a source with
-/// few numbers, finding the next number costs far more than asking whether the source has a certain number.
+/// [`Peeked::has_onward`] reads a number from the source at a miss, but only after this many misses have been counted.
+/// A miss is an answer of the source that it does not have the number asked for. Reading is put off because, in a
+/// source with few numbers, finding the next number costs far more than asking whether the source has a certain number.
 const MISSES_BEFORE_STEP: u8 = 128;
 
 /// A source whose next number may have been read ahead ("peeked"). A contract can see the number read ahead, if any,

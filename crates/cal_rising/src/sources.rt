@@ -64,9 +64,9 @@ impl<S: Rising> Sources<S> {
 impl<S: Rising> Rising for Sources<S> {
     ghost rest = { union };
 
-    /// Returns the smallest remaining number of the sources and removes this number from each source that has it.
-    /// Returns `None` if no source has a number left. To compare the sources, makes sure that the next number of each
-    /// source has been read ahead.
+    /// Removes the smallest remaining number from each source that has it, and returns this number. Returns `None` if
+    /// no source has a number left. The sources are compared by their next numbers, which are read ahead for this
+    /// unless they already were.
     fn next(&mut self) -> Option<i64>
         ensures given { result ≡ slice_get (union self.old) 0 }
         ensures left { union self.new ≡ drop 1 (union self.old) }

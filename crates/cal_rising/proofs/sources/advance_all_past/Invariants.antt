@@ -2,7 +2,8 @@ use Rattle.std.proofs.Common.{◌≡◌, ◌≤◌, ℕ, map, take, slice_index_
 use Rattle.cal_rising.specs.Merge.{Peeked, numbers, advanced}
 use Rattle.cal_rising.proofs.sources.advance_all_past.Given as goal
 
--- the sources visited so far have the numbers that `advanced` leaves of them, and the other sources are unchanged
+-- in each source visited so far, the remaining numbers are those that `advanced` returns for the numbers before the
+-- loop; the other sources are unchanged
 abbrev pub invariant-loop-peeked : goal.invariant-loop-peeked
 invariant-loop-peeked g l = record {
   given : map numbers (take l.peeked-index l.peeked-items) ≡ map (advanced l.number) (map numbers (take l.peeked-index l.initial.peeked-items));
