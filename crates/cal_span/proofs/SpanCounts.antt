@@ -38,8 +38,8 @@ weight-counts_of-remainder [] n = omega arith
 weight-counts_of-remainder (unit ∷ units) n =
     omega (arith, weight-counts_of-remainder units (n % size_of unit), div-add-mod' n (size_of unit))
 
--- the counts that division finds satisfy `AreReduced`: the counts after the count of a unit come from the remainder of
--- the division by this unit, so they add up to less than one such unit
+-- the counts that division finds satisfy `AreReduced`: the counts that follow the count of a unit are those of the
+-- remainder after division by this unit, so they add up to less than one such unit
 reduced-counts_of : (units : List TimeUnit) (n : ℕ) → AreReduced units (counts_of units n)
 reduced-counts_of [] n = tt
 reduced-counts_of (unit ∷ units) n =

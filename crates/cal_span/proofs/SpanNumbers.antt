@@ -35,8 +35,8 @@ before_first-cons x xs = take_one_more x xs (is_point x) (position_or_len is_poi
 pub after_first-cons : (x : ℕ) (xs : List ℕ) → after_first is_point (x ∷ xs) ≡ cond (is_point x) xs (after_first is_point xs)
 after_first-cons x xs = drop_one_more x xs (is_point x) (position_or_len is_point xs)
 
--- testing that all bytes of a word are digits or decimal points, and that none of them is a decimal point, returns the
--- same as testing that all bytes are digits (the induction step)
+-- all bytes of a word are digits if and only if all of them are digits or decimal points and none of them is a decimal
+-- point (the induction step)
 no_point_step : (digit point rest all : Bool) (n : ℕ) → (point ≡ true → digit ≡ false) → (rest && nat_le n 0) ≡ all → (((digit || point) && rest) && nat_le (cond point 1 0 + n) 0) ≡ (digit && all)
 no_point_step true true rest all n apart h = absurd (false≢true (sym (apart refl)))
 no_point_step true false rest all n apart h = rw zero-add h
@@ -104,8 +104,9 @@ divisor_more i divisor so_far = rw (add-one, pow-suc) (omega arith)
 pub term_is : (digits : List ℕ) (i divisor size : ℕ) → i < length digits → list_all is_ascii_digit digits ≡ true → size ≤ 31557600000000 → divisor ≡ min (10 ^ (i + 1)) top → (get_or digits i 0 - 48) * size / divisor ≡ digit_value (get_or digits i 0) * size / 10 ^ (i + 1)
 term_is digits i divisor size within all small at_power = grind (arith, nat_tests, digit_value_at, mul-le-mul, one-le-pow, quotient_at_top)
 
--- if the sum so far and the value of the digits from index `i` on add up to the value of all digits, so do the sum
--- after digit `i` is added and the value of the digits from index `i + 1` on; all sums saturate at `top`
+-- Suppose that the sum so far plus the value of the digits from index `i` on equals the value of all digits. This is
+-- still true after the value of digit `i` is added to the sum, with `i + 1` in place of `i`. All sums saturate at
+-- `top`.
 pub fraction_more : (digits : List ℕ) (i sum size : ℕ) → i < length digits → min (sum + fraction_worth size (i + 1) (drop i digits)) top ≡ min (fraction_worth size 1 digits) top → min (min (sum + digit_value (get_or digits i 0) * size / 10 ^ (i + 1)) top + fraction_worth size (i + 1 + 1) (drop (i + 1) digits)) top ≡ min (fraction_worth size 1 digits) top
 fraction_more digits i sum size within so_far =
     let step = at_drop_more (fraction_worth size (i + 1)) digits i 0 within in omega (arith, step)

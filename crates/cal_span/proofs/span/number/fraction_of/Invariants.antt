@@ -3,8 +3,8 @@ use Rattle.cal_span.specs.SpanValue.{fraction_worth}
 use Rattle.cal_text.proofs.DigitLemmas.{top}
 use Rattle.cal_span.proofs.span.number.fraction_of.Given as goal
 
--- The divisor is 10 to the power of the number of digits so far. The sum so far plus what the remaining digits add is
--- what all digits add. All these numbers saturate at `top`.
+-- The divisor is 10 to the power of the number of digits so far. The sum so far plus the value of the remaining digits
+-- equals the value of all digits. All these numbers saturate at `top`.
 abbrev pub invariant-loop-digit : goal.invariant-loop-digit
 invariant-loop-digit l = record {
   divisor : l.divisor ≡ min (10 ^ l.digit-index) top;

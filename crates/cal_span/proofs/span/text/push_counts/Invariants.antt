@@ -1,5 +1,5 @@
--- The text so far, followed by the counts of the remaining units, is the initial text followed by the counts of all
--- units. Each unit so far has added at most 26 bytes.
+-- Appending the counts of the remaining units to the text so far gives the same as appending the counts of all units to
+-- the initial text. Each unit so far has added at most 26 bytes.
 use Rattle.std.proofs.Common.{◌≡◌, ◌+◌, ◌*◌, ◌≤◌, ◌++◌, length, drop}
 use Rattle.cal_span.specs.headline.SpanText.{counts_in_row, positive, counts_of}
 use Rattle.cal_span.proofs.SpanCounts.{led}
