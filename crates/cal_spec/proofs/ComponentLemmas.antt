@@ -119,8 +119,8 @@ counted_in : (time : Bool) (n room : ℕ) → n ≤ cond time (room + 1) room �
 counted_in true n room h = omega arith
 counted_in false n room h = h
 
--- what is known of a component that was parsed with at most `room` counted parts allowed: its values are valid, and it
--- has no more counted parts than that
+-- the properties of a component that was parsed with at most `room` counted parts: its values are valid, and it has at
+-- most `room` counted parts
 pub record IsRead (slot : Slot) (room : ℕ) (c : Option (List Part)) : Type 0 where
   pub sound : IsValidComponent slot c
   pub few : counted slot c ≤ room

@@ -61,7 +61,7 @@ unfolding part_due
 part_due_fault slot room number text sum =
     due_fault slot text (part_of slot text) (eqb room 0) ∙ ap (λ full. cond full (Some TooManyParts) (result_err (part_of slot text))) (full_is room number sum)
 
--- if `part_due` parses a part, `room` isn't 0, and the part is the one that `part_of` returns, with two-digit years
+-- if `part_due` succeeds, then `room` isn't 0, and the result is the part that `part_of` returns, with two-digit years
 -- expanded
 pub part_due_is : (slot : Slot) (room : ℕ) (text : List ℕ) (p : Part) → part_due slot room text ≡ Ok p → (0 < room) × Follows (part_of slot text) (λ raw. Ok (with_values slot raw)) p
 unfolding part_due
@@ -117,8 +117,8 @@ component_counted slot room text c at =
       | inr listed ↦ rw (listed.1.1, listed.0) (ap (λ n. cond (is_time slot) (n - 1) n) (parts_counted slot (room_in slot room) (pieces_of text) listed.1.0 listed.1.2.shapes).0)
     ]
 
--- the counted parts so far (`before`) and the counted parts that are still allowed (`room`) are 240 in all; this stays
--- true when a component is parsed
+-- if the counted parts so far (`before`) and the counted parts still allowed (`room`) are 240 in all before a component
+-- is parsed, they are 240 in all afterwards too
 left_after : (slot : Slot) (before room : ℕ) (text : List ℕ) (c : Option (List Part)) → before + room ≡ 240 → component_of slot room text ≡ Ok c → before + numbered slot text + (room - counted slot c) ≡ 240
 left_after slot before room text c sum at =
     omega (arith, component_counted slot room text c at, (component_read slot room text c at).few)

@@ -10,8 +10,7 @@ use Rattle.cal_text.specs.headline.Words.{is_blank}
 use Rattle.cal_text.proofs.General.{in_suffix}
 use Rattle.cal_spec.specs.FaultSpan.{IsWordAt}
 
--- `end` is where the text's trailing blanks begin; if there are any, the byte at `end` is a blank, as `text_until`
--- requires
+-- if a text has trailing blanks, and `end` is where they begin, the byte at `end` is a blank
 pub trailing_blank : (text : List ℕ) (end : ℕ) → end ≡ length text - suffix_len is_blank text → end < length text → is_blank (get_or text end 0) ≡ true
 trailing_blank text end e within = in_suffix is_blank text end 0 (omega arith) within
 
@@ -96,8 +95,8 @@ trimmed_at text from inside blanks solid =
     let size = suffix_len_is is_blank text from 0 inside blanks solid in
     ap (λ n. take n text) (omega (arith, size))
 
--- if `P` is true of all ends of words up to `from`, it is true of all ends of words before `end`, the end of the next
--- word
+-- Let `end` be the end of the next word after `from`. If `P` is true of the end of every word that ends at or before
+-- `from`, then `P` is true of the end of every word that ends before `end`.
 pub accepted_before : (P : ℕ → Type 0) (text : List ℕ) (from start end : ℕ) → end ≤ length text
     → ((i : ℕ) → from ≤ i → i < start → is_blank (get_or text i 0) ≡ true)
     → ((i : ℕ) → start ≤ i → i < end → is_blank (get_or text i 0) ≡ false)
@@ -108,7 +107,8 @@ accepted_before P text from start end inside gap solid so_far s e w before =
       | inr same ↦ absurd (omega arith)
     ]
 
--- like `accepted_before`, but `P` is also true of `end`, and so it is true of all ends of words up to `end`
+-- Let `end` be the end of the next word after `from`. If `P` is true of `end` and of the end of every word that ends at
+-- or before `from`, then `P` is true of the end of every word that ends at or before `end`.
 pub accepted_up_to : (P : ℕ → Type 0) (text : List ℕ) (from start end : ℕ) → end ≤ length text
     → ((i : ℕ) → from ≤ i → i < start → is_blank (get_or text i 0) ≡ true)
     → ((i : ℕ) → start ≤ i → i < end → is_blank (get_or text i 0) ≡ false)
@@ -119,8 +119,8 @@ accepted_up_to P text from start end inside gap solid so_far here s e w before =
       | inr same ↦ subst (λ (k : ℕ). P k) (sym same) here
     ]
 
--- if only blanks follow `from`, and `from` is 0 or the end of a word up to which the text is valid, then the text
--- without its trailing blanks is empty or valid
+-- Suppose that only blanks follow `from`. Suppose also that `from` is 0, or that no blank stands directly before it and
+-- the text up to it is valid. Then the text without its trailing blanks is empty or valid.
 pub trimmed_valid : (valid : List ℕ → Bool) (text : List ℕ) (from : ℕ) → from ≤ length text → ((i : ℕ) → from ≤ i → i < length text → is_blank (get_or text i 0) ≡ true)
     → (0 < from → is_blank (get_or text (from - 1) 0) ≡ false) → (0 < from → valid (take from text) ≡ true)
     → true ≡ (length (trim_end_matches is_blank text) == 0) || valid (trim_end_matches is_blank text)

@@ -17,8 +17,8 @@ gives_days : Result (List Bool) SpecFault → List Bool → Bool
 gives_days (Ok ds) days = same_bools ds days
 gives_days (Err e) days = false
 
--- Tests whether `word` can only be a weekday list, and whether parsing it returns `days`. A word without blanks that
--- begins with a letter and isn't a shorthand can only be a weekday list.
+-- Tests whether `word` is recognized as a weekday list, and whether parsing it returns `days`. A word is recognized as
+-- a weekday list if it contains no blanks, begins with a letter and isn't a shorthand.
 is_read_back : List ℕ → List Bool → Bool
 is_read_back word days =
     not (list_any is_blank word)
@@ -42,7 +42,7 @@ none_is : (o : Option Shorthand) → is_none o ≡ true → o ≡ None
 none_is None h = refl
 none_is (Some s) h = absurd (false≢true h)
 
--- `word` can only be a weekday list, and parsing it returns `days`
+-- `word` is recognized as a weekday list, and parsing it returns `days`
 pub record ReadsDays (word : List ℕ) (days : List Bool) : Type 0 where
   pub clear : list_any is_blank word ≡ false
   pub letter : begins_with_letter word ≡ true
@@ -72,7 +72,7 @@ some_days days some chosen good =
     let none : not (list_any (λ d. d) days) ≡ false = ap not chosen in
     sym (ap (λ b. b || is_read_back (runs_text (runs_from 0 days)) days) none) ∙ (sym (cond-false (list_all (λ d. d) days) _ _ some) ∙ good)
 
--- the set of all seven weekdays is the one that is used if there is no weekday list
+-- if `days` contains all seven weekdays, it is the set that an expression without a weekday list gets
 pub weekdays_all : (days : List Bool) → length days ≡ 7 → list_all (λ d. d) days ≡ true → map (λ day. true) week ≡ days
 weekdays_all days seven all = all_days days all (each_checked 7 good_days days all_good seven)
 

@@ -63,8 +63,8 @@ pub reduced_only : (p q : Part) → IsPart p → IsReduced p q → q ≡ reduced
 unfolding IsReduced reduced
 reduced_only p q h is = reduced_only_to p.start p.end p.step q h.steps is
 
--- if the range from `a` to `e` has at least two numbers and reaches `e`, it is in normal form after `range_step` has
--- dropped a step of 1
+-- if `a` is below `e`, and a range from `a` reaches `e`, then the range from `a` to `e` is in normal form once
+-- `range_step` has dropped a step of 1
 range_normal : (a e : ℕ) (step : Option ℕ) → IsStep step → a < e → (e - a) % step_of step ≡ 0 → IsNormalRange a e (range_step step)
 range_normal a e None steps lt reached = lt
 range_normal a e (Some r) steps lt reached = by_one (nat_eq r 1) refl where
@@ -96,7 +96,7 @@ pub reduced_normal : (p : Part) → IsPart p → IsNormal (reduced p)
 unfolding reduced
 reduced_normal p h = reduced_normal_to p.start p.end p.step h.forward h.steps
 
--- if a range has at least two numbers and its step isn't 1, `range_to` returns the range unchanged
+-- if a range ends above its start and its step isn't 1, `range_to` returns the range unchanged
 range_to_stays : (a b : ℕ) (step : Option ℕ) → a < b → range_step step ≡ step → range_to a b step ≡ record { start = a; end = Some b; step = step }
 range_to_stays a b step lt same =
     let other : nat_eq b a ≡ false = ne_eqb b a (λ e. absurd (omega arith)) in

@@ -1,5 +1,5 @@
--- Computing the runs of a set of weekdays day by day returns the only list of runs that the set has. The loop that
--- prints the runs finds them one after another, and prints the text of this list.
+-- A set of weekdays has exactly one list of runs, which `runs_from` computes day by day. The loop that prints the runs
+-- finds them one after another, and prints the text of this list.
 use Rattle.std.proofs.Common.{◌≡◌, ℕ, zero, suc, ◌+◌, ◌-◌, ◌<◌, ◌≤◌, cond, Bool, true, false, ◌||◌, nat_eq, nat_le, get_or, List, [], ◌∷◌, ◌++◌, codes, length, drop, refl, sym, ap, ◌∙◌, inl, inr, arith}
 use Rattle.std.specs.List.{flat_map, list_all, prefix_len}
 use Rattle.std.proofs.lemmas.List.{drop-drop}
@@ -15,7 +15,7 @@ use Rattle.cal_text.proofs.General.{or_assoc}
 run : ℕ → ℕ → Run
 run first last = record { first = first; last = last }
 
--- how many days match at the start of the list, before the first day, if any, that doesn't match
+-- the number of days that match at the start of the list, before the first day that doesn't
 abbrev pub front : List Bool → ℕ
 front = prefix_len (λ day. day)
 
@@ -54,7 +54,7 @@ with_day-alone day (r ∷ rs) a =
 with_day-joins : (day last : ℕ) (rs : List Run) → with_day day (record { first = day + 1; last = last } ∷ rs) ≡ record { first = day; last = last } ∷ rs
 with_day-joins day last rs = let same : nat_eq (day + 1) (day + 1) ≡ true = eq-eqb (day + 1) (day + 1) refl in rw same
 
--- if the first day doesn't match, the runs are the runs of the days after it
+-- if the list is empty or its first day doesn't match, the runs are the runs of the days after the first
 pub runs_skip : (day : ℕ) (bs : List Bool) → front bs ≡ 0 → runs_from day bs ≡ runs_from (day + 1) (drop 1 bs)
 runs_skip day [] h = refl
 runs_skip day (true ∷ bs) h = absurd (omega arith)

@@ -100,8 +100,8 @@ signless_more : (weekdays : Option (List ℕ)) (w time : List ℕ) → AllByRecu
 signless_more None w time first next = (next, tt)
 signless_more (Some v) w time first next = (first.0, (next, tt))
 
--- the words after the weekday list, or all words if there is no weekday list: the grammar gives them the roles that the
--- parser finds
+-- The grammar gives the words after the weekday list the roles that the parser finds. If there is no weekday list, this
+-- is true of all words.
 module _ (weekdays last : Option (List ℕ)) (kind : IfSome weekdays IsWeekdaysWord) where
   plain_with : (date time : Option (List ℕ)) (rest : List (List ℕ)) → 0 < length (given weekdays ++ (given date ++ given time)) → IfSome date IsDateWord → IfSome time IsTimeWord → AllByRecursion IsSignless (drop 1 (given weekdays ++ (given date ++ given time))) → rest ≡ given last
       → ArePlain (given weekdays ++ (given date ++ (given time ++ rest))) (record { weekdays = weekdays; date = unwrap_or date any_date; time = unwrap_or time midnight; rest = rest }) last

@@ -93,7 +93,7 @@ abbrev pub part_at_end : Slot → Part → List Symbol → Result Part SpecFault
 part_at_end slot p [] = Ok p
 part_at_end slot p ss = Err (bad slot)
 
--- parses what follows the slash of a part: the step, after which nothing may follow
+-- parses the step that follows the slash of a part; nothing may follow the step
 unfoldable pub with_step : Slot → ℕ → Option ℕ → List Symbol → Result Part SpecFault
 with_step slot a last ss =
     number_due slot ss >>= λ r. part_at_end slot (record { start = a; end = last; step = Some r.number }) r.after

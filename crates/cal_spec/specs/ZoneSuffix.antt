@@ -21,7 +21,7 @@ suffix_in [] = Ok None
 suffix_in (word ∷ []) = suffix_due (suffix_of word)
 suffix_in words = Err StrayWord
 
--- whether parsing a word can return this zone
+-- there is a word that is parsed as this zone
 abbrev pub IsSuffix : ZoneSuffix → Type 0
 IsSuffix (of_name name) = (is_zone_name name ≡ true) × (kept_name name ≡ name)
 IsSuffix (ahead seconds) = AreWholeMinutes seconds

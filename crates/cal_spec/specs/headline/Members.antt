@@ -32,13 +32,13 @@ values slot a (Some b) (Some r) v = is_step_between a b r (v - a) v
 unfoldable pub part_has : Slot → Part → ℕ → Bool
 part_has slot p v = values slot p.start p.end p.step v
 
--- whether `*` matches v: it matches all numbers that the slot allows, except that it matches every day from 1 to 31 if
--- days are counted from the month's end
+-- Whether `*` matches v. It matches what the slot allows, with one exception: if days are counted from the month's end,
+-- the slot allows only 1 to 28, but `*` matches 1 to 31.
 abbrev pub in_field : Slot → ℕ → Bool
 in_field DayFromEnd v = is_between (least Day) (greatest Day) v
 in_field slot v = is_between (least slot) (greatest slot) v
 
--- whether a component matches v: `*` by the rule of `in_field`, and parts if at least one of them matches v
+-- whether a component matches v: `*` if `in_field` is true of v, and a list of parts if at least one of them matches v
 abbrev pub component_has : Slot → Option (List Part) → ℕ → Bool
 component_has slot None v = in_field slot v
 component_has slot (Some ps) v = list_any (λ p. part_has slot p v) ps
