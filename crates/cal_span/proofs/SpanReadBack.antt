@@ -1,5 +1,5 @@
--- Parsing a printed span gives the same span: its text is split into the counts again, each count is worth its number
--- times its unit, and the sum is the span.
+-- Parsing a printed span gives the same span: its text is split into its counts again, the value of each count is its
+-- number times the length of its unit, and these values add up to the span.
 use Rattle.std.proofs.Common.{◌≡◌, ℕ, zero, suc, ◌+◌, ◌*◌, ◌^◌, ◌<◌, ◌≤◌, List, [], ◌∷◌, ◌++◌, codes, length, Some, Ok, map, refl, sym, ap, ◌∙◌, subst, lit<, arith}
 use Rattle.std.proofs.lemmas.Bool.{le-leb}
 use Rattle.std.proofs.lemmas.Fmt.{decimal_nonempty}
@@ -23,7 +23,7 @@ use Rattle.cal_span.proofs.SpanDigits.{AreDigits, are_digits-decimal, kind_of_di
 use Rattle.cal_span.proofs.SpanWords.{is_kind-same}
 use Rattle.cal_span.proofs.SpanRuns.{BeginsApart}
 
--- Words
+-- The words of printed counts
 
 -- a byte below 128 is a character of its own
 characters-ascii : (b : ℕ) (bytes : List ℕ) → b < 128 → characters (b ∷ bytes) ≡ record { kind = kind_of b; text = b ∷ [] } ∷ characters bytes
@@ -133,7 +133,7 @@ words-row c cs within =
     ∙ ap (λ (ps : List Piece). record { kind = Numeric; text = decimal c.number } ∷ record { kind = Letter; text = unit_name c.unit } ∷ filter (λ w. not (is_kind Blank w.kind)) ps) others
     ∙ ap (λ (ps : List Piece). record { kind = Numeric; text = decimal c.number } ∷ record { kind = Letter; text = unit_name c.unit } ∷ ps) (words-spaced cs)
 
--- Pairs and their values
+-- The pairs of printed counts, and their values
 
 abbrev pub pair_of : Count → Pair
 pair_of c = record { number = decimal c.number; unit = Some (unit_name c.unit) }
@@ -163,7 +163,7 @@ judged-counts sum [] within = ap Ok (omega arith)
 judged-counts sum (c ∷ cs) within =
     grind (arith, nat_tests, worth-pair_of, small_number, le-leb, judged-counts (sum + c.number * size_of c.unit) cs (omega arith))
 
--- The value of a printed span
+-- The value of a printed span, and of a number without a unit
 
 span_of-row : (cs : List Count) → 0 < weight cs → weight cs ≤ limit → span_of (counts_in_row cs) ≡ Ok (weight cs)
 unfolding span_of pairs_in

@@ -60,8 +60,8 @@ runs_longest text = runs_apart (characters text)
 
 -- If runs follow the rules `AreRuns` and `AreApart`, they are the runs that `runs` finds
 
--- a run of kind `k` in front of these runs stays a run of its own: there are no runs, or the first run is of another
--- kind
+-- if a run of kind `k` is put in front of these runs, it stays a run of its own: there are no runs, or the first run is
+-- of another kind
 abbrev pub BeginsApart : CharKind → List Piece → Type 0
 BeginsApart k [] = Unit {0}
 BeginsApart k (v ∷ ws) = is_kind k v.kind ≡ false

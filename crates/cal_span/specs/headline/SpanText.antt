@@ -1,5 +1,5 @@
 -- How a time span is printed (systemd.time(7), Parsing Time Spans): for each unit, from the largest to the smallest,
--- the text says how many whole units fit into what the larger units leave. Counts that are zero are left out.
+-- the text says how many whole units fit into what remains after the larger units. Counts that are zero are left out.
 use Rattle.std.specs.Prelude.{ℕ, ◌/◌, ◌%◌, List, [], ◌∷◌, codes, decimal, filter, nat_lt}
 use Rattle.std.specs.List.{join_by}
 use Rattle.cal_bytes.specs.headline.Bytes.{joined}
