@@ -282,7 +282,7 @@ pub day_no_time : (from_end : Bool) → is_time (day_slot from_end) ≡ false
 day_no_time true = refl
 day_no_time false = refl
 
--- A parsed date and a parsed time have valid values, and no more counted parts than are allowed
+-- Parsed dates, times and whole texts have valid values, and no more counted parts than are allowed
 
 pub record IsDateRead (d : DateFields) : Type 0 where
   pub year : IsRead Year max_counted_parts d.year

@@ -169,7 +169,8 @@ fields_length f year month day hour minute second few =
     let lg = row_length (codes ":") 2 f.second (omega arith) second in
     omega (arith, lead_length f.from_end, length-append a (b ++ (c ++ (d ++ (e ++ (g ++ []))))), length-append b (c ++ (d ++ (e ++ (g ++ [])))), length-append c (d ++ (e ++ (g ++ []))), length-append d (e ++ (g ++ [])), length-append e (g ++ []), length-append g [])
 
--- The text of weekdays has at most 20 bytes, which is checked by computing it for each set of weekdays
+-- Upper bounds for the length of weekdays, zones and whole expressions. The bound of 20 bytes for weekdays is checked
+-- by computing the text of each set of weekdays.
 
 short_weekdays : check_all 7 (λ days. nat_le (length (weekdays_text days)) 20) ≡ true
 unfolding weekdays_text runs_text run_text name_of

@@ -2,8 +2,8 @@
 use Rattle.std.specs.Prelude.{◌≡◌, ◌<◌, ◌≤◌, ◌+◌, ℕ, true, false, List, length, slice_index}
 use Rattle.cal_text.specs.headline.Words.{is_blank}
 
--- the bytes `start..end` are a word: there is at least one byte, none of them is a blank, and on either side of them is
--- a blank or the start or end of the text
+-- The bytes `start..end` are a word: there is at least one byte, and none of them is a blank. Directly before them is a
+-- blank or the start of the text, and directly after them is a blank or the end of the text.
 pub record IsWordAt (text : List ℕ) (start end : ℕ) : Type 0 where
   pub some : start < end
   pub within : end ≤ length text
