@@ -1,4 +1,4 @@
-//! The aliases of the units that a question is about, and the errors in finding them.
+//! The aliases of units, which are needed if a question is about units, and the errors that are found along with them.
 
 ghost use Rattle.std.specs.Prelude.{◌≤◌, IfOk, max};
 
@@ -45,8 +45,9 @@ fn timers_of<'t>(verb: Verb, targets: &'t [&'t str]) -> &'t [&'t str] {
     }
 }
 
-/// Adds the errors of folders of the search path to an answer, unless the question names no timer: in that case the
-/// answer has them already. Errors of single files and links are left out: they are reported if their unit is loaded.
+/// Adds to an answer the errors about folders of the search path, for example that a folder can't be listed. If the
+/// question names no timer, the answer isn't changed, because it has these errors already. Errors about single files
+/// and links are left out, because they are reported if their unit is loaded.
 pub(crate) fn with_folder_faults(
     alloc: Global,
     verb: Verb,
@@ -78,7 +79,8 @@ pub(crate) fn with_folder_faults(
     })
 }
 
-/// Returns the errors of folders of the search path, in the form in which loading all timers reports them.
+/// Returns those of the errors that are about folders of the search path, in the form that they have if all timers are
+/// loaded.
 fn folder_faults(
     alloc: Global,
     path: &[String],

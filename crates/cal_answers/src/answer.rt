@@ -18,7 +18,8 @@ use cal_units::{Alias, Entry, Tree, TreeFault};
 use cal_zone::Instant;
 use std::alloc::{AllocError, Global};
 
-/// The exit status if a timer can't be loaded, `lint` finds an error, or two timers differ.
+/// The exit status if a timer can't be loaded, a folder of the search path can't be read, `lint` finds an error, or two
+/// timers differ.
 pub(crate) const INVALID: u8 = 1;
 
 /// The exit status if the question can't be answered at all, for example because the local zone isn't known.
@@ -34,8 +35,9 @@ pub struct Answer {
     pub out: String,
     /// The error lines, for standard error.
     pub err: String,
-    /// The exit status: 0 for success; 1 if a timer can't be loaded, `lint` finds an error, or two timers differ; 2 if
-    /// the question can't be answered at all, for example because the local zone isn't known.
+    /// The exit status: 0 for success; 1 if a timer can't be loaded, a folder of the search path can't be read, `lint`
+    /// finds an error, or two timers differ; 2 if the question can't be answered at all, for example because the local
+    /// zone isn't known.
     pub status: u8,
 }
 
@@ -106,7 +108,7 @@ fn has_root<T: Tree>(alloc: Global, tree: &T, root: &str) -> Result<bool, AllocE
     }
 }
 
-/// Returns the answer if the question can't be answered at all: an error line with the reason, and the status
+/// Returns the answer to a question that can't be answered at all: an error line with the reason, and the status
 /// [`UNUSABLE`].
 pub(crate) fn stopped(alloc: Global, reason: &str) -> Result<Answer, PlanFault>
     ensures { IfOk result (λ answer. answer.status ≤ 2) }

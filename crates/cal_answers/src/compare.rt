@@ -27,8 +27,8 @@ pub(crate) fn same<T: Tree>(alloc: Global, tree: &T, asked: Asked<'_>) -> Result
     }
 }
 
-/// Loads a unit or a file. If neither exists, loads the target as an expression. If that fails too, the error is about
-/// the unit or the file.
+/// Loads a unit or a file. If neither exists, loads the target as an expression. If that fails too, returns the error
+/// about the unit or the file.
 fn load_one<T: Tree>(
     alloc: Global,
     tree: &T,
@@ -72,8 +72,8 @@ fn compared(
     })
 }
 
-/// Returns the answer if a timer couldn't be loaded: the error lines, and a line for each masked unit, since a masked
-/// unit isn't loaded and has no error line.
+/// Returns the answer for two timers that couldn't both be loaded: the error lines, and a line for each masked unit,
+/// since a masked unit isn't loaded and has no error line.
 fn unloaded(alloc: Global, first: &Loaded, second: &Loaded) -> Result<Answer, PlanFault>
     ensures { IfOk result (λ answer. answer.status ≤ 2) }
 {

@@ -32,8 +32,8 @@ struct Problem {
     text: String,
 }
 
-/// Returns all problems in the files, each of which is checked by itself, and then warnings about expressions and
-/// exceptions that have no effect.
+/// Returns all problems of the files, and then warnings about expressions and exceptions that have no effect. Each file
+/// is checked by itself.
 pub(crate) fn lint<T: Tree>(alloc: Global, tree: &T, asked: Asked<'_>) -> Result<Answer, PlanFault>
     ensures { IfOk result (λ answer. answer.status ≤ 2) }
 {
@@ -60,7 +60,8 @@ pub(crate) fn lint<T: Tree>(alloc: Global, tree: &T, asked: Asked<'_>) -> Result
     Ok(Answer { out, err, status })
 }
 
-/// Adds the problems of the files, each checked by itself, and returns the targets whose files can't be read.
+/// Adds the problems of the files, each file checked by itself. Returns an error for each target whose files can't be
+/// read.
 fn add_files<T: Tree>(
     alloc: Global,
     tree: &T,
@@ -176,12 +177,13 @@ fn idle_problem(
     })
 }
 
-/// Returns whether an error is one of the timer as a whole, so that it isn't among the problems of its files: the timer
-/// names a zone that can't be loaded, has no setting that starts its unit, has too many expressions in several files,
-/// or its file is a link to nothing. `of_files` are the targets whose files can't be read.
+/// Returns whether an error is about the timer as a whole, and so isn't among the problems of its files. Such an error
+/// says that the timer names a zone that can't be loaded, that it has no setting that starts its unit, that all its
+/// files together have too many expressions, or that its file is a link to nothing. `of_files` are the errors of the
+/// targets whose files can't be read.
 ///
-/// [`add_files`] decides which errors of the files by themselves `lint` reports. For example, a comment that isn't
-/// UTF-8 is none.
+/// All other errors are left to [`add_files`], which accepts more than loading a timer does, for example comments that
+/// aren't UTF-8.
 fn is_of_timer(fault: &TargetFault, of_files: &[TargetFault], problems: &[Problem]) -> bool {
     match &fault.reason {
         TargetReason::Zone(..) | TargetReason::NothingToDo => true,
