@@ -1,4 +1,4 @@
--- `word` is among the remaining names if and only if it is among all names: no name so far was equal to it.
+-- `word` is among the remaining names if and only if it is among all names, because no name so far equals it.
 use Rattle.std.proofs.Common.{◌≡◌, map, drop}
 use Rattle.std.specs.List.{list_any}
 use Rattle.std.specs.Str.{bytes_eq}
