@@ -1,5 +1,5 @@
--- Local seconds are integers in contracts, and natural numbers in some definitions. These lemmas show that the integers
--- and the natural numbers have the same range.
+-- Local seconds are integers in contracts, and natural numbers in some definitions. These lemmas relate the two: the
+-- integers that are local seconds are exactly the natural numbers below `seconds_in_all`.
 use Rattle.std.proofs.Common.{◌≡◌, ◌<◌, arith, nat_lt, negsuc, pos, unsigned_abs, ℕ, ℤ}
 use Rattle.std.proofs.lemmas.Int.{ints, to_z-of_z}
 use Rattle.jiff_core.proofs.SignedLemmas.{signed_arith}
@@ -13,5 +13,5 @@ local_inside (negsuc n) h = absurd (omega (arith, ints, h.0))
 pub local_inside-pos : (local : ℕ) → local < seconds_in_all → IsLocalSecond (pos local)
 local_inside-pos local h = let count = seconds_in_all-is in (omega (arith, ints), omega (arith, ints))
 
--- what `grind` and the tactic `auto` need to calculate with local seconds
+-- the lemmas that `grind` and the tactic `auto` need to calculate with local seconds
 pub ruleset local_arith = (signed_arith, to_z-of_z, nat_lt, seconds_in_all-is, local_inside)

@@ -1,5 +1,5 @@
--- Which words are parsed as zones where systemd.time(7), Calendar Events and Parsing Timestamps, allows a zone, and how
--- `+hh:mm` and `-hh:mm` are parsed as UTC offsets. These two forms are this project's own.
+-- Which words are parsed as zones, and how `+hh:mm` and `-hh:mm` are parsed as UTC offsets. These two forms are this
+-- project's own. For where a zone is allowed, see systemd.time(7), Calendar Events and Parsing Timestamps.
 use Rattle.std.specs.Prelude.{ℕ, ℤ, ◌+◌, ◌*◌, ◌≤◌, ◌%◌, ◌≡◌, ◌||◌, ◌&&◌, ◌==◌, Bool, pos, neg_ℤ, unsigned_abs, nat_le, if◌then◌else◌, List, [], ◌∷◌, Option, None, Some, option_map}
 use Rattle.std.specs.Char.{is_ascii_digit}
 use Rattle.std.specs.Str.Parse.{digits_value}

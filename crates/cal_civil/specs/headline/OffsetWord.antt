@@ -1,5 +1,5 @@
--- Fixed UTC offsets, `+hh:mm` or `-hh:mm`, which can be written where systemd.time(7), Calendar Events and Parsing
--- Timestamps, allows the name of a zone. This form is this project's own.
+-- Fixed UTC offsets, `+hh:mm` or `-hh:mm`. They can be written instead of the name of a zone. This form is this
+-- project's own. For where the name of a zone is allowed, see systemd.time(7), Calendar Events and Parsing Timestamps.
 use Rattle.std.specs.Prelude.{ℕ, ℤ, ◌+◌, ◌*◌, ◌≤◌, ◌≡◌, ◌⊎◌, ◌||◌, ◌==◌, Bool, true, false, pos, neg_ℤ, List, [], ◌∷◌, ◌++◌, length, codes}
 use Rattle.std.specs.Char.{is_ascii_digit}
 use Rattle.std.specs.List.{list_all}
