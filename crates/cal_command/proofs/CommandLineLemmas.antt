@@ -1,4 +1,4 @@
--- Lemmas about the command that is described to `clap`, and about the results for what `clap` finds in arguments.
+-- Lemmas about the command that is described to `clap`, and about which results of parsing the arguments are right.
 use Rattle.std.proofs.Common.{arith, ◌≡◌, List, [], ◌∷◌, ◌++◌, append_assoc, Some, Bool, true, false, refl, sym, ap, ◌∙◌, inl, inr, ◌⊎◌, Result, Ok, Err}
 use Rattle.std.specs.Prelude.{not}
 use Rattle.std.specs.List.{list_any}
@@ -31,9 +31,9 @@ among p kind [] at holds = absurd at
 among p kind (k ∷ ks) (inl same) holds = grind (arith, ap p same)
 among p kind (k ∷ ks) (inr later) holds = grind (arith, among p kind ks later holds)
 
--- Suppose that `clap` returns an error of the kind `kind` for these arguments. Unless the kind is `OutOfMemory`, `clap`
--- may report this kind for the arguments, and it doesn't accept them. If the code may report `fault` for the error
--- (`IsReportedOf`), then `fault` is right for the arguments, as `IsFaultOf` defines it.
+-- Suppose that `clap` returned an error of the kind `kind` for the arguments. So, unless the kind is `OutOfMemory`,
+-- `clap` doesn't accept the arguments, and this is one of the kinds that it may report for them. Then every `fault`
+-- that may be reported for this kind (`IsReportedOf`) is right for the arguments, as `IsFaultOf` defines it.
 pub reported_fault : (arguments : List Text) (kind : ErrorKind) (fault : CommandFault) → (takes_arguments arguments ≡ true → kind ≡ OutOfMemory)
     → (kind ≡ OutOfMemory) ⊎ IsAmong kind (faults_in arguments) → IsReportedOf kind fault → IsFaultOf arguments fault
 reported_fault arguments kind (usage text) passes kinds reported =
@@ -45,8 +45,8 @@ reported_fault arguments kind bad_now passes kinds reported = absurd reported
 reported_fault arguments kind bad_zones passes kinds reported = absurd reported
 reported_fault arguments kind bad_local passes kinds reported = absurd reported
 
--- if `clap` parses the arguments, then the result of checking the values that it found is right for the arguments, as
--- `IsAskOf` defines it
+-- if `clap` parses the arguments, then the result of checking the values that it found, or the error for a failed
+-- allocation, is right for the arguments, as `IsAskOf` defines it
 pub read_answer : (arguments : List Text) (found : VerbMatches) (answer : Result Ask CommandFault) → faults_in arguments ≡ [] → Some found ≡ parsed_in arguments
     → IsOrNoMemory answer (read_options found) → IsAskOf arguments answer
 unfolding asked_in
@@ -59,8 +59,8 @@ read_answer arguments found (Err bad_zones) none parsed is = (none, rw (← pars
 read_answer arguments found (Err bad_local) none parsed is = (none, rw (← parsed) (sym is))
 read_answer arguments found (Err no_memory) none parsed is = tt
 
--- if `clap` accepts the arguments, every result that is right for them (`IsAskOf`) is what they ask for, or the error
--- for a failed allocation
+-- if `clap` accepts the arguments, only two results are right for them (`IsAskOf`): the one that `asked_in` returns,
+-- and the error for a failed allocation
 pub taken_arguments : (arguments : List Text) (answer : Result Ask CommandFault) → IsAskOf arguments answer → takes_arguments arguments ≡ true
     → (answer ≡ Err no_memory) ⊎ (answer ≡ asked_in arguments)
 taken_arguments arguments (Ok ask) is takes = inr (sym is.1)

@@ -86,8 +86,8 @@ read_options found =
       zones = zones;
     })))))
 
--- what the arguments ask for, or the error for the first invalid value, if `clap` parses the arguments; in that case
--- `clap` finds a verb with texts, so the default `usage []` is never the result
+-- What the arguments ask for, or the error for the first invalid value. The function is meant for arguments that `clap`
+-- parses. In these, `clap` finds a verb with texts, so the default `usage []` is never the result.
 unfoldable pub asked_in : List Text → Result Ask CommandFault
 asked_in arguments = option_map_or read_options (parsed_in arguments) (Err (usage []))
 
@@ -121,7 +121,7 @@ abbrev pub IsAskOf : List Text → Result Ask CommandFault → Type 0
 IsAskOf arguments (Ok ask) = HasRead arguments (Ok ask)
 IsAskOf arguments (Err fault) = IsFaultOf arguments fault
 
--- if `clap` returns an error of the kind `kind`, the `CommandFault` may be reported for it
+-- the `CommandFault` may be reported if `clap` returns an error of the kind `kind`
 abbrev pub IsReportedOf : ErrorKind → CommandFault → Type 0
 IsReportedOf kind (usage text) = (is_of_help kind ≡ false) × (kind ≢ OutOfMemory)
 IsReportedOf kind (help text) = (is_of_help kind ≡ true) × (kind ≢ OutOfMemory)
@@ -141,7 +141,7 @@ IsFaultOrNoMemory bad_zones answer = Err bad_zones ≡ answer
 IsFaultOrNoMemory bad_local answer = Err bad_local ≡ answer
 IsFaultOrNoMemory no_memory answer = ⊤
 
--- a result equals `answer`, or is the error for a failed allocation
+-- the first result equals `answer` and is neither usage nor help, or it is the error for a failed allocation
 abbrev pub IsOrNoMemory : Result Ask CommandFault → Result Ask CommandFault → Type 0
 IsOrNoMemory (Ok ask) answer = Ok ask ≡ answer
 IsOrNoMemory (Err fault) answer = IsFaultOrNoMemory fault answer

@@ -32,8 +32,8 @@ abbrev pub parts_at : (ℕ → Bool) → List ℕ → Option (List ℕ × List �
 parts_at is_separator text =
     if list_any is_separator text then Some (before_first is_separator text, after_first is_separator text) else None
 
--- an item of `--zones`, given its name and its path, if the name has the form of a zone's name and the path is not
--- empty
+-- the item of `--zones` with this name and this path; None if the name doesn't have the form of a zone's name, or if
+-- the path is empty
 abbrev pub named_file : List ℕ × List ℕ → Option ZoneItem
 named_file parts =
     if is_zone_name parts.0 && nat_lt 0 (length parts.1) then Some (record { name = parts.0; path = parts.1 }) else None

@@ -8,8 +8,8 @@ use Rattle.cal_request.specs.Request.{has_zones, is_timer, seeks_elapses}
 use Rattle.cal_request.specs.declared.request.Verb.{Verb}
 use Rattle.cal_request.specs.declared.request.Verb.TheVariants.{Calendar, Timer, Timestamp, Timespan}
 
--- a verb with its texts, and what `clap` found for the verb: a row for each option that was given, and one row for all
--- texts
+-- a verb with its texts, and the rows of what `clap` found for the verb: one row for each option that was given, and
+-- one row for all texts
 pub record VerbMatches : Type 0 where
   pub verb : Verb
   pub texts : List Text

@@ -9,7 +9,7 @@ use cal_zone::Instant;
 
 /// A parsed command line: a request, with the present and the zones that were given.
 ///
-/// If the verb lacks an option, the field of this option has the same value as if the option weren't given.
+/// If the verb doesn't have an option, the field of this option has its default.
 #[derive(Debug, Drop)]
 pub struct Ask {
     /// The verb with its texts and options. There is at least one text.

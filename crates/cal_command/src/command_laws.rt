@@ -8,8 +8,9 @@ ghost use Rattle.cal_command.specs.CommandLine.{IsAskOf, asked_in, parsed_in, ta
 ghost use Rattle.cal_command.specs.WorkedArguments.{daily_matches, daily_ask, daily_arguments, help_arguments};
 ghost use Rattle.cal_command.specs.WorkedArguments.{none_arguments, options_ask, options_arguments, stray_arguments};
 
-/// If `clap` accepts the arguments, the result is what they ask for, or the error for the first invalid value in the
-/// order in which the values are checked, unless allocation fails. The result is neither `Usage` nor `Help`.
+/// If `clap` accepts the arguments, and allocation doesn't fail, the result is what they ask for or, if values are
+/// invalid, the error for the first invalid value in the order in which the values are checked. The result is neither
+/// `Usage` nor `Help`.
 pub fn taken_arguments_are_answered()
     ensures { (arguments : List (List ℕ)) (answer : Result Ask CommandFault) → IsAskOf arguments answer → takes_arguments arguments ≡ true
         → (answer ≡ Err no_memory) ⊎ (answer ≡ asked_in arguments) }
