@@ -14,8 +14,8 @@ union_one xs h = sym (IsUnion-only (xs ∷ []) xs (record {
   members = λ i. (λ m. inl m, λ m. elim m [ inl n ↦ n | inr n ↦ absurd n ]);
 }))
 
--- A merge of one source and one exception leaves out the numbers of the exception. So the first number that it returns
--- is the first one of the source that the exception lacks.
+-- A merge of the source `xs` and the exception `ys` returns the numbers of `xs` that aren't in `ys`. So the first
+-- number that it returns is the first one that only `xs` has.
 pub first_of_merge : (xs ys : List ℤ) → IsStrictlySortedBy int_cmp xs → IsStrictlySortedBy int_cmp ys → (empty some both : Merge) (first : Option ℤ) → empty ≡ record { started = false; lists = []; exceptions = [] }
     → some ≡ record { started = false; lists = empty.lists ++ xs ∷ []; exceptions = empty.exceptions }
     → both ≡ record { started = false; lists = some.lists; exceptions = some.exceptions ++ ys ∷ [] }
