@@ -21,7 +21,8 @@ machine files links =
       is_null = λ path. list_any (bytes_eq path) links;
     }
 
--- the drop-ins of a unit that are read on a machine with these files, whose search path has two folders
+-- the drop-ins that are read for a unit on a machine with these files; the search path has the folders `/etc` and
+-- `/lib`
 abbrev read_on : List File → List (List ℕ) → List (List ℕ) → List (List ℕ)
 read_on files links stems = drop_ins (machine files links) (codes "/etc" ∷ codes "/lib" ∷ []) stems
 
@@ -54,8 +55,8 @@ rows =
       ([], (codes "foo-bar" ∷ [], codes "/lib/foo-.timer.d/x.conf" ∷ [])),
     )
     ∷ (in_etc (codes "timer.d") (codes "x.conf") ∷ in_lib (codes "timer.d") (codes "x.conf") ∷ [], ([], (codes "foo" ∷ [], codes "/etc/timer.d/x.conf" ∷ [])))
-    -- In the next two rows, which don't have the folder of all timers, the more important root wins, even with a more
-    -- general folder.
+    -- In the next two rows, neither folder is a folder of all timers. The folder below the more important root wins,
+    -- even though it is the more general one.
     ∷ (
       in_lib (codes "foo-bar.timer.d") (codes "x.conf") ∷ in_etc (codes "foo-.timer.d") (codes "x.conf") ∷ [],
       ([], (codes "foo-bar" ∷ [], codes "/etc/foo-.timer.d/x.conf" ∷ [])),

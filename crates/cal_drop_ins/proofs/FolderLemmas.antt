@@ -1,5 +1,5 @@
--- Lemmas on the prefixes of a stem that end with a dash, one byte at a time, and on why a stem may be cut after a dash
--- or an `@`.
+-- Lemmas on the prefixes of a stem that end with a dash: how examining one more byte changes the list of these
+-- prefixes. Dashes and `@` are ASCII, so a stem may be cut after them.
 use Rattle.std.proofs.Common.{◌≡◌, ◌+◌, ◌<◌, ◌==◌, ℕ, true, List, [], ◌∷◌, ◌++◌, refl, sym, ap, ◌∙◌, arith, append_assoc, get_or, length, map, reverse, take, add-one}
 use Rattle.std.specs.Prelude.{if◌then◌else◌}
 use Rattle.std.specs.List.{position_or_len}

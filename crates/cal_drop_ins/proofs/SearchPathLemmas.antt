@@ -1,5 +1,5 @@
--- If `config` and `share` are the folders of units in the user's home, the list of these and the other folders, each
--- below the root, is `user_path`.
+-- The folders of a user's manager, each below the root, form the list `user_path`. Two of them, `config` and `share`,
+-- are in the user's home.
 use Rattle.std.proofs.Common.{◌≡◌, ◌++◌, ◌∷◌, [], ℕ, List, codes, map, refl}
 use Rattle.cal_drop_ins.specs.SearchPath.{user_path}
 

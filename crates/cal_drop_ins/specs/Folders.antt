@@ -30,7 +30,8 @@ own_folder root stem = root ++ codes "/" ++ stem ++ codes ".timer.d"
 abbrev pub type_folder : List ℕ → List ℕ
 type_folder root = root ++ codes "/timer.d"
 
--- the drop-in folders that apply to a unit with this stem; all folders below a more important root are more important
+-- the drop-in folders that apply to a unit with this stem: first all folders below the least important root, then all
+-- folders below the next one, and so on
 abbrev pub name_folders : List (List ℕ) → List ℕ → List (List ℕ)
 name_folders roots stem = flat_map (λ root. map (own_folder root) (folder_stems stem)) roots
 
