@@ -14,8 +14,8 @@ use Rattle.cal_text.proofs.General.{both_follow}
 pub has_all : (mask others : ℕ) → bit_or mask others ≡ mask → HasAll (is_bit mask) (is_bit others)
 has_all mask others same i other = grind (arith, is_bit-or, or_right)
 
--- if each of the four masks in `masks` has all bits of the mask of `others` with the same index, then the set in
--- `masks` contains the set in `others`
+-- Suppose that `others` has four masks. If each of the four masks in `masks` has all bits of the mask in `others` with
+-- the same index, then the set in `masks` contains the set in `others`.
 pub have_all : (masks others : List ℕ) → length others ≡ 4 → HasAll (is_bit (get_or masks 0 0)) (is_bit (get_or others 0 0))
     → HasAll (is_bit (get_or masks 1 0)) (is_bit (get_or others 1 0)) → HasAll (is_bit (get_or masks 2 0)) (is_bit (get_or others 2 0))
     → HasAll (is_bit (get_or masks 3 0)) (is_bit (get_or others 3 0)) → HasAll (is_bit_in masks) (is_bit_in others)

@@ -26,8 +26,8 @@ record IsPlaceFrom (e : Timed) (a n : ℕ) (i : ℤ) : Type 0 where
   is_match : e.matches local ≡ true
   placed : e.place local ≡ Some i
 
--- the list is `rest`, with the number in `o` before it if `b` is true and `o` isn't `None`; the elements of the list
--- are this number and the elements of `rest`
+-- Let a list be the number in `o` followed by `rest` if `b` is true and `o` isn't `None`, and otherwise `rest`. Then a
+-- number is in this list if and only if it is in `rest`, or `b` is true and it is the number in `o`.
 Has-one : (b : Bool) (o : Option ℤ) (rest : List ℤ) (i : ℤ) → Has (cond b (cons_option o rest) rest) i ↔ (((b ≡ true) × (o ≡ Some i)) ⊎ Has rest i)
 Has-one b o rest i = grind arith
 
@@ -70,7 +70,7 @@ not_above b x i ge lt e = omega (arith, ints)
 not_both : (x e i : ℤ) → x <ℤ e → e <ℤ i → x ≡ i → ⊥
 not_both x e i h k f = omega (arith, ints)
 
--- if the numbers up to `b` are removed from a list, exactly the numbers after `b` remain; this lemma is about the first
+-- removing the numbers up to `b` from a list leaves exactly its numbers after `b`; this lemma is the step for the first
 -- element, and `Has-above` is about the whole list
 above-one : (b x : ℤ) (keep : Bool) (rest : List ℤ) (i : ℤ) → int_lt b x ≡ keep → Has (cond keep (x ∷ rest) rest) i ↔ (((b <ℤ i) × (x ≡ i)) ⊎ Has rest i)
 above-one b x keep rest i h = grind (arith, ints, not_above)

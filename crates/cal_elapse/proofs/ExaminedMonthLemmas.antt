@@ -55,8 +55,9 @@ count_front passes a (suc k) =
     let here : a + suc k ≡ suc a + k = omega arith in
     rw here (omega (arith, before))
 
--- if a search from month `n` on has the same result as a search from month `n + 1` on, it examines as many months as
--- that search, plus 1 if the expression matches the year and the month number of month `n`
+-- Suppose that one search starts in month `n`, another one in month `n + 1`, and that both have the same result. Then
+-- the first one examines as many months as the second, plus 1 if the expression matches the year and the month number
+-- of month `n`.
 pub examined_on : (sets : Sets) (n : ℕ) (r : Option ℕ) → n < 2_760 → IsFirstPassing (day_in sets) (first_day (n + 1)) 84_006 r
     → cond (month_in sets n) 1 0 + examined_from sets (n + 1) r ≡ examined_from sets n r
 examined_on sets n None within none =

@@ -1,5 +1,5 @@
--- All values of a valid component are in the range of its field, so the masks, with one bit for each value in the
--- range, represent all of them; and every valid component has a value.
+-- All values of a valid component are in the range of its field. So the masks, which have one bit for each value in the
+-- range, represent all of them. Every valid component has at least one value.
 use Rattle.std.proofs.Common.{◌≡◌, ◌&&◌, ◌%◌, nat_lt, if◌then◌else◌, sym, ℕ, ◌+◌, ◌-◌, ◌<◌, ◌≤◌, Bool, true, false, nat_le, get_or, length, List, [], ◌∷◌, Option, None, Some, ◌∙◌, inl, inr, arith, le-ltb, lt-ltb}
 use Rattle.std.specs.List.{AllByRecursion, list_any}
 use Rattle.std.proofs.Math.ListN.{get_or-eq_default}

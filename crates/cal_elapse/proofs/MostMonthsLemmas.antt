@@ -83,8 +83,8 @@ pub most_start : (sets : Sets) (start bound old most months : ℕ) → IsExamine
     → most ≡ max old months → IsMost sets start bound most
 most_start sets start bound old most months examined low none zero is = grind (arith, max_from_zero, most_same)
 
--- When a search finds the next match in a minute or an hour: one more match is counted, and the largest number of
--- months may rise.
+-- The effect of a search after a match, if it finds the next match: one more match is counted, and the largest number
+-- of months may rise.
 
 pub next_counted : (passes : ℕ → Bool) (local : ℤ) (next : Option ℤ) → IsFirstPassing passes (unsigned_abs local + 1) seconds_in_all (option_map unsigned_abs next) → IsSome next
     → count_from passes (unsigned_abs local + 1) (unsigned_abs (unwrap_or next local) - unsigned_abs local) ≡ 1

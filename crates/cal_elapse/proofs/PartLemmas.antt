@@ -1,5 +1,5 @@
--- Which of `count` consecutive values, the first of which is `first`, a part of a component matches. Each value has an
--- index: how far it is from `first`.
+-- Which values a part of a component matches, among the `count` consecutive values that begin with `first`. Each of
+-- these values has an index: how far it is from `first`.
 use Rattle.std.proofs.Common.{◌≡◌, ◌==◌, ◌&&◌, ◌||◌, ◌+◌, ◌-◌, ◌%◌, ◌<◌, ◌≤◌, min, ℕ, Bool, true, false, nat_le, nat_lt, List, length, take, get_or, Option, None, Some, refl, ap, sym, ◌∙◌, inl, inr, arith}
 use Rattle.std.specs.List.{list_any}
 use Rattle.std.proofs.lemmas.List.Folds.{list_any_more}
@@ -27,20 +27,21 @@ members_by f e v = grind arith
 pub between_in_window : (a b first count i : ℕ) → (nat_le (a - first) i && nat_lt i (min (b + 1 - first) count)) ≡ (nat_lt i count && is_between a b (first + i))
 between_in_window a b first count i = grind (arith, nat_tests)
 
--- whether a part has no repetition, or its repetition contains the value at this distance from its start
+-- whether a part has no repetition, or its repetition contains the value at this distance from the part's start
 abbrev pub is_stepped : Option ℕ → ℕ → Bool
 is_stepped None distance = true
 is_stepped (Some r) distance = distance % r == 0
 
--- if a slot doesn't count from the end of the month, a part without a repetition matches all values of the slot from
--- its start to its `last_number`, and a part with a repetition matches those of them that the repetition contains
+-- Suppose that a slot doesn't count from the end of the month. A part without a repetition matches all values of the
+-- slot from the part's start to its `last_number`. A part with a repetition matches those of these values that the
+-- repetition contains.
 values_up : (slot : Slot) (a : ℕ) (end step : Option ℕ) (v : ℕ) → is_from_end slot ≡ false → v ≤ greatest slot
     → values slot a end step v ≡ (is_between a (last_number a end step) v && is_stepped step (v - a))
 values_up slot a end step v up small = grind (arith, and_true)
 
 -- Suppose that a slot doesn't count from the end of the month. Of the `count` values from `first` on, a part without a
--- repetition matches those with the indices from `low` up to but not including `high`. A part with a repetition matches
--- those of them that the repetition contains.
+-- repetition matches those whose index is at least `low` and below `high`. A part with a repetition matches those of
+-- these values that the repetition contains.
 pub part_in_slot_values : (slot : Slot) (p : Part) (step : Option ℕ) (first count low high i : ℕ) → AreSlotValues slot first count → p.step ≡ step
     → low ≡ p.start - first → high ≡ min (last_number p.start p.end p.step + 1 - first) count
     → ((nat_le low i && nat_lt i high) && is_stepped step (first + i - p.start)) ≡ (nat_lt i count && part_has slot p (first + i))

@@ -235,8 +235,8 @@ module _ (v : Window) (local : ℕ) (searcher : Searcher) (last : ℕ) (h : IsPl
               (most_more (sets_in v.searcher.masks) start local last v.searcher.most_months searcher.most_months begun later h.examined most);
         }
 
-    -- if nothing is pending, and no local second from `local` to `end` has an instant after the instant returned last,
-    -- then all matches up to `last` have been converted, and nothing new is pending
+    -- if nothing is pending, and no local second from `local` to `end` resolves to an instant after the one returned
+    -- last, then all matches up to `last` count as converted, and still nothing is pending
     pub rest_passed : (end : ℕ) (offset : ℤ) → last ≤ end → end < seconds_in_all → None ≡ slice_get v.pending 0 → AreAtOffset (zone_of v.zone) (pos local) (pos end) offset
         → (pos end -ℤ offset) ≤ℤ v.last → IsPlacedTo (record v { searcher = searcher }) (pos last)
     rest_passed end offset high end_in none ahead early =

@@ -254,8 +254,8 @@ put_round old new low at from more round near high whole was =
       members = λ i m. elim (put_there old new low at from i more round near ((Has-instants new from i).0 m)) [ inl e ↦ last_at at i e high | inr n ↦ was.members i n ];
     }
 
--- `IsRoundWith` is true for a ring that starts at `least`, and for the smaller of `least` and `at` as its new start,
--- unless `at` is 187,200 seconds or more after `least`
+-- unless `at` is 187,200 seconds or more after `least`, a ring that starts at `least` can start at the smaller of
+-- `least` and `at` once `at` is added, as `IsRoundWith` says
 with_least : (least at : ℕ) → (least ≤ at → at ≤ least + 187_199) → IsRoundWith least at (min least at)
 with_least least at near = grind (arith, min)
 

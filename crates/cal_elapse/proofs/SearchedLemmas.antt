@@ -1,4 +1,5 @@
--- How many searches have been made when an elapse is returned, or when none is left.
+-- How many searches have been made when an elapse is returned, and the largest number of months that one of them
+-- examined.
 use Rattle.std.proofs.Common.{◌≡◌, ℕ, ◌+◌, ◌-◌, ◌<◌, ◌≤◌, nat_lt, true, false, Option, None, Some, ℤ, negsuc, pos, ◌<ℤ◌, ◌≤ℤ◌, ◌+ℤ◌, int_lt, unsigned_abs, sym, subst, arith, inl, inr, slice_get}
 use Rattle.std.proofs.lemmas.Bool.{and_left, cases_lt, false_from_ne_true}
 use Rattle.std.proofs.lemmas.Int.{ints}
@@ -61,10 +62,10 @@ searched_some v i h full at =
     let same = count_top v i (unsigned_abs i + 93_600) h m there top.0 top.1 in
     omega arith
 
--- The largest number of months that a single search examined
+-- From the matches that have been converted to the largest number of months that a search examined
 
--- Suppose that `i` is pending and can be returned. Of the matches from the start of the first search on, exactly those
--- before `top`, which is 93,600 seconds after `i`, have then been converted.
+-- Suppose that `i` is pending and can be returned, and let `top` be 93,600 seconds after `i`. Of the matches from the
+-- start of the first search on, exactly those before `top` have been converted.
 same_below : (v : Window) (i : ℤ) (top : ℕ) → IsReady v → Has v.pending i → to_place v.ahead (Some i) ≡ None → (pos top) ≡ (i +ℤ pos 93_600) → start_of v.base ≤ top
     → (t : ℕ) → start_of v.base ≤ t → matches (sets_in v.searcher.masks) t ≡ true → (t < bound_of v.ahead → t < top) × (t < top → t < bound_of v.ahead)
 unfolding timed_by

@@ -39,8 +39,8 @@ abbrev pub start_of : ℤ → ℕ
 start_of (pos base) = base - max_offset
 start_of (negsuc n) = 0
 
--- the bound below which all matches have been converted: `ahead`, the match that was found last, or the end of all
--- local seconds if `ahead` is `None`
+-- the bound below which all matches have been converted: the match that was found last, `ahead`, or, if that is `None`,
+-- the end of all local seconds
 abbrev pub bound_of : Option ℤ → ℕ
 bound_of ahead = unwrap_or (option_map unsigned_abs ahead) seconds_in_all
 
@@ -48,8 +48,8 @@ bound_of ahead = unwrap_or (option_map unsigned_abs ahead) seconds_in_all
 abbrev pub IsMatchAhead : Timed → Option ℤ → Type 0
 IsMatchAhead e ahead = IfSome ahead (λ local. IsLocalSecond local × (e.matches (unsigned_abs local) ≡ true))
 
--- The next match, `ahead`, if it has to be converted before the smallest pending instant, `least`, can be returned;
--- otherwise `None`. If nothing is pending, the next match always has to be converted.
+-- The next match, `ahead`, if it has to be converted before `least`, the smallest pending instant, can be returned.
+-- Otherwise `None`. If nothing is pending, the next match always has to be converted.
 abbrev pub to_place : Option ℤ → Option ℤ → Option ℤ
 to_place None least = None
 to_place (Some local) None = Some local
@@ -68,7 +68,7 @@ timed_by masks zone = record { matches = matches (sets_in masks); place = λ loc
 abbrev pub timed_of : Window → Timed
 timed_of w = timed_by w.searcher.masks w.zone
 
--- All matches before `w.ahead` have been converted, or all matches if `w.ahead` is `None`. Besides the first search,
+-- All matches before `w.ahead` have been converted; if `w.ahead` is `None`, all matches have. Besides the first search,
 -- one search has been made after each converted match that is at or after the start of the first search.
 pub record IsReady (w : Window) : Type 0 where
   pub windowed : Windowed (timed_of w) (start_of w.base) (bound_of w.ahead) w.last w.pending

@@ -117,9 +117,9 @@ fn bits_between(low: u32, high: u32) -> u64
     }
 }
 
-/// Returns a word in which bit i stands for the value `first` + i. A bit with an index from `low` up to but not
-/// including `high` is set if its value is at most `start`, or exceeds `start` by a multiple of `step`. No other bits
-/// are set. The caller's `low` excludes the values below `start`.
+/// Returns a word in which bit i stands for the value `first` + i. Of the bits from `low` up to but not including
+/// `high`, those are set whose value is `start` or exceeds `start` by a multiple of `step`. No other bits are set. A
+/// value below `start` would be treated like `start`, but the caller's `low` excludes such values.
 fn steps(low: u32, high: u32, first: u16, start: u16, step: u16) -> u64
     requires few { high ≤ 64 }
     requires within { first ≤ 2_200 }

@@ -29,7 +29,7 @@ pub struct Window<'z> {
     ahead: Option<i64>,
     /// The instant that was returned last, or the base if none has been returned.
     pub last: i64,
-    /// The instants after `last` to which the matches before `ahead` resolve, or all matches if `ahead` is `None`.
+    /// The instants after `last` to which matches before `ahead` resolve. If `ahead` is `None`, all matches count.
     pending: Pending,
 }
 
@@ -102,12 +102,11 @@ impl<'z> Window<'z> {
         self.ahead = ahead;
     }
 
-    /// Searches for all remaining matches in the minute of `local` and converts them together, if three conditions are
-    /// met; otherwise, nothing changes. If no later match in this minute is known, calls `convert_hour` instead.
-    /// `local` is a match that has already been converted. Returns the last match that has been converted, which can be
-    /// `local`.
+    /// Searches for all remaining matches in the minute of `local` and converts them together. If no later match in
+    /// this minute is known, calls `convert_hour` instead. `local` is a match that has already been converted. Returns
+    /// the last match that has been converted, which can be `local`.
     ///
-    /// The conditions are:
+    /// Searches and converts nothing if later matches in this minute are known, but one of these conditions isn't met:
     ///
     /// - All matches in the minute have to be converted before the smallest pending instant can be returned.
     /// - The UTC offset is known to be constant from `local` to the end of the minute.
@@ -150,16 +149,16 @@ impl<'z> Window<'z> {
         }
     }
 
-    /// Searches for the matches after `local` in its hour, up to the first match of the last minute with matches, and
-    /// converts them. Does this only if a later minute with matches in this hour is known, and if two conditions are
-    /// met; otherwise, nothing changes. `local` is a match that has already been converted. Returns the last match that
-    /// has been converted, which can be `local`.
+    /// Searches for later matches in the hour of `local`, one after another, and converts them. Stops after the first
+    /// match of the last minute with matches in this hour. `local` is a match that has already been converted. Returns
+    /// the last match that has been converted, which can be `local`.
     ///
-    /// The conditions for the 3,600 local seconds from `local` on are:
+    /// Searches and converts nothing if one of these conditions isn't met:
     ///
-    /// - None of them is more than `MAX_OFFSET` seconds after the instant returned last, so that each match among them
-    ///   has to be converted now.
-    /// - Their UTC offset is known to be constant.
+    /// - The hour of `local` is known to have a later minute with matches.
+    /// - None of the 3,600 local seconds from `local` on is more than `MAX_OFFSET` seconds after the instant returned
+    ///   last, so that each match among them has to be converted now.
+    /// - The UTC offset is known to be constant for these 3,600 local seconds.
     #[tactic(auto, using(cal_civil::proofs::LocalLemmas::local_arith, crate::proofs::ReadyLemmas::few_searches, crate::proofs::ReadyLemmas::placed_is_match))]
     fn convert_hour(&mut self, local: i64) -> i64
         requires { IsPlacedTo self.old local }

@@ -115,8 +115,8 @@ fn second_after(masks: &Masks, second: u32) -> Option<u32>
     }
 }
 
-/// Returns the earliest day on which a search can find a match. The search starts on `day`, and `today` is the first
-/// matching time left on `day`. If no matching time is left, the result is the day after `day`.
+/// Returns the earliest day on which a search that starts on `day` can find a match. `today` is the first matching time
+/// left on `day`. If there is none, the result is the day after `day`.
 fn day_to_start(day: u32, today: Option<u32>) -> u32
     requires { day < days_in_all }
     ensures { result ≡ day_to_start day today }
@@ -127,9 +127,9 @@ fn day_to_start(day: u32, today: Option<u32>) -> u32
     }
 }
 
-/// Returns the time of day of a search's result. The search started on `day` and found a match on the day `found`. If
-/// both are the same day, and a matching time was left on it, the result is this time, `today`. Otherwise the result is
-/// `first`, the first matching time of a whole day.
+/// Returns the time of day of a search's result. The search started on `day` and found a match on the day `found`.
+/// `today` is the first matching time that was left on `day`, and `first` is the first matching time of a whole day.
+/// The result is `today` if it is a time and both days are the same, and otherwise `first`.
 fn second_on(found: u32, day: u32, today: Option<u32>, first: u32) -> u32
     ensures { result ≡ second_on found day today first }
 {

@@ -1,6 +1,6 @@
 //! The search for the next month whose year and month number the expression matches (systemd.time(7), Calendar Events).
-//! `search::day` calls it. It jumps from bit to bit of the masks, which have one bit for each value that a field
-//! matches.
+//! The module `search::day` calls this module. The search jumps from bit to bit of the masks, which have one bit for
+//! each value that a field matches.
 
 ghost use Rattle.std.specs.Prelude.{◌≡◌, ◌+◌, ◌*◌, ◌/◌, ◌<◌, ◌≤◌};
 ghost use Rattle.cal_elapse.specs.Bits.{is_bit_in};

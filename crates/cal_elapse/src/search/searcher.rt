@@ -1,5 +1,6 @@
-//! The searcher, which finds an expression's matches one after another and counts its searches. `window` calls it.
-//! Unless the next match is already stored, it calls `next_local` or `next_after` of the module `search`.
+//! The searcher, which finds an expression's matches one after another and counts its searches. The module `window`
+//! uses it. Unless the next match is already stored, the searcher calls `next_local` or `next_after` of the module
+//! `search`.
 
 ghost use Rattle.std.specs.Prelude.{◌≡◌, ◌+◌, ◌-◌, ◌*◌, ◌/◌, ◌<◌, ◌≤◌, ◌≤ℤ◌, pos, true, false, max, None, IfSome, unsigned_abs, unwrap_or};
 ghost use Rattle.std.specs.Option.{option_map};
@@ -104,8 +105,8 @@ impl Searcher {
         self.most_months
     }
 
-    /// Returns the first match from the local second `start` on, or after the match `start`, with the number of months
-    /// examined, as `next_local` would. Each call counts as one search.
+    /// Returns the first match at or after a local second, or the first one after a match, as `start` says, with the
+    /// number of months examined. Each call counts as one search. The result is the same as that of `next_local`.
     #[inline(always)]
     pub fn search(&mut self, start: SearchStart) -> Found
         requires start { CanStart (matches (sets_in self.old.masks)) start }

@@ -1,5 +1,5 @@
-//! The search for the next matching time of day (systemd.time(7), Calendar Events). `search` calls it. It jumps from
-//! bit to bit of the masks, which have one bit for each value that a field matches.
+//! The search for the next matching time of day (systemd.time(7), Calendar Events). The module `search` calls this
+//! module. The search jumps from bit to bit of the masks, which have one bit for each value that a field matches.
 
 ghost use Rattle.std.specs.Prelude.{◌≡◌, ◌+◌, ◌*◌, ◌/◌, ◌<◌, ◌≤◌};
 ghost use Rattle.cal_elapse.specs.Masks.{sets_in};

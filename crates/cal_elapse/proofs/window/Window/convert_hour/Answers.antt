@@ -35,7 +35,8 @@ record IsStep (v : Window) (searcher : Searcher) (next offset : ℤ) : Type 0 wh
   last_is : to_z w64 (of_z w64 v.last) ≡ v.last
 
 module _ (v : Window) (searcher : Searcher) (next offset : ℤ) (s : IsStep v searcher next offset) where
-  -- if the instant of `next` is after the instant returned last, the instant of `next` may be added to the pending ones
+  -- if `next` resolves to a second of Unix time after the instant returned last, this second is an instant, so it may
+  -- be added to the pending ones
   step_instant : v.last <ℤ (next -ℤ offset) → IsInstant (next -ℤ offset)
   step_instant later = put_instant (zone_of v.zone) next (next -ℤ offset) v.last s.place s.ready.found.0 (omega (arith, ints, s.ready.low, s.ready.above)) later
 
