@@ -148,8 +148,8 @@ fn writes_until_it_fails(rt: HostRuntime) -> Result<(), Fail> {
     Ok(())
 }
 
-/// Offers `abc` to a buffer over a sink that takes `limit` bytes, and flushes it. Returns the results of the two calls
-/// and whether the buffer has failed, together with the sink.
+/// Offers `abc` to a buffer in front of a sink that takes `limit` bytes, and flushes the buffer. Returns the results of
+/// both calls and whether one of them failed, and also the sink.
 fn hold_back(alloc: Global, limit: usize) -> Result<((Option<usize>, bool, bool), Faulty), Fail> {
     let writer = Faulty::new(Vec::new(alloc), 2, limit, Then::Error);
     let mut port = Port::new(BufWriter::new(alloc, writer)?);
