@@ -97,8 +97,8 @@ fn elapses(rt: HostRuntime) -> Result<(), Fail> {
     )
 }
 
-/// Adds a source of these numbers to a merge. If the merge can't add the source, expects it to be handed back
-/// unchanged, and returns the error.
+/// Adds a source of these numbers to a merge. If this fails, expects the merge to hand the source back unchanged, and
+/// returns the error.
 fn add(
     alloc: Global,
     merge: &mut Merge<Listed>,
@@ -188,7 +188,7 @@ fn all_faults(rt: HostRuntime) -> Result<(), Fail> {
 
 const SETTINGS: &str = "[Timer]\nOnCalendar=Mon \\\n12:00\nPersistent=yes\n";
 
-/// Expects a setting with the value of the first setting in [`SETTINGS`].
+/// Expects `setting` to have the value of the first setting in [`SETTINGS`].
 fn expect_first(setting: &Option<Setting>) -> Result<(), Fail> {
     match setting {
         Some(setting) => ensure(setting.value.as_str() == "Mon  12:00", "another setting"),

@@ -109,7 +109,7 @@ fn first_set_word() -> Result<(), Fail> {
     ensure(first_set(&cells) == Some(2_924), "the last word")
 }
 
-/// Checks that the only word that is not 0 is found at each index, among any number of words up to 70.
+/// Checks that `first_set` finds the only word that is not 0, at each index of a slice of up to 70 words.
 #[test]
 fn each_index() -> Result<(), Fail> {
     for length in 0..=70 {

@@ -1,4 +1,4 @@
-//! Reading the settings in those sections of a unit file that have a given name, such as `[Timer]`.
+//! Reading the settings in all sections of a unit file that have a given name, such as `[Timer]`.
 
 use crate::shared::ensure;
 use cal_read::{Setting, Settings, read_settings};

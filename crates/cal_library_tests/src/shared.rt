@@ -15,8 +15,8 @@ pub const SUMMER_TIME: &str = "CET-1CEST,M3.5.0,M10.5.0/3";
 /// A POSIX rule by which the clock goes forward by an hour, and back ten minutes later.
 pub const FORWARD_AND_BACK: &str = "AAA0BBB,M3.5.0/2,M3.5.0/3:10";
 
-/// Fails with `about`, which names the row or the step, unless `holds` is true. Proving a function that calls `ensure`
-/// takes a fraction of the time that it takes with an assertion that has a message.
+/// Fails with `about`, which names the row or the step, unless `holds` is true. The prover is much faster with `ensure`
+/// than with an assertion that has a message.
 pub fn ensure(holds: bool, about: &str) -> Result<(), Fail> {
     if holds { Ok(()) } else { Err(about.into()) }
 }

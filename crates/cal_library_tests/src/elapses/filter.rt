@@ -10,8 +10,8 @@ use cal_spec::Expr;
 use std::alloc::Global;
 use std::test::Fail;
 
-/// The range of instants in which elapses are compared, after `base` and up to `limit`, and an upper bound in seconds
-/// on the zone's UTC offsets, east or west.
+/// The range of instants in which elapses are compared: later than `base`, and at most `limit`. `max_offset` is an
+/// upper bound on the zone's UTC offsets east or west, in seconds.
 #[derive(Clone, Copy)]
 struct TestedRange {
     base: i64,
@@ -75,7 +75,7 @@ fn by_filter(
     Ok(instants)
 }
 
-/// Expects the source to return exactly these instants, and after them none up to `limit`.
+/// Expects the source to return these instants, and then no other instant up to `limit`.
 fn expect_all<S: Rising>(source: &mut S, instants: &[i64], limit: i64) -> Result<(), Fail> {
     expect_first(source, instants)?;
     let after = source.next().unwrap_or(i64::MAX);

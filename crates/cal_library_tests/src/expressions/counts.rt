@@ -39,9 +39,9 @@ static BYTES: [Table; 4] = [
     },
 ];
 
-/// An expression may have up to 240 counted parts: all but the first part of the hour, of the minute and of the second.
-/// The first counted part over the limit is rejected before it is parsed, and before the values of its component are
-/// checked.
+/// An expression may have up to 240 counted parts. Every part is counted except the first part of the hour, of the
+/// minute and of the second. The first counted part over the limit is rejected before it is parsed, and before the
+/// values of its component are checked.
 static PARTS: [Table; 1] = [Table {
     piece: ",1",
     accepted: "\

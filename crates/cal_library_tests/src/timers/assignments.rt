@@ -39,7 +39,7 @@ static SECTIONS: [Row; 9] = [
 ];
 
 static KEYS_AND_VALUES: [Row; 8] = [
-    // In the first row, a repetition reaches no further value.
+    // In the first row, a repetition is rejected because it reaches no further value.
     (
         "[Timer]\nOnCalendar=20/4:00",
         Err(TimerFault::BadLine(2, SpecFault::NoRepeat)),

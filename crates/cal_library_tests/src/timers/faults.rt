@@ -9,7 +9,7 @@ use cal_spec::SpecFault;
 use std::alloc::Global;
 use std::test::Fail;
 
-/// Texts, and all errors in them. The index of its text and the number of its line stand before each error.
+/// Texts, and all errors in them, each with the index of its text and the number of its line in this text.
 type Row = (&'static [&'static str], &'static [(usize, u32, SpecFault)]);
 
 static BAD_LINES: [Row; 5] = [

@@ -42,7 +42,7 @@ static COUNTED_FROM_0: Table = Table {
     refusals: &[(OutOfRange, "@7258211999|@9223372036854775807us")],
 };
 
-/// Errors of spans, after each sign and before `left` and `ago`.
+/// Invalid spans after each sign, and before `left` and `ago`.
 static BAD_SPANS: Table = Table {
     moments: "",
     refusals: &[

@@ -34,8 +34,8 @@ fn lengths() -> Result<(), Fail> {
     ensure(!is_zone_name(&letters), "256 letters")
 }
 
-/// Adds the zone of a POSIX rule to the table. A table that rejects a zone hands its rules back. In that case, returns
-/// the error and, to show which rules were handed back, the instant at which they show 1970-01-01 02:00:00.
+/// Adds the zone of a POSIX rule to the table. If the table rejects the zone, returns the error, and the instant at
+/// which a clock that follows the rules handed back shows 1970-01-01 02:00:00. The instant tells which rules these are.
 fn add(
     alloc: Global,
     table: &mut ZoneTable,
