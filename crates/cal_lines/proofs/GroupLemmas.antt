@@ -35,8 +35,8 @@ abbrev pub goes_on_in : ℕ → List ℕ → Bool → List Line → List Line
 goes_on_in n front true ls = after n front (groups ls)
 goes_on_in n front false ls = record { number = n; text = front } ∷ map joined_line (groups ls)
 
--- `after` returns the same lines in two cases: if `line` is put at the front of the first group (`continued_by`), and
--- if, instead, what `line` contributes to the logical line is appended to `front`
+-- putting `line` at the front of the first group (`continued_by`) has the same effect on `after` as appending to
+-- `front` what `line` contributes to its logical line
 pub joined_continued : (n : ℕ) (front : List ℕ) (line : Line) (gs : List Group) → after n front (continued_by line gs) ≡ after n (front ++ part_of_line line.text) gs
 joined_continued n front line [] = ap (λ text. record { number = n; text = text } ∷ []) (ap (λ xs. front ++ xs) (append-nil (part_of_line line.text)))
 joined_continued n front line (g ∷ gs) = ap (λ text. record { number = n; text = text } ∷ map joined_line gs) (sym (append_assoc front (part_of_line line.text) (parts_of (g.first ∷ g.more))))
