@@ -50,14 +50,14 @@ is_hour_list hour (p ∷ []) = false
 is_hour_list hour (p ∷ q ∷ []) = are_zero_and_later hour (number_of p.start p.end p.step) (number_of q.start q.end q.step)
 is_hour_list hour (p ∷ q ∷ r ∷ ps) = false
 
--- whether these minutes, written after this hour, look like the mistake that the doubt is about: a range or a list of
--- hours
+-- whether these minutes, written after this hour, look like a range of hours (`HourRange`) or a list of hours
+-- (`HourList`)
 abbrev pub are_hours : Doubt → ℕ → List Part → Bool
 are_hours HourRange hour minutes = is_hour_range hour minutes
 are_hours HourList hour minutes = is_hour_list hour minutes
 are_hours MonthDay hour minutes = false
 
--- whether the hour and the second are one number each, and the minutes look like the mistake that the doubt is about
+-- whether the hour and the second are one number each, and the minutes look like hours, as `are_hours` says
 abbrev pub has_hours_by : Doubt → Option ℕ → Option ℕ → Option (List Part) → Bool
 has_hours_by doubt (Some hour) (Some second) (Some minutes) = are_hours doubt hour minutes
 has_hours_by doubt hour second minutes = false
@@ -74,7 +74,7 @@ abbrev pub has_month_day : List (List ℕ) → Bool
 has_month_day [] = false
 has_month_day (word ∷ ws) = is_month_day word
 
--- whether the expression `text`, whose normal form has the fields `f`, has the form of this doubt
+-- whether this doubt applies to the expression `text`, whose normal form has the fields `f`
 abbrev pub is_doubtful : List ℕ → Fields → Doubt → Bool
 is_doubtful text f MonthDay = has_month_day (words text)
 is_doubtful text f doubt = has_hours doubt f
@@ -82,7 +82,6 @@ is_doubtful text f doubt = has_hours doubt f
 abbrev pub doubts : List Doubt
 doubts = HourRange ∷ HourList ∷ MonthDay ∷ []
 
--- the first doubt whose form a valid expression has, or None if it has none of these forms; for an invalid expression,
--- the error
+-- the first doubt that applies to a valid expression, or None if no doubt does; for an invalid expression, the error
 unfoldable pub doubt_in : List ℕ → Result (Option Doubt) SpecFault
 doubt_in text = expr_in text >>= λ f. Ok (find (is_doubtful text f) doubts)

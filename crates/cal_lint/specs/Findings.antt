@@ -59,7 +59,7 @@ abbrev pub value_problems : Option TimerFault → List ℕ → List Problem
 value_problems (Some fault) value = Invalid fault ∷ []
 value_problems None value = advice value
 
--- the problems of a setting, if `faults` are all errors of the timer
+-- the problems of a setting; `faults` are all errors of the timer that has this setting
 abbrev pub problems_of : List FileFault → Assignment → List Problem
 problems_of faults a =
     if is_unknown_key a.key then UnknownKey ∷ []

@@ -1,4 +1,4 @@
--- Common mistakes in invalid calendar expressions that show in the text as a whole, not in single words:
+-- Common mistakes in invalid calendar expressions that concern the whole text, and not one of its words:
 -- systemd.time(7), Calendar Events and Parsing Time Spans.
 use Rattle.std.specs.Prelude.{ℕ, ◌==◌, Bool, ◌&&◌, ◌||◌, if◌then◌else◌, List, codes, Option, None, Some, is_ok}
 use Rattle.std.specs.List.{list_any}
@@ -18,7 +18,7 @@ is_comment_mark b = (b == 35) || (b == 59)
 abbrev pub is_span : List ℕ → Bool
 is_span text = list_any is_ascii_alphabetic text && is_ok (span_of text)
 
--- the mistake in a text that is not a valid expression, if a mistake shows in the text as a whole
+-- the first mistake that concerns the whole text, if there is one; the text is an invalid expression
 unfoldable pub mistake_in : List ℕ → Option Mistake
 mistake_in text =
     if list_any is_equals text then Some Setting

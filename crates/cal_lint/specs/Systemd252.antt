@@ -70,8 +70,8 @@ leading_digits part = take (prefix_len is_ascii_digit part) part
 abbrev pub after_digits : List ℕ → List ℕ
 after_digits part = drop (prefix_len is_ascii_digit part) part
 
--- whether two texts of digits stand for the same number, and it is at most `most`, the greatest number that an
--- expression may have
+-- whether two texts of digits are the same number, and this number isn't above `most`, the greatest one that an
+-- expression may contain
 abbrev pub are_equal : List ℕ → List ℕ → Bool
 are_equal a b = (digits_value 10 a == digits_value 10 b) && nat_le (digits_value 10 a) most
 
@@ -81,7 +81,7 @@ is_up_to a [] = false
 is_up_to a (b ∷ []) = false
 is_up_to a (b ∷ c ∷ last) = (b == 46) && (c == 46) && list_all is_ascii_digit last && are_equal a last
 
--- whether the part is a range with no step whose ends are equal
+-- whether the part is a range without a step, and the ends of the range are equal
 abbrev pub is_one_second : List ℕ → Bool
 is_one_second part = is_up_to (leading_digits part) (after_digits part)
 
@@ -89,7 +89,7 @@ is_one_second part = is_up_to (leading_digits part) (after_digits part)
 abbrev pub max_second_step : ℕ
 max_second_step = 2147
 
--- the step of a part that slashes divide into these texts: the second of them, or nothing if there is only one
+-- the step of a part, given the texts between its slashes: the second text, or nothing if there is only one
 abbrev pub step_in : List (List ℕ) → List ℕ
 step_in (start ∷ step ∷ texts) = step
 step_in texts = []

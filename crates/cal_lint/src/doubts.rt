@@ -31,8 +31,7 @@ impl Doubt {
 }
 
 /// Returns why a valid calendar expression may not mean what its author thinks (systemd.time(7), Calendar Events), or
-/// `None` if the expression has none of the forms of [`Doubt`]. If it has several of these forms, returns the first in
-/// the order of [`Doubt`].
+/// `None` if no [`Doubt`] applies to it. If several apply, returns the first in the order of [`Doubt`].
 ///
 /// Fails with the error of [`read_expr`] if `text` is not a valid expression. Fails with [`SpecFault::NoMemory`] only
 /// if allocation fails.
@@ -62,7 +61,8 @@ fn is_doubtful(text: &str, expr: &Expr, doubt: Doubt) -> bool
     }
 }
 
-/// Returns whether the hour and the second are one number each, and the minutes have the form of this doubt.
+/// Returns whether the hour and the second are one number each, and the minutes look like a range of hours
+/// ([`Doubt::HourRange`]) or a list of hours ([`Doubt::HourList`]).
 fn has_hours(doubt: Doubt, expr: &Expr) -> bool
     ensures { result ≡ has_hours doubt expr.now }
 {

@@ -177,7 +177,7 @@ fn rewrite_signed(alloc: Global, word: &str) -> Result<Option<Rewritten>, AllocE
     }
 }
 
-/// Rewrites a UTC offset of whole hours. Returns `None` unless `hour` is one or two digits that are a number up to 25.
+/// Rewrites a UTC offset of whole hours. Returns `None` unless `hour` has one or two digits and is at most 25.
 fn offset(alloc: Global, sign: char, hour: &str) -> Result<Option<Rewritten>, AllocError> {
     let Some(hour) = number_below(hour, 26) else {
         return Ok(None);
@@ -189,8 +189,8 @@ fn offset(alloc: Global, sign: char, hour: &str) -> Result<Option<Rewritten>, Al
     }))
 }
 
-/// Returns the month of a word such as `2026-12`: a year of four digits, `-`, and one or two digits that are a number
-/// up to 12. Returns `None` for any other word.
+/// Returns the month of a word such as `2026-12`: a year of four digits, `-`, and a month of one or two digits that is
+/// at most 12. Returns `None` for any other word.
 fn year_month(word: &str) -> Option<u8> {
     let (year, month) = word.split_once('-')?;
     if year.len() != 4 || !are_digits(year.as_bytes()) {

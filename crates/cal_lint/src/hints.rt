@@ -115,8 +115,8 @@ fn hint_for(alloc: Global, text: &str) -> Result<Option<Hint>, AllocError>
     }
 }
 
-/// Returns the mistake that shows in the text as a whole, and not in single words, or `None` if there is no such
-/// mistake. If there are several, returns the first in the order of [`Mistake`].
+/// Returns the mistake that concerns the whole text, and not one of its words, or `None` if there is no such mistake.
+/// If there are several, returns the first in the order of [`Mistake`].
 #[tactic(auto, unfolding(crate::specs::Hints::mistake_in))]
 fn mistake_in(text: &str) -> Option<Mistake>
     ensures { result ≡ mistake_in text.now }

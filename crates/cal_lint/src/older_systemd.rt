@@ -263,7 +263,7 @@ fn after_colon(text: &str) -> &str
     }
 }
 
-/// Returns whether a part of the seconds is a range with no step and only one value.
+/// Returns whether a part of the seconds is a range without a step, and the ends of the range are equal.
 fn is_one_second(part: &[u8]) -> bool
     ensures { result ≡ is_one_second part.now }
 {
@@ -281,8 +281,7 @@ fn digits_len(text: &[u8]) -> usize
     text.iter().take_while(|byte| byte.is_ascii_digit()).count()
 }
 
-/// Returns whether two texts of digits are the same number, at most 9,999, which is the greatest number in an
-/// expression.
+/// Returns whether two texts of digits are the same number, and this number isn't above [`MAX_NUMBER`].
 fn are_equal(a: &[u8], b: &[u8]) -> bool
     requires first { IsTrue (list_all is_ascii_digit a.now) }
     requires last { IsTrue (list_all is_ascii_digit b.now) }

@@ -65,7 +65,7 @@ pub struct Finding {
     pub line: u32,
     /// The byte of the line, counted from 1, at which the problem begins: at the unknown key, at the word at fault of
     /// an invalid expression (see [`fault_span`]), or otherwise at the value. It is 1 if the problem is in the value
-    /// and the line is continued.
+    /// and the line doesn't contain the whole value, which happens only if the line is continued.
     pub column: u32,
     pub kind: Kind,
     pub problem: Problem,
@@ -78,9 +78,9 @@ pub struct Finding {
 /// Returns all problems of the settings in the sections `Timer` of a unit file (systemd.timer(5), Options), in the
 /// order of their lines. The first line has the number 1. `text` must have fewer than 2^32 - 1 bytes.
 ///
-/// The problems are unknown keys, as [`crate::find_unknown_keys`] defines them, and invalid lines, as [`find_faults`]
-/// returns them. For valid expressions and exceptions, they are also what [`systemd_252`] and [`find_doubt`] return.
-/// Expressions and exceptions with a `%` are not checked, since systemd replaces specifiers when it loads the unit
+/// The problems are unknown keys, as [`crate::find_unknown_keys`] defines them; invalid lines, as [`find_faults`]
+/// returns them; and what [`systemd_252`] and [`find_doubt`] return for valid expressions and exceptions. Expressions
+/// and exceptions with a `%` are not checked, since systemd replaces specifiers when it loads the unit
 /// (systemd.unit(5), Specifiers). Fails only if allocation fails.
 pub fn findings(alloc: Global, text: &str) -> Result<Vec<Finding>, AllocError>
     requires { 1 + length text.now < 2 ^ 32 }
@@ -160,8 +160,8 @@ fn add_invalid(
     Ok(())
 }
 
-/// If the setting's value is a valid expression, appends why systemd 252 rejects the expression, if it does, and why
-/// the expression may not mean what its author thinks, if there is a doubt.
+/// If the setting's value is a valid expression, appends the reason why systemd 252 rejects it and the doubt about its
+/// meaning, each only if there is one.
 fn add_advice(
     alloc: Global,
     found: &mut Vec<Finding>,
@@ -179,8 +179,8 @@ fn add_advice(
     push_doubt(found, setting.number, column, doubt)
 }
 
-/// If `rejected` has a reason, appends it. The suggestion is the normal form of the expression, if systemd 252 accepts
-/// that.
+/// Appends the reason in `rejected`, if there is one. Suggests the normal form of the expression if systemd 252 accepts
+/// it.
 fn push_rejection(
     alloc: Global,
     found: &mut Vec<Finding>,
@@ -200,7 +200,7 @@ fn push_rejection(
     Ok(())
 }
 
-/// If there is a doubt about a valid expression, appends it.
+/// Appends the doubt about a valid expression, if there is one.
 fn push_doubt(
     found: &mut Vec<Finding>,
     line: u32,
@@ -271,8 +271,8 @@ fn rejection_of(alloc: Global, value: &str) -> Result<Option<Rejection>, AllocEr
     }
 }
 
-/// Returns why a valid expression may not mean what its author thinks. Returns `None` if the expression has none of the
-/// forms of [`Doubt`], or if `value` is not a valid expression. Fails only if allocation fails.
+/// Returns why a valid expression may not mean what its author thinks. Returns `None` if no [`Doubt`] applies to the
+/// expression, or if `value` is not a valid expression. Fails only if allocation fails.
 fn doubt_of(alloc: Global, value: &str) -> Result<Option<Doubt>, AllocError>
     ensures { IfOk result (λ found. found ≡ if_valid (doubt_in value.now)) }
 {
@@ -299,8 +299,7 @@ fn advice_for(
     }
 }
 
-/// Returns whether the setting is an expression or an exception, and its value has no `%`, because a `%` begins a
-/// specifier.
+/// Returns whether the setting is an expression or an exception without specifiers. A specifier begins with `%`.
 fn is_checked(setting: &Setting) -> bool
     ensures { result ≡ is_checked (shown_setting setting.now) }
 {
@@ -362,8 +361,8 @@ fn key_column(line: &str, key: &str) -> u32 {
     }
 }
 
-/// Returns the column of the byte of the value that has this index. Returns 1 if the line doesn't contain the whole
-/// value, because the line is continued.
+/// Returns the column of the byte at `index` in the value. Returns 1 if the line doesn't contain the whole value, which
+/// happens only if the line is continued.
 fn value_column(line: &str, value: &str, index: usize) -> u32 {
     match line.rfind(value) {
         Some(start) => column_at(start, index),

@@ -5,8 +5,8 @@ use Rattle.cal_bytes.specs.SplitPieces.{left, pieces_after}
 use Rattle.cal_lint.specs.Systemd252.{piece_is_rejected_for}
 use Rattle.cal_lint.proofs.older_systemd.any_piece.Given as goal
 
--- no piece so far is a reason to reject the expression, so a piece of the rest is one if and only if a piece of the
--- whole text is
+-- no piece so far makes systemd 252 reject the expression, so one of the remaining pieces does if and only if one of
+-- all pieces does
 abbrev pub invariant-loop-rest : goal.invariant-loop-rest
 invariant-loop-rest l =
     list_any (piece_is_rejected_for l.rejection) (pieces_after (λ byte. byte == l.separator) (option_copied l.rest))

@@ -6,8 +6,8 @@ use Rattle.cal_text.specs.headline.Words.{words}
 use Rattle.cal_lint.specs.Systemd252.{word_is_rejected_for}
 use Rattle.cal_lint.proofs.older_systemd.any_word_is_rejected_for.Given as goal
 
--- no word so far is a reason to reject the expression, so a word of the rest is one if and only if a word of the whole
--- text is
+-- no word so far makes systemd 252 reject the expression, so one of the remaining words does if and only if one of all
+-- words does
 abbrev pub invariant-loop-word : goal.invariant-loop-word
 invariant-loop-word l = record {
   utf8 : shadow (Utf8 l.rest);
