@@ -1,4 +1,4 @@
--- One more expression.
+-- A lemma on the loop over the expressions: after one more step, the lines are those of one more expression.
 use Rattle.std.proofs.Common.{◌≡◌, ◌+◌, ◌<◌, ◌∙◌, ℕ, Bor, List, [], ◌∷◌, ◌++◌, ap, get_or, length, map, subst, sym, take}
 use Rattle.std.proofs.lemmas.List.{map-append, take_more}
 use Rattle.cal_spec.specs.headline.Fields.{Fields}

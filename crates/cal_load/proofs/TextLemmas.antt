@@ -1,4 +1,4 @@
--- The assignments of texts that are numbered on.
+-- Lemmas on the assignments in several texts whose line numbers continue from text to text.
 use Rattle.std.proofs.Common.{◌≡◌, ◌+◌, ◌<◌, ◌^◌, ℕ, All, List, [], ◌∷◌, ◌++◌, ◌∙◌, add-one, ap, append_assoc, append-nil, drop, drop-cons, get_or, length, map, refl, sym}
 use Rattle.std.specs.Str.Lines.{lines}
 use Rattle.std.proofs.Math.Seq.{drop-length}

@@ -1,4 +1,4 @@
--- Lists of timers that a machine has.
+-- Lemmas on loaded timers: each is a unit or a file of the machine (`IsTimerOn`).
 use Rattle.std.proofs.Common.{◌≡◌, ℕ, List, ◌++◌, All, Ok, Err, Result, append-nil, inl, inr}
 use Rattle.std.specs.Prelude.{IfOk}
 use Rattle.std.proofs.lemmas.List.Elements.{All-push}
@@ -10,7 +10,8 @@ use Rattle.cal_targets.specs.declared.fault.LoadFault.{LoadFault}
 use Rattle.cal_load.specs.declared.loaded.Found as founds
 use Rattle.cal_load.specs.declared.loaded.LoadedTimer.{LoadedTimer}
 
--- if what was found is a timer of the machine, the list with it has timers of the machine alone
+-- if all timers in `before` are on the machine, and so is the timer that was found, if any, then all timers in `after`
+-- are on the machine
 pub timers_more : (Shows : Machine → Type 0) (path : List (List ℕ)) (aliases : List Alias) (found : Result founds.Found LoadFault) (before after : List LoadedTimer)
     → IfOk found (λ found. (machine : Machine) → Shows machine → IsFound machine path aliases found) → after ≡ before ++ timers_in found
     → (machine : Machine) → Shows machine → All (IsTimerOn machine path aliases) before → All (IsTimerOn machine path aliases) after
@@ -19,12 +20,12 @@ timers_more Shows path aliases (Ok (founds.TheVariants.Timer timer)) before afte
 timers_more Shows path aliases (Ok founds.TheVariants.Masked) before after h e machine shows held = rw (e, append-nil before) held
 timers_more Shows path aliases (Err fault) before after h e machine shows held = rw (e, append-nil before) held
 
--- a unit is a timer of the machine
+-- if what was found is a unit of the machine (`IsUnitFound`), then `IsFound` holds
 pub unit_found : (machine : Machine) (path : List (List ℕ)) (aliases : List Alias) (stem : List ℕ) (found : founds.Found) → IsUnitFound machine path aliases stem found → IsFound machine path aliases found
 unit_found machine path aliases stem (founds.TheVariants.Timer timer) h = inl (stem, h)
 unit_found machine path aliases stem founds.TheVariants.Masked h = tt
 
--- a file is a timer of the machine
+-- if what was found is a file of the machine (`IsFileFound`), then `IsFound` holds
 pub file_found : (machine : Machine) (path : List (List ℕ)) (aliases : List Alias) (found : founds.Found) → IsFileFound machine found → IsFound machine path aliases found
 file_found machine path aliases (founds.TheVariants.Timer timer) h = inr h
 file_found machine path aliases founds.TheVariants.Masked h = tt

@@ -13,7 +13,7 @@ abbrev pub AreOf : List (List ℕ) → List (TimerLine Fields) → Type 0
 AreOf texts entries =
     (map (λ entry. entry.text) entries ≡ texts) × All (λ entry. expr_in entry.text ≡ Ok entry.expr) entries
 
--- the timer has these entries as its expressions, no exceptions, and this table
+-- the timer has these entries as its expressions, no exceptions, and this table of zones
 abbrev pub IsTimerOf : List (TimerLine Fields) → ZoneMap → LoadedTimer → Type 0
 IsTimerOf entries table timer =
     (expressions_in timer.calendar ≡ entries) × (exceptions_in timer.calendar ≡ []) × (timer.zones ≡ table)

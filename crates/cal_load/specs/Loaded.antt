@@ -75,11 +75,11 @@ exceptions_in (calendars.TheVariants.Expressions list) = []
 abbrev pub zones_in : List (TimerLine Fields) → List (List ℕ)
 zones_in entries = flat_map (λ entry. option_to_list (name_in entry.expr.zone)) entries
 
--- the table has exactly the zones with these names, and UTC
+-- the table has UTC and a zone for each of these names, and no other zones
 abbrev pub HasNames : ZoneMap → List (List ℕ) → Type 0
 HasNames table names = (name : List ℕ) → is_some (zone_named table name) ≡ (is_utc_name name || list_any (bytes_eq name) names)
 
--- the zones of a machine that a calendar names
+-- the table has UTC and the zones that the calendar names, as they are in the machine's zone files, and no other zones
 abbrev pub HasZones : Machine → calendars.Calendar → ZoneMap → Type 0
 HasZones machine calendar table =
     HasNames table (zones_in (expressions_in calendar) ++ zones_in (exceptions_in calendar)) × HasZonesOf machine table
@@ -90,15 +90,15 @@ pub record IsReadFrom (machine : Machine) (files : List UnitText) (timer : Loade
   pub has_calendar : IsCalendarOf files timer.calendar
   pub has_zones : HasZones machine timer.calendar timer.zones
 
--- the timer is the unit with this stem, with its drop-ins
+-- the timer has the name of the unit with this stem, and was read from the unit's own file and its drop-ins
 abbrev pub IsUnitOn : Machine → List (List ℕ) → List Alias → List ℕ → LoadedTimer → Type 0
 IsUnitOn machine path aliases stem timer =
     (string_bytes timer.name ≡ stem ++ codes ".timer") × IsReadFrom machine (unit_files machine path aliases stem) timer
 
--- the timer is the file with this path by itself
+-- the timer was read from a single file, and its name is the path of this file
 abbrev pub IsFileOn : Machine → LoadedTimer → Type 0
 IsFileOn machine timer = IsReadFrom machine (file_at machine (string_bytes timer.name)) timer
 
--- the timer is a unit of the machine, or a file
+-- the timer is a unit of the machine (`IsUnitOn`) or a single file (`IsFileOn`)
 abbrev pub IsTimerOn : Machine → List (List ℕ) → List Alias → LoadedTimer → Type 0
 IsTimerOn machine path aliases timer = ((stem : List ℕ) × IsUnitOn machine path aliases stem timer) ⊎ IsFileOn machine timer

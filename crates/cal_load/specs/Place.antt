@@ -2,7 +2,7 @@
 use Rattle.std.specs.Prelude.{◌≡◌, ◌+◌, ◌<◌, ◌≤◌, ℕ, List, Some, length, slice_get, slice_index, string_bytes}
 use Rattle.cal_units.specs.declared.files.UnitText.{UnitText}
 
--- `index` is that of the last of the numbers that is at most `number`
+-- `index` is the index of the last element of `numbers` that is at most `number`
 abbrev pub IsLastUntil : List ℕ → ℕ → ℕ → Type 0
 IsLastUntil numbers number index =
     (index < length numbers) × (slice_index numbers index ≤ number)

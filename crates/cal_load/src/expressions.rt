@@ -35,7 +35,7 @@ pub fn load_expressions<T: Tree>(
     with_zones(alloc, tree, expressions, lines)
 }
 
-/// Returns no timer, and this error of a target.
+/// Returns a result without timers, with this error for the target.
 fn only_fault(alloc: Global, target: &str, fault: LoadFault) -> Result<Loaded, AllocError>
     ensures { IfOk result (λ loaded. loaded.timers.items ≡ []) }
 {
@@ -62,7 +62,8 @@ fn push_line(alloc: Global, lines: &mut Vec<TimerLine>, expression: &str) -> Res
     Ok(())
 }
 
-/// Loads the zones that the lines name, and returns the timer with these lines, whose texts are the expressions.
+/// Loads the zones that the lines name. Returns the timer with these lines, or the error if a zone can't be loaded. The
+/// texts of the lines are `expressions`.
 fn with_zones<T: Tree>(
     alloc: Global,
     tree: &T,
@@ -101,7 +102,8 @@ fn only_timer(
     Ok(loaded)
 }
 
-/// Returns no timer, and the error of the first line that names the zone whose file is at the path `zone`.
+/// Returns a result without timers, with an error for the first line that names the zone whose file is at the path
+/// `zone`.
 fn only_zone_fault(
     alloc: Global,
     lines: Vec<TimerLine>,

@@ -21,9 +21,9 @@ pub struct LoadedTimer {
     pub name: String,
     /// The files that were read, in this order: its own and its drop-ins.
     pub files: Vec<UnitText>,
-    /// For each file the number of its first line. Line numbers continue from file to file.
+    /// The number of each file's first line. Line numbers continue from file to file.
     pub first_lines: Vec<u32>,
-    /// The expressions and exceptions in these files.
+    /// The expressions and exceptions in these files, or the expressions that were given by themselves.
     pub calendar: Calendar,
     /// The zones that the expressions and exceptions name.
     pub zones: ZoneTable,
@@ -32,7 +32,7 @@ pub struct LoadedTimer {
 }
 
 impl LoadedTimer {
-    /// Returns the calendar expressions in the order of the files. There are none if other settings start the unit.
+    /// Returns the calendar expressions in the order of the files. There may be none if other settings start the unit.
     pub fn lines(&self) -> &[TimerLine]
         ensures { map shown result.now ≡ expressions_in self.now.calendar }
     {
@@ -56,8 +56,8 @@ impl LoadedTimer {
     }
 }
 
-/// Returns the path of the file that has the line with this continued number, and the line's number in that file. It is
-/// the last file that begins at or before the line.
+/// Finds the last file that begins at or before the line with this continued number. Returns the path of this file, and
+/// the number of the line in this file.
 pub(crate) fn place_in<'f>(
     files: &'f [UnitText],
     first_lines: &[u32],
@@ -71,8 +71,8 @@ pub(crate) fn place_in<'f>(
     Some((file.path.as_str(), line))
 }
 
-/// Returns which line of a file has a continued number, counted from 1, if the file's first line has the number
-/// `first`.
+/// Converts a continued number to the number of the line in its file, counted from 1. `first` is the continued number
+/// of the file's first line.
 fn line_from(first: u32, number: u32) -> Option<u32>
     ensures { IfSome result (λ line. first + line ≡ number + 1) }
 {
@@ -102,11 +102,11 @@ fn last_until(numbers: &[u32], number: u32) -> Option<usize>
 /// What was loaded.
 #[derive(Drop)]
 pub struct Loaded {
-    /// The timers, in the order in which they were named, those of a folder by name.
+    /// The timers in the order of the targets. Timers of one folder, or of the whole search path, are sorted by name.
     pub timers: Vec<LoadedTimer>,
-    /// The names of the units that are masked, and the paths of the masked files that were named by their paths.
+    /// The names of masked units and the paths of masked files.
     pub masked: Vec<String>,
-    /// The targets that couldn't be loaded and the folders of the search path that couldn't be listed, and why.
+    /// The units, files, folders and expressions that couldn't be loaded, each with the reason.
     pub faults: Vec<TargetFault>,
 }
 

@@ -19,16 +19,17 @@ use std::alloc::{AllocError, Global};
 /// Loads the timers that the targets stand for, in their order. Without a target, these are all timers in the folders
 /// of the search path, by name.
 ///
-/// `path` is the search path, the most important folder first. `aliases` are the aliases of the units in it, as
-/// [`cal_units::find_aliases`] finds them. If all targets are paths, they have no effect. A target is
+/// `path` is the search path, the most important folder first. `aliases` are the aliases of the units in its folders,
+/// as [`cal_units::find_aliases`] finds them. Neither has an effect if all targets are paths. A target is
 ///
 /// - a path, if it has a `/` or is `.` or `..`: a folder stands for all its files with the suffix `.timer`, by name,
 ///   and any other file for itself, without drop-ins;
 /// - otherwise the name of a timer, with or without `.timer`: its file is read, and then its drop-ins, also those of
 ///   its aliases (systemd.unit(5)).
 ///
-/// Templates are left out, unless they are named. What can't be loaded is in [`Loaded::faults`], and units that are
-/// masked are in [`Loaded::masked`]; all the others are still loaded. Fails only if allocation fails.
+/// Templates in folders are left out. A template can be loaded by its path, but not by its name, which is an error.
+/// What can't be loaded is in [`Loaded::faults`], and units that are masked are in [`Loaded::masked`]; all the others
+/// are still loaded. Fails only if allocation fails.
 pub fn load_timers<T: Tree>(
     alloc: Global,
     tree: &T,
@@ -67,8 +68,8 @@ fn load_all<T: Tree>(
     Ok(loaded)
 }
 
-/// Loads the timer whose file has this name in a folder of the search path. If no unit has this name, as when it is the
-/// name of a folder, nothing is loaded.
+/// Loads the timer whose file has this name in a folder of the search path. Loads nothing if no unit has this name, for
+/// example because it is the name of a folder.
 fn load_listed<T: Tree>(
     alloc: Global,
     tree: &T,

@@ -169,7 +169,8 @@ fn text_fault(
     }
 }
 
-/// Returns the error for an invalid line in the text with this index. Lines are numbered as in its file.
+/// Returns the error for an invalid line in the text with this index. In the error, the line has the number that it has
+/// in its own file.
 fn line_fault(
     alloc: Global,
     files: &[UnitText],
@@ -189,7 +190,7 @@ fn line_fault(
     Ok(TargetReason::Line(path, line, with_line(fault, line)))
 }
 
-/// Returns the error with another line number.
+/// Returns the error with the line number `line` in place of its own, if it has one.
 fn with_line(fault: TimerFault, line: u32) -> TimerFault {
     match fault {
         TimerFault::BadLine(_, reason) => TimerFault::BadLine(line, reason),

@@ -3,7 +3,7 @@ use Rattle.cal_timer.specs.TimerView.{shown}
 use Rattle.cal_load.specs.Expressions.{AreOf}
 use Rattle.cal_load.proofs.expressions.load_expressions.Given as goal
 
--- the lines are those of the expressions so far
+-- the lines have the texts and the fields of the expressions before the loop's index
 abbrev pub invariant-loop-expression : goal.invariant-loop-expression
 invariant-loop-expression g l =
     AreOf (map (λ text. text.now) (take l.expression-index l.expressions)) (map shown l.lines.items)

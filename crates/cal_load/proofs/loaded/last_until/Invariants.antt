@@ -2,7 +2,7 @@ use Rattle.std.proofs.Common.{ℕ, ◌<◌, ◌≤◌}
 use Rattle.std.specs.Prelude.{MatchOption, slice_index}
 use Rattle.cal_load.proofs.loaded.last_until.Given as goal
 
--- the index found is that of the last number so far that is at most `number`
+-- if an index was found, it is the index of the last number so far that is at most `number`
 abbrev pub invariant-loop-index : goal.invariant-loop-index
 invariant-loop-index l =
     MatchOption l.found (Unit {0}) (λ index. (index < l.index) × (slice_index l.numbers index ≤ l.number)
