@@ -1,4 +1,4 @@
--- Files that were read are those of the machine.
+-- Lemmas on files that were read: each has the bytes that the machine has at its path.
 use Rattle.std.proofs.Common.{◌≡◌, ℕ, List, [], ◌∷◌, ◌++◌, All, Option, Some, None, map, refl}
 use Rattle.std.specs.Option.{option_map, option_to_list}
 use Rattle.std.proofs.lemmas.List.Elements.{All-append, All-cons, All-head, All-nil, All-same, All-tail}
@@ -27,7 +27,8 @@ all_stored machine (file ∷ files) h =
     All-cons (IsStoredOn machine) file files (All-head (IsShownOn machine) (shown_text file) (map shown_text files) h)
     (all_stored machine files (All-tail (IsShownOn machine) (shown_text file) (map shown_text files) h))
 
--- the list with the files at these paths has files of the machine alone
+-- if all files in `before` are files of the machine, so are all files in `more`, which also has the files at these
+-- paths
 pub stored_more : (machine : Machine) (paths : List (List ℕ)) (before more files : List texts.UnitText) → more ≡ before ++ files
     → map shown_text files ≡ files_at machine paths → All (IsStoredOn machine) before → All (IsStoredOn machine) more
 stored_more machine paths before more files pushed read held =

@@ -18,7 +18,7 @@ use std::collections::BTreeSet;
 pub struct LoadedFiles {
     /// The files in the order in which they were named, each once. Their bytes may not be UTF-8.
     pub files: Vec<UnitText>,
-    /// The targets that couldn't be read and the folders of the search path that couldn't be listed, and why.
+    /// The units, files and folders that couldn't be read, each with the reason.
     pub faults: Vec<TargetFault>,
 }
 
@@ -85,8 +85,8 @@ impl Reading {
         }
     }
 
-    /// Reads the files of all timers in the folders of the search path. A name there that is not a unit's, such as the
-    /// name of a folder, is skipped.
+    /// Reads the files of all timers in the folders of the search path. Skips names in these folders that no unit has,
+    /// such as the name of a folder.
     fn take_all<T: Tree>(
         &mut self,
         alloc: Global,

@@ -1,4 +1,4 @@
-//! The files that a user names, as they are.
+//! The files that a user names, not parsed.
 #![tactic(auto)]
 
 mod files;
