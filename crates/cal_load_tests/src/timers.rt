@@ -86,7 +86,7 @@ fn loads(alloc: Global, targets: &[&str], wanted: &str) -> Result<(), Fail> {
     loads_from(alloc, machine(), targets, wanted)
 }
 
-/// Checks what is loaded for these targets from a machine.
+/// Like `loads`, but loads the targets from this machine.
 fn loads_from(
     alloc: Global,
     machine: Memory<'_>,
@@ -194,8 +194,8 @@ static ALIASED: [(&str, Item<'static>); 9] = [
     ),
 ];
 
-/// The drop-ins of all names of a unit, by whichever name it is loaded. Those of another unit's alias and of a loop of
-/// links are not read.
+/// Tests that a unit is loaded with the drop-ins of all its names, whichever of these names is the target, and without
+/// the drop-ins of other units. A loop of links is an error.
 #[test]
 fn loads_aliases(rt: HostRuntime) -> Result<(), Fail> {
     let machine = Memory {
