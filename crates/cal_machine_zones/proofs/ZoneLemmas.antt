@@ -40,7 +40,7 @@ pub empty_has_none : (machine : Machine) → HasZonesOf machine empty
 unfolding zone_named
 empty_has_none machine name other = rw (other, get-empty {X = TimeZone} (slice_cmp nat_cmp) name) tt
 
--- the bytes that were read to the end of a file are all bytes that the file had
+-- if a file is read to its end, the bytes that were read are all bytes of the file
 pub read_all : (xs : List ℕ) (new : Option (List ℕ)) (limit : ℕ) (bytes : List ℕ) → GivesAll (Some xs) new limit bytes → xs ≡ bytes
 read_all xs None limit bytes all = absurd all.taken
 read_all xs (Some ys) limit bytes all = rw (all.taken, all.at_end) (append-nil bytes)

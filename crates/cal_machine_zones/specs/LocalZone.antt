@@ -121,7 +121,7 @@ shown_zone (zones.TheVariants.Offset seconds) = Ahead seconds
 shown_zone (zones.TheVariants.Rule rule) = ByRule (string_bytes rule)
 shown_zone (zones.TheVariants.Named name) = OfName (string_bytes name)
 
--- whether the library `jiff` accepts the offset, if the zone is an offset
+-- whether the zone isn't an offset, or is an offset that the library `jiff` accepts
 abbrev pub HasOffset : tolds.Told → Type 0
 HasOffset tolds.TheVariants.Utc = ⊤
 HasOffset (tolds.TheVariants.Offset seconds) = IsOffsetSeconds seconds
