@@ -75,7 +75,7 @@ timed_entries at (line ∷ list) (e ∷ es) h =
 
 -- Suppose that `es` and `exceptions` are the meanings of a timer's expressions and exceptions in their zones, which are
 -- all known. Then `elapses_of_lists` returns exactly the elapse times of `es` after the base time, without those of
--- `exceptions`. An exception is an expression at whose elapse times a timer doesn't elapse.
+-- `exceptions`. An exception is an expression; when it elapses, the timer doesn't.
 pub elapses_of_zones : (at : Setting) (base : ℤ) (lists : Timer Fields) (es exceptions : List Timed) → AllZip (IsTimed at) lists.expressions es → AllZip (IsTimed at) lists.exceptions exceptions
     → AreElapses es exceptions base (elapses_of_lists at base lists)
 unfolding elapses_of_lists

@@ -1,5 +1,5 @@
 -- The elapse times of expressions and of exceptions, each in its zone, and the merge that yields those of the timer:
--- systemd.timer(5), OnCalendar=. An exception is an expression at whose elapse times a timer doesn't elapse.
+-- systemd.timer(5), OnCalendar=. An exception is an expression; when it elapses, the timer doesn't.
 use Rattle.std.specs.Prelude.{◌≡◌, ◌++◌, ℤ, false, map, List, None, Some}
 use Rattle.std.specs.Option.{unwrap_or}
 use Rattle.jiff.specs.Types.{TimeZone, UTC}

@@ -32,7 +32,7 @@ lesser_line None b = b
 lesser_line (Some x) None = Some x
 lesser_line (Some x) (Some y) = Some (min x y)
 
--- the number of the first line, among the expressions and the exceptions, that names a zone missing from the zone
--- table; an exception is an expression at whose elapses a timer doesn't elapse
+-- The number of the first line, among the expressions and the exceptions, that names a zone missing from the zone
+-- table. An exception is an expression; when it elapses, the timer doesn't.
 unfoldable pub unzoned : Setting → Timer Fields → Option ℕ
 unzoned at lists = lesser_line (first_unzoned at lists.expressions) (first_unzoned at lists.exceptions)

@@ -1,5 +1,5 @@
 //! The zone in which each calendar expression is evaluated, and the elapses of several expressions together, without
-//! those of the exceptions. An exception is an expression at whose elapses a timer doesn't elapse.
+//! those of the exceptions. An exception is an expression; when it elapses, the timer doesn't.
 #![tactic(auto)]
 
 mod instants;

@@ -1,5 +1,5 @@
 //! The elapses of all expressions together, without those of the exceptions (systemd.timer(5), OnCalendar=). An
-//! exception is an expression at whose elapses a timer doesn't elapse.
+//! exception is an expression; when it elapses, the timer doesn't.
 
 ghost use Rattle.std.specs.Prelude.{◌≡◌, ◌≢◌, ◌++◌, [], ◌∷◌, None, MatchResult, false, true, map, IfOk, OnOk};
 ghost use Rattle.cal_zone.specs.Setting.{setting_seen};

@@ -1,5 +1,5 @@
-//! Why the elapses of expressions and exceptions can't be computed. An exception is an expression at whose elapses a
-//! timer doesn't elapse.
+//! Why the elapses of expressions and exceptions can't be computed. An exception is an expression; when it elapses, the
+//! timer doesn't.
 
 ghost use Rattle.std.specs.Prelude.{◌≡◌};
 ghost use Rattle.cal_plan.specs.declared.plan_fault.PlanFault.TheVariants.{NoMemory};

@@ -1,5 +1,5 @@
-//! The first expression or exception whose zone isn't known. An exception is an expression at whose elapses a timer
-//! doesn't elapse.
+//! The first expression or exception whose zone isn't known. An exception is an expression; when it elapses, the timer
+//! doesn't.
 
 ghost use Rattle.std.specs.Prelude.{◌≡◌, map};
 ghost use Rattle.cal_zone.specs.Setting.{setting_seen};

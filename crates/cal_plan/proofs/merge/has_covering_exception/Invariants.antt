@@ -1,5 +1,5 @@
 -- The loop needs no invariant: nothing has to be known about the exceptions that were already compared. An exception is
--- an expression at whose elapses a timer doesn't elapse.
+-- an expression; when it elapses, the timer doesn't.
 use Rattle.cal_plan.proofs.merge.has_covering_exception.Given as goal
 
 abbrev pub invariant-loop-exception : goal.invariant-loop-exception
