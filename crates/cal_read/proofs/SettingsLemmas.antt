@@ -36,7 +36,7 @@ pub header_opens : (name : List ℕ) (inside : Bool) (line : Line) (after : List
 unfolding settings_in section_lines
 header_opens name inside line after e = rw e refl
 
--- a line outside the section that isn't a header adds nothing
+-- outside the section, a line that isn't a header adds nothing
 pub outside_none : (name : List ℕ) (line : Line) (after : List Line) → is_header (trim_matches is_blank_or_return line.text) ≡ false → settings_in name false (line ∷ after) ≡ settings_in name false after
 unfolding settings_in section_lines
 outside_none name line after e = rw e refl
@@ -45,7 +45,7 @@ some_or_none : (line : Line) (o : Option Assignment) (lines : List Line) → ass
 some_or_none line (Some a) lines e = rw e refl
 some_or_none line None lines e = rw e refl
 
--- a line in the section that isn't a header adds its assignment, if it has one
+-- in the section, a line that isn't a header adds its assignment, if it has one
 pub inside_gives : (name : List ℕ) (line : Line) (o : Option Assignment) (after : List Line) → is_header (trim_matches is_blank_or_return line.text) ≡ false → assignment_of (trimmed line) ≡ o
     → settings_in name true (line ∷ after) ≡ option_to_list o ++ settings_in name true after
 unfolding settings_in section_lines

@@ -1,5 +1,5 @@
--- The settings in those sections of a unit file that have a given name (systemd.syntax(7)). The definitions here are
--- like `assignments_in`, which is only for the section `Timer`.
+-- The settings in all sections of a unit file that have a given name (systemd.syntax(7)). The definitions here are like
+-- `assignments_in`, which is only for the section `Timer`.
 use Rattle.std.specs.Prelude.{ℕ, Bool, if◌then◌else◌, List, [], ◌∷◌, map, string_bytes}
 use Rattle.std.specs.List.{filter_map}
 use Rattle.std.specs.Str.{bytes_eq}

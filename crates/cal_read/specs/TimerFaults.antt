@@ -33,8 +33,8 @@ faults_of read before k (file ∷ files) =
 -- The definitions from here on follow the loops of the code, which count the entries of each list but don't keep the
 -- lists. Only contracts of private functions use these definitions.
 
--- the length of a list after an assignment, capped at the limit, given the length before it, whether the assignment
--- adds to the list, and whether it clears the list
+-- the length of a list after an assignment, capped at the limit; the arguments are the length before the assignment,
+-- whether the assignment adds to the list, and whether it clears the list
 abbrev pub count_with : ℕ → Bool → Bool → ℕ
 count_with n true empties = min (n + 1) max_expressions
 count_with n false true = 0

@@ -42,8 +42,8 @@ impl Counts {
     }
 }
 
-/// Returns the length of a list after an assignment, given the length `count` before: one more, up to
-/// [`MAX_EXPRESSIONS`], if `adds` is `true`; otherwise 0 if `empties` is `true`, and `count` if not.
+/// Returns the length of a list after an assignment. `count` is the length before it. If `adds` is `true`, the list
+/// grows by one, up to [`MAX_EXPRESSIONS`]. Otherwise, if `empties` is `true`, the new length is 0.
 fn count_with(count: usize, adds: bool, empties: bool) -> usize
     ensures { result ≡ count_with count adds empties }
 {

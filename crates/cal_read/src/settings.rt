@@ -1,4 +1,4 @@
-//! The settings in those sections of a unit file that have a given name, such as `Timer`, in order (systemd.syntax(7)).
+//! The settings in all sections of a unit file that have a given name, such as `Timer`, in order (systemd.syntax(7)).
 
 ghost use Rattle.std.specs.Prelude.{◌≡◌, ◌+◌, ◌<◌, ◌^◌, ◌∷◌, ◌++◌, [], false, length, map, IfOk, MatchOption, OnErr, List};
 ghost use Rattle.std.specs.Option.{option_map, option_to_list};
