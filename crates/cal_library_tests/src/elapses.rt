@@ -41,8 +41,8 @@ pub(crate) fn elapses_of<'z>(
     elapses_from(alloc, &expr, zone, base)
 }
 
-/// Expects the next calls of `next` to return `answers`, in this order. Just before `next` returns a number, `has` must
-/// not return `Some(false)` for this number.
+/// Expects `next` to return `answers`, in this order. Just before `next` returns a number, `has` must not return
+/// `Some(false)` for this number.
 fn expect_answers(
     elapses: &mut Elapses<'_>,
     answers: &[Option<i64>],

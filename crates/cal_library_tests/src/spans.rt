@@ -32,7 +32,7 @@ static READ_AND_WRITTEN: [(&str, u64, &str); 11] = [
 ];
 
 /// Numbers are added up, each in its own unit, or in seconds if it has no unit. A number may begin or end with its
-/// point.
+/// decimal point.
 const SUMS: &str = "\
 5 5 -> 10000000|5\t5 -> 10000000| \t5 \t s\t  -> 5000000|1y2months3w4d5h6min7s8ms9us -> 38995567008009|\
 1. -> 1000000|.5 -> 500000|1.h -> 3600000000";

@@ -62,7 +62,7 @@ static FRACTIONS: Table = Table {
     )],
 };
 
-/// Weekday names may be whole or abbreviated to three letters, in upper or lower case. A blank has to follow the name
+/// Weekday names may be whole or abbreviated to three letters, and case is ignored. A blank has to follow the name
 /// directly, without a comma.
 static WEEKDAYS: Table = Table {
     moments: "\

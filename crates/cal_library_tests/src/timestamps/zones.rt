@@ -7,7 +7,7 @@ use cal_read::StampFault::*;
 use std::alloc::Global;
 use std::test::Fail;
 
-/// Zone names have to match exactly, except that `UTC` may be in upper or lower case.
+/// Zone names have to match exactly, except that case is ignored in `UTC`.
 static NAMES: Table = Table {
     moments: "\
 2012-11-23 Test/Fixed -> 1353625200000000|2012-11-23 1:2 Test/Fixed -> 1353628920000000|\
