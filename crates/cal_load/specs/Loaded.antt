@@ -35,7 +35,7 @@ paths_of machine path aliases (FoundAt file followed own) =
     file ∷ drop_ins (disk_of machine) path (stems_of aliases followed own)
 paths_of machine path aliases Endless = []
 
--- the files of the unit with this stem, if the machine has these aliases
+-- the files of the unit with this stem; `aliases` are the aliases on the machine
 abbrev pub unit_files : Machine → List (List ℕ) → List Alias → List ℕ → List UnitText
 unit_files machine path aliases stem = files_at machine (paths_of machine path aliases (unit_in machine path stem))
 

@@ -16,8 +16,8 @@ use std::alloc::{AllocError, Global};
 /// A timer, and everything that its elapses depend on except the local zone.
 #[derive(Drop)]
 pub struct LoadedTimer {
-    /// The name of the unit's file, such as `backup.timer`; or the path of a file as it was given; or the expressions,
-    /// separated by commas.
+    /// The name of the unit's file, such as `backup.timer`; or the path of a file that was read by itself; or the
+    /// expressions, separated by commas.
     pub name: String,
     /// The files that were read, in this order: its own and its drop-ins.
     pub files: Vec<UnitText>,

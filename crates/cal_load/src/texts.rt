@@ -14,8 +14,8 @@ use std::alloc::{AllocError, Global};
 /// Returns the texts of the files. The first line of the first file has the number 1, and the first line of any other
 /// file follows the last line of the file before it.
 ///
-/// Fails with `TargetReason::NotUtf8` for the first file that is not UTF-8, and with [`Reason::TooLarge`] if the files
-/// together have too many bytes for line numbers below 2^32.
+/// Fails with `TargetReason::NotUtf8` for the first file that is not UTF-8, and with [`Reason::TooLarge`] for the first
+/// file that is too large for line numbers below 2^32.
 pub(crate) fn texts_of(alloc: Global, files: &[UnitText]) -> Result<Vec<Text<'_>>, LoadFault>
     ensures numbered { IfOk result (λ texts. All (λ text. text.first + length text.text.now < 2 ^ 32) texts.items) }
     ensures read { IfOk result (λ list. joined.assignments_of list.items ≡ assignments_of (map shown_text files.now)) }
@@ -64,7 +64,7 @@ fn line_count(text: &str) -> usize
     text.lines().count()
 }
 
-/// Returns the numbers of the first lines of texts.
+/// Returns the number of each text's first line.
 pub(crate) fn first_lines(alloc: Global, texts: &[Text<'_>]) -> Result<Vec<u32>, AllocError> {
     texts.iter().map(|text| text.first).collect(alloc)
 }
