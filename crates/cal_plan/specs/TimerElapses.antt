@@ -22,7 +22,7 @@ use Rattle.cal_plan.specs.ZoneFor.{unzoned, zone_for}
 abbrev pub lists_shown : List declared_line.TimerLine → List declared_line.TimerLine → Timer Fields
 lists_shown lines exceptions = record { expressions = map shown lines; exceptions = map shown exceptions }
 
--- `e` is the meaning of the expression on this line in its zone, which is known
+-- the zone of the expression on this line is known, and `e` is the meaning of the expression in this zone
 abbrev pub IsTimed : Setting → TimerLine Fields → Timed → Type 0
 IsTimed at line e = (tz : TimeZone) × (zone_for at line.expr.zone ≡ Some tz) × (e ≡ timed line.expr tz)
 
