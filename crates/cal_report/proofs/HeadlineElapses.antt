@@ -1,4 +1,4 @@
--- Lemmas for the law `headline`: elapse times are instants, how a list of elapse times continues after one of its
+-- Lemmas for the law `headline`: that elapse times are instants, how a list of elapse times continues after one of its
 -- elements, and what the clock of the zone shows at an elapse time. A law is the contract of a function that does
 -- nothing.
 use Rattle.std.proofs.Common.{◌≡◌, ◌<◌, ◌+◌, ◌++◌, ◌∙◌, ℕ, suc, ℤ, pos, ◌≤ℤ◌, ◌<ℤ◌, ◌-ℤ◌, true, List, Option, None, Some, Result, Ok, Err, map, take, drop, refl, sym, ap, subst, arith}

@@ -167,8 +167,8 @@ no_fault one before a false false e f h = rw (e, f) refl
 all_fine : HaveOneNormalForm → (all : List Assignment) → AreSpelled all → AreFine expr_in all
 all_fine one all h before a after split = no_fault one before a (is_expression a) (is_exception a) refl refl (h before a after split)
 
--- the entry, a line of a parsed timer file, has the text and the fields of the expression `e`, and the zone of `e` is
--- the zone for its zone suffix
+-- `entry`, a line of a parsed timer file, has the text and the fields of the expression `e`, and the zone suffix of `e`
+-- stands for the zone of `e`
 record IsEntryOf (asked : Request) (entry : TimerLine Fields) (e : Expression) : Type 0 where
   text : entry.text ≡ e.text
   expr : entry.expr ≡ e.fields
