@@ -23,14 +23,14 @@ plain_none n text e = rw e refl
 abbrev pub parts_of : List Line → List ℕ
 parts_of = flat_map (λ line. part_of_line line.text)
 
--- the logical lines of these groups, except that the first one has the number `n`, and `front` stands before its text;
--- if there are no groups, the only logical line has the number `n` and the text `front`
+-- The logical lines of these groups, except that the first logical line has the number `n`, and `front` stands before
+-- its text. If there are no groups, the only logical line has the number `n` and the text `front`.
 abbrev pub after : ℕ → List ℕ → List Group → List Line
 after n front [] = record { number = n; text = front } ∷ []
 after n front (group ∷ rest) = record { number = n; text = front ++ parts_of (group.first ∷ group.more) } ∷ map joined_line rest
 
--- the logical lines of a text whose first logical line is partly joined: it has the number `n` and the text `front` so
--- far; if the Boolean is `true`, it continues in the physical lines `ls`, otherwise it is complete
+-- The logical lines of a text whose first logical line has the number `n` and, so far, the text `front`. If the Boolean
+-- is `true`, this line continues in the physical lines `ls`. Otherwise it is complete, and `ls` come after it.
 abbrev pub goes_on_in : ℕ → List ℕ → Bool → List Line → List Line
 goes_on_in n front true ls = after n front (groups ls)
 goes_on_in n front false ls = record { number = n; text = front } ∷ map joined_line (groups ls)
