@@ -16,8 +16,9 @@ use cal_units::Tree;
 use cal_zone::ZoneTable;
 use std::alloc::{AllocError, Global};
 
-/// Returns the timer that has these calendar expressions and no exceptions, or the error of the first expression that
-/// is invalid or names a zone that can't be loaded (systemd.time(7), Calendar Events). Fails only if allocation fails.
+/// Returns the timer that has these calendar expressions and no exceptions (systemd.time(7), Calendar Events). If an
+/// expression is invalid, returns the error of the first invalid one instead. If all are valid, but name a zone that
+/// can't be loaded, returns the error of the first expression that names this zone. Fails only if allocation fails.
 pub fn load_expressions<T: Tree>(
     alloc: Global,
     tree: &T,

@@ -27,9 +27,9 @@ use std::alloc::{AllocError, Global};
 /// - otherwise the name of a timer, with or without `.timer`: its file is read, and then its drop-ins, also those of
 ///   its aliases (systemd.unit(5)).
 ///
-/// Templates in folders are left out. A template can be loaded by its path, but not by its name, which is an error.
-/// What can't be loaded is in [`Loaded::faults`], and units that are masked are in [`Loaded::masked`]; all the others
-/// are still loaded. Fails only if allocation fails.
+/// Templates in folders are left out. A template can be loaded by its path, but its name as a target is an error. What
+/// can't be loaded is in [`Loaded::faults`], and units that are masked are in [`Loaded::masked`]; all the others are
+/// still loaded. Fails only if allocation fails.
 pub fn load_timers<T: Tree>(
     alloc: Global,
     tree: &T,
