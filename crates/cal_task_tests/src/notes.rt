@@ -27,8 +27,8 @@ const SKIPPED: ClockChange = ClockChange::Skipped;
 const REPEATED: ClockChange = ClockChange::Repeated;
 
 static ROWS: [Row; 10] = [
-    // In the next row, the present is on the Saturday before the clock change, and the only elapse that is passed is on
-    // the Monday after.
+    // In the next row, the present is on the Saturday before the clock change, and the only elapse given to
+    // `clock_notes` is on the Monday after it.
     (
         "[Timer]\nOnCalendar=02:30",
         SPRING - DAY,
