@@ -21,11 +21,11 @@ enum Effect {
 
 /// Returns the settings in the sections `Timer` of these texts that start or delay the unit, except `OnCalendar=`.
 ///
-/// `OnActiveSec=`, `OnBootSec=`, `OnStartupSec=`, `OnUnitActiveSec=` and `OnUnitInactiveSec=` add up. An empty value of
-/// one of these keys or of `OnCalendar=` clears all of these settings that are before it. Of several settings
-/// `RandomizedDelaySec=`, the last one counts; if its value is empty, there is no delay. Of several settings
-/// `OnClockChange=` with a boolean value, the last one counts, and is returned if its value is true. The same goes for
-/// `OnTimezoneChange=`.
+/// Every `OnActiveSec=`, `OnBootSec=`, `OnStartupSec=`, `OnUnitActiveSec=` and `OnUnitInactiveSec=` counts, but an empty
+/// value of one of these keys, or of `OnCalendar=`, drops all settings with these five keys above it. If
+/// `RandomizedDelaySec=` is set several times, the last one counts; if its value is empty, there is no delay. If
+/// `OnClockChange=` is set to booleans several times, the last one counts, and it is returned only if it is true. The
+/// same goes for `OnTimezoneChange=`.
 pub(crate) fn notes_of(alloc: Global, texts: &[UnitText<'_>]) -> Result<Vec<Setting>, AllocError>
     requires { All (λ text. text.first + length text.text.now < 2 ^ 32) texts.now }
 {

@@ -345,8 +345,8 @@ fn tell<O: Sink, E: Sink>(answered: &Result<Status, Stop>, out: &mut O, err: &mu
     }
 }
 
-/// Reports a stop right away: help on `out`, other stops on `err`. Fails if the report can't be written. If the stop
-/// has to be reported later, writes nothing, and fails with the error that the outlet of the stop holds.
+/// Reports a stop: help on `out`, other stops on `err`. Fails if the report can't be written. If the stop is that an
+/// output has failed or that memory has run out, writes nothing, and fails with that error, which is reported later.
 fn tell_stop<O: Sink, E: Sink>(stop: &Stop, out: &mut O, err: &mut E) -> Result<(), RunFault>
     requires out { O.is_failed out.old ≡ is_out_stop stop.now }
     requires err { E.is_failed err.old ≡ is_err_stop stop.now }

@@ -57,7 +57,7 @@ static FIRST_WORDS: [Refused; 3] = [
     (UnknownShorthand, "Foo +02:00|fortnightly +02:00"),
 ];
 
-/// If several words are invalid, the error of the leftmost one is reported, with and without a valid offset after it.
+/// The error of the leftmost invalid word is reported, whether or not the offset after it is valid.
 static ORDER: [Refused; 5] = [
     (BadWeekday, "Mon,,Tue +02:00|Mon,,Tue +x"),
     (BadDate, "7 +02:00|7 +x|1 -1"),
