@@ -21,8 +21,8 @@ search_examined sets from found search =
 pub most_begun : (sets : Sets) (from before : ℕ) → IsMostAfter sets from from before before
 most_begun sets from before = record { not_below = omega arith; all = λ months one. absurd (let low = one.low in let high = one.high in omega arith); one = inl refl }
 
--- if `t` is the only match from `t` up to but not including `next`, and the search after `t` examines `months` months,
--- then this search changes the largest number of months from `before` to the larger of `before` and `months`
+-- Suppose that `t` is the only match from `t` up to but not including `next`, and that the search after `t` examines
+-- `months` months. If the largest number of months was `before`, it is then the larger of `before` and `months`.
 pub most_next : (sets : Sets) (t next before months : ℕ) → matches sets t ≡ true → IsExamined sets (t + 1) months → t < next → NonePasses (matches sets) (t + 1) next
     → IsMostAfter sets t next before (max before months)
 most_next sets t next before months holds examined later none = grind (arith, max_is)

@@ -25,7 +25,7 @@ pub enum Stop {
     Clock,
     /// The timer file at this path can't be opened.
     Open(String),
-    /// The run ended early because an output or an allocation failed, or allocation failed before the run.
+    /// An output or an allocation failed during the run, or an allocation failed before it.
     Run(RunFault),
 }
 
