@@ -102,7 +102,7 @@ is_of_help _ = false
 abbrev pub HasRead : List Text → Result Ask CommandFault → Type 0
 HasRead arguments answer = (faults_in arguments ≡ []) × (asked_in arguments ≡ answer)
 
--- `clap` doesn't accept the arguments, and may report for them an error of a kind that passes the test `is_kind`
+-- `clap` rejects the arguments, and one of the errors that it may report for them is of a kind that passes `is_kind`
 abbrev pub HasRefused : List Text → (ErrorKind → Bool) → Type 0
 HasRefused arguments is_kind = (takes_arguments arguments ≡ false) × (list_any is_kind (faults_in arguments) ≡ true)
 

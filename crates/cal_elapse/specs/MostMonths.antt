@@ -1,5 +1,5 @@
--- The largest number of months that one of several searches examines. One search comes first, and each of the others
--- starts after a match in a range of local seconds.
+-- The largest number of months that any one of these searches examines: a first search, and one search after each
+-- match in a range of local seconds.
 use Rattle.std.specs.Prelude.{◌≡◌, ◌⊎◌, ◌+◌, ◌<◌, ◌≤◌, ℕ, true, Option}
 use Rattle.cal_civil.specs.headline.Local.{seconds_in_all}
 use Rattle.cal_elapse.specs.ExaminedMonths.{examined_months}

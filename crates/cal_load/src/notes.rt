@@ -104,7 +104,7 @@ fn is_monotonic(key: &str) -> bool {
     )
 }
 
-/// Returns whether one of the notes starts the unit. `RandomizedDelaySec=` only delays it.
+/// Returns whether one of these settings can start the unit by itself. `RandomizedDelaySec=` only delays a start.
 pub(crate) fn can_start(notes: &[Setting]) -> bool {
     notes
         .iter()

@@ -38,8 +38,8 @@ abbrev pub form_of_words : List (List ℕ) → Form
 form_of_words [] = civil []
 form_of_words (w ∷ ws) = form_by_day (day_shift w) w ws
 
--- the form of a text that doesn't end with a blank and `left`; the first argument is the part before the last blank if
--- `ago` follows this blank, and `None` otherwise
+-- the form of a text that doesn't end with a blank followed by `left`; the first argument is the part before the last
+-- blank if `ago` follows this blank, and `None` otherwise
 abbrev pub form_by_ago : Option (List ℕ) → List ℕ → Form
 form_by_ago None text = form_of_words (words text)
 form_by_ago (Some span) text = earlier span

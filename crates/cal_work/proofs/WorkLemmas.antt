@@ -123,7 +123,7 @@ reads_unnamed : (name : List ℕ) (came : Result (List ℕ) WholeFault) → is_z
 reads_unnamed name (Ok bytes) h = λ named. absurd (false≢true (sym h ∙ named))
 reads_unnamed name (Err fault) h = tt
 
--- what loading an opened zone file returns agrees with the definition `loaded`, as `Loads` says
+-- the result of loading an opened zone file agrees with the definition `loaded`, as `Loads` says
 pub loads : (known : Known) (before after : ZoneMap) (item : ZoneItem) (r : Result Unit LoadFault) (old new : Option (List ℕ)) (may failed : Bool) → Opens (known.file item.path) (Some old) → may ≡ known.may_fail item.path
     → failed ≡ is_load_read_failed r → MatchResult r (λ done. IsLoaded old new before after item.name) (IsLoadFault old new before item.name) → (may ≡ false → failed ≡ false) → Loads known before after item r
 unfolding loaded
