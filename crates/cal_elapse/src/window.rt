@@ -106,8 +106,8 @@ impl<'z> Window<'z> {
     /// this minute is known, calls `convert_hour` instead. `local` is a match that has already been converted. Returns
     /// the last match that has been converted, which can be `local`.
     ///
-    /// Neither searches nor converts anything if later matches in this minute are known, but not all of these conditions
-    /// are met:
+    /// Neither searches nor converts anything if later matches in this minute are known, but not all of these
+    /// conditions are met:
     ///
     /// - All matches in the minute have to be converted before the smallest pending instant can be returned.
     /// - The UTC offset is known to be constant from `local` to the end of the minute.
