@@ -138,11 +138,16 @@ fn answer_at<T: Tree>(
         .iter()
         .map(|target| target.as_str())
         .collect(alloc)?;
-    let (targets, path) = (targets.as_slice(), path.as_slice());
-    let found = aliases_for(alloc, tree, question.verb, path, targets)?;
+    let found = aliases_for(
+        alloc,
+        tree,
+        question.verb,
+        path.as_slice(),
+        targets.as_slice(),
+    )?;
     let asked = Asked {
-        targets,
-        path,
+        targets: targets.as_slice(),
+        path: path.as_slice(),
         aliases: found.aliases.as_slice(),
         at,
         count: question.count.unwrap_or(DEFAULT_COUNT),
@@ -150,14 +155,15 @@ fn answer_at<T: Tree>(
         style,
     };
     let answer = answer_verb(alloc, tree, question.verb, asked)?;
-    with_folder_faults(
+    let answer = with_folder_faults(
         alloc,
         question.verb,
-        targets,
-        path,
+        targets.as_slice(),
+        path.as_slice(),
         found.faults.as_slice(),
         answer,
-    )
+    )?;
+    Ok(answer)
 }
 
 fn answer_verb<T: Tree>(
