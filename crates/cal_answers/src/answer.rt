@@ -9,6 +9,7 @@ use crate::lint::lint;
 use crate::local_clock::LocalClock;
 use crate::timers::{list, next, show};
 use cal_drop_ins::{system_path, user_path};
+use cal_machine_zones::ZonesFault;
 use cal_plan::PlanFault;
 use cal_targets::TargetFault;
 use cal_tasks::Clocked;
@@ -81,6 +82,7 @@ pub fn answer_question<T: Tree>(
         question.zone.as_ref().map(|zone| zone.as_str()),
     ) {
         Ok(local) => local,
+        Err(ZonesFault::NoMemory) => return Err(PlanFault::NoMemory),
         Err(fault) => return stopped(alloc, zones_text(alloc, &fault)?.as_str()),
     };
     let Some(zone) = local.zone() else {
