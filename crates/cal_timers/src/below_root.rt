@@ -12,7 +12,8 @@ use std::rt::Files;
 const MAX_PARTS: usize = 1_000;
 
 /// Returns the path on the system to which `path` leads. Absolute paths and absolute targets of links are relative to
-/// the root. Nothing has to be at the path.
+/// the root. Nothing has to be at the path. `plain` are folders to which no link leads, so that they needn't be looked
+/// at again.
 ///
 /// Fails with [`TreeFault::ReadFailed`] if the path has too many parts, [`TreeFault::NotUtf8`] if the target of a link
 /// is not UTF-8, and [`TreeFault::NoMemory`] if allocation fails.
@@ -20,11 +21,13 @@ pub(crate) fn followed<R: Files + AllocGlobal>(
     rt: &R,
     alloc: Global,
     root: &str,
+    plain: &[String],
     path: &str,
 ) -> Result<String, TreeFault> {
     let start = if path.starts_with('/') { root } else { "" };
-    let mut done = String::from_str(alloc, start)?;
-    let mut rest = String::from_str(alloc, path)?;
+    let (folder, rest) = plain_part(plain, path);
+    let mut done = format!(in alloc; "{start}{folder}")?;
+    let mut rest = String::from_str(alloc, rest)?;
     for _ in 0..MAX_PARTS {
         let Some((part, after)) = first_part(alloc, rest.as_str())? else {
             return Ok(done);
@@ -44,6 +47,19 @@ pub(crate) fn followed<R: Files + AllocGlobal>(
         }
     }
     Err(TreeFault::ReadFailed)
+}
+
+/// Splits a path that leads into one of the plain folders after this folder. For any other path, the first part is
+/// empty.
+fn plain_part<'p>(plain: &'p [String], path: &'p str) -> (&'p str, &'p str) {
+    for folder in plain {
+        if let Some(rest) = path.strip_prefix(folder.as_str()) {
+            if rest.starts_with('/') {
+                return (folder.as_str(), rest);
+            }
+        }
+    }
+    ("", path)
 }
 
 /// Returns the first part of a path and what follows it, or `None` if the path has no parts.

@@ -4,12 +4,19 @@
 use crate::below_root;
 use cal_streams::Port;
 use cal_units::{Entry, Names, Tree, TreeFault};
-use std::alloc::Global;
+use std::alloc::{AllocError, Global};
 use std::fs::DirEntry;
 use std::io::{Error, ErrorKind};
 use std::rt::{Env, Files};
 use std::time::{Clock, SystemTime, UNIX_EPOCH};
 use std::{env, fs, io};
+
+/// The folders with most units.
+const UNIT_FOLDERS: [&str; 3] = [
+    "/etc/systemd/system",
+    "/run/systemd/system",
+    "/usr/lib/systemd/system",
+];
 
 /// The system that the program runs on, or the part of it below a root folder.
 #[derive(Clone, Copy)]
@@ -19,6 +26,8 @@ pub struct Machine<'a, R> {
     /// The root folder, to which absolute paths and absolute targets of links are relative. Empty for the system's own
     /// root.
     pub root: &'a str,
+    /// Folders below the root to which no link leads.
+    pub plain: &'a [String],
 }
 
 impl<'a, R: Clock> Machine<'a, R> {
@@ -37,7 +46,30 @@ impl<'a, R: Files + Env + AllocGlobal + Clone + Drop> Machine<'a, R> {
         if self.root.is_empty() {
             return Ok(String::from_str(alloc, path)?);
         }
-        below_root::followed(self.rt, alloc, self.root, path)
+        below_root::followed(self.rt, alloc, self.root, self.plain, path)
+    }
+
+    /// Returns those of the folders with most units to which no link leads, for [`Machine::plain`]. There are none if
+    /// the root is the system's own.
+    pub fn plain_folders(&self, alloc: Global) -> Result<Vec<String>, AllocError> {
+        let mut plain = Vec::new(alloc);
+        if self.root.is_empty() {
+            return Ok(plain);
+        }
+        for folder in UNIT_FOLDERS {
+            if self.is_plain(alloc, folder)? {
+                plain.push(String::from_str(alloc, folder)?)?;
+            }
+        }
+        Ok(plain)
+    }
+
+    fn is_plain(&self, alloc: Global, folder: &str) -> Result<bool, AllocError> {
+        match self.followed(alloc, folder) {
+            Ok(path) => Ok(path.as_str().strip_prefix(self.root) == Some(folder)),
+            Err(TreeFault::NoMemory) => Err(AllocError),
+            Err(_) => Ok(false),
+        }
     }
 
     /// Returns the path on the system that stands for `path`. Links in the path of the folder are followed. If there is

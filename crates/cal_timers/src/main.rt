@@ -61,9 +61,19 @@ fn given_arguments<R: Env + AllocGlobal>(rt: &R) -> io::Result<Vec<String>> {
 /// Answers a question about this machine, or about the part of it below the root that the question names, and prints
 /// the answer.
 fn run(rt: &HostRuntime, question: &Question) -> ExitCode {
+    let root = question.root.as_str();
+    let bare = Machine {
+        rt,
+        root,
+        plain: &[],
+    };
+    let Ok(plain) = bare.plain_folders(rt.alloc()) else {
+        return end(rt, "", OUT_OF_MEMORY, FAILED);
+    };
     let machine = Machine {
         rt,
-        root: question.root.as_str(),
+        root,
+        plain: plain.as_slice(),
     };
     match answer_question(
         rt.alloc(),
