@@ -11,11 +11,13 @@ use std::rt::{Env, Files};
 use std::time::{Clock, SystemTime, UNIX_EPOCH};
 use std::{env, fs, io};
 
-/// The folders with most units.
-const UNIT_FOLDERS: [&str; 3] = [
+/// The folders of the system's search path, in which most files are looked for.
+const UNIT_FOLDERS: [&str; 5] = [
     "/etc/systemd/system",
     "/run/systemd/system",
+    "/usr/local/lib/systemd/system",
     "/usr/lib/systemd/system",
+    "/lib/systemd/system",
 ];
 
 /// The system that the program runs on, or the part of it below a root folder.
@@ -49,7 +51,7 @@ impl<'a, R: Files + Env + AllocGlobal + Clone + Drop> Machine<'a, R> {
         below_root::followed(self.rt, alloc, self.root, self.plain, path)
     }
 
-    /// Returns those of the folders with most units to which no link leads, for [`Machine::plain`]. There are none if
+    /// Returns those of [`UNIT_FOLDERS`] to which no link leads, for [`Machine::plain`]. There are none if
     /// the root is the system's own.
     pub fn plain_folders(&self, alloc: Global) -> Result<Vec<String>, AllocError> {
         let mut plain = Vec::new(alloc);
