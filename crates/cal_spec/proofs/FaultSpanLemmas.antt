@@ -7,12 +7,7 @@ use Rattle.std.proofs.lemmas.List.{get_or-drop, length-take, take_all}
 use Rattle.std.proofs.lemmas.List.Sums.{prefix_len_passes, prefix_len_stops, suffix_len_is}
 use Rattle.cal_text.specs.headline.Trim.{trim_end_matches}
 use Rattle.cal_text.specs.headline.Words.{is_blank}
-use Rattle.cal_text.proofs.General.{in_suffix}
 use Rattle.cal_spec.specs.FaultSpan.{IsWordAt}
-
--- if a text has trailing blanks, and `end` is where they begin, the byte at `end` is a blank
-pub trailing_blank : (text : List ℕ) (end : ℕ) → end ≡ length text - suffix_len is_blank text → end < length text → is_blank (get_or text end 0) ≡ true
-trailing_blank text end e within = in_suffix is_blank text end 0 (omega arith) within
 
 -- `&text[from..]` is the text without its first `from` bytes
 pub rest_from : (text : List ℕ) (from : ℕ) → take (length text - from) (drop from text) ≡ drop from text

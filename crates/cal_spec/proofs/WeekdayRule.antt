@@ -221,6 +221,8 @@ pub weekdays_by_rule : (word : Option (List ℕ)) (days : List Bool) → weekday
 weekdays_by_rule None days at = let is : map (λ day. true) week ≡ days = cc in sym is
 weekdays_by_rule (Some word) days at = list_found word days at
 
+-- Items that the grammar allows have no commas, and parsing them succeeds
+
 -- the bytes that can occur in an item of a weekday list: letters, points and dashes
 abbrev is_item_byte : ℕ → Bool
 is_item_byte b = is_ascii_alphabetic b || ((b == 45) || (b == 46))
