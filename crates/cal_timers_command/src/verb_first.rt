@@ -1,20 +1,9 @@
 //! Reordering of the arguments. `clap` accepts the options of a verb only after the verb, so the verb is moved to the
-//! front. If no verb is given, `list` is inserted there.
+//! front. If no verb is given, `list` is inserted there, unless the arguments ask for help.
 
 use crate::value_option::{COUNT, NOW, ROOT, ZONE};
 use std::alloc::{AllocError, Global};
 use std::convert::AsStr;
-
-/// The position of the verb among the arguments.
-#[derive(Clone, Copy, PartialEq, Eq)]
-enum VerbPlace {
-    /// At this index, counted from 0.
-    At(usize),
-    /// There is no verb.
-    Missing,
-    /// There is no verb before an argument that asks for the help or the version of the program.
-    AfterHelp,
-}
 
 /// The kind of an argument that isn't the value of the option before it.
 #[derive(Clone, Copy)]
@@ -31,35 +20,31 @@ enum Kind {
     Word,
 }
 
-/// Returns the arguments with the verb moved to the front. If there is no verb, `list` is inserted there, unless the
-/// arguments ask for the help or the version of the program.
+/// Returns the arguments with the verb moved to the front. If there is no verb, the first argument that asks for the help
+/// or the version of the program is moved there. If there is no such argument either, `list` is inserted.
 ///
 /// The verb is the first argument that is neither an option nor the value of an option, if it is the name of a verb or
-/// `help`.
+/// `help`. An argument that asks for help before it takes its place.
 pub(crate) fn with_verb_first<'a, S: AsStr>(
     alloc: Global,
     arguments: &'a [S],
 ) -> Result<Vec<&'a str>, AllocError> {
     let place = find_verb(arguments);
     let mut texts = Vec::new(alloc);
-    match place {
-        VerbPlace::At(index) => {
-            if let Some(verb) = arguments.get(index) {
-                texts.push(verb.as_str())?;
-            }
-        }
-        VerbPlace::Missing => texts.push("list")?,
-        VerbPlace::AfterHelp => {}
+    match place.and_then(|index| arguments.get(index)) {
+        Some(verb) => texts.push(verb.as_str())?,
+        None => texts.push("list")?,
     }
     for (index, argument) in arguments.iter().enumerate() {
-        if place != VerbPlace::At(index) {
+        if place != Some(index) {
             texts.push(argument.as_str())?;
         }
     }
     Ok(texts)
 }
 
-fn find_verb<S: AsStr>(arguments: &[S]) -> VerbPlace {
+/// Returns the index of the verb, or of an argument that asks for help before it.
+fn find_verb<S: AsStr>(arguments: &[S]) -> Option<usize> {
     let mut is_value = false;
     for (index, argument) in arguments.iter().enumerate() {
         let kind = if is_value {
@@ -71,22 +56,13 @@ fn find_verb<S: AsStr>(arguments: &[S]) -> VerbPlace {
         match kind {
             Kind::NeedsValue => is_value = true,
             Kind::Option => {}
-            Kind::Help => return VerbPlace::AfterHelp,
-            Kind::End => return VerbPlace::Missing,
-            Kind::Word => return place_of(index, argument.as_str()),
+            Kind::Help => return Some(index),
+            Kind::End => return None,
+            Kind::Word if is_verb(argument.as_str()) => return Some(index),
+            Kind::Word => return None,
         }
     }
-    VerbPlace::Missing
-}
-
-/// Returns the position of the verb. `word` is the first argument that is neither an option nor the value of an option,
-/// and `index` is its index.
-fn place_of(index: usize, word: &str) -> VerbPlace {
-    if is_verb(word) {
-        VerbPlace::At(index)
-    } else {
-        VerbPlace::Missing
-    }
+    None
 }
 
 fn kind_of(argument: &str) -> Kind {

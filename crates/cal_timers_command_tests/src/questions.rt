@@ -155,6 +155,8 @@ const HELPS: &str = "\
 --help -> Show when systemd timers elapse, check their files and compare them
 -h -> Show when systemd timers elapse, check their files and compare them
 --json|--help -> Show when systemd timers elapse, check their files and compare them
+-n|3|--help -> Show when systemd timers elapse, check their files and compare them
+--zone|UTC|-h|show -> Show when systemd timers elapse, check their files and compare them
 --help|a -> Show when systemd timers elapse, check their files and compare them
 help -> Show when systemd timers elapse, check their files and compare them
 --version -> calendar-timers 0.1.0
