@@ -5,8 +5,7 @@ ghost use Rattle.std.specs.Prelude.{◌≤◌, IfOk};
 use crate::answer::{Answer, Asked, fault_lines, status_of, stopped};
 use cal_load::{Loaded, load_timers};
 use cal_plan::PlanFault;
-use cal_read::StampFault;
-use cal_tasks::{elapses_between, read_when};
+use cal_tasks::{WhenFault, elapses_between, read_when};
 use cal_timers_json::between_json;
 use cal_timers_text::between_text;
 use cal_units::Tree;
@@ -38,9 +37,12 @@ pub(crate) fn between<T: Tree>(
     range_of(alloc, asked, &loaded, from, before)
 }
 
-fn bad_time(alloc: Global, text: &str, fault: StampFault) -> Result<Answer, PlanFault>
+fn bad_time(alloc: Global, text: &str, fault: WhenFault) -> Result<Answer, PlanFault>
     ensures { IfOk result (λ answer. answer.status ≤ 2) }
 {
+    let WhenFault::NoInstant(fault) = fault else {
+        return Err(PlanFault::NoMemory);
+    };
     let words = fault.words();
     let reason = format!(in alloc; "{text}: {words}")?;
     stopped(alloc, reason.as_str())

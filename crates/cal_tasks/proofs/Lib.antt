@@ -1,4 +1,3 @@
 pub mod IdleLemmas
 pub mod NoteLemmas
 pub mod TakeLemmas
-pub mod WhenLemmas

@@ -1,21 +1,26 @@
 -- The two ways to write the start or the end of a range of instants: as a weekday with a time, or as a timestamp
 -- (systemd.time(7), Parsing Timestamps).
-use Rattle.std.specs.Prelude.{◌≡◌, ℕ, ◌/◌, Bool, false, true, List, [], ◌∷◌, None, Some, is_some, Ok, ℤ, pos, slice_get, unsigned_abs}
+use Rattle.std.specs.Prelude.{◌≡◌, ℕ, ◌/◌, Bool, false, ◌||◌, if◌then◌else◌, List, [], ◌∷◌, Option, None, Some, is_some, Result, Ok, Err, ℤ, pos, slice_get, unsigned_abs}
 use Rattle.std.specs.FinMap as map
 use Rattle.jiff.specs.Types.{TimeZone}
 use Rattle.cal_zone.specs.Setting.{Setting}
+use Rattle.cal_zone.specs.declared.instant.Instant.{Instant}
 use Rattle.cal_zone.specs.headline.Moment.{micros_per_second}
 use Rattle.cal_zone.specs.headline.Zone.{zone_of}
 use Rattle.cal_zone.specs.headline.ZoneTable.{zone_named}
 use Rattle.cal_spec.specs.Expr.{expr_in}
 use Rattle.cal_spec.specs.Weekdays.{day_named, leading_letters}
+use Rattle.cal_spec.specs.declared.spec_fault.SpecFault.{SpecFault}
 use Rattle.cal_spec.specs.headline.Fields.{Fields}
 use Rattle.cal_text.specs.headline.Words.{words}
 use Rattle.cal_elapse.specs.Elapses.{elapses_after}
 use Rattle.cal_elapse.specs.headline.Timed.{timed}
 use Rattle.cal_plan.specs.ZoneFor.{zone_for}
 use Rattle.cal_stamp.specs.Stamp.{moment_in}
+use Rattle.cal_stamp.specs.declared.fault.StampFault.{StampFault}
 use Rattle.cal_tasks.specs.declared.clocked.Clocked.{Clocked}
+use Rattle.cal_tasks.specs.declared.when.WhenFault.{WhenFault}
+use Rattle.cal_tasks.specs.declared.when.WhenFault.TheVariants.{NoInstant, NoMemory}
 
 -- the zones that the start or the end of a range can refer to: the local zone by default, and `UTC`, the only zone that
 -- can be named
@@ -27,27 +32,53 @@ abbrev pub begin_with_weekday : List (List ℕ) → Bool
 begin_with_weekday [] = false
 begin_with_weekday (word ∷ more) = is_some (day_named (leading_letters word))
 
--- the text is a calendar expression with these fields; it begins with the name of a weekday and has no date
-pub record IsWeekdayTime (text : List ℕ) (fields : Fields) : Type 0 where
-  pub weekday : begin_with_weekday (words text) ≡ true
-  pub read : expr_in text ≡ Ok fields
-  pub no_year : fields.year ≡ None
-  pub no_month : fields.month ≡ None
-  pub no_day : fields.day ≡ None
+abbrev pub has_date : Fields → Bool
+has_date fields = is_some fields.year || is_some fields.month || is_some fields.day
 
--- `secs` is the first instant after `after` at which the expression with these fields elapses in its zone
-pub record IsFirstElapse (at : Setting) (after : ℤ) (fields : Fields) (secs : ℤ) : Type 0 where
-  pub tz : TimeZone
-  pub zoned : zone_for at fields.zone ≡ Some tz
-  pub next : slice_get (elapses_after (timed fields tz ∷ []) after) 0 ≡ Some secs
+abbrev pub fields_unless_dated : Fields → Option Fields
+fields_unless_dated fields = if has_date fields then None else Some fields
 
--- the text is a weekday with a time, and `secs` is its first elapse after `after`
-pub record IsNextWeekdayTime (at : Setting) (after : ℤ) (text : List ℕ) (secs : ℤ) : Type 0 where
-  pub fields : Fields
-  pub is_time : IsWeekdayTime text fields
-  pub first : IsFirstElapse at after fields secs
+abbrev pub fields_without_date : Result Fields SpecFault → Option Fields
+fields_without_date (Err fault) = None
+fields_without_date (Ok fields) = fields_unless_dated fields
 
--- the text is a timestamp, and `secs` is its moment, rounded down to a whole second
-abbrev pub IsStampSecond : ℤ → Setting → List ℕ → ℤ → Type 0
-IsStampSecond now at text secs =
-    (micros : ℤ) × (moment_in now at text ≡ Ok micros) × (secs ≡ pos (unsigned_abs micros / micros_per_second))
+-- the fields of a weekday with a time, which is a calendar expression that begins with the name of a weekday and has no
+-- date; None for any other text
+abbrev pub weekday_time_in : List ℕ → Option Fields
+weekday_time_in text = if begin_with_weekday (words text) then fields_without_date (expr_in text) else None
+
+-- the first instant after `after` at which an expression elapses in its zone; None if its zone isn't known
+abbrev pub first_in : ℤ → Fields → Option TimeZone → Option ℤ
+first_in after fields None = None
+first_in after fields (Some tz) = slice_get (elapses_after (timed fields tz ∷ []) after) 0
+
+abbrev pub first_elapse : Setting → ℤ → Fields → Option ℤ
+first_elapse at after fields = first_in after fields (zone_for at fields.zone)
+
+abbrev pub first_if_some : Setting → ℤ → Option Fields → Option ℤ
+first_if_some at after None = None
+first_if_some at after (Some fields) = first_elapse at after fields
+
+-- the first elapse after `after` of a weekday with a time; None for any other text
+abbrev pub next_weekday_time : Setting → ℤ → List ℕ → Option ℤ
+next_weekday_time at after text = first_if_some at after (weekday_time_in text)
+
+-- the moment of a timestamp in microseconds, rounded down to a whole second
+abbrev pub rounded : Result ℤ StampFault → Result ℤ StampFault
+rounded (Err fault) = Err fault
+rounded (Ok micros) = Ok (pos (unsigned_abs micros / micros_per_second))
+
+abbrev pub or_second : Result ℤ StampFault → Option ℤ → Result ℤ StampFault
+or_second moment None = rounded moment
+or_second moment (Some secs) = Ok secs
+
+-- The instant that a text stands for: the first elapse after `after` if the text is a weekday with a time that elapses
+-- then. Any other text is a timestamp.
+abbrev pub instant_in : ℤ → Setting → ℤ → List ℕ → Result ℤ StampFault
+instant_in now at after text = or_second (moment_in now at text) (next_weekday_time at after text)
+
+-- the result of a call is this instant or this error, unless memory ran out
+abbrev pub IsUnlessNoMemory : Result ℤ StampFault → Result Instant WhenFault → Type 0
+IsUnlessNoMemory read (Ok instant) = read ≡ Ok instant.secs
+IsUnlessNoMemory read (Err (NoInstant fault)) = read ≡ Err fault
+IsUnlessNoMemory read (Err NoMemory) = ⊤

@@ -18,4 +18,4 @@ pub use elapses::elapses_of;
 pub use idle::{IdleKind, IdleLine, idle_lines};
 pub use several::{difference_of, elapses_between, next_of_timers};
 pub use skipped::clock_notes;
-pub use when::read_when;
+pub use when::{WhenFault, read_when};

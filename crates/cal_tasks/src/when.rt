@@ -1,21 +1,40 @@
 //! Parsing of the two instants between which the verb `between` lists elapses.
 
-ghost use Rattle.std.specs.Prelude.{◌≡◌, ◌⊎◌, None, IfErr, IfOk, IfSome, Err, ◌≤◌, false, length};
+ghost use Rattle.std.specs.Prelude.{◌≡◌, IfOk, ◌≤◌, length, option_map};
 ghost use Rattle.std.specs.List.{position_or_len};
 ghost use Rattle.cal_zone.specs.Setting.{setting_seen};
 ghost use Rattle.cal_spec.specs.Weekdays.{is_no_letter, leading_letters};
-ghost use Rattle.cal_stamp.specs.Stamp.{moment_in};
 ghost use Rattle.cal_text.specs.headline.Words.{words};
-ghost use Rattle.cal_tasks.specs.When.{IsFirstElapse, IsNextWeekdayTime, IsStampSecond, IsWeekdayTime, begin_with_weekday, setting_without_names};
+ghost use Rattle.cal_tasks.specs.When.{IsUnlessNoMemory, begin_with_weekday, fields_unless_dated, first_elapse, has_date, instant_in, next_weekday_time, setting_without_names, weekday_time_in};
 
 use crate::clocked::Clocked;
 use cal_elapse::Elapses;
 use cal_plan::{Instants, zone_for};
 use cal_read::{StampFault, read_stamp};
-use cal_spec::{Expr, Field, find_day, read_expr};
+use cal_spec::{Expr, Field, SpecFault, find_day, read_expr};
 use cal_text::first_word;
 use cal_zone::{Instant, Setting, ZoneTable};
-use std::alloc::Global;
+use std::alloc::{AllocError, Global};
+
+/// Why there is no instant for a text.
+#[derive(Clone, Copy, PartialEq, Eq, Debug)]
+pub enum WhenFault {
+    /// The text isn't a weekday with a time that elapses, and for this reason it isn't a timestamp.
+    NoInstant(StampFault),
+    /// Out of memory.
+    NoMemory,
+}
+
+impl From<AllocError> for WhenFault {
+    ghost use Rattle.std.specs.Prelude.{◌≡◌};
+    ghost use Rattle.cal_tasks.specs.declared.when.WhenFault.TheVariants.{NoMemory};
+
+    ghost from_gives = { λ _ fault. fault ≡ NoMemory };
+
+    fn from(_refused: AllocError) -> WhenFault {
+        WhenFault::NoMemory
+    }
+}
 
 /// Parses an instant: a weekday with a time, or a timestamp (systemd.time(7), Parsing Timestamps).
 ///
@@ -24,20 +43,18 @@ use std::alloc::Global;
 /// may end in `UTC` or a UTC offset. Without a time, it stands for midnight. As a timestamp, such a text would be
 /// accepted only if the present day is the weekday that it names.
 ///
-/// All other texts are parsed as timestamps, and so is a weekday with a time that doesn't elapse after `after` or for
-/// which allocation fails. The moment of a timestamp is rounded down to a whole second. The only zone that can be named
-/// is `UTC`. All errors are those of timestamps.
+/// All other texts are parsed as timestamps, and so is a weekday with a time that doesn't elapse after `after`. The
+/// moment of a timestamp is rounded down to a whole second. The only zone that can be named is `UTC`.
+///
+/// Fails with [`WhenFault::NoInstant`] and the error of the timestamp if the text is neither, and with
+/// [`WhenFault::NoMemory`] if allocation fails; this error doesn't say whether the text is valid.
 pub fn read_when(
     alloc: Global,
     at: Clocked<'_>,
     after: Instant,
     text: &str,
-) -> Result<Instant, StampFault>
-    ensures when { IfOk result (λ instant.
-        IsNextWeekdayTime (setting_without_names at.entry) after.secs text.now instant.secs
-        ⊎ IsStampSecond at.entry.now.secs (setting_without_names at.entry) text.now instant.secs) }
-    ensures fault { IfErr result (λ fault.
-        moment_in at.entry.now.secs (setting_without_names at.entry) text.now ≡ Err fault) }
+) -> Result<Instant, WhenFault>
+    ensures { IsUnlessNoMemory (instant_in at.entry.now.secs (setting_without_names at.entry) after.secs text.now) result }
 {
     let zones = ZoneTable::new(alloc);
     let setting = Setting {
@@ -45,53 +62,81 @@ pub fn read_when(
         local: at.local,
         zones: &zones,
     };
-    if let Some(instant) = next_weekday_time(alloc, setting, after, text) {
+    if let Some(instant) = next_weekday_time(alloc, setting, after, text)? {
         return Ok(instant);
     }
-    let moment = read_stamp(text, at.now, at.local, &zones)?;
-    Ok(moment.instant())
+    match read_stamp(text, at.now, at.local, &zones) {
+        Ok(moment) => Ok(moment.instant()),
+        Err(fault) => Err(WhenFault::NoInstant(fault)),
+    }
 }
 
 /// Parses a weekday with a time, and returns its first elapse after `after`. Returns `None` if the text isn't a weekday
-/// with a time, if it names a zone other than `UTC`, if it doesn't elapse after `after`, or if allocation fails.
+/// with a time, if it names a zone other than `UTC`, or if it doesn't elapse after `after`.
 fn next_weekday_time(
     alloc: Global,
     setting: Setting<'_>,
     after: Instant,
     text: &str,
-) -> Option<Instant>
-    ensures { IfSome result (λ instant.
-        IsNextWeekdayTime (setting_seen setting.entry) after.secs text.now instant.secs) }
+) -> Result<Option<Instant>, AllocError>
+    ensures { IfOk result (λ found. option_map (λ instant. instant.secs) found
+        ≡ next_weekday_time (setting_seen setting.entry) after.secs text.now) }
 {
-    let expr = read_weekday_time(alloc, text)?;
-    first_elapse(alloc, setting, after, &expr)
+    match read_weekday_time(alloc, text)? {
+        Some(expr) => first_elapse(alloc, setting, after, &expr),
+        None => Ok(None),
+    }
 }
 
 /// Returns the first elapse of an expression after `after`. Returns `None` if the zone of the expression isn't known,
-/// if the expression doesn't elapse after `after`, or if allocation fails.
+/// or if the expression doesn't elapse after `after`.
 #[tactic(auto, using(cal_plan::proofs::ElapseInstants::elapses_are_instants))]
-fn first_elapse(alloc: Global, setting: Setting<'_>, after: Instant, expr: &Expr) -> Option<Instant>
-    ensures { IfSome result (λ instant. IsFirstElapse (setting_seen setting.entry) after.secs expr.now instant.secs) }
+fn first_elapse(
+    alloc: Global,
+    setting: Setting<'_>,
+    after: Instant,
+    expr: &Expr,
+) -> Result<Option<Instant>, AllocError>
+    ensures { IfOk result (λ found. option_map (λ instant. instant.secs) found
+        ≡ first_elapse (setting_seen setting.entry) after.secs expr.now) }
 {
     let Some(zone) = zone_for(setting, expr) else {
-        return None;
+        return Ok(None);
     };
     let Ok(elapses) = Elapses::new(alloc, expr, zone, after) else {
-        return None;
+        return Err(AllocError);
     };
-    Instants::new(elapses).next()
+    Ok(Instants::new(elapses).next())
 }
 
 /// Parses a calendar expression that begins with the name of a weekday and has no date. Returns `None` for any other
-/// text, or if allocation fails.
-fn read_weekday_time(alloc: Global, text: &str) -> Option<Expr>
-    ensures { IfSome result (IsWeekdayTime text.now) }
+/// text.
+fn read_weekday_time(alloc: Global, text: &str) -> Result<Option<Expr>, AllocError>
+    ensures { IfOk result (λ expr. expr ≡ weekday_time_in text.now) }
 {
     if !begins_with_weekday(text) {
-        return None;
+        return Ok(None);
     }
-    let expr = read_expr(alloc, text).ok()?;
+    match read_expr(alloc, text) {
+        Ok(expr) => Ok(expr_unless_dated(expr)),
+        Err(SpecFault::NoMemory) => Err(AllocError),
+        Err(_) => Ok(None),
+    }
+}
+
+/// Returns the expression if it has no date.
+fn expr_unless_dated(expr: Expr) -> Option<Expr>
+    ensures { result ≡ fields_unless_dated expr }
+{
     if has_date(&expr) { None } else { Some(expr) }
+}
+
+fn has_date(expr: &Expr) -> bool
+    ensures { result ≡ has_date expr.now }
+{
+    expr.field(Field::Year).is_some()
+        || expr.field(Field::Month).is_some()
+        || expr.field(Field::Day).is_some()
 }
 
 /// Returns whether the letters at the beginning of the first word are the name of a weekday.
@@ -117,12 +162,4 @@ fn letters_len(word: &[u8]) -> usize
     word.iter()
         .take_while(|byte| byte.is_ascii_alphabetic())
         .count()
-}
-
-fn has_date(expr: &Expr) -> bool
-    ensures { result ≡ false → (expr.now.year ≡ None) × (expr.now.month ≡ None) × (expr.now.day ≡ None) }
-{
-    expr.field(Field::Year).is_some()
-        || expr.field(Field::Month).is_some()
-        || expr.field(Field::Day).is_some()
 }
