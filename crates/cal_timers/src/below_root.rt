@@ -1,5 +1,5 @@
 //! Following paths below a root folder, with all their links. The system can't do this by itself, since it would look
-//! for the absolute targets of links in its own root.
+//! for the absolute targets of links in its own root, and doesn't say where the folder of a path is.
 
 use cal_units::TreeFault;
 use std::alloc::{AllocError, Global};
@@ -47,6 +47,33 @@ pub(crate) fn followed<R: Files + AllocGlobal>(
         }
     }
     Err(TreeFault::ReadFailed)
+}
+
+/// Returns the absolute path, as seen from the root, to which the link at a path leads if it has this target. Links of
+/// folders on the way are followed, but not a link at the end. The path of the link has to be absolute. An empty root is
+/// the system's own.
+///
+/// Fails like [`followed`].
+pub(crate) fn leads_to<R: Files + AllocGlobal>(
+    rt: &R,
+    alloc: Global,
+    root: &str,
+    plain: &[String],
+    link: &str,
+    target: &str,
+) -> Result<String, TreeFault> {
+    let root = if root.is_empty() { "/" } else { root };
+    let start = if target.starts_with('/') { "" } else { folder_of(link) };
+    let path = format!(in alloc; "{start}/{target}")?;
+    let (folder, name) = path.as_str().rsplit_once('/').unwrap_or(("", target));
+    let folder = format!(in alloc; "{folder}/")?;
+    let folder = followed(rt, alloc, root, plain, folder.as_str())?;
+    let folder = folder.as_str().strip_prefix(root).unwrap_or("");
+    Ok(format!(in alloc; "{folder}/{name}")?)
+}
+
+fn folder_of(path: &str) -> &str {
+    path.rsplit_once('/').map_or("", |parts| parts.0)
 }
 
 /// Splits a path that leads into one of the plain folders after this folder. For any other path, the first part is

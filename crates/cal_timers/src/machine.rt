@@ -128,6 +128,10 @@ impl<'a, R: Files + Env + AllocGlobal + Clone + Drop> Tree for Machine<'a, R> {
         })
     }
 
+    fn leads_to(&self, alloc: Global, link: &str, target: &str) -> Result<String, TreeFault> {
+        below_root::leads_to(self.rt, alloc, self.root, self.plain, link, target)
+    }
+
     fn open(&self, path: &str) -> Result<Option<Port<R::File>>, TreeFault> {
         let path = self.followed(self.rt.alloc(), path)?;
         match fs::open(self.rt, path.as_str()) {

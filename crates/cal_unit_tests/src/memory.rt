@@ -2,7 +2,7 @@
 
 use cal_streams::Port;
 use cal_units::{Entry, Names, Tree, TreeFault};
-use std::alloc::Global;
+use std::alloc::{AllocError, Global};
 
 /// What is at a path.
 #[derive(Clone, Copy, Debug)]
@@ -73,6 +73,20 @@ fn push_many(alloc: Global, count: u32, found: &mut Names) -> Result<(), TreeFau
     Ok(())
 }
 
+/// Returns a path without empty parts, and without each `..` and the part before it. No folder in memory is a link.
+fn plain_path(alloc: Global, path: &str) -> Result<String, AllocError> {
+    let mut plain = String::new(alloc);
+    for part in path.split('/') {
+        if part == ".." {
+            let folder = plain.as_str().rsplit_once('/').map_or("", |parts| parts.0);
+            plain = String::from_str(alloc, folder)?;
+        } else if !part.is_empty() {
+            plain = format!(in alloc; "{plain}/{part}")?;
+        }
+    }
+    Ok(plain)
+}
+
 impl<'a> Tree for Memory<'a> {
     type File = Port<&'a [u8]>;
 
@@ -98,6 +112,15 @@ impl<'a> Tree for Memory<'a> {
             Some(Item::Folder | Item::Many(_)) => Ok(Entry::Folder),
             Some(Item::Locked) => Err(TreeFault::ReadFailed),
         }
+    }
+
+    fn leads_to(&self, alloc: Global, link: &str, target: &str) -> Result<String, TreeFault> {
+        let start = match link.rsplit_once('/') {
+            Some((folder, _)) if !target.starts_with('/') => folder,
+            _ => "",
+        };
+        let path = format!(in alloc; "{start}/{target}")?;
+        Ok(plain_path(alloc, path.as_str())?)
     }
 
     fn open(&self, path: &str) -> Result<Option<Port<&'a [u8]>>, TreeFault> {

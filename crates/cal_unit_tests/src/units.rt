@@ -9,7 +9,7 @@ use cal_units::{
 use std::alloc::Global;
 use std::test::Fail;
 
-static MACHINE: [(&str, Item<'static>); 22] = [
+static MACHINE: [(&str, Item<'static>); 24] = [
     ("/usr/lib/systemd/system/a.timer", Item::File(b"own")),
     (
         "/usr/lib/systemd/system/a.timer.d/20.conf",
@@ -65,6 +65,14 @@ static MACHINE: [(&str, Item<'static>); 22] = [
     (
         "/etc/systemd/system/linked.timer",
         Item::Link("/opt/other.timer"),
+    ),
+    (
+        "/etc/systemd/system/far.timer",
+        Item::Link("../../../usr/lib/systemd/system/a.timer"),
+    ),
+    (
+        "/etc/systemd/system/opt.timer",
+        Item::Link("../../../opt/a.timer"),
     ),
     ("/etc/systemd/system/one.timer", Item::Link("two.timer")),
     ("/etc/systemd/system/two.timer", Item::Link("one.timer")),
@@ -128,6 +136,15 @@ fn finds_units(rt: HostRuntime) -> Result<(), Fail> {
         "a linked file",
     )?;
     ensure(
+        is_found(&find(alloc, "far")?, own, "a"),
+        "an alias by a relative path",
+    )?;
+    let elsewhere = "/etc/systemd/system/opt.timer";
+    ensure(
+        is_found(&find(alloc, "opt")?, elsewhere, "opt"),
+        "a linked file by a relative path",
+    )?;
+    ensure(
         is_masked(&find(alloc, "masked")?, "/etc/systemd/system/masked.timer"),
         "a null link",
     )?;
@@ -156,7 +173,7 @@ fn is_alias(alias: &Alias, stem: &str, unit: &str) -> bool {
     alias.stem.as_str() == stem && alias.unit.as_str() == unit
 }
 
-/// Finds the aliases `also` and `too` of the unit `a`. The other links are not aliases, and the two links that form a
+/// Finds the aliases `far`, `also` and `too` of the unit `a`. The other links are not aliases, and the two links that form a
 /// loop are errors.
 #[test]
 fn finds_aliases(rt: HostRuntime) -> Result<(), Fail> {
@@ -164,8 +181,9 @@ fn finds_aliases(rt: HostRuntime) -> Result<(), Fail> {
     let path = system_path(alloc, "")?;
     let found = find_aliases(alloc, &machine(), path.as_slice())?;
     match found.aliases.as_slice() {
-        [also, too] => {
-            ensure(is_alias(also, "also", "a"), "an alias")?;
+        [far, also, too] => {
+            ensure(is_alias(far, "far", "a"), "an alias in `/etc`")?;
+            ensure(is_alias(also, "also", "a"), "an alias in `/run`")?;
             ensure(is_alias(too, "too", "a"), "an alias of an alias")?;
         }
         _ => return Err("other aliases".into()),

@@ -18,23 +18,28 @@ entries =
     ∷ (codes "/lib/m.timer", File) ∷ (codes "/lib/e.timer", Empty) ∷ (codes "/lib/t@.timer", File)
     ∷ (codes "/lib/t@y.timer", File) ∷ (codes "/etc/t@.timer", File) ∷ (codes "/etc/l.timer", Link (codes "/opt/a.timer"))
     ∷ (codes "/etc/s.timer", Link (codes "/lib/s.timer")) ∷ (codes "/etc/p.timer", Link (codes "q.timer"))
-    ∷ (codes "/etc/q.timer", Link (codes "p.timer")) ∷ []
+    ∷ (codes "/etc/q.timer", Link (codes "p.timer")) ∷ (codes "/etc/r.timer", Link (codes "../lib/a.timer")) ∷ []
 
 -- the names in the folders of the machine
 abbrev listed : List (List ℕ × List (List ℕ))
 listed = (
   codes "/etc",
   codes "q.timer" ∷ codes "b.timer" ∷ codes "a.timer" ∷ codes "b.service" ∷ codes "m.timer" ∷ codes "t@.timer"
-      ∷ codes "l.timer" ∷ codes "s.timer" ∷ codes "p.timer" ∷ codes "a.timer.d" ∷ [],
+      ∷ codes "l.timer" ∷ codes "s.timer" ∷ codes "p.timer" ∷ codes "r.timer" ∷ codes "a.timer.d" ∷ [],
 )
     ∷ (codes "/lib", codes "c.timer" ∷ codes "a.timer" ∷ codes "m.timer" ∷ codes "e.timer" ∷ codes "t@.timer" ∷ codes "t@y.timer" ∷ [])
     ∷ []
+
+-- the paths to which relative targets lead
+abbrev relative : List (List ℕ × List ℕ)
+relative = (codes "../lib/a.timer", codes "/lib/a.timer") ∷ []
 
 abbrev machine : Machine
 machine =
     record {
       names = λ folder. unwrap_or (lookup (bytes_eq folder) listed) [];
       entry = λ path. unwrap_or (lookup (bytes_eq path) entries) Missing;
+      leads_to = λ link target. unwrap_or (lookup (bytes_eq target) relative) target;
       file = λ path. None;
       variable = λ name. None;
     }
@@ -66,10 +71,11 @@ links : map unit (codes "l" ∷ codes "s" ∷ codes "p" ∷ [])
 unfolding unit_paths template_of alias_of stem_in after_prefix file_stem unit_stem without_suffix is_stem kind_of
 links = refl
 
--- `b` and `c` are aliases of `a`. The links `m`, `l` and `s` are not aliases, nor are the links `p` and `q`, which form
--- a loop.
+-- `b`, `r` and `c` are aliases of `a`. The links `m`, `l` and `s` are not aliases, nor are the links `p` and `q`, which
+-- form a loop.
 aliases : aliases_in machine (codes "/etc" ∷ codes "/lib" ∷ [])
-    ≡ record { stem = codes "b"; unit = codes "a" } ∷ record { stem = codes "c"; unit = codes "a" } ∷ []
+    ≡ record { stem = codes "b"; unit = codes "a" } ∷ record { stem = codes "r"; unit = codes "a" }
+    ∷ record { stem = codes "c"; unit = codes "a" } ∷ []
 unfolding unit_paths template_of alias_of stem_in after_prefix file_stem unit_stem without_suffix is_stem kind_of
 aliases = refl
 

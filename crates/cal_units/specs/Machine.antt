@@ -20,11 +20,14 @@ shown_entry entries.TheVariants.File = File
 shown_entry entries.TheVariants.Folder = Folder
 shown_entry (entries.TheVariants.Link target) = Link (string_bytes target)
 
--- the names in each folder, what is at each path, the bytes of the file to which each path leads after following links,
--- and the value of each variable
+-- `names` are the names in each folder, `entry` is what is at each path, and `file` has the bytes of the file to which
+-- each path leads after following links. `leads_to link target` is the absolute path to which a link at the path `link`
+-- leads if this is its target: links of folders on the way are followed, but not a link at the end. `variable` is the
+-- value of each variable.
 pub record Machine : Type 0 where
   pub names : List ℕ → List (List ℕ)
   pub entry : List ℕ → Entry
+  pub leads_to : List ℕ → List ℕ → List ℕ
   pub file : List ℕ → Option (List ℕ)
   pub variable : List ℕ → Option (List ℕ)
 

@@ -43,15 +43,15 @@ abbrev pub and_then : Option (List ℕ) → (List ℕ → Option (List ℕ)) →
 and_then None f = None
 and_then (Some x) f = f x
 
--- the stem of the timer whose file has the path `target`, if `target` is in this folder
+-- the stem of the timer whose file has this path, if the path is in this folder
 unfoldable pub stem_in : List ℕ → List ℕ → Option (List ℕ)
-stem_in target folder =
-    and_then (after_prefix folder target) (λ rest. and_then (after_prefix (codes "/") rest) file_stem)
+stem_in file folder =
+    and_then (after_prefix folder file) (λ rest. and_then (after_prefix (codes "/") rest) file_stem)
 
--- The stem of the timer for which a link stands, if its target is the path of a timer's file in a folder of the search
--- path, or only the name of a timer's file. None for any other target.
-unfoldable pub alias_of : List (List ℕ) → List ℕ → Option (List ℕ)
-alias_of path target = option_or (file_stem target) (slice_get (filter_map (stem_in target) path) 0)
+-- The stem of the timer for which a link stands, if it leads to the path of a timer's file in a folder of the search
+-- path, which is `led`, or if its target is only the name of a timer's file. None for any other link.
+unfoldable pub alias_of : List (List ℕ) → List ℕ → List ℕ → Option (List ℕ)
+alias_of path target led = option_or (file_stem target) (slice_get (filter_map (stem_in led) path) 0)
 
 -- what is found under a name: nothing, a path that masks the unit, the path of its file, or a link to another unit
 pub data Place : Type 0 where
@@ -68,26 +68,28 @@ is_template_kind Instance = false
 abbrev pub is_template : List ℕ → Bool
 is_template stem = is_template_kind (kind_of stem)
 
--- A link is itself the unit's file if `alias_of` finds no timer for its target, or finds the unit itself or a template.
--- Any other link is an alias of the unit to which it leads.
+-- A link is itself the unit's file if `alias_of` finds no timer for it, or finds the unit itself or a template. Any other
+-- link is an alias of the unit to which it leads.
 abbrev pub linked : List ℕ → List ℕ → Option (List ℕ) → Place
 linked stem file None = FileAt file
 linked stem file (Some other) = if bytes_eq other stem || is_template other then FileAt file else AliasOf other
 
-abbrev pub place_of_link : List (List ℕ) → List ℕ → List ℕ → List ℕ → Place
-place_of_link path stem file target =
-    if bytes_eq target null_device then MaskedAt file else linked stem file (alias_of path target)
+abbrev pub place_of_link : Machine → List (List ℕ) → List ℕ → List ℕ → List ℕ → Place
+place_of_link machine path stem file target =
+    if bytes_eq target null_device
+    then MaskedAt file
+    else linked stem file (alias_of path target (machine.leads_to file target))
 
-abbrev pub place_at : List (List ℕ) → List ℕ → List ℕ → Entry → Place
-place_at path stem file Missing = FileAt file
-place_at path stem file Empty = MaskedAt file
-place_at path stem file File = FileAt file
-place_at path stem file Folder = FileAt file
-place_at path stem file (Link target) = place_of_link path stem file target
+abbrev pub place_at : Machine → List (List ℕ) → List ℕ → List ℕ → Entry → Place
+place_at machine path stem file Missing = FileAt file
+place_at machine path stem file Empty = MaskedAt file
+place_at machine path stem file File = FileAt file
+place_at machine path stem file Folder = FileAt file
+place_at machine path stem file (Link target) = place_of_link machine path stem file target
 
 abbrev pub place_of : Machine → List (List ℕ) → List ℕ → Option (List ℕ) → Place
 place_of machine path stem None = Nowhere
-place_of machine path stem (Some file) = place_at path stem file (machine.entry file)
+place_of machine path stem (Some file) = place_at machine path stem file (machine.entry file)
 
 abbrev pub place_in : Machine → List (List ℕ) → List ℕ → Place
 place_in machine path stem = place_of machine path stem (first_there machine (unit_paths path stem))

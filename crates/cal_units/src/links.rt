@@ -5,18 +5,18 @@ ghost use Rattle.cal_units.specs.Units.{after_prefix, alias_of, file_stem, stem_
 
 use cal_drop_ins::unit_stem;
 
-/// Returns the stem, which is the name without `.timer`, of the timer for which a link with this target stands. The
-/// target must be the path of a timer's file in a folder of the search path, or only the name of a timer's file.
-/// Returns `None` for any other target.
+/// Returns the stem, which is the name without `.timer`, of the timer for which a link stands. The link must lead to the
+/// path of a timer's file in a folder of the search path, or its target must be only the name of a timer's file. Returns
+/// `None` for any other link. `led` is the path to which the link leads.
 #[tactic(auto, unfolding(crate::specs::Units::alias_of))]
-pub(crate) fn alias_of<'t>(path: &[String], target: &'t str) -> Option<&'t str>
-    ensures { option_map (λ stem. stem.now) result ≡ alias_of (map string_bytes path.now) target.now }
+pub(crate) fn alias_of<'t>(path: &[String], target: &'t str, led: &'t str) -> Option<&'t str>
+    ensures { option_map (λ stem. stem.now) result ≡ alias_of (map string_bytes path.now) target.now led.now }
 {
     if let Some(stem) = file_stem(target) {
         return Some(stem);
     }
     for folder in path {
-        if let Some(stem) = stem_in(target, folder.as_str()) {
+        if let Some(stem) = stem_in(led, folder.as_str()) {
             return Some(stem);
         }
     }
@@ -24,10 +24,10 @@ pub(crate) fn alias_of<'t>(path: &[String], target: &'t str) -> Option<&'t str>
 }
 
 #[tactic(auto, unfolding(crate::specs::Units::stem_in))]
-fn stem_in<'t>(target: &'t str, folder: &str) -> Option<&'t str>
-    ensures { option_map (λ stem. stem.now) result ≡ stem_in target.now folder.now }
+fn stem_in<'t>(file: &'t str, folder: &str) -> Option<&'t str>
+    ensures { option_map (λ stem. stem.now) result ≡ stem_in file.now folder.now }
 {
-    let rest = after_prefix(folder, target)?;
+    let rest = after_prefix(folder, file)?;
     let name = after_prefix("/", rest)?;
     file_stem(name)
 }

@@ -38,44 +38,63 @@ pub(crate) fn find_place<T: Tree>(
 {
     let paths = unit_paths(alloc, path, stem)?;
     match first_there(alloc, tree, paths.as_slice())? {
-        Some((file, entry)) => place_at(alloc, path, stem, file, &entry),
+        Some((file, entry)) => place_at(alloc, tree, path, stem, file, &entry),
         None => Ok(Place::Nowhere),
     }
 }
 
 /// Returns what is found under a unit's name. `file` is the first path that has a file of the unit, and `entry` is what
 /// is at that path.
-fn place_at(
+fn place_at<T: Tree>(
     alloc: Global,
+    tree: &T,
     path: &[String],
     stem: &str,
     file: &str,
     entry: &Entry,
 ) -> Result<Place, UnitFault>
-    ensures { IfOk result (λ place. shown_place place
-        ≡ place_at (map string_bytes path.now) stem.now file.now (shown_entry entry.now)) }
+    ensures { IfOk result (λ place. (machine : Machine) → T.shows tree.now machine → shown_place place
+        ≡ place_at machine (map string_bytes path.now) stem.now file.now (shown_entry entry.now)) }
 {
     match entry {
         Entry::Empty => Ok(Place::MaskedAt(String::from_str(alloc, file)?)),
-        Entry::Link(target) => place_of_link(alloc, path, stem, file, target.as_str()),
+        Entry::Link(target) => place_of_link(alloc, tree, path, stem, file, target.as_str()),
         _ => Ok(Place::FileAt(String::from_str(alloc, file)?)),
     }
 }
 
-fn place_of_link(
+fn place_of_link<T: Tree>(
     alloc: Global,
+    tree: &T,
     path: &[String],
     stem: &str,
     file: &str,
     target: &str,
 ) -> Result<Place, UnitFault>
-    ensures { IfOk result (λ place. shown_place place
-        ≡ place_of_link (map string_bytes path.now) stem.now file.now target.now) }
+    ensures { IfOk result (λ place. (machine : Machine) → T.shows tree.now machine → shown_place place
+        ≡ place_of_link machine (map string_bytes path.now) stem.now file.now target.now) }
 {
     if target == NULL_DEVICE {
         return Ok(Place::MaskedAt(String::from_str(alloc, file)?));
     }
-    linked(alloc, stem, file, alias_of(path, target))
+    let led = leads_to(alloc, tree, file, target)?;
+    linked(alloc, stem, file, alias_of(path, target, led.as_str()))
+}
+
+/// Returns the path to which a link with this target leads, or the error with the path of the link.
+fn leads_to<T: Tree>(
+    alloc: Global,
+    tree: &T,
+    link: &str,
+    target: &str,
+) -> Result<String, UnitFault>
+    ensures { IfOk result (λ path. (machine : Machine) → T.shows tree.now machine
+        → string_bytes path ≡ machine.leads_to link.now target.now) }
+{
+    match tree.leads_to(alloc, link, target) {
+        Ok(path) => Ok(path),
+        Err(fault) => Err(UnitFault::of_tree(alloc, link, fault)),
+    }
 }
 
 fn linked(alloc: Global, stem: &str, file: &str, alias: Option<&str>) -> Result<Place, UnitFault>
