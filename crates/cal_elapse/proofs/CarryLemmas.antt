@@ -61,15 +61,15 @@ module _ {passes high low : ℕ → Bool} {size limit : ℕ} (s : Splits passes 
             split_at a t inside same ∙ and_right (high a) (low (t % size)) (found.3 (t % size) (remainder_part size a l t same (omega arith)) (low_end size a b t same below)),
       )
 
-  -- if no high part from `a` on passes, no number from a * size up to but not including limit * size passes
+  -- if no high part that is at least `a` passes, no number from a * size up to but not including limit * size passes
   pub none_later : (a end : ℕ) → limit ≤ end → NonePasses high a end → NonePasses passes (a * size) (limit * size)
   none_later a end far none = λ t above below.
       let least = le-div a t size s.positive above in
       let most = div_below t size limit s.positive below in
       split_at (t / size) t most refl ∙ and_left (high (t / size)) (low (t % size)) (none (t / size) least (omega (arith, most)))
 
-  -- if `h` is the first high part from `a` on that passes, and `b` the first low part that passes, then h * size + b is
-  -- the first number from a * size on that passes
+  -- if `h` is the least passing high part that is at least `a`, and `b` is the least passing low part, then h * size + b
+  -- is the least passing number that is at least a * size
   pub first_later : (a end h e b : ℕ) → h < limit → b < size → IsFirstPassing high a end (Some h) → IsFirstPassing low 0 e (Some b)
       → IsFirstPassing passes (a * size) (limit * size) (Some (h * size + b))
   first_later a end h e b inside small found first =

@@ -44,8 +44,8 @@ length_is : (n : ℕ) → length_of n ≡ days_in_month (pos (year_of n)) (numbe
 unfolding length_of
 length_is n = refl
 
--- the first day of month `n`, which is defined as the sum of the lengths of all earlier months, is the day number of
--- the first of that month in the calendar
+-- `first_day n`, which is defined as the sum of the lengths of all months before month `n`, is the day number of the
+-- first of that month
 pub first_is : (n : ℕ) → days_from_civil (pos (year_of n)) (number_of n) 1 ≡ pos (first_day n)
 first_is zero = days_from_civil-1970 ∙ ap pos (sym first_day-zero)
 first_is (suc n) =

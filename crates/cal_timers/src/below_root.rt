@@ -76,8 +76,8 @@ fn folder_of(path: &str) -> &str {
     path.rsplit_once('/').map_or("", |parts| parts.0)
 }
 
-/// Splits a path that leads into one of the plain folders after this folder. For any other path, the first part is
-/// empty.
+/// Splits a path that leads into one of the `plain` folders into the path of this folder and the rest. For any other
+/// path, the first of the two is empty.
 fn plain_part<'p>(plain: &'p [String], path: &'p str) -> (&'p str, &'p str) {
     for folder in plain {
         if let Some(rest) = path.strip_prefix(folder.as_str()) {

@@ -26,7 +26,7 @@ pub struct Made<'a> {
 }
 
 impl Made<'_> {
-    /// Makes the timer. Its line numbers are counted on from file to file, as if each file had 3 lines.
+    /// Makes the timer. Its line numbers continue from one file to the next, as if each file had 3 lines.
     pub fn timer(&self, alloc: Global) -> Result<LoadedTimer, Fail> {
         let calendar = calendar_of(alloc, self.text)?;
         Ok(LoadedTimer {
