@@ -3,6 +3,7 @@
 ghost use Rattle.std.specs.Prelude.{◌+◌, ◌<◌, ◌^◌, All, length};
 
 use cal_read::{Setting, Settings, UnitText, without_mark};
+use cal_span::read_span;
 use std::alloc::{AllocError, Global};
 
 /// What a setting does to the list of notes.
@@ -23,9 +24,9 @@ enum Effect {
 ///
 /// Every `OnActiveSec=`, `OnBootSec=`, `OnStartupSec=`, `OnUnitActiveSec=` and `OnUnitInactiveSec=` counts, but an empty
 /// value of one of these keys, or of `OnCalendar=`, drops all settings with these five keys above it. If
-/// `RandomizedDelaySec=` is set several times, the last one counts; if its value is empty, there is no delay. If
-/// `OnClockChange=` is set to booleans several times, the last one counts, and it is returned only if it is true. The
-/// same goes for `OnTimezoneChange=`.
+/// `RandomizedDelaySec=` is set several times, the last one counts, and it is returned only if there is a delay: not if
+/// its value is empty or 0. If `OnClockChange=` is set to booleans several times, the last one counts, and it is
+/// returned only if it is true. The same goes for `OnTimezoneChange=`.
 pub(crate) fn notes_of(alloc: Global, texts: &[UnitText<'_>]) -> Result<Vec<Setting>, AllocError>
     requires { All (λ text. text.first + length text.text.now < 2 ^ 32) texts.now }
 {
@@ -76,11 +77,15 @@ fn effect_of(key: &str, value: &str) -> Effect {
     }
     match key {
         "OnCalendar" if value.is_empty() => Effect::Clear,
-        "RandomizedDelaySec" if value.is_empty() => Effect::Remove,
+        "RandomizedDelaySec" if is_no_delay(value) => Effect::Remove,
         "RandomizedDelaySec" => Effect::Replace,
         "OnClockChange" | "OnTimezoneChange" => effect_of_boolean(value),
         _ => Effect::Nothing,
     }
+}
+
+fn is_no_delay(value: &str) -> bool {
+    value.is_empty() || read_span(value).is_ok_and(|delay| delay.micros() == 0)
 }
 
 fn effect_of_boolean(value: &str) -> Effect {
