@@ -1,5 +1,6 @@
--- Lemmas on the drop-ins that count, one for each name, and on the drop-ins of a folder: what one more file adds to
--- `by_name` and to the Rust map with the same entries, and what one more name adds to `candidates`.
+-- Lemmas on two lists of drop-ins. The first are those that count, one of each name: what one more file adds to
+-- `by_name` and to the Rust map with the same entries. The second are those of a folder: what one more name adds to
+-- `candidates`.
 use Rattle.std.proofs.Common.{◌≡◌, ℕ, Bool, true, false, cond, List, [], ◌∷◌, ◌++◌, refl, sym, ap, ◌∙◌, map, reverse, Option, Some, None, option_map, string_bytes, append_assoc, filter}
 use Rattle.std.specs.BTreeMap.{insert_entry}
 use Rattle.std.specs.Cmp.Lexicographic.{slice_cmp}

@@ -66,7 +66,7 @@ minutes_of_all m = record {
       split_at (locals_split (sets_in m)) (a / 1_440) (a * 60 + b) (omega arith) day ∙ rw (lt-ltb a 120_968_640 low, time, here) (sym (and_regrouped (day_in (sets_in m) (a / 1_440)) (minute_in (sets_in m) (a % 1_440)) (is_bit m.seconds b)));
 }
 
--- if `found` passes, a number in the same unit of 60 passes if and only if its low part, the number modulo 60, passes
+-- if `found` passes, a number with the same quotient by 60 passes if and only if its remainder satisfies `low`
 by_low : (passes high low : ℕ → Bool) (limit found t : ℕ) → Splits passes high low 60 limit → found / 60 < limit → passes found ≡ true → t / 60 ≡ found / 60 → passes t ≡ low (t % 60)
 by_low passes high low limit found t s within holds same =
     let both = and_parts _ _ (sym (split_at s (found / 60) found within refl) ∙ holds) in

@@ -98,8 +98,8 @@ placed_at v local h = subst (IsPlacedTo v) (sym (pos_unsigned_abs local _ h.foun
 pub placed_last : (v : Window) (last : ℤ) → IsLocalSecond last → FitsSigned w64 last → IsPlacedTo v (pos (unsigned_abs last)) → IsPlacedTo v (to_z w64 (of_z w64 last))
 placed_last v last inside fits h = subst (IsPlacedTo v) (pos_unsigned_abs last _ inside.0 refl ∙ sym (to_z-of_z w64 last fits)) h
 
--- if the zone has the constant UTC offset `offset` from `local` to `end`, the instant of each of these local seconds
--- `t` is `t` minus `offset`
+-- if the zone has the constant UTC offset `offset` from `local` to `end`, the place of each local second `t` in this
+-- range is `t` minus `offset`
 place_there : (v : Window) (local t end : ℕ) (offset : ℤ) → IsPlacedTo v (pos local) → AreAtOffset (zone_of v.zone) (pos local) (pos end) offset → local ≤ t → t ≤ end → end < seconds_in_all
     → (timed_of v).place t ≡ Some (pos t -ℤ offset)
 unfolding timed_by

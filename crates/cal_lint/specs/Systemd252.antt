@@ -81,7 +81,7 @@ is_up_to a [] = false
 is_up_to a (b ∷ []) = false
 is_up_to a (b ∷ c ∷ last) = (b == 46) && (c == 46) && list_all is_ascii_digit last && are_equal a last
 
--- whether the part is a range without a step, and the ends of the range are equal
+-- whether the part is a range without a step whose ends are equal
 abbrev pub is_one_second : List ℕ → Bool
 is_one_second part = is_up_to (leading_digits part) (after_digits part)
 

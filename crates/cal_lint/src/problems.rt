@@ -345,7 +345,7 @@ fn fault_start(alloc: Global, value: &str) -> Result<usize, AllocError> {
     }
 }
 
-/// Returns the physical line with this number, or an empty text if there is no such line.
+/// Returns the physical line with this number, counted from 1, or an empty text if there are fewer lines.
 fn line_of<'t>(lines: &[&'t str], number: u32) -> &'t str {
     match lines.get((number as usize).saturating_sub(1)) {
         Some(line) => *line,

@@ -17,7 +17,7 @@ use cal_units::{Alias, Tree};
 use std::alloc::{AllocError, Global};
 
 /// Loads the timers that the targets stand for, in their order. Without a target, these are all timers in the folders
-/// of the search path, by name.
+/// of the search path, sorted by name.
 ///
 /// `path` is the search path, the most important folder first. `aliases` are the aliases of the units in its folders,
 /// as [`cal_units::find_aliases`] finds them. Neither has an effect if all targets are paths. A target is

@@ -1,4 +1,4 @@
--- The symbols of a text, and the numbers among them.
+-- Lemmas on the symbols of a text, and on the numbers among them.
 use Rattle.std.proofs.Common.{ℕ, suc, ◌+◌, ◌<◌, ◌≤◌, ◌≡◌, inl, inr, Bool, true, false, ◌&&◌, List, [], ◌∷◌, ◌++◌, length, take, drop, get_or, refl, sym, ap, ◌∙◌, arith}
 use Rattle.std.specs.Prelude.{⊤, cond, leb}
 use Rattle.std.specs.List.{AllByRecursion, list_all, prefix_len}

@@ -16,7 +16,7 @@ pub(crate) const FIRST: &str = "first";
 /// The name under which `clap` stores the second argument of `between` or `same`.
 pub(crate) const SECOND: &str = "second";
 
-/// The name under which `clap` stores all targets except the first and the second argument of `between` or `same`.
+/// The name under which `clap` stores all other targets.
 pub(crate) const TARGET: &str = "target";
 
 /// Parses the arguments with `clap`. The first argument is the verb, unless the arguments ask for the help or the

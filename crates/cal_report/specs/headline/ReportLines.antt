@@ -12,8 +12,8 @@ use Rattle.cal_zone.specs.declared.zone.Zone.{Zone}
 abbrev pub original_label : List ℕ
 original_label = codes "  Original form: "
 
--- the label before an exception in its original form: as it is written in the timer file; an exception is an expression
--- at whose elapse times a timer doesn't elapse
+-- the label before an exception in its original form, as it is written in the timer file; when an exception elapses,
+-- the timer doesn't
 abbrev pub except_label : List ℕ
 except_label = codes "    Except form: "
 

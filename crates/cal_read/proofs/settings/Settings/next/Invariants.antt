@@ -1,4 +1,4 @@
--- No setting has been found yet: the settings in the remaining lines are all settings that remained when `next` was
+-- No setting has been found yet: the settings in the remaining lines are exactly those that remained when `next` was
 -- called. The iterator itself has not been changed.
 use Rattle.std.proofs.Common.{◌≡◌, ◌+◌, ◌<◌, ◌^◌, length}
 use denote.Shadow.{shadow}
