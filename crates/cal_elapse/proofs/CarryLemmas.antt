@@ -68,8 +68,8 @@ module _ {passes high low : ℕ → Bool} {size limit : ℕ} (s : Splits passes 
       let most = div_below t size limit s.positive below in
       split_at (t / size) t most refl ∙ and_left (high (t / size)) (low (t % size)) (none (t / size) least (omega (arith, most)))
 
-  -- if `h` is the least passing high part that is at least `a`, and `b` is the least passing low part, then h * size + b
-  -- is the least passing number that is at least a * size
+  -- if `h` is the least passing high part that is at least `a`, and `b` is the least passing low part, then h * size +
+  -- b is the least passing number that is at least a * size
   pub first_later : (a end h e b : ℕ) → h < limit → b < size → IsFirstPassing high a end (Some h) → IsFirstPassing low 0 e (Some b)
       → IsFirstPassing passes (a * size) (limit * size) (Some (h * size + b))
   first_later a end h e b inside small found first =

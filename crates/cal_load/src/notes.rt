@@ -22,8 +22,8 @@ enum Effect {
 
 /// Returns the settings in the sections `Timer` of these texts that start or delay the unit, except `OnCalendar=`.
 ///
-/// Every `OnActiveSec=`, `OnBootSec=`, `OnStartupSec=`, `OnUnitActiveSec=` and `OnUnitInactiveSec=` counts, but an empty
-/// value of one of these keys, or of `OnCalendar=`, drops all settings with these five keys above it. If
+/// Every `OnActiveSec=`, `OnBootSec=`, `OnStartupSec=`, `OnUnitActiveSec=` and `OnUnitInactiveSec=` counts, but an
+/// empty value of one of these keys, or of `OnCalendar=`, drops all settings with these five keys above it. If
 /// `RandomizedDelaySec=` is set several times, the last one counts, and it is returned only if there is a delay: not if
 /// its value is empty or 0. If `OnClockChange=` is set to booleans several times, the last one counts, and it is
 /// returned only if it is true. The same goes for `OnTimezoneChange=`.

@@ -59,8 +59,8 @@ abbrev pub without_folder : List ℕ → List ℕ
 without_folder file = unwrap_or (after_prefix zone_folder file) file
 
 -- The zone of a file that the variable names (tzset(3)). The file's path is absolute, or relative to the folder of zone
--- files. An empty path stands for UTC. The result is None for the path /etc/localtime, because then the link there names
--- the zone.
+-- files. An empty path stands for UTC. The result is None for the path /etc/localtime, because then the link there
+-- names the zone.
 abbrev pub file_zone : List ℕ → Option LocalZone
 file_zone file =
     if bytes_eq file localtime then None

@@ -50,8 +50,8 @@ pub(crate) fn followed<R: Files + AllocGlobal>(
 }
 
 /// Returns the absolute path, as seen from the root, to which the link at a path leads if it has this target. Links of
-/// folders on the way are followed, but not a link at the end. The path of the link has to be absolute. An empty root is
-/// the system's own.
+/// folders on the way are followed, but not a link at the end. The path of the link has to be absolute. An empty root
+/// is the system's own.
 ///
 /// Fails like [`followed`].
 pub(crate) fn leads_to<R: Files + AllocGlobal>(

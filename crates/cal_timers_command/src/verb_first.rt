@@ -20,8 +20,8 @@ enum Kind {
     Word,
 }
 
-/// Returns the arguments with the verb moved to the front. If there is no verb, the first argument that asks for the help
-/// or the version of the program is moved there. If there is no such argument either, `list` is inserted.
+/// Returns the arguments with the verb moved to the front. If there is no verb, the first argument that asks for the
+/// help or the version of the program is moved there. If there is no such argument either, `list` is inserted.
 ///
 /// The verb is the first argument that is neither an option nor the value of an option, if it is the name of a verb or
 /// `help`. An argument that asks for help before it takes its place.

@@ -68,8 +68,8 @@ is_template_kind Instance = false
 abbrev pub is_template : List ℕ → Bool
 is_template stem = is_template_kind (kind_of stem)
 
--- A link is itself the unit's file if `alias_of` finds no timer for it, or finds the unit itself or a template. Any other
--- link is an alias of the unit to which it leads.
+-- A link is itself the unit's file if `alias_of` finds no timer for it, or finds the unit itself or a template. Any
+-- other link is an alias of the unit to which it leads.
 abbrev pub linked : List ℕ → List ℕ → Option (List ℕ) → Place
 linked stem file None = FileAt file
 linked stem file (Some other) = if bytes_eq other stem || is_template other then FileAt file else AliasOf other

@@ -74,8 +74,8 @@ pub trait Tree {
         ensures { IfOk result (λ entry. (machine : Machine) → shows self.now machine
             → shown_entry entry ≡ machine.entry path.now) };
 
-    /// Returns the absolute path to which the link at a path leads if this is its target. Links of folders on the way are
-    /// followed, but not a link at the end. Nothing has to be there.
+    /// Returns the absolute path to which the link at a path leads if this is its target. Links of folders on the way
+    /// are followed, but not a link at the end. Nothing has to be there.
     fn leads_to(&self, alloc: Global, link: &str, target: &str) -> Result<String, TreeFault>
         ensures { IfOk result (λ path. (machine : Machine) → shows self.now machine
             → string_bytes path ≡ machine.leads_to link.now target.now) };

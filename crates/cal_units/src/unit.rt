@@ -42,14 +42,14 @@ pub enum Unit {
 ///
 /// Only the first file with the unit's name counts; folders with this name are skipped. If there is no such file and
 /// the unit is an instance, its template's file is searched for in the same way. An empty file or a link to `/dev/null`
-/// masks the unit. A link is an alias of another unit if its target is only the name of that unit's file, or if it leads
-/// to a path with this name in a folder of the search path. Then that unit is searched for instead. Any other link is
-/// itself the unit's file, and so is a link to a template.
+/// masks the unit. A link is an alias of another unit if its target is only the name of that unit's file, or if it
+/// leads to a path with this name in a folder of the search path. Then that unit is searched for instead. Any other
+/// link is itself the unit's file, and so is a link to a template.
 ///
 /// Fails with [`UnitFault::At`] and [`Reason::ReadFailed`] if a path can't be looked at or a link can't be followed, or
-/// [`Reason::NotUtf8`] if the target of a link is not UTF-8. If more than 8 links lead from unit to unit, as in a loop of links, fails with
-/// [`Reason::TooManyLinks`] and the stem to which the 9th link leads. Fails with [`UnitFault::NoMemory`] if allocation
-/// fails.
+/// [`Reason::NotUtf8`] if the target of a link is not UTF-8. If more than 8 links lead from unit to unit, as in a loop
+/// of links, fails with [`Reason::TooManyLinks`] and the stem to which the 9th link leads. Fails with
+/// [`UnitFault::NoMemory`] if allocation fails.
 pub fn find_unit<T: Tree>(
     alloc: Global,
     tree: &T,
