@@ -1,5 +1,5 @@
--- How comparing the masks of two expressions shows that one expression has all values of the other. A mask has one bit
--- for each value that a field of an expression matches.
+-- How comparing the masks of two expressions shows that, field by field, one expression matches all values that the
+-- other matches. A mask has one bit for each value that a field of an expression matches.
 use Rattle.std.proofs.Common.{◌≡◌, ℕ, List, arith, bit_or, get_or, length}
 use Rattle.std.proofs.lemmas.Bool.{or_right}
 use Rattle.std.proofs.Math.ListN.{get_or-eq_default}
@@ -10,7 +10,7 @@ use Rattle.cal_elapse.specs.declared.masks.Masks.{Masks}
 use Rattle.cal_elapse.proofs.BitLemmas.{is_bit-none, is_bit-or}
 use Rattle.cal_text.proofs.General.{both_follow}
 
--- if `others` adds no bit to `mask`, then `mask` has all bits of `others`
+-- if the bitwise OR with `others` adds no bit to `mask`, then `mask` has all bits of `others`
 pub has_all : (mask others : ℕ) → bit_or mask others ≡ mask → HasAll (is_bit mask) (is_bit others)
 has_all mask others same i other = grind (arith, is_bit-or, or_right)
 

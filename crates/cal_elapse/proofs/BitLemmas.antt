@@ -35,8 +35,8 @@ first_bit m some fits =
     let h = bit_at-trailing_zeros w64 m some fits in
     (omega arith, h.0, is_bit-one m (trailing_zeros w64 m) h.1, λ t low below. is_bit-zero m t (h.2 t below))
 
--- If `m` shifted right by `from` bits is 0, `m` has no set bit from bit `from` on. Otherwise `m` has at least one set
--- bit from bit `from` on, and the index of the lowest of them is `from` plus the number of trailing zeros of the
+-- If `m` shifted right by `from` bits is 0, no bit of `m` with an index of `from` or more is set. Otherwise at least
+-- one of these bits is set, and the index of the lowest set one is `from` plus the number of trailing zeros of the
 -- shifted word (`next_some`).
 pub next_none : (m from : ℕ) → m / 2 ^ from ≡ 0 → NonePasses (is_bit m) from 64
 next_none m from none = λ t low below.

@@ -1,24 +1,24 @@
 -- Searching for the first number that passes a test. Every number has a high part and a low part, and passes if and
--- only if each part passes a test of its own. The search tries the remaining low parts first, and then the next high
--- part with the first low part.
+-- only if each part passes a test of its own. The search first tries the remaining low parts of its starting point, and
+-- then takes the next passing high part with the first passing low part.
 use Rattle.std.proofs.Common.{◌≡◌, ℕ, ◌+◌, ◌*◌, ◌/◌, ◌%◌, ◌<◌, ◌≤◌, Bool, true, false, ◌&&◌, Option, Some, ap, subst, inl, inr, ◌∙◌, refl, arith, add-mul, one-mul, mul-le-mul_right}
 use Rattle.std.proofs.lemmas.Bool.{cases_lt, and_from, and_left, and_right}
 use Rattle.std.proofs.lemmas.Nat.{div-add-mod', div_below, le-div, mod_below}
 use Rattle.cal_elapse.specs.Search.{IsFirstPassing, NonePasses}
 use Rattle.cal_text.proofs.General.{quotient_part, remainder_part}
 
--- if no number from `from` up to but not including `mid` passes, the first number from `mid` on that passes is also the
--- first from `from` on
+-- if no number from `from` up to but not including `mid` passes, a search that starts at `from` has the same result as
+-- a search that starts at `mid`
 pub first_then : (passes : ℕ → Bool) (from mid end : ℕ) (r : Option ℕ) → NonePasses passes from mid → from ≤ mid → IsFirstPassing passes mid end r → IsFirstPassing passes from end r
 first_then passes from mid end r none low rest = grind arith
 
--- if `s` is the first number from `from` up to but not including `mid` that passes, it is also the first from `from` up
--- to but not including a later `end`
+-- if `s` is the first passing number in the range `from..mid`, it is also the first one in the range `from..end`,
+-- provided that `end` is at least `mid`
 pub first_within : (passes : ℕ → Bool) (from mid end s : ℕ) → mid ≤ end → IsFirstPassing passes from mid (Some s) → IsFirstPassing passes from end (Some s)
 first_within passes from mid end s low found = (found.0, omega (arith, found.1), found.2, found.3)
 
--- `passes` tests the number a * size + b, with a below the limit and b below the size, by testing a with `high` and b
--- with `low`
+-- for each high part a below `limit` and each low part b below `size`, the number a * size + b passes if and only if a
+-- passes the test `high` and b passes the test `low`
 pub record Splits (passes high low : ℕ → Bool) (size limit : ℕ) : Type 0 where
   pub positive : 0 < size
   pub split : (a b : ℕ) → a < limit → b < size → passes (a * size + b) ≡ (high a && low b)
@@ -35,7 +35,7 @@ module _ {passes high low : ℕ → Bool} {size limit : ℕ} (s : Splits passes 
   next_high : (a : ℕ) → (a + 1) * size ≡ a * size + size
   next_high a = add-mul a 1 size ∙ ap (λ (n : ℕ). a * size + n) (one-mul size)
 
-  -- if the high part `a` doesn't pass, then no number that is at least `from` and has this high part passes
+  -- if the high part `a` doesn't pass, no number at or after `from` with this high part passes
   pub none_by_high : (a l from : ℕ) → a * size + l ≡ from → a < limit → high a ≡ false → NonePasses passes from ((a + 1) * size)
   none_by_high a l from parts inside fails = λ t above below.
       let same = quotient_part size a t s.positive (omega arith) below in
@@ -47,8 +47,8 @@ module _ {passes high low : ℕ → Bool} {size limit : ℕ} (s : Splits passes 
       let small = mod_below t size s.positive in
       split_at a t inside same ∙ and_right (high a) (low (t % size)) (none (t % size) (remainder_part size a l t same (omega arith)) (omega (arith, small)))
 
-  -- if the high part `a` passes, and `b` is the first low part from `l` on that passes, then a * size + b is the first
-  -- number from a * size + l on that passes
+  -- if the high part `a` passes, and `b` is the first passing low part at or after `l`, then a * size + b is the first
+  -- passing number at or after a * size + l
   pub first_here : (a l from end b : ℕ) → a * size + l ≡ from → a < limit → high a ≡ true → b < size → IsFirstPassing low l end (Some b)
       → IsFirstPassing passes from ((a + 1) * size) (Some (a * size + b))
   first_here a l from end b parts inside holds small found =
@@ -61,15 +61,15 @@ module _ {passes high low : ℕ → Bool} {size limit : ℕ} (s : Splits passes 
             split_at a t inside same ∙ and_right (high a) (low (t % size)) (found.3 (t % size) (remainder_part size a l t same (omega arith)) (low_end size a b t same below)),
       )
 
-  -- if no high part that is at least `a` passes, no number from a * size up to but not including limit * size passes
+  -- if no high part at or after `a` passes, no number from a * size up to but not including limit * size passes
   pub none_later : (a end : ℕ) → limit ≤ end → NonePasses high a end → NonePasses passes (a * size) (limit * size)
   none_later a end far none = λ t above below.
       let least = le-div a t size s.positive above in
       let most = div_below t size limit s.positive below in
       split_at (t / size) t most refl ∙ and_left (high (t / size)) (low (t % size)) (none (t / size) least (omega (arith, most)))
 
-  -- if `h` is the least passing high part that is at least `a`, and `b` is the least passing low part, then h * size +
-  -- b is the least passing number that is at least a * size
+  -- if `h` is the first passing high part at or after `a`, and `b` is the first passing low part, then h * size + b is
+  -- the first passing number at or after a * size
   pub first_later : (a end h e b : ℕ) → h < limit → b < size → IsFirstPassing high a end (Some h) → IsFirstPassing low 0 e (Some b)
       → IsFirstPassing passes (a * size) (limit * size) (Some (h * size + b))
   first_later a end h e b inside small found first =

@@ -50,8 +50,8 @@ in_word cells t word same = ap (λ (w : ℕ). is_bit (get_or cells w 0) (t % 64)
 in_zero : (cells : List ℕ) (t word : ℕ) → t / 64 ≡ word → get_or cells word 0 ≡ 0 → is_bit_in cells t ≡ false
 in_zero cells t word same zero = in_word cells t word same ∙ (ap (λ (w : ℕ). is_bit w (t % 64)) zero ∙ is_bit-none (t % 64))
 
--- if the word of the cell `from` has set bits at or after the bit of `from`, the first of these bits is the bit of the
--- first set cell from `from` on
+-- if the word of the cell `from` has set bits at or after the bit of `from`, the lowest of them is the bit of the first
+-- set cell at or after `from`
 pub found_here : (cells : List ℕ) (from bit cell : ℕ) → from < 187_200 → IsFirstPassing (is_bit (get_or cells (from / 64) 0)) (from % 64) 64 (Some bit)
     → cell ≡ from / 64 * 64 + bit → IsFirstPassing (is_bit_in cells) from 187_200 (Some cell)
 found_here cells from bit cell inside found is =
@@ -65,8 +65,8 @@ found_here cells from bit cell inside found is =
 pub none_here : (cells : List ℕ) (from t : ℕ) → IsFirstPassing (is_bit (get_or cells (from / 64) 0)) (from % 64) 64 None → from ≤ t → t / 64 ≡ from / 64 → is_bit_in cells t ≡ false
 none_here cells from t none above same = in_word cells t (from / 64) same ∙ none (t % 64) (omega arith) (omega arith)
 
--- if the word of the cell `from` has no set bit from `from` on, and the `later` words after it are 0, then no cell from
--- `from` on is set in any of these words
+-- if the word of the cell `from` has no set bit at or after the bit of `from`, and the next `later` words are 0, then
+-- none of these words has a set cell at or after `from`
 none_before : (cells : List ℕ) (from later t : ℕ) → IsFirstPassing (is_bit (get_or cells (from / 64) 0)) (from % 64) 64 None
     → ((j : ℕ) → j < later → get_or (drop (from / 64 + 1) cells) j 0 ≡ 0) → from ≤ t → t / 64 < from / 64 + 1 + later → is_bit_in cells t ≡ false
 none_before cells from later t none zeros above below =
@@ -78,8 +78,8 @@ none_before cells from later t none zeros above below =
           in_zero cells t (t / 64) refl (subst (λ (k : ℕ). get_or cells k 0 ≡ 0) at (sym (get_or-drop (from / 64 + 1) cells j 0) ∙ zeros j (omega arith)))
     ]
 
--- if the word of the cell `from` has no set bit from `from` on, the bit of the first set cell from `from` on is the
--- lowest set bit of the first later word that isn't 0
+-- if the word of the cell `from` has no set bit at or after the bit of `from`, the first set cell after `from` is in
+-- the first later word that isn't 0, and its bit is the lowest set bit of that word
 pub found_later : (cells : List ℕ) (from later bit cell : ℕ) → length cells ≡ 2_925 → from < 187_200
     → IsFirstPassing (is_bit (get_or cells (from / 64) 0)) (from % 64) 64 None → IsFirstSet (drop (from / 64 + 1) cells) later → from / 64 + 1 + later < 2_925
     → IsFirstPassing (is_bit (get_or cells (from / 64 + 1 + later) 0)) 0 64 (Some bit) → cell ≡ (from / 64 + 1 + later) * 64 + bit → IsFirstPassing (is_bit_in cells) from 187_200 (Some cell)
@@ -96,8 +96,8 @@ found_later cells from later bit cell long inside none first there found is =
           ],
     )
 
--- if the word of the cell `from` has no set bit from `from` on, and all later words are 0, no cell from `from` on is
--- set
+-- if the word of the cell `from` has no set bit at or after the bit of `from`, and all later words are 0, then no cell
+-- at or after `from` is set
 pub no_word_set : (cells : List ℕ) (from : ℕ) → length cells ≡ 2_925 → from < 187_200 → length (drop (from / 64 + 1) cells) ≡ 2_925 - (from / 64 + 1)
     → IsFirstPassing (is_bit (get_or cells (from / 64) 0)) (from % 64) 64 None → position is_set (drop (from / 64 + 1) cells) ≡ None
     → IsFirstPassing (is_bit_in cells) from 187_200 None
@@ -115,7 +115,7 @@ pub held_first : (cells : List ℕ) (low found : ℕ) → IsFirstPassing (is_bit
 held_first cells low found first = grind (arith, held_at)
 
 -- if no cell from the cell of `low` to the end of the ring is set, the search continues at the start of the ring: the
--- first set cell there is the cell of the first second from `low` on whose cell is set
+-- first set cell there belongs to the first second at or after `low` that has a set cell
 pub held_turned : (cells : List ℕ) (low found : ℕ) → IsFirstPassing (is_bit_in cells) (low % 187_200) 187_200 None → IsFirstPassing (is_bit_in cells) 0 187_200 (Some found)
     → IsFirstPassing (is_held cells) low (low + 187_200) (Some (low - low % 187_200 + 187_200 + found))
 held_turned cells low found none first = grind (arith, held_at)

@@ -73,8 +73,8 @@ count_from-both passes a k (suc n) =
     let place : a + (k + n) ≡ a + k + n = omega arith in
     rw (next, place) (omega (arith, count_from-both passes a k n))
 
--- the numbers from `start` up to and including `last` that pass are counted in two parts: those up to and including
--- `local`, and those after `local`; in `count_from-then`, `start` itself isn't counted
+-- the number of passing numbers from `start` up to and including `last` is the sum of two counts: of those up to and
+-- including `local`, and of those after `local`; `count_from-then` says the same without counting `start`
 pub count_from-part : (passes : ℕ → Bool) (start local last : ℕ) → start ≤ local → local ≤ last
     → count_from passes start (last + 1 - start) ≡ count_from passes start (local + 1 - start) + count_from passes (local + 1) (last - local)
 count_from-part passes start local last low high =
@@ -93,7 +93,7 @@ count_from-then passes start local last low high =
     ∙ (count_from-both passes (start + 1) (local - start) (last - local)
     ∙ ap (λ (t : ℕ). count_from passes (start + 1) (local - start) + count_from passes t (last - local)) there)
 
--- if no number from `start` up to but not including `bound` passes, counting those that pass gives 0
+-- if no number from `start` up to but not including `bound` passes, the number of passing numbers in this range is 0
 pub count_from-begun : (passes : ℕ → Bool) (start bound : ℕ) → start ≤ bound → NonePasses passes start bound → count_from passes start (bound - start) ≡ 0
 unfolding count_from
 count_from-begun passes start bound low none =

@@ -26,8 +26,8 @@ record IsPlaceFrom (e : Timed) (a n : ℕ) (i : ℤ) : Type 0 where
   is_match : e.matches local ≡ true
   placed : e.place local ≡ Some i
 
--- Let a list be the number in `o` followed by `rest` if `b` is true and `o` isn't `None`, and otherwise `rest`. Then a
--- number is in this list if and only if it is in `rest`, or `b` is true and it is the number in `o`.
+-- If `b` is true, put the number in `o`, if there is one, in front of `rest`. The resulting list contains exactly the
+-- numbers of `rest` and, if `b` is true, the number in `o`.
 Has-one : (b : Bool) (o : Option ℤ) (rest : List ℤ) (i : ℤ) → Has (cond b (cons_option o rest) rest) i ↔ (((b ≡ true) × (o ≡ Some i)) ⊎ Has rest i)
 Has-one b o rest i = grind arith
 
@@ -84,8 +84,8 @@ Has-above b (x ∷ xs) i =
       λ p. elim p.1 [ inl e ↦ one.1 (inl (p.0, e)) | inr n ↦ one.1 (inr (rest.1 (p.0, n))) ],
     )
 
--- after the instants up to `b` are removed from the elapse set of each expression, `i` is in one of these sets if and
--- only if `i` is after `b` and is an elapse of one of the expressions
+-- once the instants up to `b` are removed from the elapse set of each expression, `i` is left in at least one of these
+-- sets if and only if `i` is after `b` and is an elapse of one of the expressions
 HasAny-elapses : (es : List Timed) (b i : ℤ) → HasAny (map (λ e. filter (int_lt b) (places e)) es) i ↔ ((b <ℤ i) × IsElapse es i)
 HasAny-elapses [] b i = (λ m. absurd m, λ p. p.1)
 HasAny-elapses (e ∷ es) b i =

@@ -34,8 +34,8 @@ pub none_in_month : (sets : Sets) (first length bits from : ℕ) → HasDays set
     → NonePasses (is_bit bits) (from - first) 64 → NonePasses (day_in sets) from (first + length)
 none_in_month sets first length bits from has low short none = grind (arith, day_is)
 
--- if `next` is the first month from `index` on that passes, the number of passing months from `from` up to and
--- including `next` is one more than the number from `from` up to but not including `index`
+-- if `next` is the first passing month at or after `index`, then there is one more passing month from `from` up to and
+-- including `next` than from `from` up to but not including `index`
 pub count_step : (passes : ℕ → Bool) (from index next : ℕ) → from ≤ index → index ≤ next → NonePasses passes index next → passes next ≡ true
     → count_from passes from (suc next - from) ≡ count_from passes from (index - from) + 1
 count_step passes from index next low high none holds =
@@ -85,7 +85,7 @@ examined_here sets n first length day within begins long low high =
     rw (month, one, here) (omega arith)
 
 -- Suppose that a search starts in month `from` and examines `old` months before month `index`. If it ends in month
--- `next`, the first month from `index` on whose year and month number match, it examines `old` + 1 months.
+-- `next`, the first month at or after `index` whose year and month number match, it examines `old` + 1 months.
 pub examined_some : (sets : Sets) (from index next place old new : ℕ) → from ≤ index → index ≤ next → next < 2_760 → place < length_of next
     → NonePasses (month_in sets) index next → month_in sets next ≡ true → old ≡ count_from (month_in sets) from (index - from)
     → examined_from sets from (Some (first_day next + place)) ≡ old + 1
@@ -95,7 +95,7 @@ examined_some sets from index next place old new low high within small none hold
 pub examined_most : (sets : Sets) (n from : ℕ) (r : Option ℕ) → IsFirstPassing (day_in sets) from 84_006 r → examined_from sets n r ≤ 2_760
 examined_most sets n from r none = grind (arith, count_from-most, located)
 
--- a search that starts at the end of 2199 examines no month
+-- a search that starts at the end of 2199 examines no months
 pub examined_end : (sets : Sets) → examined_from sets (month_of (civil_date 84_006)) None ≡ 0
 unfolding count_from
 examined_end sets =
@@ -122,7 +122,8 @@ pub examined_today : (sets : Sets) (t second : ℕ) → t / 86_400 < 84_006 → 
     → examined_months sets (t + 1) (Some (t / 86_400 * 86_400 + second)) ≡ 1
 examined_today sets t second within holds later small = grind (arith, one_examined)
 
--- if a search for a local second finds one on the day `found`, it examines as many months as the search for that day
+-- if a search for a local second finds one on the day `found`, it examines as many months as a search for a day that
+-- starts in the same month and finds the day `found`
 pub examined_of_days : (sets : Sets) (n from found second : ℕ) → n ≡ month_of (civil_date (from / 86_400)) → second < 86_400
     → examined_from sets n (Some found) ≡ examined_months sets from (Some (found * 86_400 + second))
 examined_of_days sets n from found second start small = grind arith

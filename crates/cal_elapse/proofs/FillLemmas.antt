@@ -147,7 +147,7 @@ one_early start bit i is early = omega (arith, ints)
 
 -- What `put_bits` requires and ensures about the set of instants
 
--- the ring isn't empty, and its smallest second is before `start`
+-- the ring isn't empty, and `least`, its smallest second, is before `start`
 pub record IsBegun (cells : List ℕ) (least : ℕ) (start : ℤ) : Type 0 where
   pub some : least ≢ no_second
   pub found : IsFirstPassing (is_held cells) least (least + 187_200) (Some least)

@@ -10,7 +10,8 @@ first_passing passes from None none = grind (arith, ints)
 first_passing passes from (Some (pos s)) found = grind (arith, ints)
 first_passing passes from (Some (negsuc s)) found = absurd (omega (arith, ints, found.0))
 
--- if `s`, as a natural number, is the first local second from `from` on that passes, it is also the first as an integer
+-- if the natural number `s` is the first passing local second at or after `from` (`IsFirstPassing`), then so is the
+-- integer `s` (`IsFirstLocal`)
 pub first_local : (passes : ℕ → Bool) (from s : ℕ) → IsFirstPassing passes from seconds_in_all (Some s) → IsFirstLocal passes (pos from) (Some (pos s))
 first_local passes from s found = grind (arith, ints)
 

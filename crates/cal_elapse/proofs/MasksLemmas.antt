@@ -1,5 +1,5 @@
--- All values of a valid component are in the range of its field. So the masks, which have one bit for each value in the
--- range, represent all of them. Every valid component has at least one value.
+-- All values that a valid component matches are in the range of its field. So the masks, which have one bit for each
+-- value in the range, represent all of them. Every valid component matches at least one value.
 use Rattle.std.proofs.Common.{◌≡◌, ◌&&◌, ◌%◌, nat_lt, if◌then◌else◌, sym, ℕ, ◌+◌, ◌-◌, ◌<◌, ◌≤◌, Bool, true, false, nat_le, get_or, length, List, [], ◌∷◌, Option, None, Some, ◌∙◌, inl, inr, arith, le-ltb, lt-ltb}
 use Rattle.std.specs.List.{AllByRecursion, list_any}
 use Rattle.std.proofs.Math.ListN.{get_or-eq_default}
@@ -39,7 +39,8 @@ parts_both slot (p ∷ ps) v sound h =
       | inr rest ↦ parts_both slot ps v sound.1 rest
     ]
 
--- if a component is valid, all its values are between the smallest and the largest value of its slot
+-- if a component is valid, every value that it matches is at least the smallest value that its slot allows, and at most
+-- the value that `last_of` returns for the slot
 pub component_both : (slot : Slot) (c : Option (List Part)) (v : ℕ) → IsValidComponent slot c → component_has slot c v ≡ true
     → (least slot ≤ v) × (v ≤ last_of slot)
 component_both slot c v sound h = grind (arith, parts_both)
@@ -94,9 +95,9 @@ pub weeks_repeat : (mask : ℕ) (days : List Bool) → ((i : ℕ) → is_bit mas
     → (i : ℕ) → i < 42 → is_bit mask i ≡ is_bit mask (i % 7)
 weeks_repeat mask days filled i low = grind (arith, lt-ltb)
 
--- Suppose that a word of years begins with the year `first`, and that its set bits stand for exactly those of its years
--- that satisfy the test `holds`. Then its bit for the year 1970 + `i` is set if and only if that year satisfies the
--- test. `years_filled` says this of the four words together.
+-- Suppose that a word has one bit for each of several years, which begin with the year `first`, and that exactly the
+-- bits of the years that satisfy the test `holds` are set. Then the bit for the year 1970 + `i` is set if and only if
+-- that year satisfies the test. `years_filled` says this of the four words together.
 year_word : (word first n i j : ℕ) (holds : ℕ → Bool) → ((p : ℕ) → is_bit word p ≡ (nat_lt p n && holds (first + p)))
     → first + j ≡ 1_970 + i → j < n → i < 230 → is_bit word j ≡ (nat_lt i 230 && holds (1_970 + i))
 year_word word first n i j holds filled same low inside = grind (arith, lt-ltb)
@@ -122,7 +123,7 @@ start_has slot p sound = values_at slot p.start p.end p.step sound.start_in soun
 whole : (slot : Slot) → in_field slot (least slot) ≡ true
 whole slot = grind (arith, nat_tests)
 
--- each valid component has a value
+-- each valid component matches at least one value
 pub component_some : (slot : Slot) (c : Option (List Part)) → IsValidComponent slot c → (v : ℕ) × (component_has slot c v ≡ true)
 component_some slot None sound = (least slot, whole slot)
 component_some slot (Some []) sound = absurd (omega (arith, sound.0))

@@ -66,15 +66,14 @@ minutes_of_all m = record {
       split_at (locals_split (sets_in m)) (a / 1_440) (a * 60 + b) (omega arith) day ∙ rw (lt-ltb a 120_968_640 low, time, here) (sym (and_regrouped (day_in (sets_in m) (a / 1_440)) (minute_in (sets_in m) (a % 1_440)) (is_bit m.seconds b)));
 }
 
--- if `found` passes, a number with the same quotient by 60 passes if and only if its remainder satisfies `low`
+-- if `found` passes, another number in its unit of 60 passes if and only if the number modulo 60 passes the test `low`
 by_low : (passes high low : ℕ → Bool) (limit found t : ℕ) → Splits passes high low 60 limit → found / 60 < limit → passes found ≡ true → t / 60 ≡ found / 60 → passes t ≡ low (t % 60)
 by_low passes high low limit found t s within holds same =
     let both = and_parts _ _ (sym (split_at s (found / 60) found within refl) ∙ holds) in
     let here : high (found / 60) ≡ true = both.0 in
     split_at s (found / 60) t within same ∙ rw here refl
 
--- if `found` passes, the bits of `mask` above the low part of `found` stand for the greater numbers that pass and are
--- in the same unit of 60
+-- if `found` passes, the bits of `mask` above bit `found` % 60 stand for the later passing numbers in its unit of 60
 left_after : (passes high : ℕ → Bool) (mask limit found : ℕ) → Splits passes high (is_bit mask) 60 limit → ((i : ℕ) → 60 ≤ i → is_bit mask i ≡ false) → found / 60 < limit
     → passes found ≡ true → AreRemaining passes found (found + 1) (mask / 2 ^ (found % 60 + 1))
 left_after passes high mask limit found s last within holds = record {
@@ -100,8 +99,8 @@ next_in_minute : (passes : ℕ → Bool) (found from left bit end : ℕ) → Are
     → IsFirstPassing passes (found + 1) end (Some (from + bit))
 next_in_minute passes found from left bit end h lowest inside = grind (arith, bit_passes)
 
--- after `bit`, the lowest set bit of `left`, is removed, the bits that remain stand for the numbers in the same unit of
--- 60 that are after `from` + `bit` and pass
+-- once `bit`, the lowest set bit of `left`, is cleared, the remaining bits stand for the passing numbers in the same
+-- unit of 60 that are after the number of the cleared bit
 pub left_behind : (passes : ℕ → Bool) (found from left bit more : ℕ) → AreRemaining passes found from left → IsFirstPassing (is_bit left) 0 64 (Some bit) → is_bit more bit ≡ false
     → ((i : ℕ) → i ≢ bit → is_bit more i ≡ is_bit left i) → AreRemaining passes (from + bit) from more
 left_behind passes found from left bit more h lowest cleared others = grind arith
@@ -187,8 +186,8 @@ next_in_hour m found from start minutes bit first h later lowest second =
     (λ t above below. h.passing t (omega arith) (omega arith) ∙ is_bit-none (t - from)) (omega arith)
     (first_later (minutes_of_all m) (found / 60 + 1) 120_968_640 (start + bit) 64 first inside low minute second))
 
--- if no match is left in the minute of `found`, a search finds the first match of the next minute with matches in the
--- same hour, and examines one month
+-- if no match is left in the minute of `found`, and its hour has a later minute with matches, a search finds the first
+-- match of the first such minute, and examines one month
 pub search_later : (m : Masks) (found from start minutes bit first : ℕ) → AreRemaining (matches (sets_in m)) found from 0
     → AreRemaining (minute_matches (sets_in m)) (found / 60) start minutes → IsFirstPassing (is_bit minutes) 0 64 (Some bit) → IsFirstPassing (is_bit m.seconds) 0 64 (Some first)
     → IsSearch (sets_in m) (found + 1) (record { local = Some (pos ((start + bit) * 60 + first)); months = 1 })
@@ -218,8 +217,8 @@ minutes_later m found start minutes bit first more later lowest second cleared o
 
 -- Finding later matches in the same hour.
 
--- if bits of the hour are left after the match `found`, there is another match in the hour, at the same second of the
--- next minute with matches
+-- if bits of the hour are left after the match `found`, there is a later match in its hour, for example at the second
+-- of `found` in the first later minute with matches
 pub more_later : (m : Masks) (found start minutes : ℕ) → AreRemaining (minute_matches (sets_in m)) (found / 60) start minutes → minutes < 2 ^ 64 → 0 < minutes → matches (sets_in m) found ≡ true
     → HasMoreInHour (matches (sets_in m)) found
 more_later m found start minutes h fits some holds =
@@ -278,9 +277,9 @@ next_found m local next more first = grind (arith, next_known, match_inside, fir
 pub rest_unknown : (passes : ℕ → Bool) (local : ℕ) → passes local ≡ true → IsRestOfMinute passes local 0 local
 rest_unknown passes local holds = grind (arith, no_bit)
 
--- if `bits` stands for the matches after `local` up to `last`, and `next` is the first match after `last` and in the
--- same minute, then `more`, which is `bits` with the bit of `next` added, stands for the matches after `local` up to
--- `next`
+-- Suppose that `bits` stands for the matches after `local` up to `last`, and that `next`, the first match after `last`,
+-- is in the same minute. Then `more`, which is `bits` with the bit of `next` added, stands for the matches after
+-- `local` up to `next`.
 pub rest_on : (passes : ℕ → Bool) (local bits last next more place : ℕ) → IsRestOfMinute passes local bits last → next / 60 ≡ last / 60 → IsFirstPassing passes (last + 1) seconds_in_all (Some next)
     → is_bit more place ≡ true → ((i : ℕ) → i ≢ place → is_bit more i ≡ is_bit bits i) → place ≡ next - local - 1 → IsRestOfMinute passes local more next
 rest_on passes local bits last next more place rest same first set others at = grind (arith, false_from_ne_true)

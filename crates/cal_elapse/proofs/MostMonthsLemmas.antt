@@ -22,8 +22,7 @@ pub most_begun : (sets : Sets) (from before : ℕ) → IsMostAfter sets from fro
 most_begun sets from before = record { not_below = omega arith; all = λ months one. absurd (let low = one.low in let high = one.high in omega arith); one = inl refl }
 
 -- Suppose that `t` is the only match from `t` up to but not including `next`, and that the search after `t` examines
--- `months` months. If no search before examined more than `before` months, the largest number is now the larger of
--- `before` and `months`.
+-- `months` months. If the largest number of months was `before`, it is now the larger of `before` and `months`.
 pub most_next : (sets : Sets) (t next before months : ℕ) → matches sets t ≡ true → IsExamined sets (t + 1) months → t < next → NonePasses (matches sets) (t + 1) next
     → IsMostAfter sets t next before (max before months)
 most_next sets t next before months holds examined later none = grind (arith, max_is)

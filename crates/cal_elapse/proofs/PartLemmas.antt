@@ -33,14 +33,15 @@ is_stepped None distance = true
 is_stepped (Some r) distance = distance % r == 0
 
 -- Suppose that a slot doesn't count from the end of the month. A part without a repetition matches all values of the
--- slot from the part's start to its `last_number`. A part with a repetition matches those of these values that the
+-- slot from the part's start to its `last_number`. A part with a repetition matches only the values among them that the
 -- repetition contains.
 values_up : (slot : Slot) (a : ℕ) (end step : Option ℕ) (v : ℕ) → is_from_end slot ≡ false → v ≤ greatest slot
     → values slot a end step v ≡ (is_between a (last_number a end step) v && is_stepped step (v - a))
 values_up slot a end step v up small = grind (arith, and_true)
 
--- Suppose that a slot doesn't count from the end of the month. Of the `count` values from `first` on, a part matches
--- those whose index is at least `low` and below `high` and, if the part has a repetition, that the repetition contains.
+-- Suppose that a slot doesn't count from the end of the month. Of the `count` values from `first` on, a part without a
+-- repetition matches those with an index from `low` up to but not including `high`. A part with a repetition matches
+-- only the values among them that the repetition contains.
 pub part_in_slot_values : (slot : Slot) (p : Part) (step : Option ℕ) (first count low high i : ℕ) → AreSlotValues slot first count → p.step ≡ step
     → low ≡ p.start - first → high ≡ min (last_number p.start p.end p.step + 1 - first) count
     → ((nat_le low i && nat_lt i high) && is_stepped step (first + i - p.start)) ≡ (nat_lt i count && part_has slot p (first + i))

@@ -30,14 +30,14 @@ use Rattle.cal_elapse.proofs.MostMonthsLemmas.{most_more, most_next, most_start,
 use Rattle.cal_elapse.proofs.WindowLemmas.{timed_by-near, windowed_on, windowed_put, windowed_start}
 use Rattle.cal_spec.specs.headline.Match.{matches}
 
--- `answer` is the first match from `from` on, or `None` if there is no match from there on
+-- `answer` is the first match at or after `from`, or `None` if there is no such match
 pub record IsNext (e : Timed) (from : ℕ) (answer : Option ℤ) : Type 0 where
   pub low : from ≤ bound_of answer
   pub none : NonePasses e.matches from (bound_of answer)
   pub found : IsMatchAhead e answer
 
--- if a search from `from` on returned `ahead`, no local second from `from` up to but not including `ahead` passes; if
--- `ahead` is `None`, no local second from `from` on passes
+-- if a search that started at `from` returned `ahead`, no local second from `from` up to but not including `ahead`
+-- passes; if `ahead` is `None`, no local second at or after `from` passes
 none_before : (passes : ℕ → Bool) (from : ℕ) (ahead : Option ℤ) → from ≤ seconds_in_all → IsFirstLocal passes (pos from) ahead → (from ≤ bound_of ahead) × NonePasses passes from (bound_of ahead)
 none_before passes from ahead within none = grind (arith, first_passing)
 
@@ -51,9 +51,9 @@ pub is_next : (masks : Masks) (zone : Zone) (from : ℕ) (found : Option ℤ) �
 unfolding timed_by
 is_next masks zone from found h first = next_by (timed_by masks zone) from found h first
 
--- Suppose that `searcher` has the same masks as the window's own searcher, and that `ahead`, `pending` and the counts
--- in `searcher` are as `IsReady` requires. Then the window is ready once `searcher`, `ahead` and `pending` are stored
--- in it.
+-- Suppose that `searcher` has the same masks as the searcher of the window, and that `ahead`, `pending`, the counts in
+-- `searcher`, the window's base and the instant returned last are as `IsReady` requires. Then the window is ready once
+-- `searcher`, `ahead` and `pending` are stored in it.
 pub ready_after : (v : Window) (searcher : Searcher) (ahead : Option ℤ) (pending : List ℤ) → searcher.masks ≡ v.searcher.masks → pos 0 ≤ℤ v.base → v.base ≤ℤ v.last
     → Windowed (timed_of v) (start_of v.base) (bound_of ahead) v.last pending → IsMatchAhead (timed_of v) ahead → start_of v.base ≤ bound_of ahead
     → searcher.searches ≡ count_from (timed_of v).matches (start_of v.base) (bound_of ahead - start_of v.base) + 1
@@ -66,8 +66,9 @@ put_at : (masks : Masks) (zone : Zone) (from bound : ℕ) (last : ℤ) (xs : Lis
 unfolding timed_by
 put_at masks zone from bound last xs w holds near = windowed_put (timed_by masks zone) from bound last xs (timed_by-near masks zone) w holds near
 
--- if a window is ready, its next match is `local`, and the instant of `local` is added to the pending instants, then
--- all matches up to and including `local` have been converted
+-- Suppose that a window is ready, and that `local`, its next match, is at most 93,599 seconds after each pending
+-- instant. Once the instant of `local` is added to the pending instants, all matches up to and including `local` have
+-- been converted.
 pub placed_to : (v : Window) (local : ℤ) (ahead : Option ℤ) (pending : List ℤ) → IsReady v → v.ahead ≡ Some local → ((i : ℤ) → Has v.pending i → local ≤ℤ (i +ℤ pos 93_599))
     → pending ≡ with_place (place_of (zone_of v.zone) local) v.last v.pending → IsPlacedTo (record v { ahead = ahead; pending = pending }) local
 placed_to v (negsuc n) ahead pending h at near put =

@@ -52,8 +52,9 @@ signed_word : (local : ℕ) (signed : ℤ) → local < seconds_in_all → signed
 signed_word local signed inside is = ap (λ z. to_z w64 (of_z w64 z)) is ∙ to_z_pos w64 local (omega (arith, seconds_in_all-is))
 
 -- The UTC offset is `offset` from `local` to `end`, and at most 93,599 seconds in either direction. `from` and `to` are
--- `local` and `end` as signed integers. These two, the offset, the instants of `local` and `end`, and the second after
--- the instant of `local` fit into 64-bit integers. (In the program, `end` is the end of the minute of `local`.)
+-- `local` and `end` as signed integers. All of the following fit into 64-bit integers: `from`, `to`, the offset, the
+-- instants of `local` and `end`, and the second after the instant of `local`. (In the program, `end` is the end of the
+-- minute of `local`.)
 pub record IsRun (tz : TimeZone) (local end : ℕ) (from to offset : ℤ) : Type 0 where
   pub ahead : AreAtOffset tz (pos local) (pos end) offset
   pub low : offset ≤ℤ pos 93_599
@@ -90,8 +91,8 @@ run_of tz local end from to offset order inside fits from_is to_is ahead =
       start = rw place (to_z-of_z w64 ((pos local -ℤ offset) +ℤ pos 1) (omega (arith, signed_arith)));
     }
 
--- if `IsPlacedTo` holds for the match converted last, it also holds for the same match as a natural number, and for the
--- same match as a 64-bit integer (`placed_last`)
+-- `IsPlacedTo` still holds for the match converted last if this local second is converted to a natural number and back,
+-- and also if it is then stored as a 64-bit integer (`placed_last`)
 pub placed_at : (v : Window) (local : ℤ) → IsPlacedTo v local → IsPlacedTo v (pos (unsigned_abs local))
 placed_at v local h = subst (IsPlacedTo v) (sym (pos_unsigned_abs local _ h.found.0.0 refl)) h
 
@@ -204,8 +205,8 @@ no_later xs none i m = subst (λ (ys : List ℤ). Has ys i) (list-no_first xs (s
 passed_by : (t end : ℕ) (last offset i : ℤ) → Some (pos t -ℤ offset) ≡ Some i → t ≤ end → (pos end -ℤ offset) ≤ℤ last → last <ℤ i → ⊥
 passed_by t end last offset i at up early above = grind (arith, signed_arith)
 
--- In this module, `v` is the window before the remaining matches up to `last` are searched for, and `searcher` is the
--- searcher after these searches.
+-- In this module, `v` is the window before the search for the remaining matches up to `last`, and `searcher` is the
+-- searcher after it has found them.
 module _ (v : Window) (local : ℕ) (searcher : Searcher) (last : ℕ) (h : IsPlacedTo v (pos local)) (masks : searcher.masks ≡ v.searcher.masks)
     (more : searcher.searches ≡ v.searcher.searches + count_from (matches (sets_in v.searcher.masks)) (local + 1) (last - local))
     (most : IsMostAfter (sets_in v.searcher.masks) local last v.searcher.most_months searcher.most_months)

@@ -22,7 +22,7 @@ use Rattle.cal_rising.proofs.RisingLemmas.{Has-insert_key, rises-insert_key, lat
 
 -- Which of several consecutive numbers pass a test
 
--- `i` is one of the `n` consecutive numbers from `from` on, and passes
+-- `i` is one of the `n` consecutive numbers that begin with `from`, and passes
 record IsAmong (passes : ℕ → Bool) (from n : ℕ) (i : ℤ) : Type 0 where
   at : ℕ
   is : pos at ≡ i
@@ -233,7 +233,8 @@ put_back old new low at from i more round near (inr m) =
     let kept = kept_in old low at from a.at round near a.above a.below a.holds in
     subst (Has (instants_in new from)) a.is (member new from a.at kept.0 kept.1 (still_held old new at a.at more a.holds))
 
--- once the cell of `at` is set, the list of elements is the old list with `at` inserted
+-- Suppose that `IsRoundWith` is true, and that all old elements are less than 187,200 seconds away from `at`
+-- (`IsNear`). Once the cell of `at` is set, the list of elements is the old list with `at` inserted.
 put_seen : (old new : List ℕ) (low at from : ℕ) → HasMore old new at → IsRoundWith low at from → ((i : ℤ) → Has (instants_in old low) i → IsNear i (pos at))
     → instants_in new from ≡ insert_key int_cmp (instants_in old low) (pos at)
 put_seen old new low at from more round near =
@@ -254,8 +255,8 @@ put_round old new low at from more round near high whole was =
       members = λ i m. elim (put_there old new low at from i more round near ((Has-instants new from i).0 m)) [ inl e ↦ last_at at i e high | inr n ↦ was.members i n ];
     }
 
--- unless `at` is 187,200 seconds or more after `least`, a ring that starts at `least` can start at the smaller of
--- `least` and `at` once `at` is added, as `IsRoundWith` says
+-- Suppose that `at` isn't 187,200 seconds or more after `least`. Once `at` is added to a ring that starts at `least`,
+-- the ring can start at the smaller of `least` and `at`, as `IsRoundWith` says.
 with_least : (least at : ℕ) → (least ≤ at → at ≤ least + 187_199) → IsRoundWith least at (min least at)
 with_least least at near = grind (arith, min)
 

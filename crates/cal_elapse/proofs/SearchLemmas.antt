@@ -37,7 +37,7 @@ locals_split sets = record {
 pub locals_at : (sets : Sets) (t : ℕ) → t < seconds_in_all → matches sets t ≡ (day_in sets (t / 86_400) && time_in sets (t % 86_400))
 locals_at sets t below = split_at (locals_split sets) (t / 86_400) t (let count = seconds_in_all-is in omega arith) refl
 
--- if no day from `day_to_start` on matches, no local second from `from` on matches
+-- if no day at or after the result of `day_to_start` matches, no local second at or after `from` matches
 pub none_of_all : (sets : Sets) (day r from : ℕ) (today : Option ℕ) → day * 86_400 + r ≡ from → day < 84_006 → r < 86_400 → IsFirstPassing (time_in sets) r 86_400 today
     → NonePasses (day_in sets) (day_to_start day today) 84_006 → NonePasses (matches sets) from (84_006 * 86_400)
 none_of_all sets day r from None parts inside small none later =
@@ -49,8 +49,8 @@ none_of_all sets day r from (Some s) parts inside small found later =
     (none_by_high (locals_split sets) day r from parts inside (later day (omega arith) inside)) (omega arith)
     (none_later (locals_split sets) (day + 1) 84_006 (omega arith) (λ t above below. later t (omega arith) below))
 
--- if `f` is the first matching day from `day_to_start` on, the first matching local second from `from` on is on day
--- `f`, at the time of day that `second_on` returns
+-- if `f` is the first matching day at or after the result of `day_to_start`, then the first matching local second at or
+-- after `from` is on day `f`, at the time of day that `second_on` returns
 pub first_of_all : (sets : Sets) (day r from f first : ℕ) (today : Option ℕ) → day * 86_400 + r ≡ from → day < 84_006 → r < 86_400 → IsFirstPassing (time_in sets) r 86_400 today
     → IsFirstPassing (day_in sets) (day_to_start day today) 84_006 (Some f) → IsFirstPassing (time_in sets) 0 86_400 (Some first)
     → IsFirstPassing (matches sets) from (84_006 * 86_400) (Some (f * 86_400 + second_on f day today first))

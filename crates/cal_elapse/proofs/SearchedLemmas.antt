@@ -62,7 +62,7 @@ searched_some v i h full at =
     let same = count_top v i (unsigned_abs i + 93_600) h m there top.0 top.1 in
     omega arith
 
--- From the matches that have been converted to the largest number of months that a search examined
+-- How the matches converted so far determine the largest number of months that a search examined
 
 -- Suppose that `i` is pending and can be returned, and let `top` be 93,600 seconds after `i`. Of the matches from the
 -- start of the first search on, exactly those before `top` have been converted.

@@ -120,9 +120,9 @@ pub record IsPlacedFrom (e : Timed) (a b : ℕ) (i : ℤ) : Type 0 where
   pub placed : e.place local ≡ Some i
 
 -- Suppose that all matches below `a` have been converted, with the pending instants `xs`, and that no local second
--- below `b` is more than 93,599 seconds after an instant in `ys`. If `ys` consists of `xs` and of the instants after
--- `last` to which matches from `a` up to but not including `b` resolve, then all matches below `b` have been converted,
--- with the pending instants `ys`.
+-- below `b` is more than 93,599 seconds after an instant in `ys`. If `ys` is strictly increasing and consists of `xs`
+-- and of the instants after `last` to which matches from `a` up to but not including `b` resolve, then all matches
+-- below `b` have been converted, with the pending instants `ys`.
 pub windowed_more : (e : Timed) (from a b : ℕ) (last : ℤ) (xs ys : List ℤ) → a ≤ b → Windowed e from a last xs → IsStrictlySortedBy int_cmp ys
     → ((i : ℤ) → Has ys i ↔ (Has xs i ⊎ ((last <ℤ i) × IsPlacedFrom e a b i))) → ((i : ℤ) → Has ys i → (t : ℕ) → t < b → pos t ≤ℤ (i +ℤ pos 93_599)) → Windowed e from b last ys
 windowed_more e from a b last xs ys h w rises more near = record {

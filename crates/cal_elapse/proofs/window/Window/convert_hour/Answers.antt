@@ -62,7 +62,7 @@ in_hour (pos a) (pos b) low next_low same on = (omega (arith, ints), omega (arit
 in_hour (negsuc a) next low next_low same on = absurd (omega (arith, ints, low))
 in_hour (pos a) (negsuc b) low next_low same on = absurd (omega (arith, ints, next_low))
 
--- if the local second `local` + 3,599 is at most 93,599 seconds after `last`, so is every local second up to that one
+-- if the local second `local` + 3,599 is at most 93,599 seconds after `last`, then so are all local seconds before it
 not_late : (last local next : ℤ) → int_lt last ((local +ℤ pos 3_599) -ℤ pos 93_599) ≡ false → next ≤ℤ (local +ℤ pos 3_599) → next ≤ℤ (last +ℤ pos 93_599)
 not_late last local next test near = grind (arith, ints)
 
