@@ -23,8 +23,7 @@ pub time_seconds-whole : (dt : DateTime) (local : ℤ) → civil_nanos dt ≡ na
 unfolding civil_nanos
 time_seconds-whole dt local e = omega (arith, signed_arith, dt.time.hour_in, dt.time.minute_in, dt.time.second_in, dt.time.subsec_in)
 
--- if the zone's clock shows `dt` at `second`, then `civil_of` returns the fields of `dt` with the UTC
--- offset at `second`
+-- if the zone's clock shows `dt` at `second`, then `civil_of` returns the fields of `dt` and the UTC offset at `second`
 pub civil_at_offset-civil_of : (tz : TimeZone) (second : ℤ) (dt : DateTime) → civil_nanos dt ≡ nanos_of_seconds (local_shown_at tz second)
     → civil_at_offset (offset_at tz (nanos_of_seconds second)) dt ≡ civil_of tz second
 unfolding civil_of

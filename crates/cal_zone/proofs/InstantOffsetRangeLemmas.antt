@@ -95,8 +95,8 @@ lowest = neg_ℤ (pos 377_705_023_201_000_000_000)
 abbrev highest : ℤ
 highest = pos 253_402_207_200_999_999_999
 
--- if the rule has no transition after `low` and before `high`, daylight saving time neither starts nor ends in this
--- range in the year `y`
+-- Suppose that the year `y` is in `jiff`'s range of timestamps. If the rule has no transition after `low` and before
+-- `high`, daylight saving time neither starts nor ends in this range in the year `y`.
 window_constant : (rule : Posix) (d : Dst) (y low high : ℤ) (next : Option (ℤ × OffsetInfo)) → next_by rule d y low ≡ next → IfSome next (λ change. high ≤ℤ change.0)
     → first_nanosecond y ≤ℤ last_nanosecond y → lowest ≤ℤ first_nanosecond y → last_nanosecond y ≤ℤ highest
     → IsApart low high (pos 0) (utc_window d y rule.std_offset).0 × IsApart low high (pos 0) (utc_window d y rule.std_offset).1
@@ -127,8 +127,9 @@ instant_year from begun bound =
     let long = days_in_year_bounds (date_of (day_of from)).year in
     (omega (arith, signed_arith), omega (arith, signed_arith), omega (arith, signed_arith))
 
--- a rule with daylight saving time has the same UTC offset at `second` as at `from`, if `second` is at or after `from`,
--- before the next transition after `from`, and in the year of `from`
+-- Suppose that `from` isn't negative and is at most 7,258,500,000, and that `second` is at or after `from`, in the same
+-- year in UTC, and before the next transition after `from`. Then a rule with daylight saving time has the same UTC
+-- offset at `second` as at `from`.
 constant_in_summer : (rule : Posix) (d : Dst) (from second : ℤ) → rule.dst ≡ Some d → pos 0 ≤ℤ from → from ≤ℤ pos 7_258_500_000 → from ≤ℤ second
     → IsBeforeTransition (next_by rule d (year_of_nanos (nanos_of_seconds from)) (nanos_of_seconds from)) from second
     → ByPosix.offset_at rule (nanos_of_seconds second) ≡ ByPosix.offset_at rule (nanos_of_seconds from)
@@ -163,9 +164,9 @@ constant_by_rule rule from second begun bound later same = elim (no_dst rule.dst
       (subst (λ next. IsBeforeTransition next from second) (ap (λ dst. match_some dst None (λ d. next_by rule d (year_of_nanos (nanos_of_seconds from)) (nanos_of_seconds from))) some.1) same)
 ]
 
--- After the last transition of a table, its POSIX rule decides, if it has one. With or without a rule, the UTC offset
--- at `second` is the same as at `from`, if `second` is at or after `from`, before the next transition after `from`, and
--- in the year of `from`.
+-- After the last transition of a table, its POSIX rule decides, if it has one. Suppose that `from` isn't negative and
+-- is at most 7,258,500,000, and that `second` is at or after `from`, in the same year in UTC, and before the next
+-- transition after `from`. Then, with or without a rule, the UTC offset at `second` is the same as at `from`.
 constant_by : (rule : Option Posix) (type : Offset) (from second : ℤ) → pos 0 ≤ℤ from → from ≤ℤ pos 7_258_500_000 → from ≤ℤ second
     → IsBeforeTransition (match_some rule None (λ tz. ByPosix.next_at tz (nanos_of_seconds from))) from second
     → match_some rule type (λ tz. ByPosix.offset_at tz (nanos_of_seconds second)) ≡ match_some rule type (λ tz. ByPosix.offset_at tz (nanos_of_seconds from))
@@ -182,8 +183,8 @@ next_in_table : (z : Table) (from : ℤ) → count_at z from < vec_len z.transit
     → OfTable.next_at z (nanos_of_seconds from) ≡ Some (OfTable.transition_view (transition_at z (count_at z from)))
 next_in_table z from some = grind (arith, signed_arith, vec_len, floor_second-whole)
 
--- if a table has transitions after `from`, the UTC offset is constant from `from` until the first of them or the end of
--- the year of `from`, whichever is earlier
+-- if a table has transitions after `from`, the UTC offset at `from` lasts until the first of them or until the year of
+-- `from` ends in UTC, whichever is earlier
 constant_between : (z : Table) (from second : ℤ) → count_at z from < vec_len z.transitions → from ≤ℤ second → IsBeforeTransition (OfTable.next_at z (nanos_of_seconds from)) from second
     → OfTable.offset_at z (nanos_of_seconds second) ≡ OfTable.offset_at z (nanos_of_seconds from)
 constant_between z from second some later same =
@@ -193,8 +194,8 @@ constant_between z from second some later same =
     offset_between z from second some later (omega (arith, signed_arith))
     ∙ sym (offset_between z from from some (omega (arith, signed_arith)) (omega (arith, signed_arith)))
 
--- in a zone of any kind, the UTC offset is constant from `from` until the next transition or the end of the year of
--- `from`, whichever is earlier
+-- Suppose that `from` isn't negative and is at most 7,258,500,000. In a zone of any kind, the UTC offset at `from`
+-- lasts until the next transition or until the year of `from` ends in UTC, whichever is earlier.
 pub constant_until_transition : (tz : TimeZone) (from second : ℤ) → pos 0 ≤ℤ from → from ≤ℤ pos 7_258_500_000 → from ≤ℤ second
     → IsBeforeTransition (next_at tz (nanos_of_seconds from)) from second → offset_at tz (nanos_of_seconds second) ≡ offset_at tz (nanos_of_seconds from)
 unfolding offset_at next_at

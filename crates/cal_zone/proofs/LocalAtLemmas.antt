@@ -18,6 +18,7 @@ local_at-outside tz instant shown at outside = grind (arith, signed_arith, place
 pub local_at-elsewhere : (tz : TimeZone) (instant shown : ℤ) → shown ≡ local_shown_at tz instant → (place_of tz shown ≡ Some instant → ⊥) → IsLocalAt tz instant None
 local_at-elsewhere tz instant shown at elsewhere = grind (arith, signed_arith, place_of-Some)
 
--- a local second of the years 1970 to 2199 whose place is `instant` is the result that `IsLocalAt` describes
+-- if `instant` is the place of `shown`, a local second of the years 1970 to 2199, then `shown` is the right result of
+-- looking for the local second whose place is `instant` (`IsLocalAt`)
 pub local_at-here : (tz : TimeZone) (instant shown : ℤ) → pos 0 ≤ℤ shown → shown <ℤ pos 7_258_118_400 → place_of tz shown ≡ Some instant → IsLocalAt tz instant (Some shown)
 local_at-here tz instant shown low high placed = ((low, omega (arith, signed_arith)), placed)

@@ -39,8 +39,8 @@ min_in_range x y p q = elim (int_lt y x) as (λ b. IsOffsetSeconds (cond b y x))
 max_in_range : (x y : ℤ) → IsOffsetSeconds x → IsOffsetSeconds y → IsOffsetSeconds (int_max x y)
 max_in_range x y p q = elim (int_lt y x) as (λ b. IsOffsetSeconds (cond b x y)) [ true ↦ p | false ↦ q ]
 
--- as numbers of seconds, the start and the end of a transition's gap or fold differ from the transition by at most
--- 93,599, the largest UTC offset
+-- The start of a transition's gap or fold is a local second, while the transition is a second of Unix time. As numbers,
+-- the two differ by at most 93,599, the largest UTC offset, and so do the end and the transition (`end_near`).
 start_near : (row : Transition) → IsOffsetSeconds (civil_start row -ℤ row.second)
 start_near row = grind (arith, signed_arith, min_in_range)
 
@@ -72,7 +72,7 @@ outside_after : (z : Table) (rows : ℕ) (local : ℤ) → (0 < rows → civil_e
 outside_after z zero local ended = refl
 outside_after z (suc rows) local ended = grind (arith, nat_tests)
 
--- if `local` is at least 93,599 seconds after `from`, it isn't in the gap or fold of the last transition before or at
+-- if `local` is at least 93,599 seconds after `from`, it isn't in the gap or fold of the last transition at or before
 -- `from`
 outside : (z : Table) (from local : ℤ) → (from +ℤ pos 93_599) ≤ℤ local → is_inside z (count_at z from) local ≡ false
 outside z from local begun = outside_after z (count_at z from) local
@@ -93,7 +93,7 @@ civil_seconds-datetime_of : (local : ℤ) → IsEpochDay (day_of local) → civi
 unfolding civil_seconds datetime_of time_of
 civil_seconds-datetime_of local day = omega (arith, signed_arith, epoch_day-date_of (day_of local) day)
 
--- if the table has transitions after `from`, all instants from `from` until the first of them have the same UTC offset
+-- if the table has transitions after `from`, the UTC offset at `from` lasts until the first of them
 pub offset_between : (z : Table) (from second : ℤ) → count_at z from < vec_len z.transitions → from ≤ℤ second
     → second <ℤ (transition_at z (count_at z from)).second
     → OfTable.offset_at z (nanos_of_seconds second) ≡ (type_after z (count_at z from)).offset
@@ -124,7 +124,7 @@ place_of-between z from local within_years some begun within =
     (let in_range = offset.in_range in omega (arith, signed_arith))))
 
 -- In the four lemmas below, `rows` is a copy of the transitions of a table, with the same contents. The function
--- `transitions` of a table returns such a copy.
+-- `transitions` of a table returns such a copy. By the first lemma, the copy has as many transitions as the table.
 pub length_of_copy : (z : Table) (rows : List Transition) → map transition_text rows ≡ map transition_text z.transitions.items → length rows ≡ vec_len z.transitions
 length_of_copy z rows copy = grind (arith, signed_arith, length-map)
 

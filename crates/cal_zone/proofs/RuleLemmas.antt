@@ -192,9 +192,10 @@ window_apart rule d y low high next e h =
     ordered_apart low high (utc_window d y rule.std_offset) ends.0 ends.1
 
 -- Suppose that daylight saving time starts with the year, and that its end, converted to standard time, is outside the
--- year. Then `utc_window` has the last nanosecond of the year in place of the end. By the two lemmas below, for an end
--- before the year and one after it, the end is outside the range from `low` to `high`, or at most 93,599 seconds (the
--- largest UTC offset) away from one of its ends.
+-- year. Then `utc_window` has the last nanosecond of the year in place of the end. If the range from `low` to `high` is
+-- in the year, daylight saving time ends outside this range, or at most 93,599 seconds (the largest UTC offset) away
+-- from `low` or `high`. The two lemmas below show this: the first for an end before the year, the second for an end
+-- after it.
 end_passed : (low high first last end std : ℤ) → first ≤ℤ low → low ≤ℤ civil_max → IsOffsetSeconds std → clamp_to civil_min civil_max (end +ℤ nanos_of_seconds std) <ℤ first
     → ((end +ℤ nanos_of_seconds std) ≤ℤ clamp_to civil_min civil_max (end +ℤ nanos_of_seconds std)) ⊎ (civil_max ≤ℤ clamp_to civil_min civil_max (end +ℤ nanos_of_seconds std))
     → IsApart low high (pos 93_599_000_000_000) end
@@ -207,8 +208,8 @@ end_to_come : (low high first last end std : ℤ) → high ≤ℤ (last +ℤ pos
 end_to_come low high first last end std to from offset h (inl k) = inr (omega (arith, signed_arith))
 end_to_come low high first last end std to from offset h (inr k) = absurd (omega (arith, signed_arith))
 
--- `low..high` is not empty and begins in the year from `first` to `last`; both `low` and `high` are in the range of
--- `jiff`'s civil times
+-- `low..high` is not empty and begins in the year from `first` to `last`, before the last nanosecond of this year; both
+-- `low` and `high` are in the range of `jiff`'s civil times
 pub record IsPart (first last low high : ℤ) : Type 0 where
   pub from : first ≤ℤ low
   pub to : low <ℤ last

@@ -47,9 +47,9 @@ civil_apart rule d y low high local other has years other_in year other_year fro
     ∙ ambiguous_beside rule.std_offset d.offset _ (nanos_of_seconds local) (nanos_of_seconds other) walls
     ∙ sym (ambiguous_in rule.std_offset rule.dst d (datetime_of other) y (nanos_of_seconds other) has other_year (civil_nanos-datetime_of other other_in))
 
--- `other` is 374,397 seconds after `past`, and `local` isn't before `other`. If `local` is in the year of `past`, and
--- at least 374,397 seconds before the first transition after `past`, then `jiff` reports the same for the civil times
--- of `local` and `other`: unambiguous, in a gap or in a fold, with the same offsets.
+-- `past` isn't before 1970, `other` is 374,397 seconds after `past`, and `local` isn't before `other`. If `local` is in
+-- the year of `past`, and at least 374,397 seconds before the first transition after `past`, then `jiff` reports the
+-- same for the civil times of `local` and `other`: unambiguous, in a gap or in a fold, with the same offsets.
 civil_in_year : (rule : Posix) (d : Dst) (past other local : ℤ) (next : ℤ × OffsetInfo) → rule.dst ≡ Some d → next_by rule d (datetime_of past).date.year (nanos_of_seconds past) ≡ Some next
     → pos 0 ≤ℤ past → (past +ℤ pos 374_397) ≡ other → other ≤ℤ local → IsLocalSecond local → nanos_of_seconds (local +ℤ pos 374_397) ≤ℤ next.0
     → local <ℤ year_end (datetime_of past).date.year → ambiguous_at (ByRule rule) (datetime_of local) ≡ ambiguous_at (ByRule rule) (datetime_of other)

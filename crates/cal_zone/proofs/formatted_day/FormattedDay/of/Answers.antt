@@ -19,12 +19,12 @@ pub overflow_add-midnight : goal.overflow_add-midnight
 overflow_add-midnight c =
     grind (arith, signed_arith, c.args.instant.in_range, c.secs.ensures.value, c.since_midnight.ensures, c.civil_at-shown.ensures.ranges.hour, c.civil_at-shown.ensures.ranges.minute, c.civil_at-shown.ensures.ranges.second)
 
--- the midnight that is this time of day, in seconds, before `second`: their difference, as the code computes it with
--- 64-bit numbers
+-- the midnight at which the day of `second` began, if `time_of_day` is the number of seconds since then: `second` minus
+-- `time_of_day`, as the code computes it with 64-bit numbers
 abbrev midnight_of : ℤ → ℤ → ℤ
 midnight_of second time_of_day = to_z w64 (of_z w64 (to_z w64 (of_z w64 second) -ℤ to_z w64 (of_z w64 time_of_day)))
 
--- the computed midnight is the instant minus the time of day that the clock shows, in seconds
+-- the computed midnight is the instant minus the number of seconds since midnight that the clock shows
 midnight : (c : goal.After-min) → midnight_of c.secs.result c.since_midnight.result ≡ c.args.instant.secs -ℤ pos (seconds_shown c.civil_at-shown.result)
 midnight c =
     grind (arith, signed_arith, c.args.instant.in_range, c.secs.ensures.value, c.since_midnight.ensures, c.civil_at-shown.ensures.ranges.hour, c.civil_at-shown.ensures.ranges.minute, c.civil_at-shown.ensures.ranges.second)
