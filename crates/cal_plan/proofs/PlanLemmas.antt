@@ -43,7 +43,7 @@ pub zoned_at : (at : Setting) (lines : List declared_line.TimerLine) (i : ℕ) (
 zoned_at at lines i line h is none =
     false_from_ne_true (lacks_zone at (shown line)) (λ lacks. line_found (lacks_zone at) lines i line h is lacks (none_mapped (find (lacks_zone at) (map shown lines)) none))
 
--- the smaller of two line numbers is missing only if both are missing
+-- `lesser_line`, which returns the smaller of two line numbers, returns `None` only if both are missing
 lesser_none : (a b : Option ℕ) → lesser_line a b ≡ None → (a ≡ None) × (b ≡ None)
 lesser_none None b h = (refl, h)
 lesser_none (Some x) None h = cc

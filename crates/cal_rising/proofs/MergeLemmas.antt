@@ -1,5 +1,5 @@
--- Lemmas on the merge of strictly increasing lists. It begins with the smallest of their first numbers. Removing this
--- number from each list that has it removes it from the merge.
+-- Lemmas on the merge of strictly increasing lists. The merge begins with the smallest of the lists' first numbers.
+-- Removing this number from each list that has it removes it from the merge.
 use Rattle.std.proofs.Common.{◌≡◌, ◌↔◌, ◌<◌, ◌+◌, ℕ, zero, suc, List, [], ◌∷◌, length, take, drop, get_or, set, inl, inr, Option, None, Some, ℤ, ◌<ℤ◌, ◌≤ℤ◌, refl, sym, ap, ◌∙◌, arith, map, add-one, slice_get}
 use Rattle.std.proofs.lemmas.Cmp.{int_ranked}
 use Rattle.std.proofs.lemmas.Int.{ints}
@@ -102,9 +102,9 @@ union-advanced m ss h e =
     same_rising (union (map (advanced m) lists)) (drop 1 (union lists)) (rises-union (map (advanced m) lists)) (rises-drop (union lists) 1 rises)
     (λ i. grind (arith, HasAny-advanced m ss h low i, later_by_first m (union lists) rises e i, Has-union (map (advanced m) lists) i, Has-union lists i))
 
--- Suppose that, at each index below i, applying `f` to the numbers of the source in `ys` gives the numbers of the
--- source in `xs`. Suppose also that applying `f` to the numbers of the source in `ys` at index i gives the numbers of
--- `y`. If `y` then replaces the source in `xs` at index i, the first statement is true at each index below i + 1.
+-- Suppose that each of the first i sources in `xs` has the numbers that `f` returns for the numbers of the source in
+-- `ys` with the same index, and that `y` has those that `f` returns for the source in `ys` at index i. Once `y`
+-- replaces the source in `xs` at index i, the first statement is true of the first i + 1 sources.
 changed_next : (f : List ℤ → List ℤ) (xs ys : List Peeked) (i : ℕ) (y d : Peeked) → i < length xs → i < length ys
     → map numbers (take i xs) ≡ map f (map numbers (take i ys)) → numbers y ≡ f (numbers (get_or ys i d))
     → map numbers (take (suc i) (set xs i y)) ≡ map f (map numbers (take (suc i) ys))
