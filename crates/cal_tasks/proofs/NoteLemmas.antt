@@ -30,8 +30,9 @@ line_among lines i line h is =
     let below : i < length (map shown lines) = rw (length-map lines shown) h in
     (i, below, get_or-map shown lines i line (shown line) h ∙ ap shown (sym is))
 
--- Suppose that each note in `old` is about the expression on one of these lines, and that `new` is `old`, followed by
--- notes about the expression on line `i`. Then each note in `new` is about the expression on one of these lines.
+-- Suppose that each note in `old` is about the expression on one of `lines`, and that `new` is `old`, followed by notes
+-- about the expression on `line`, the line at index `i`. Then each note in `new` is about the expression on one of
+-- `lines`.
 pub notes_of_line : (at : Setting) (lines : List declared_line.TimerLine) (i : ℕ) (line : declared_line.TimerLine) (tz : TimeZone) (old new : List ClockNote) → i < length lines → line ≡ get_or lines i line
     → zone_for at (shown line).expr.zone ≡ Some tz → All (IsNoteAmong at (map shown lines)) old → AddsNotesOf tz (shown line).expr old new
     → All (IsNoteAmong at (map shown lines)) new

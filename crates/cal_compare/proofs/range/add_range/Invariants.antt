@@ -9,6 +9,6 @@ invariant-loop-secs g l =
     let rest = g.S.Rising.rest in
     l.found.items ++ range_of_one l.from l.before l.timer (rest l.elapses) ≡ l.fn.found.items ++ range_of_one l.from l.before l.timer (rest l.fn.elapses)
 
--- each iteration takes one elapse
+-- each iteration takes one elapse, so the timer has fewer elapses yet to return
 abbrev pub decreases-loop-secs : goal.decreases-loop-secs
 decreases-loop-secs g l = length (g.S.Rising.rest l.elapses)

@@ -1,4 +1,4 @@
--- Of the expressions before the loop's index, those that never elapse have been appended.
+-- Of the expressions before the loop's index, those that don't elapse after the present have been appended.
 use Rattle.std.proofs.Common.{◌≡◌, ◌++◌, map, take}
 use Rattle.cal_timer.specs.TimerView.{shown}
 use Rattle.cal_zone.specs.Setting.{setting_seen}

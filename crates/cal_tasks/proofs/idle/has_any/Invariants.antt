@@ -1,4 +1,5 @@
--- None of the numbers before the loop's index is an elapse.
+-- Whether at least one of the numbers is an elapse depends only on the numbers at the loop's index and after it. The
+-- source of the elapses is unchanged.
 use Rattle.std.proofs.Common.{◌≡◌, drop}
 use Rattle.std.specs.List.{list_any}
 use Rattle.std.specs.Ordering.{int_eq}

@@ -1,5 +1,5 @@
--- There is an iterator for each timer before the loop's index, and none of these timers names a zone that wasn't
--- loaded.
+-- There is an iterator for each timer before the loop's index, over the elapses of that timer after the base. The first
+-- timer that names a zone that wasn't loaded, if there is one, is at the loop's index or after it.
 use Rattle.std.proofs.Common.{◌≡◌, map, take, drop}
 use Rattle.cal_rising.specs.Merge.{merged}
 use Rattle.cal_tasks.specs.LoadedElapses.{elapses_in, first_unzoned_line}
