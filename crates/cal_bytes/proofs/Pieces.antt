@@ -22,7 +22,8 @@ step a b c piece rest text l h = record {
   written = Appends-trans a b c l.front piece l.written h;
 }
 
--- if a prefix of the next piece was written and nothing else, then a prefix of the whole text was written
+-- if `piece` and `rest` are still to be written, and a call writes a prefix of `piece`, then a prefix of the whole text
+-- was written
 pub stop : (a b c : Option (List ℕ)) (piece rest text : List ℕ) → Leaves a b (piece ++ rest) text → AppendsFront b c piece → AppendsFront a c text
 stop a b c piece rest text l h = record {
   front = l.front ++ h.front;

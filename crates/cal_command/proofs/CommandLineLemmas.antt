@@ -31,9 +31,9 @@ among p kind [] at holds = absurd at
 among p kind (k ∷ ks) (inl same) holds = grind (arith, ap p same)
 among p kind (k ∷ ks) (inr later) holds = grind (arith, among p kind ks later holds)
 
--- Suppose that `clap` returned an error of the kind `kind` for the arguments. So, unless the kind is `OutOfMemory`,
--- `clap` doesn't accept the arguments, and this is one of the kinds that it may report for them. Then every `fault`
--- that may be reported for this kind (`IsReportedOf`) is right for the arguments, as `IsFaultOf` defines it.
+-- Suppose that `clap` returned an error of the kind `kind`. If the kind isn't `OutOfMemory`, suppose also that `clap`
+-- doesn't accept the arguments, and that this is one of the kinds that it may report for them. Then every `fault` that
+-- may be reported for this kind (`IsReportedOf`) is right for the arguments, as `IsFaultOf` defines it.
 pub reported_fault : (arguments : List Text) (kind : ErrorKind) (fault : CommandFault) → (takes_arguments arguments ≡ true → kind ≡ OutOfMemory)
     → (kind ≡ OutOfMemory) ⊎ IsAmong kind (faults_in arguments) → IsReportedOf kind fault → IsFaultOf arguments fault
 reported_fault arguments kind (usage text) passes kinds reported =
