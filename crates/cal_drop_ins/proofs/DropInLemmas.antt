@@ -1,6 +1,6 @@
--- Lemmas on two lists of drop-ins. The first are those that count, one of each name: what one more file adds to
--- `by_name` and to the Rust map with the same entries. The second are those of a folder: what one more name adds to
--- `candidates`.
+-- Lemmas on two lists that loops build step by step. One has the drop-ins that count, one for each name: the lemmas say
+-- how one more file changes `by_name` and the Rust map with the same entries. The other has the drop-ins in a folder:
+-- the lemmas say what one more name adds to `candidates`.
 use Rattle.std.proofs.Common.{◌≡◌, ℕ, Bool, true, false, cond, List, [], ◌∷◌, ◌++◌, refl, sym, ap, ◌∙◌, map, reverse, Option, Some, None, option_map, string_bytes, append_assoc, filter}
 use Rattle.std.specs.BTreeMap.{insert_entry}
 use Rattle.std.specs.Cmp.Lexicographic.{slice_cmp}
@@ -37,7 +37,7 @@ pub shown_insert : (es : List (String Global × String Global)) (k : String Glob
 shown_insert [] k v = refl
 shown_insert (e ∷ es) k v = put_by (string_cmp k e.0) e es (insert_entry string_cmp es k v) k v _ (shown_insert es k v)
 
--- if a file is added at the end of a list, this file is entered into `by_name` of the list
+-- adding a file at the end of a list enters this file into the list's `by_name`
 pub by_name_more : (found : List Found) (file : Found) → by_name (found ++ file ∷ []) ≡ put (by_name found) file
 unfolding by_name
 by_name_more found file = fold-append put [] found (file ∷ [])
@@ -100,8 +100,8 @@ pub last_of_name : (found : List Found) (name : List ℕ) → lookup (bytes_eq n
 unfolding by_name
 last_of_name found name = last_after name [] found ∙ or_none (option_map (λ file. file.path) (find (λ file. bytes_eq name file.name) (reverse found)))
 
--- if the Rust map has the entries of `by_name` for some files, then, once one more file is entered into the map, it has
--- the entries of `by_name` for all these files
+-- if the Rust map has the entries of `by_name` for `files`, then entering `file` into the map gives it the entries of
+-- `by_name` for `files` and `file`
 pub file_more : (entries after : List (String Global × String Global)) (files : List DropIn) (file : DropIn)
     → map shown_entry entries ≡ by_name (map shown files) → map shown_entry after ≡ put (map shown_entry entries) (shown file) → map shown_entry after ≡ by_name (map shown (files ++ file ∷ []))
 file_more entries after files file h e =

@@ -47,16 +47,16 @@ rows =
           ∷ in_lib (codes "foo.timer.d") (codes ".5.conf") ∷ in_lib (codes "foo.timer.d") (codes "README") ∷ [],
       ([], (codes "foo" ∷ [], codes "/lib/foo.timer.d/10.conf" ∷ codes "/etc/timer.d/9.conf" ∷ codes "/lib/foo.timer.d/B.conf" ∷ codes "/lib/foo.timer.d/a.conf" ∷ [])),
     )
-    -- In the second row, the folder of all timers loses to another folder, although the folder of all timers is below
-    -- the more important root. In the third row, of two folders of all timers, the one below the more important root
-    -- wins.
+    -- In the second row, a file in `timer.d`, the folder for all timers, loses to a file in the folder for a prefix,
+    -- although `timer.d` is below the more important root. In the third row, both folders are called `timer.d`, and the
+    -- one below the more important root wins.
     ∷ (
       in_etc (codes "timer.d") (codes "x.conf") ∷ in_lib (codes "foo-.timer.d") (codes "x.conf") ∷ [],
       ([], (codes "foo-bar" ∷ [], codes "/lib/foo-.timer.d/x.conf" ∷ [])),
     )
     ∷ (in_etc (codes "timer.d") (codes "x.conf") ∷ in_lib (codes "timer.d") (codes "x.conf") ∷ [], ([], (codes "foo" ∷ [], codes "/etc/timer.d/x.conf" ∷ [])))
-    -- In the next two rows, neither folder is a folder of all timers. The folder below the more important root wins,
-    -- even though it is the more general one.
+    -- In the next two rows, neither folder is for all timers. The folder below the more important root wins, even
+    -- though it is for more units than the other one.
     ∷ (
       in_lib (codes "foo-bar.timer.d") (codes "x.conf") ∷ in_etc (codes "foo-.timer.d") (codes "x.conf") ∷ [],
       ([], (codes "foo-bar" ∷ [], codes "/etc/foo-.timer.d/x.conf" ∷ [])),

@@ -44,7 +44,7 @@ last_byte text h =
     sym (take-length text) ∙ (ap (λ n. take n text) (sym whole) ∙ (take_more text (length text - 1) 0 (omega arith)
     ∙ ap (λ b. take (length text - 1) text ++ b ∷ []) byte))
 
--- `part_of_line` returns what a line contributes to its logical line by the rule `IsLinePart`
+-- `part_of_line` returns what a line contributes to its logical line according to the rule `IsLinePart`
 part_as : (continued : Bool) (text : List ℕ) → is_continued text ≡ continued → IsLinePart text (part_of_line text)
 unfolding part_of_line
 part_as true text e = rw e (inr (record { continued = e; front = take (length text - 1) text; line = last_byte text e; said = refl }))
