@@ -1,5 +1,5 @@
--- Examples of expressions that may not mean what their author thinks, and of keys that systemd 252 doesn't know,
--- checked by computation.
+-- Examples that check, by computation, which expressions may not mean what their author thinks, and which keys count as
+-- unknown.
 use Rattle.std.proofs.Common.{◌≡◌, ℕ, List, true, false, [], ◌∷◌, codes, refl, Option, None, Some}
 use Rattle.cal_text.specs.headline.Words.{words}
 use Rattle.cal_spec.specs.declared.part.Part.{Part}
@@ -10,7 +10,8 @@ use Rattle.cal_lint.specs.UnknownKeys.{is_unknown_key}
 abbrev to : ℕ → Option ℕ → List Part
 to end step = record { start = 0; end = Some end; step = step } ∷ []
 
--- this row and the next three test the minutes of `10:00..12:00`, `10:00..30:00`, `10:00..12/2:00` and `10:00..10:00`
+-- the minutes of `10:00..12:00` look like a range of hours; in the next three rows, those of `10:00..30:00`,
+-- `10:00..12/2:00` and `10:00..10:00` don't
 range : is_hour_range 10 (to 12 None) ≡ true
 range = refl
 
@@ -23,7 +24,7 @@ with_a_step = refl
 no_later_hour : is_hour_range 10 (to 10 None) ≡ false
 no_later_hour = refl
 
--- this row tests the minutes of `00:00,12:00`
+-- the minutes of `00:00,12:00` look like a list of hours
 two_hours : is_hour_list 0 (point 0 ∷ point 12 ∷ []) ≡ true
 two_hours = refl
 

@@ -1,4 +1,5 @@
--- A lemma on the loop over the expressions: after one more step, the lines are those of one more expression.
+-- A lemma on the loop over the expressions. If the lines so far are those of the first `i` expressions, and a step adds
+-- the line of the next expression, then the lines are those of the first `i + 1` expressions.
 use Rattle.std.proofs.Common.{◌≡◌, ◌+◌, ◌<◌, ◌∙◌, ℕ, Bor, List, [], ◌∷◌, ◌++◌, ap, get_or, length, map, subst, sym, take}
 use Rattle.std.proofs.lemmas.List.{map-append, take_more}
 use Rattle.cal_spec.specs.headline.Fields.{Fields}

@@ -12,7 +12,8 @@ use Rattle.cal_units.specs.Files.{shown_text}
 use Rattle.cal_units.specs.declared.files.UnitText.{UnitText}
 use Rattle.cal_load.specs.Loaded.{assignments_from, bytes_in}
 
--- the assignments of the file with index `i`, whose text is `text`, and then those of the files after it
+-- the assignments in the files from index `i` on are those in the file with index `i`, whose text is `text`, followed
+-- by those in the later files
 assignments_here : (text : read.UnitText) (files : List UnitText) (i : ℕ) (file : UnitText) (next : ℕ)
     → i < length files → file ≡ get_or files i file → text.text.now ≡ file.bytes.items → next ≡ text.first + length (lines text.text.now)
     → assignments_at text ++ assignments_from next (bytes_in (map shown_text (drop (i + 1) files)))
