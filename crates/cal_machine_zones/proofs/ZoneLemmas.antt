@@ -67,7 +67,7 @@ or_false : (b : Bool) → (b || false) ≡ b
 or_false true = refl
 or_false false = refl
 
--- after a zone is added, the table has the zone's name and the names from before
+-- after a zone is added, the table has the names that it had before, and the name of this zone
 named_if : (old : ZoneMap) (name : List ℕ) (zone : TimeZone) (other : List ℕ) → is_utc_name name ≡ false → (t : Bool) → bytes_eq other name ≡ t
     → is_some (zone_named (insert old name zone) other) ≡ (is_some (zone_named old other) || t)
 named_if old name zone other utc true is =
