@@ -167,7 +167,8 @@ excepted_spelled all h =
     let before = length all - suffix_len (λ a. not (is_exception_reset a)) all in
     each_spelled is_exception all (take before all) (drop before all) (sym (take-append-drop before all)) (λ front a rest split is. ((h front a rest split).1 is).1)
 
--- every assignment in `list` assigns the text of an accepted expression; `expressions` are these expressions, in order
+-- every assignment in `list` has an entry and assigns the text of an accepted expression; `expressions` are these
+-- expressions, in order
 record AreExpressionsOf (asked : Request) (list : List Assignment) : Type 0 where
   expressions : List Expression
   same : map (λ (a : Assignment). a.value) list ≡ map text_of expressions

@@ -83,7 +83,7 @@ end_of_later local now number start x before elapse =
     = ap (λ (n : ℕ). length (first_line local n elapse)) (omega arith) in
     omega (arith, same, length-append (elapse_text local now number x) (elapse_texts local now (number + 1) before))
 
--- the first line of the first elapse time, which is `x`, ends at or before the end of the first line of any elapse time
+-- the first line of `x`, the first elapse time, doesn't end after the first line of any other elapse time
 end_low : (local : Zone) (now : ℤ) (number start : ℕ) (x : ℤ) (xs before : List ℤ) (elapse : ℤ) (after : List ℤ)
     → x ∷ xs ≡ before ++ (elapse ∷ after) → start + length (first_line local number x) ≤ line_end local now number start before elapse
 end_low local now number start x xs [] elapse after split =

@@ -21,7 +21,8 @@ use Rattle.cal_text.proofs.General.{item_first}
 abbrev pub line_text : List ℕ → declared_line.TimerLine → List ℕ
 line_text label line = heading_text label (string_bytes line.text) line.expr
 
--- the headings of the lines from index `i` on begin with the heading of `line`, the line at index `i`
+-- the headings of the lines from index `i` on are the heading of `line`, the line at index `i`, followed by the
+-- headings of the later lines
 pub lines-first : (label : List ℕ) (lines : List declared_line.TimerLine) (i : ℕ) (line : declared_line.TimerLine) (text : List ℕ) → i < length lines
     → line ≡ get_or lines i line → text ≡ string_bytes line.text → flat_map (line_text label) (drop i lines) ≡ heading_text label text line.expr ++ flat_map (line_text label) (drop (i + 1) lines)
 lines-first label lines i line text h is so = item_first (line_text label) i lines line h (ap (λ bytes. heading_text label bytes line.expr) so ∙ ap (line_text label) is)

@@ -1,6 +1,6 @@
--- The first of the elapse times that remain in the source are still to be written, numbered from `number` to
--- `iterations`; fewer are written if the source ends before that. The writer hasn't failed, and the local zone is the
--- same as before the loop.
+-- The elapse times that the source has yet to return are still to be written, with the numbers from `number` to
+-- `iterations`, or up to a smaller number if the source ends before that. The writer hasn't failed, and the local zone
+-- is the same as before the loop.
 use Rattle.std.proofs.Common.{◌≡◌, ◌+◌, ◌-◌, take}
 use Rattle.cal_bytes.proofs.PutLemmas.{PutsUpTo}
 use Rattle.cal_report.specs.headline.ElapseLines.{elapse_texts}
