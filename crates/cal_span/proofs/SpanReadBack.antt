@@ -86,7 +86,7 @@ count_words [] = []
 count_words (c ∷ cs) =
     record { kind = Numeric; text = decimal c.number } ∷ record { kind = Letter; text = unit_name c.unit } ∷ count_words cs
 
--- if no letter follows, a printed count is two runs: its digits and its unit
+-- if no letter follows, and its number is below 2 ^ 64, a printed count is two runs: its digits and its unit
 runs-count : (c : Count) (rest : List ℕ) → c.number < 2 ^ 64 → BeginsApart Letter (runs (characters rest)) → runs (characters (count_text c ++ rest)) ≡ record { kind = Numeric; text = decimal c.number } ∷ record { kind = Letter; text = unit_name c.unit } ∷ runs (characters rest)
 runs-count c rest small apart =
     let unit = runs-of_kind_front Letter (unit_name c.unit) rest (name_of_nonempty c.unit) (letters-unit_name c.unit) apart in
@@ -178,7 +178,7 @@ span_of_zero : span_of (codes "0") ≡ Ok 0
 unfolding span_of pairs_in words_in worth_of is_number number_worth
 span_of_zero = refl
 
--- the digits of a number are one word
+-- the digits of a number below 2 ^ 64 are one word
 words-decimal : (n : ℕ) → n < 2 ^ 64 → words_in (decimal n) ≡ record { kind = Numeric; text = decimal n } ∷ []
 unfolding words_in
 words-decimal n small =
