@@ -150,7 +150,7 @@ is_time room word weekdays d h name at =
 
 -- If the grammar allows a date or a time, parsing it succeeds
 
--- each component has at most as many counted parts as are left of the 240 after the components before it
+-- no component has more counted parts than the components before it leave of the 240 that are allowed in all
 pub record AreFew (f : Fields) : Type 0 where
   pub year : counted Year f.year ≤ 240
   pub month : counted Month f.month ≤ 240 - counted Year f.year

@@ -1,5 +1,5 @@
--- Parsing a printed instant gives the same instant, if the zone's clock shows a year from 1970 to 2199 and its UTC
--- offset is a whole number of minutes.
+-- Parsing a printed instant gives the same instant if, at this instant, the zone's clock shows a year from 1970 to 2199
+-- and the zone's UTC offset is a whole number of minutes.
 use Rattle.std.proofs.Common.{◌≡◌, ℕ, ◌+◌, ◌-◌, ◌*◌, ◌/◌, ◌%◌, ◌<◌, ◌≤◌, true, false, inr, List, [], ◌∷◌, ◌++◌, length, get_or, codes, ℤ, pos, neg_ℤ, ◌+ℤ◌, ◌*ℤ◌, ◌≤ℤ◌, Option, Some, Ok, Err, refl, sym, ap, ◌∙◌, arith, append_assoc, append-nil, decimal, eq-eqb, length-append, leb-true, reverse, slice_index_or, unsigned_abs}
 use Rattle.std.specs.List.{list_any}
 use Rattle.std.proofs.lemmas.List.{get_or-reverse}
@@ -255,8 +255,8 @@ printed_line zone secs =
 second_below : (secs : ℤ) → second_of_day secs < 86_400
 second_below secs = omega (arith, signed_arith)
 
--- The next three lemmas: at an instant, a clock shows a local second from -93,599 to 7,258,305,597. The date that it
--- shows has the day number of this local second. The year of this date is 1969 or later.
+-- The next three lemmas: at an instant, a clock shows a local second from -93,599 to 7,258,305,597. The date that the
+-- clock shows has the day number of this local second, and its year is 1969 or later.
 local_within : (zone : Zone) (secs : ℤ) → IsInstant secs → IsBetween (neg_ℤ (pos 93_599)) (pos 7_258_305_597) (local_in zone secs)
 unfolding local_shown_at
 local_within zone secs h =
@@ -320,8 +320,8 @@ moment_back now local secs zone date h back e =
 
 -- The proof of `printed_instants_read_back` in `cal_stamp::laws`
 
--- if the year of a printed instant is from 1970 to 2199, its date and its time are valid, so only its zone can still be
--- invalid
+-- if the year of a printed instant is from 1970 to 2199, its date and its time are valid, so what remains is to parse
+-- its zone and to convert the civil time to a moment
 zone_judged : (now local : ℤ) (at : Setting) (date : Date) (zone : List ℕ) → IsLastWord zone → IsBetween (pos 1_970) (pos 2_199) date.year → epoch_day date ≡ day_of local
     → moment_in now at (line_of date (second_of_day local) zone)
     ≡ (civil_stamp_in at (Some (day_in date)) (Some (day_of local)) (micros_in (second_of_day local)) (zone ∷ []) >>= λ stamp. moment_of_civil_stamp now stamp)
