@@ -1,5 +1,5 @@
--- If a link to another unit is found under a stem, `follow` returns what it returns for the other unit, with one link
--- fewer to follow.
+-- If a stem is an alias of another unit, `follow` returns for this stem what it returns for the stem of the other unit,
+-- with one link fewer to follow and this alias added to the aliases so far.
 use Rattle.std.proofs.Common.{◌≡◌, ℕ, suc, List, [], ◌∷◌, ◌++◌, refl}
 use Rattle.cal_units.specs.Machine.{Machine}
 use Rattle.cal_units.specs.Units.{follow, place_in}

@@ -64,8 +64,8 @@ instances : map unit (codes "t@" ∷ codes "t@x" ∷ codes "t@y" ∷ [])
 unfolding unit_paths template_of alias_of stem_in after_prefix file_stem unit_stem without_suffix is_stem kind_of
 instances = refl
 
--- `l` is a link to a file outside the search path, `s` is a link to a file of the same name, and `p` and `q` are a loop
--- of links.
+-- `l` is a link to a file outside the search path, `s` is a link to a file of the same name, and `p` and `q` are links
+-- that form a loop.
 links : map unit (codes "l" ∷ codes "s" ∷ codes "p" ∷ [])
     ≡ FoundAt (codes "/etc/l.timer") [] (codes "l") ∷ FoundAt (codes "/etc/s.timer") [] (codes "s") ∷ Endless ∷ []
 unfolding unit_paths template_of alias_of stem_in after_prefix file_stem unit_stem without_suffix is_stem kind_of

@@ -4,7 +4,8 @@ use Rattle.cal_units.specs.Aliases.{alias_named, shown_alias}
 use Rattle.cal_units.specs.Machine.{Machine}
 use Rattle.cal_units.proofs.aliases.push_named.Given as goal
 
--- if there is no error so far, the aliases with the names that the loop has visited have been appended
+-- if there is no error so far, there was none before the loop, and the aliases with the names that the loop has visited
+-- have been appended
 abbrev pub invariant-loop-name : goal.invariant-loop-name
 invariant-loop-name g l =
     (machine : Machine) → g.T.Tree.shows l.tree machine → l.found.faults.items ≡ []

@@ -3,7 +3,7 @@ use Rattle.cal_units.specs.Machine.{Machine}
 use Rattle.cal_units.specs.Units.{first_there}
 use Rattle.cal_units.proofs.places.first_there.Given as goal
 
--- no path before the loop's index has a unit's file, so the first path that has one is among the remaining paths
+-- searching the remaining paths for the first that has a unit's file has the same result as searching all paths
 abbrev pub invariant-loop-path : goal.invariant-loop-path
 invariant-loop-path g l =
     (machine : Machine) → g.T.Tree.shows l.tree machine
