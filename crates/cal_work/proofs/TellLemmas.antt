@@ -28,7 +28,8 @@ use Rattle.cal_text.proofs.General.{append_known-nil}
 
 -- What is written for a stop
 
--- if a run wrote a prefix of each text of the outcome, because an output or an allocation failed, then `WritesOf` holds
+-- if a run failed with `fault`, the exit status for this is 1, and a prefix of each text of the outcome was written,
+-- then what was written and the status agree with the outcome, as `WritesOf` says
 fault_written : (fault : RunFault) (expected : Result Report Stop) (out out' err err' : Option (List ℕ)) → ended_status {T = Unit} (Err fault) expected ≡ 1 → AppendsFront out out' (out_text expected) → AppendsFront err err' (err_text expected)
     → WritesOf {T = Unit} (Err fault) (fault_stop fault).status expected out out' err err'
 fault_written OutFailed expected out out' err err' status o e = record { by_status = refl; out_bytes = o; err_bytes = e }

@@ -68,7 +68,8 @@ stops_other {A = A} stop shown s = record { before_out = s.before_out; before_er
 
 -- What the program sees of a file
 
--- a result of reading a file that agrees with its known bytes is also possible if nothing is known about the bytes
+-- if a result of reading a file agrees with the file's known bytes, then it is also possible if nothing is known about
+-- the bytes
 unknown_comes : (old : Option (List ℕ)) (limit : ℕ) (came : Result (List ℕ) WholeFault) → Comes old limit came → Comes None limit came
 unknown_comes old limit (Ok bytes) c = (c.0, tt)
 unknown_comes old limit (Err whole.ReadFailed) c = tt
@@ -194,9 +195,10 @@ loads_none known table item opens = record {
   loads = refl;
 }
 
--- What `GoesOn`, the invariant of the loop over the zone files, says about one `rest`. `left` are the files that remain
--- to be loaded, `rest` is what the program finds in them, and `found` is what it finds in all files. Adding all files
--- to the empty table gives the same table or stop as adding the remaining files to `table`, the table so far.
+-- If the program finds `rest` in `left`, the files that remain to be loaded, then it can have found `found` in all
+-- files: adding all files to the empty table gives the same table or stop as adding the remaining files to `table`, the
+-- table so far. `GoesOn`, the invariant of the loop over the zone files, says that there is such a `found` for every
+-- `rest`.
 pub record Continues (known : Known) (items : List ZoneItem) (table : ZoneMap) (left : List ZoneItem) (rest : List ZoneFound) : Type 0 where
   pub found : List ZoneFound
   pub sees : SeesZones known empty items found
