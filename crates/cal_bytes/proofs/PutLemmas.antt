@@ -18,8 +18,7 @@ pub record PutsUpTo {W : Type 0} (sink : Ghosts W) (old new : W) (rest text : Li
 module _ {W : Type 0} {sink : Ghosts W} where
   -- Two consecutive calls
 
-  -- if the first of two calls fails, then `Puts` holds for the concatenation of both texts and any result that is an
-  -- error
+  -- if the first of two calls fails, then `Puts` holds for both texts together, with any error as the result
   pub first_fails : {T E T' E' : Type 0} (a b : W) (first : Result T' E') (r : Result T E) (x y : List ℕ) → Puts sink a b first x → IsErr first → IsErr r → Puts sink a b r (x ++ y)
   first_fails a b (Ok u) r x y p failed is_err = absurd (false≢true failed)
   first_fails a b (Err e) r x y p failed is_err = record {
@@ -27,8 +26,7 @@ module _ {W : Type 0} {sink : Ghosts W} where
     bytes = writes_err _ _ r (x ++ y) is_err (stop _ _ _ x y (x ++ y) (start _ (x ++ y)) p.bytes);
   }
 
-  -- if the first of two calls succeeds, then `Puts` holds for the concatenation of both texts and the result of the
-  -- second call
+  -- if the first of two calls succeeds, then `Puts` holds for both texts together, with the result of the second call
   pub second_ends : {T E T' E' : Type 0} (a b c : W) (first : Result T' E') (r : Result T E) (x y : List ℕ) → Puts sink a b first x → IsOk first → Puts sink b c r y → Puts sink a c r (x ++ y)
   second_ends a b c (Err e) r x y p worked q = absurd (false≢true worked)
   second_ends a b c (Ok u) r x y p worked q = record {
@@ -65,8 +63,7 @@ module _ {W : Type 0} {sink : Ghosts W} where
     leaves = step _ _ _ piece rest text (respell _ _ _ _ text before.leaves split) p.bytes;
   }
 
-  -- if a call fails to write the next piece, and the result `r` for the whole text is an error, then `Puts` holds for
-  -- `r` and the whole text
+  -- if a call fails to write the next piece, then `Puts` holds for the whole text, with any error as the result
   pub put_cut : {T E T' E' : Type 0} {e : E'} {a b c : W} {left piece text : List ℕ} {r : Result T E} (rest : List ℕ) → left ≡ piece ++ rest → IsErr r → PutsUpTo sink a b left text → Puts {T = T'} sink b c (Err e) piece → Puts sink a c r text
   put_cut {piece = piece} {text = text} {r = r} rest split is_err before p = record {
     failed = p.failed ∙ sym is_err;

@@ -1,4 +1,4 @@
--- Parsing digits into a `u64`, which saturates at its maximum.
+-- Parsing digits into a `u64`, with saturation at its maximum.
 use Rattle.std.proofs.Common.{ℕ, ◌+◌, ◌-◌, ◌*◌, ◌^◌, ◌<◌, ◌≡◌, true, List, length, take, get_or, min, arith}
 use Rattle.std.specs.List.{list_all}
 use Rattle.std.specs.Char.{is_ascii_digit}

@@ -1,5 +1,4 @@
--- `trim_start_matches` and `trim_matches` follow the rules of `TrimRule`: their results satisfy its relations, and no
--- other texts do.
+-- The results of `trim_start_matches` and `trim_matches` satisfy the relations of `TrimRule`, and no other texts do.
 use Rattle.std.proofs.Common.{◌≡◌, ℕ, Bool, true, false, List, [], ◌∷◌, ◌++◌, reverse, refl, sym, subst, ap, ◌∙◌, append-nil}
 use Rattle.std.specs.List.{AllByRecursion, suffix_len}
 use Rattle.std.proofs.Math.Numerals.{one-add}
