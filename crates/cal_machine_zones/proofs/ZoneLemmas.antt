@@ -53,7 +53,7 @@ known_on : (file new : Option (List ℕ)) (xs : List ℕ) (before after : ZoneMa
 known_on None new xs before after name l e = absurd (none-some xs e)
 known_on (Some ys) new xs before after name l e = rw (sym (ap (λ o. unwrap_or o ys) e)) (loaded_is ys new before after name l)
 
--- the zone loaded from a file of the machine is the one in this file
+-- the zone loaded from a file of the machine is the zone in this file
 pub loaded_on : (file new contents : Option (List ℕ)) (before after : ZoneMap) (name : List ℕ) (l : IsLoaded file new before after name)
     → Some file ≡ option_map Some contents → MatchOption contents ⊥ (λ bytes. IsFileZone name bytes l.zone)
 loaded_on file new None before after name l e = absurd (none-some file (sym e))

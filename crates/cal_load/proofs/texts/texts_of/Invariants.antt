@@ -4,7 +4,8 @@ use Rattle.cal_units.specs.Files.{shown_text}
 use Rattle.cal_load.specs.Loaded.{assignments_from, assignments_of, bytes_in}
 use Rattle.cal_load.proofs.texts.texts_of.Given as goal
 
--- the assignments of the texts so far, and then those of the remaining files, are all assignments
+-- Every text so far is short enough for the numbers of its lines to fit into 32 bits. The assignments of the texts so
+-- far, followed by those of the remaining files, are all assignments.
 abbrev pub invariant-loop-file : goal.invariant-loop-file
 invariant-loop-file l =
     All (λ text. text.first + length text.text.now < 2 ^ 32) l.texts.items
