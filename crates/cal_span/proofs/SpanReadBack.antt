@@ -1,4 +1,4 @@
--- Parsing a printed span gives the same span: its text is split into its counts again, the value of each count is its
+-- Parsing a printed span gives the same span: the text is split into its counts again, the value of each count is its
 -- number times the length of its unit, and these values add up to the span.
 use Rattle.std.proofs.Common.{◌≡◌, ℕ, zero, suc, ◌+◌, ◌*◌, ◌^◌, ◌<◌, ◌≤◌, List, [], ◌∷◌, ◌++◌, codes, length, Some, Ok, map, refl, sym, ap, ◌∙◌, subst, lit<, arith}
 use Rattle.std.proofs.lemmas.Bool.{le-leb}

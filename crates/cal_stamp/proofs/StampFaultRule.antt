@@ -1,4 +1,4 @@
--- Parsing the words of a civil time fails with an error if and only if this is the first error of the words
+-- Parsing the words of a civil time fails with an error if and only if this error is the first error of the words
 -- (`HasFirstError`). Parsing the words after `today`, `yesterday` or `tomorrow` fails with an error if and only if
 -- these words have this error (`HasZoneError`).
 use Rattle.std.proofs.Common.{ℕ, ◌≡◌, ◌⊎◌, inl, inr, true, false, ◌||◌, List, [], ◌∷◌, ◌++◌, refl, sym, ap, ◌∙◌, append_assoc, Option, Some, None, Ok, Err, ℤ}
