@@ -33,7 +33,8 @@ abbrev pub is_range_to : ℕ → Option ℕ → Option ℕ → Bool
 is_range_to hour (Some end) None = is_later_hour hour end
 is_range_to hour end step = false
 
--- whether the minutes are the range, without a step, from 0 to a number that could be a later hour
+-- whether the minutes are a single range without a step, which begins at 0 and ends at a number that could be a later
+-- hour than `hour`
 abbrev pub is_hour_range : ℕ → List Part → Bool
 is_hour_range hour [] = false
 is_hour_range hour (p ∷ []) = (p.start == 0) && is_range_to hour p.end p.step
@@ -43,21 +44,21 @@ abbrev pub are_zero_and_later : ℕ → Option ℕ → Option ℕ → Bool
 are_zero_and_later hour (Some first) (Some second) = (first == 0) && is_later_hour hour second
 are_zero_and_later hour first second = false
 
--- whether the minutes are 0 and a number that could be a later hour
+-- whether the minutes are two single numbers: first 0, and then a number that could be a later hour than `hour`
 abbrev pub is_hour_list : ℕ → List Part → Bool
 is_hour_list hour [] = false
 is_hour_list hour (p ∷ []) = false
 is_hour_list hour (p ∷ q ∷ []) = are_zero_and_later hour (number_of p.start p.end p.step) (number_of q.start q.end q.step)
 is_hour_list hour (p ∷ q ∷ r ∷ ps) = false
 
--- whether these minutes, written after this hour, look like a range of hours (`HourRange`) or a list of hours
--- (`HourList`)
+-- whether these minutes, written after this hour, look like a range of hours, for the doubt `HourRange`, or like a list
+-- of hours, for `HourList`
 abbrev pub are_hours : Doubt → ℕ → List Part → Bool
 are_hours HourRange hour minutes = is_hour_range hour minutes
 are_hours HourList hour minutes = is_hour_list hour minutes
 are_hours MonthDay hour minutes = false
 
--- whether the hour and the second are one number each, and the minutes look like hours, as `are_hours` says
+-- whether the hour and the second are single numbers, and `are_hours` says that the minutes look like hours
 abbrev pub has_hours_by : Doubt → Option ℕ → Option ℕ → Option (List Part) → Bool
 has_hours_by doubt (Some hour) (Some second) (Some minutes) = are_hours doubt hour minutes
 has_hours_by doubt hour second minutes = false
@@ -65,7 +66,8 @@ has_hours_by doubt hour second minutes = false
 abbrev pub has_hours : Doubt → Fields → Bool
 has_hours doubt f = has_hours_by doubt (single f.hour) (single f.second) f.minute
 
--- whether the word is a digit from 1 to 7, `-`, and a greater digit up to 7
+-- whether the word is a digit from 1 to 7, `-`, and a greater digit up to 7; such a month and day could be meant as a
+-- range of weekdays, with 1 for Monday
 abbrev pub is_month_day : List ℕ → Bool
 is_month_day (a ∷ b ∷ c ∷ []) = (b == 45) && nat_le 49 a && nat_lt a c && nat_le c 55
 is_month_day word = false

@@ -26,8 +26,8 @@ use Rattle.cal_lint.specs.declared.problems.Problem.TheVariants.{Invalid, Unknow
 abbrev pub is_percent : ℕ → Bool
 is_percent b = b == 37
 
--- whether the setting is an expression or an exception without specifiers; if it has specifiers, systemd replaces them
--- when it loads the unit
+-- whether the setting is an expression or an exception without specifiers; a value with specifiers isn't checked, since
+-- systemd replaces them when it loads the unit
 abbrev pub is_checked : Assignment → Bool
 is_checked a = (is_expression a || is_exception a) && not (list_any is_percent a.value)
 
@@ -43,7 +43,7 @@ is_on number found = is_at number (line_of found.fault)
 abbrev pub fault_on : List FileFault → ℕ → Option TimerFault
 fault_on faults number = option_map (λ found. found.fault) (find (is_on number) faults)
 
--- what was found about a valid expression, or None if the expression is invalid
+-- what was found about a valid expression; None if nothing was found, or if the expression is invalid
 abbrev pub if_valid : {A : Type 0} → Result (Option A) SpecFault → Option A
 if_valid (Ok x) = x
 if_valid (Err e) = None
@@ -86,7 +86,7 @@ shown_finding finding = record { line = finding.line; kind = finding.kind; probl
 abbrev pub reports_of : List FileFault → Assignment → List Report
 reports_of faults a = map (report_at a.number) (problems_of faults a)
 
--- the settings in the sections `Timer` of a unit file whose first line has the number 1
+-- the settings in the sections `Timer` of a unit file, whose lines are numbered from 1
 abbrev pub timer_settings : List ℕ → List Assignment
 timer_settings text = settings_in (codes "Timer") false (logical_lines 1 (without_mark text))
 

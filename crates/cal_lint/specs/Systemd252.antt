@@ -45,7 +45,8 @@ has_extra_after skips [] = false
 has_extra_after skips ([] ∷ pieces) = not skips || has_extra_after skips pieces
 has_extra_after skips ((b ∷ bs) ∷ pieces) = has_extra_after (is_date (b ∷ bs)) pieces
 
--- whether an expression has an additional space anywhere but after the weekdays and after the date
+-- whether an expression has an additional space that systemd 252 doesn't skip: anywhere except after the weekdays or
+-- after the date
 abbrev pub has_extra : List (List ℕ) → Bool
 has_extra [] = false
 has_extra ([] ∷ pieces) = true
@@ -70,7 +71,7 @@ leading_digits part = take (prefix_len is_ascii_digit part) part
 abbrev pub after_digits : List ℕ → List ℕ
 after_digits part = drop (prefix_len is_ascii_digit part) part
 
--- whether two texts of digits are the same number, and this number isn't above `most`, the greatest one that an
+-- whether two texts of digits are the same number, and this number isn't above `most`, the greatest number that an
 -- expression may contain
 abbrev pub are_equal : List ℕ → List ℕ → Bool
 are_equal a b = (digits_value 10 a == digits_value 10 b) && nat_le (digits_value 10 a) most
@@ -85,7 +86,8 @@ is_up_to a (b ∷ c ∷ last) = (b == 46) && (c == 46) && list_all is_ascii_digi
 abbrev pub is_one_second : List ℕ → Bool
 is_one_second part = is_up_to (leading_digits part) (after_digits part)
 
--- the greatest step of a range of seconds that systemd 252 accepts: in microseconds, a step has to fit into 31 bits
+-- the greatest step that systemd 252 accepts in a range of seconds: converted to microseconds, a step has to fit into
+-- 31 bits
 abbrev pub max_second_step : ℕ
 max_second_step = 2147
 
@@ -97,7 +99,7 @@ step_in texts = []
 abbrev pub is_above : ℕ → List ℕ → Bool
 is_above bound digits = list_all is_ascii_digit digits && nat_lt bound (digits_value 10 digits)
 
--- whether the part has a step that is too large
+-- whether the part has a step above `max_second_step`
 abbrev pub has_large_step : List ℕ → Bool
 has_large_step part = is_above max_second_step (step_in (slice_split is_slash part))
 

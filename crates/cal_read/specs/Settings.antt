@@ -1,5 +1,5 @@
--- The settings in all sections of a unit file that have a given name (systemd.syntax(7)). The definitions here are like
--- `assignments_in`, which is only for the section `Timer`.
+-- The settings of a unit file, in all of its sections with a given name (systemd.syntax(7)). The definitions here are
+-- like `assignments_in`, which is only for the section `Timer`.
 use Rattle.std.specs.Prelude.{ℕ, Bool, if◌then◌else◌, List, [], ◌∷◌, map, string_bytes}
 use Rattle.std.specs.List.{filter_map}
 use Rattle.std.specs.Str.{bytes_eq}
@@ -19,6 +19,7 @@ section_lines name inside (line ∷ lines) =
 unfoldable pub settings_in : List ℕ → Bool → List Line → List Assignment
 settings_in name inside lines = filter_map assignment_of (section_lines name inside (map trimmed lines))
 
--- how contracts see a setting: by the bytes of its key and its value, not by where these are in memory
+-- how contracts see a setting: the number of its line and the bytes of its key and value, without their addresses in
+-- memory
 abbrev pub shown_setting : Setting → Assignment
 shown_setting setting = record { number = setting.number; key = string_bytes setting.key; value = string_bytes setting.value }

@@ -47,7 +47,7 @@ counts_with counts a = record {
   exceptions = count_with counts.exceptions (is_exception a) (is_exception_reset a);
 }
 
--- the error of an assignment that adds to a list of length `n`
+-- the error of an assignment that adds to a list, if it has one; `n` is the length of the list before the assignment
 abbrev pub fault_beside : {E : Type 0} → (List ℕ → Result E SpecFault) → ℕ → Assignment → Option TimerFault
 fault_beside read n a = if nat_le max_expressions n then Some (TooMany a.number) else bad_line a.number (read a.value)
 
