@@ -29,8 +29,8 @@ found_in folder name = record { name = name; path = folder ++ codes "/" ++ name 
 unfoldable pub candidates : List ℕ → List (List ℕ) → List Found
 candidates folder names = map (found_in folder) (filter is_drop_in names)
 
--- the entries, after this file's path was entered under the file's name, in place of any path that was already there;
--- an entry is a pair of a name and a path
+-- Enters the path of this file under the file's name; if the entries already have a path under this name, it is
+-- replaced. An entry is a pair of a name and a path.
 abbrev pub put : List (List ℕ × List ℕ) → Found → List (List ℕ × List ℕ)
 put entries file = insert_entry (slice_cmp nat_cmp) entries file.name file.path
 
@@ -39,14 +39,14 @@ put entries file = insert_entry (slice_cmp nat_cmp) entries file.name file.path
 unfoldable pub by_name : List Found → List (List ℕ × List ℕ)
 by_name found = fold put [] found
 
--- the paths of the files that count
+-- the paths of the files that count, in the order of the files' names
 unfoldable pub chosen : List Found → List (List ℕ)
 chosen found = map (λ entry. entry.1) (by_name found)
 
 -- The drop-ins that are read, in the order in which they are read. `path` has the roots of the search path, the most
--- important first. `stems` has the unit's names without `.timer`: first its aliases, and last its own. A file in a more
--- important folder hides the files of the same name in less important folders. So does a link to `/dev/null`, which
--- isn't read itself.
+-- important first. `stems` has the unit's names without `.timer`: first the names of its aliases, and last its own
+-- name. A file in a more important folder hides the files of the same name in less important folders. So does a link to
+-- `/dev/null`, which isn't read itself.
 unfoldable pub drop_ins : Disk → List (List ℕ) → List (List ℕ) → List (List ℕ)
 drop_ins disk path stems =
     filter (λ file. not (disk.is_null file))

@@ -9,8 +9,8 @@ use Rattle.cal_drop_ins.specs.UnitName.{base_of, template_of}
 abbrev pub is_dash_within : List ℕ → ℕ → Bool
 is_dash_within base i = nat_lt 0 i && (nat_lt (i + 1) (length base) && (slice_index base i == 45))
 
--- the prefixes of `base` that end with a dash among the first `n` bytes, the shortest first, but not `base` itself and
--- not a dash alone
+-- the prefixes of `base` that end with a dash and have at most `n` bytes, the shortest first, except `base` itself and
+-- a dash alone
 unfoldable pub prefixes_within : List ℕ → ℕ → List (List ℕ)
 prefixes_within base zero = []
 prefixes_within base (suc n) = prefixes_within base n ++ (if is_dash_within base n then take (n + 1) base ∷ [] else [])
@@ -22,11 +22,11 @@ unfoldable pub folder_stems : List ℕ → List (List ℕ)
 folder_stems stem =
     prefixes_within (base_of stem) (length (base_of stem)) ++ (option_to_list (template_of stem) ++ stem ∷ [])
 
--- the drop-in folder of this stem below `root`
+-- the drop-in folder below `root` for this stem
 abbrev pub own_folder : List ℕ → List ℕ → List ℕ
 own_folder root stem = root ++ codes "/" ++ stem ++ codes ".timer.d"
 
--- the drop-in folder of all timers below `root`
+-- the drop-in folder below `root` that applies to all timers
 abbrev pub type_folder : List ℕ → List ℕ
 type_folder root = root ++ codes "/timer.d"
 
@@ -35,7 +35,7 @@ type_folder root = root ++ codes "/timer.d"
 abbrev pub name_folders : List (List ℕ) → List ℕ → List (List ℕ)
 name_folders roots stem = flat_map (λ root. map (own_folder root) (folder_stems stem)) roots
 
--- the drop-in folders that apply to a unit with these stems, the last of which is its own: first the folders of all
--- timers, and then the folders of each stem
+-- the drop-in folders that apply to a unit with these stems, the last of which is its own: first the folders that apply
+-- to all timers, and then the folders for each stem
 unfoldable pub folders : List (List ℕ) → List (List ℕ) → List (List ℕ)
 folders roots stems = map type_folder roots ++ flat_map (name_folders roots) stems

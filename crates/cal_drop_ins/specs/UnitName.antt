@@ -7,8 +7,8 @@ use Rattle.cal_drop_ins.specs.declared.unit_name.UnitKind.TheVariants.{Plain, Te
 abbrev pub suffix : List ℕ
 suffix = codes ".timer"
 
--- the name without the suffix, if it has the suffix, and otherwise the name itself; systemctl(1), too, adds a suffix to
--- a name that has none
+-- the name without its suffix, or the name itself if it has no suffix; systemctl(1) accepts names without a suffix,
+-- too, and adds one
 unfoldable pub without_suffix : List ℕ → List ℕ
 without_suffix name = if ends_with nat_eq name suffix then take (length name - length suffix) name else name
 
@@ -19,7 +19,7 @@ is_at_sign b = b == 64
 abbrev pub base_of : List ℕ → List ℕ
 base_of stem = before_first is_at_sign stem
 
--- the stem of an instance's template, or None if the stem isn't that of an instance
+-- if `stem` is the stem of an instance, the stem of its template, which ends with the first `@`; otherwise None
 unfoldable pub template_of : List ℕ → Option (List ℕ)
 template_of stem =
     if nat_lt (length (base_of stem) + 1) (length stem) then Some (take (length (base_of stem) + 1) stem) else None

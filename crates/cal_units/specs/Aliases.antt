@@ -34,7 +34,7 @@ alias_of_unit stem (MaskedBy file) = None
 alias_of_unit stem (FoundAt file followed own) = alias_unless_own stem own
 alias_of_unit stem Endless = None
 
--- the alias with this stem; None if the folder has no link with this stem, or if the link isn't an alias
+-- the alias with this stem; None if there is no link at the stem's path in the folder, or if the link isn't an alias
 abbrev pub alias_at : Machine → List (List ℕ) → List ℕ → List ℕ → Option Alias
 alias_at machine path folder stem =
     if is_link (machine.entry (unit_path stem folder)) then alias_of_unit stem (unit_in machine path stem) else None
@@ -43,7 +43,8 @@ abbrev pub alias_if_named : Machine → List (List ℕ) → List ℕ → Option 
 alias_if_named machine path folder None = None
 alias_if_named machine path folder (Some stem) = alias_at machine path folder stem
 
--- the alias whose link has this name in the folder, if the name is that of a timer's file
+-- the alias whose link is called `name` in the folder; None if this isn't the name of a timer's file, or if there is no
+-- such alias
 abbrev pub alias_named : Machine → List (List ℕ) → List ℕ → List ℕ → Option Alias
 alias_named machine path folder name = alias_if_named machine path folder (file_stem name)
 

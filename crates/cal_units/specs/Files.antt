@@ -9,7 +9,7 @@ pub record UnitText : Type 0 where
   pub path : List ℕ
   pub bytes : List ℕ
 
--- the file at a path, if there is one: a link to nothing isn't read
+-- the file at a path, as a list of at most one file; a link that leads to no file isn't read
 abbrev pub file_at : Machine → List ℕ → List UnitText
 file_at machine path = option_to_list (option_map (λ bytes. record { path = path; bytes = bytes }) (machine.file path))
 

@@ -22,8 +22,8 @@ shown_entry (entries.TheVariants.Link target) = Link (string_bytes target)
 
 -- `names` are the names in each folder, `entry` is what is at each path, and `file` has the bytes of the file to which
 -- each path leads after following links. `leads_to link target` is the absolute path to which a link at the path `link`
--- leads if this is its target: links of folders on the way are followed, but not a link at the end. `variable` is the
--- value of each variable.
+-- leads if its target is `target`: links among the folders of this path are resolved, but not a link at its end.
+-- `variable` is the value of each variable.
 pub record Machine : Type 0 where
   pub names : List ℕ → List (List ℕ)
   pub entry : List ℕ → Entry

@@ -31,7 +31,7 @@ is_there _ = true
 abbrev pub first_there : Machine → List (List ℕ) → Option (List ℕ)
 first_there machine paths = find (λ path. is_there (machine.entry path)) paths
 
--- what the text has after a prefix, if it begins with this prefix
+-- the rest of the text after `prefix`, or None if the text doesn't begin with `prefix`
 unfoldable pub after_prefix : List ℕ → List ℕ → Option (List ℕ)
 after_prefix prefix text = if starts_with nat_eq text prefix then Some (drop (length prefix) text) else None
 
@@ -43,13 +43,14 @@ abbrev pub and_then : Option (List ℕ) → (List ℕ → Option (List ℕ)) →
 and_then None f = None
 and_then (Some x) f = f x
 
--- the stem of the timer whose file has this path, if the path is in this folder
+-- the stem of the timer whose file has the path `file`, or None if this isn't the path of a timer's file in the folder
 unfoldable pub stem_in : List ℕ → List ℕ → Option (List ℕ)
 stem_in file folder =
     and_then (after_prefix folder file) (λ rest. and_then (after_prefix (codes "/") rest) file_stem)
 
--- The stem of the timer for which a link stands, if it leads to the path of a timer's file in a folder of the search
--- path, which is `led`, or if its target is only the name of a timer's file. None for any other link.
+-- The stem of the timer for which a link stands; `led` is the path to which the link leads. If the link's target is
+-- just the name of a timer's file, the link stands for that timer. Otherwise, if `led` is the path of a timer's file in
+-- a folder of the search path, the link stands for the timer with this file. None for any other link.
 unfoldable pub alias_of : List (List ℕ) → List ℕ → List ℕ → Option (List ℕ)
 alias_of path target led = option_or (file_stem target) (slice_get (filter_map (stem_in led) path) 0)
 
@@ -110,8 +111,8 @@ followed more aliases stem (MaskedAt file) = MaskedBy file
 followed more aliases stem (FileAt file) = FoundAt file aliases stem
 followed more aliases stem (AliasOf other) = more (aliases ++ stem ∷ []) other
 
--- the unit with this stem, found by following fewer than `n` links from unit to unit; `aliases` are the stems from
--- which links led to it
+-- the unit for this stem, found by following fewer than `n` links from unit to unit, and `Endless` if that isn't
+-- enough; `aliases` are the stems from which links have led to this stem
 abbrev pub follow : Machine → List (List ℕ) → ℕ → List (List ℕ) → List ℕ → Unit
 follow machine path zero aliases stem = Endless
 follow machine path (suc n) aliases stem = followed (follow machine path n) aliases stem (place_in machine path stem)
