@@ -1,6 +1,7 @@
--- The local zone of a machine. If an option is given, it decides; otherwise, the variable TZ decides if it is set
--- (tzset(3)); otherwise, the link /etc/localtime decides (localtime(5)). Without any of these, the local zone is UTC.
--- Names in the option are as in systemd.time(7), Calendar Events; its other forms are this project's own.
+-- The local zone of a machine. If the option for the local zone is given, it decides. Otherwise, if the variable TZ is
+-- set, the variable decides (tzset(3)). Otherwise, the link /etc/localtime decides (localtime(5)). Without any of
+-- these, the local zone is UTC. Names in the option are as in systemd.time(7), Calendar Events; its other forms are
+-- this project's own.
 use Rattle.std.specs.Prelude.{◌≡◌, ⊤, ℕ, ℤ, List, [], Option, None, Some, Result, Ok, Err, codes, if◌then◌else◌, is_some, string_bytes}
 use Rattle.std.specs.Option.{option_or, unwrap_or}
 use Rattle.std.specs.Str.{bytes_eq}
@@ -19,7 +20,7 @@ use Rattle.cal_machine_zones.specs.declared.fault.ZonesFault.TheVariants as faul
 use Rattle.cal_machine_zones.specs.declared.texts.Told as tolds
 
 -- a local zone: UTC, an offset in seconds east of UTC, a POSIX rule, or the name of a zone; or `UnclearIn`, if the
--- origin doesn't say which zone is the local zone
+-- origin (the option, the variable or the link) doesn't say which zone is the local zone
 pub data LocalZone : Type 0 where
   InUtc : LocalZone
   Ahead : (seconds : ℤ) → LocalZone
@@ -45,7 +46,8 @@ rule_or_other text (Some rule) = ByRule rule
 abbrev pub argument_zone : List ℕ → LocalZone
 argument_zone text = if is_utc_name text then InUtc else rule_or_other text (after_prefix (codes "posix:") text)
 
--- the zone of this name, which comes from the variable or the link
+-- the zone with this name, which comes from the variable or the link; `UnclearIn` if it doesn't have the form of a
+-- zone's name
 abbrev pub name_zone : Origin → List ℕ → LocalZone
 name_zone origin name = if is_utc_name name then InUtc else if is_zone_name name then OfName name else UnclearIn origin
 
@@ -122,7 +124,7 @@ shown_zone (zones.TheVariants.Offset seconds) = Ahead seconds
 shown_zone (zones.TheVariants.Rule rule) = ByRule (string_bytes rule)
 shown_zone (zones.TheVariants.Named name) = OfName (string_bytes name)
 
--- whether the zone isn't an offset, or is an offset that the library `jiff` accepts
+-- if the zone is given as an offset, the library `jiff` accepts this offset
 abbrev pub HasOffset : tolds.Told → Type 0
 HasOffset tolds.TheVariants.Utc = ⊤
 HasOffset (tolds.TheVariants.Offset seconds) = IsOffsetSeconds seconds
@@ -136,8 +138,8 @@ HasZoneOffset (zones.TheVariants.Offset seconds) = IsOffsetSeconds seconds
 HasZoneOffset (zones.TheVariants.Rule rule) = ⊤
 HasZoneOffset (zones.TheVariants.Named name) = ⊤
 
--- whether finding this zone can fail with this error: `Unclear` is only possible if the origin doesn't say which zone
--- is the local zone
+-- whether finding this zone can fail with this error: with `Unclear` only if the origin in the error doesn't say which
+-- zone is the local zone, and never with `At`
 abbrev pub IsMissedBy : LocalZone → ZonesFault → Type 0
 IsMissedBy zone (faults.Unclear origin) = zone ≡ UnclearIn origin
 IsMissedBy zone (faults.Unread origin) = ⊤

@@ -7,7 +7,8 @@ use Rattle.cal_civil.specs.headline.Local.{hour_of, minute_of, second_of}
 use Rattle.cal_zone.specs.declared.formatted_day.FormattedDay.{FormattedDay}
 use Rattle.cal_zone.specs.declared.zone.Zone.{Zone}
 
--- the text that is printed for the time `second` seconds after midnight of a cached day: the day, the time and the zone
+-- the text that is printed for a time of a cached day: the day, the time and the zone; `second` is the time of day, in
+-- seconds since midnight
 abbrev pub text_after : FormattedDay → ℕ → List ℕ
 text_after day second =
     joined (day.day.items ∷ time_text (hour_of second) (minute_of second) (second_of second) ∷ day.word.items ∷ [])
@@ -15,8 +16,8 @@ text_after day second =
 abbrev pub text_on : FormattedDay → ℤ → List ℕ
 text_on day second = text_after day (unsigned_abs (second -ℤ day.midnight))
 
--- the cached texts of a day are short: with the time between them, they fit into the 84 bytes that a printed instant
--- has at most
+-- the cached texts of a day are short: together with the time between them, they fit into 84 bytes, the maximum length
+-- of a printed instant
 pub record HasShortTexts (day : FormattedDay) : Type 0 where
   pub date : length day.day.items ≤ 26
   pub word : length day.word.items ≤ 41
