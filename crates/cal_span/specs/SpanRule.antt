@@ -72,8 +72,8 @@ abbrev pub AreWorth : List Pair → ℕ → Type 0
 AreWorth [] n = n ≡ 0
 AreWorth (p ∷ ps) n = (m : ℕ) × (k : ℕ) × (worth_of p ≡ Ok m) × AreWorth ps k × (n ≡ m + k)
 
--- after pairs with this sum, the pair `p` fails with this error: either it is the error of `p` itself, or the sum plus
--- the value of `p` is more than the limit (`TooLarge`)
+-- the pair `p`, which comes after pairs with this sum, fails with this error: either it is the error of `p` itself, or
+-- the sum plus the value of `p` is more than the limit (`TooLarge`)
 abbrev pub IsFaultAfter : ℕ → Pair → SpanFault → Type 0
 IsFaultAfter sum p TooLarge = (m : ℕ) × (worth_of p ≡ Ok m) × (limit < sum + m)
 IsFaultAfter sum p fault = worth_of p ≡ Err fault

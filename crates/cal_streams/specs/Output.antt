@@ -2,8 +2,9 @@
 use Rattle.std.specs.Prelude.{ℕ, Bool, true, false, List, Option}
 use Rattle.std.specs.Io.KnownBytes.{Keeps, append_known}
 
--- If no call has failed, all bytes that were written have left the buffer. Otherwise, the bytes that were written are
--- those that have left the buffer, followed by those that are still in it.
+-- The Boolean says whether every call so far has succeeded. If so, all bytes that were written have left the buffer.
+-- Otherwise, the bytes that were written are the bytes that have left the buffer, followed by the bytes that are still
+-- in it.
 abbrev pub Flushes : Option (List ℕ) → Option (List ℕ) → Bool → Type 0
 Flushes written reached true = Keeps written reached
 Flushes written reached false = (held : List ℕ) × Keeps written (append_known reached held)

@@ -6,7 +6,7 @@ use Rattle.cal_bytes.specs.headline.Bytes.{joined}
 use Rattle.cal_span.specs.headline.TimeUnit.{size_of, all_units, unit_name}
 use Rattle.cal_span.specs.declared.time_unit.TimeUnit.{TimeUnit}
 
--- a number of one unit, such as 30 minutes
+-- a number with its unit, such as 30 minutes
 pub record Count : Type 0 where
   pub number : ℕ
   pub unit : TimeUnit
