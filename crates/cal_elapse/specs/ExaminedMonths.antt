@@ -1,6 +1,6 @@
--- The result of a search, and the number of months that the search examines. A search examines only months whose year
--- and month number the expression matches, from the month in which it starts to the month of the result, or to the end
--- of 2199 if there is no result.
+-- The result of a search, and the number of months that the search examines. A search goes from the month in which it
+-- starts to the month of its result, or to the end of 2199 if there is no result. Of these months, it examines only
+-- those whose year and month number match.
 use Rattle.std.specs.Prelude.{◌≡◌, ◌≤◌, ℕ, suc, ◌-◌, ◌/◌, Option, None, Some, pos, unsigned_abs}
 use Rattle.std.specs.Option.{option_map}
 use Rattle.cal_civil.specs.headline.Local.{civil_date, seconds_per_day}
@@ -9,8 +9,9 @@ use Rattle.cal_elapse.specs.Search.{count_from, IsFirstLocal}
 use Rattle.cal_elapse.specs.Months.{month_in, month_of, months_in_all}
 use Rattle.cal_elapse.specs.declared.search.Found.{Found}
 
--- the number of months that a search for a day examines if it starts in month `n`: those whose year and month number
--- match, up to the month of the day that the search finds, or up to the end of 2199 if it finds none
+-- The number of months that a search for a day examines if it starts in month `n`. The last argument is the day that
+-- the search finds, if it finds one. The search examines the months whose year and month number match, from `n` to the
+-- month of this day, or to the end of 2199 if it finds no day.
 abbrev pub examined_from : Sets → ℕ → Option ℕ → ℕ
 examined_from sets n None = count_from (month_in sets) n (months_in_all - n)
 examined_from sets n (Some day) = count_from (month_in sets) n (suc (month_of (civil_date day)) - n)

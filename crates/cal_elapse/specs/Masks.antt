@@ -41,7 +41,8 @@ slot_of field.Hour from_end = Hour
 slot_of field.Minute from_end = Minute
 slot_of field.Second from_end = Second
 
--- the slot allows each of the `count` numbers from `first` on, and it doesn't count from the end of the month
+-- the slot allows each of the `count` numbers from `first` on, and it isn't the slot for days counted from the end of
+-- the month
 pub record AreSlotValues (slot : Slot) (first count : ℕ) : Type 0 where
   pub upwards : is_from_end slot ≡ false
   pub from : least slot ≤ first

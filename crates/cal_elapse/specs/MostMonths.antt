@@ -1,5 +1,5 @@
--- The largest number of months that any one of these searches examines: a first search, and one search after each
--- match in a range of local seconds.
+-- The largest number of months that a single search examines, among a first search and one search after each match in a
+-- range of local seconds.
 use Rattle.std.specs.Prelude.{◌≡◌, ◌⊎◌, ◌+◌, ◌<◌, ◌≤◌, ℕ, true, Option}
 use Rattle.cal_civil.specs.headline.Local.{seconds_in_all}
 use Rattle.cal_elapse.specs.ExaminedMonths.{examined_months}
@@ -27,7 +27,7 @@ pub record IsMostAfter (sets : Sets) (from to before most : ℕ) : Type 0 where
   pub all : (months : ℕ) → IsExaminedAfter sets from to months → months ≤ most
   pub one : (most ≡ before) ⊎ IsExaminedAfter sets from to most
 
--- `most` is the largest number of months that one of these searches examines: the search from `start` on, and the
+-- `most` is the largest number of months that a single search examines, among the search from `start` on and the
 -- searches that start just after a match in the range `start..to`
 pub record IsMost (sets : Sets) (start to most : ℕ) : Type 0 where
   pub first : ℕ

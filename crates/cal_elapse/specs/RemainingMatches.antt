@@ -6,8 +6,8 @@ use Rattle.cal_elapse.specs.Months.{day_in, minute_in, minutes_per_day, minutes_
 use Rattle.cal_elapse.specs.Search.{IsFirstPassing, NonePasses}
 use Rattle.cal_spec.specs.headline.Match.{Sets}
 
--- whether a minute, counted from the start of 1970, is before 2200 and has a date, an hour and a minute of the hour
--- that match
+-- whether a minute, counted from the start of 1970, is before 2200, and its date, its hour and its minute within the
+-- hour match
 unfoldable pub minute_matches : Sets → ℕ → Bool
 minute_matches sets minute = nat_lt minute minutes_in_all && (day_in sets (minute / minutes_per_day) && minute_in sets (minute % minutes_per_day))
 

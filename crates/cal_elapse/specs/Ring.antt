@@ -50,8 +50,8 @@ IsNear i j = (i ≤ℤ (j +ℤ pos 187_199)) × (j ≤ℤ (i +ℤ pos 187_199))
 unfoldable pub instants_in : List ℕ → ℕ → List ℤ
 instants_in cells low = rising_from (is_held cells) low cells_in_all
 
--- the ring has one bit for each cell, in `cell_words` words of 64 bits, and if it starts at `low`, none of its elements
--- is after `last_instant`
+-- the ring has one bit for each cell, in `cell_words` words of 64 bits, and if it starts at `low`, none of the instants
+-- in it is after `last_instant`
 pub record IsRound (cells : List ℕ) (low : ℕ) : Type 0 where
   pub whole : length cells ≡ cell_words
   pub members : (i : ℤ) → Has (instants_in cells low) i → i ≤ℤ last_instant

@@ -39,8 +39,8 @@ abbrev pub start_of : ℤ → ℕ
 start_of (pos base) = base - max_offset
 start_of (negsuc n) = 0
 
--- the bound below which all matches have been converted: the match that was found last, `ahead`, or, if that is `None`,
--- the end of all local seconds
+-- the bound below which all matches have been converted: `ahead`, the match that was found last, or the end of all
+-- local seconds if `ahead` is `None`
 abbrev pub bound_of : Option ℤ → ℕ
 bound_of ahead = unwrap_or (option_map unsigned_abs ahead) seconds_in_all
 
