@@ -51,8 +51,9 @@ before_second second (Err fault) = Err (BadSpan fault)
 unfoldable pub today : ℤ → TimeZone → ℤ
 today now zone = day_of (local_shown_at zone now)
 
--- the moment that is `micros` microseconds after midnight of the day on the zone's clock, or `OutOfRange`; a local time
--- in a gap is moved forward by the length of the gap, and for a local time in a fold the first occurrence is used
+-- the moment at which the zone's clock shows a time of day on this day, or `OutOfRange`; `micros` is the time of day,
+-- in microseconds since midnight on the clock; a local time in a gap is moved forward by the length of the gap, and for
+-- a local time in a fold the first occurrence is used
 unfoldable pub settle_on : TimeZone → ℤ → ℕ → Result ℤ StampFault
 settle_on zone day micros =
     in_moments (micros_of (settle_of zone (day *ℤ pos seconds_per_day +ℤ pos (micros / micros_per_second))) +ℤ pos (micros % micros_per_second))

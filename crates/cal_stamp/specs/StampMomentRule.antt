@@ -43,8 +43,9 @@ abbrev pub FallsOn : Option Weekday → ℤ → Type 0
 FallsOn None day = Unit
 FallsOn (Some weekday) day = (week : ℤ) × (day +ℤ pos 3 ≡ week *ℤ pos 7 +ℤ pos (monday_zero weekday))
 
--- the time is this many microseconds after midnight of the day on the zone's clock; a local time in a gap is moved
--- forward by the length of the gap, and for a local time in a fold the first occurrence is used
+-- at this time, the zone's clock shows a time of day on this day; `micros` is the time of day, in microseconds since
+-- midnight on the clock; a local time in a gap is moved forward by the length of the gap, and for a local time in a
+-- fold the first occurrence is used
 pub record IsTimeOfDay (zone : TimeZone) (day : ℤ) (micros : ℕ) (time : ℤ) : Type 0 where
   pub second : ℕ
   pub rest : ℕ

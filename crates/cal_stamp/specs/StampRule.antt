@@ -34,7 +34,7 @@ IsRelativeDay word shift core form =
 abbrev pub IsCivilForm : List ℕ → Form → Type 0
 IsCivilForm core form = form ≡ civil (words core)
 
--- the text has the form by the rule `P`, or by the rule `Q` if the text has no form by the rule `P`
+-- `form` is a form that the rule `P` allows for the text or, if `P` allows no form, one that the rule `Q` allows
 abbrev pub OrElse : (List ℕ → Form → Type 0) → (List ℕ → Form → Type 0) → List ℕ → Form → Type 0
 OrElse P Q core form = P core form ⊎ (((other : Form) → P core other → ⊥) × Q core form)
 

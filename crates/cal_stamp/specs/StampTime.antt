@@ -43,7 +43,7 @@ second_of_pieces pieces = None
 unfoldable pub second_written : List ℕ → Option ℕ
 second_written word = second_of_pieces (slice_split is_point word)
 
--- the microseconds after midnight, given the hour, the minute, and the microseconds since the full minute
+-- the microseconds after midnight, given the hour, the minute, and the microseconds since the start of the minute
 abbrev pub time_by : Option ℕ → Option ℕ → Option ℕ → Option ℕ
 time_by (Some hour) (Some minute) (Some micros) = Some ((hour * 3_600 + minute * 60) * micros_per_second + micros)
 time_by hour minute micros = None

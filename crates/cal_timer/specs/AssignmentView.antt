@@ -1,5 +1,5 @@
--- How contracts see the assignments of a unit file: by the bytes of their keys and values, not by where these are in
--- memory.
+-- How contracts see the assignments of a unit file: by their line numbers and the bytes of their keys and values,
+-- without their addresses in memory.
 use Rattle.cal_timer.specs.headline.Assignments.{Assignment}
 use Rattle.cal_timer.specs.declared.assignments.Assignment as declared_assignment
 

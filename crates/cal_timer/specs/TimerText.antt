@@ -49,7 +49,7 @@ abbrev pub entry_of : {E : Type 0} → Assignment → Result E SpecFault → Opt
 entry_of a (Ok expr) = Some (record { number = a.number; text = a.value; expr = expr })
 entry_of a (Err fault) = None
 
--- the entries of the assignments in `list`, without those that have an invalid expression
+-- the entries of the assignments in `list`; an assignment with an invalid expression has no entry
 abbrev pub entries_of : {E : Type 0} → (List ℕ → Result E SpecFault) → List Assignment → List (TimerLine E)
 entries_of read list = filter_map (λ a. entry_of a (read a.value)) list
 
@@ -108,8 +108,8 @@ timer_text read (Err fault) = Err (input_fault fault)
 abbrev pub timer_file_limit : ℕ
 timer_file_limit = 1_048_576
 
--- the result of reading an input to its end is all bytes of the input, or an error; `old` and `new` are the bytes that
--- remain before and after reading, if they are known, and `limit` is the maximum number of bytes
+-- the result of reading an input to its end: all bytes that were left to read, or an error; `old` and `new` are the
+-- bytes that are left before and after reading, if they are known, and `limit` is the maximum number of bytes
 abbrev pub ReadsWhole : Option (List ℕ) → Option (List ℕ) → ℕ → Result (List ℕ) WholeFault → Type 0
 ReadsWhole old new limit (Ok bytes) = GivesAll old new limit bytes
 ReadsWhole old new limit (Err fault) = IsWholeFault old new limit fault

@@ -6,7 +6,7 @@ use Rattle.std.specs.List.{after_last, list_any, starts_with}
 use Rattle.std.specs.Str.{bytes_eq}
 use Rattle.cal_timer.specs.headline.Assignments.{Assignment}
 
--- the keys whose assignments clear the list of expressions if their value is empty
+-- the keys that clear the list of expressions if an empty value is assigned to them
 abbrev pub timer_keys : List (List ℕ)
 timer_keys =
     codes "OnActiveSec" ∷ codes "OnBootSec" ∷ codes "OnStartupSec" ∷ codes "OnUnitActiveSec"
