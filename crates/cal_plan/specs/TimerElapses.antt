@@ -1,5 +1,5 @@
--- The elapse times of expressions and of exceptions, each in its zone, and the merge that yields those of the timer:
--- systemd.timer(5), OnCalendar=. An exception is an expression; when it elapses, the timer doesn't.
+-- The elapse times of expressions and of exceptions, each in its zone, and the merge that yields the elapse times of
+-- the timer: systemd.timer(5), OnCalendar=. An exception is an expression; when it elapses, the timer doesn't.
 use Rattle.std.specs.Prelude.{◌≡◌, ◌++◌, ℤ, false, map, List, None, Some}
 use Rattle.std.specs.Option.{unwrap_or}
 use Rattle.jiff.specs.Types.{TimeZone, UTC}
@@ -52,8 +52,8 @@ entry_sets e = sets_of e.expr
 abbrev pub IsCoveredEntry : TimerLine Fields → List (TimerLine Fields) → Type 0
 IsCoveredEntry e exceptions = (at : Setting) → IsCovered (timed_entry at e) (map (timed_entry at) exceptions)
 
--- `new` is the merge `old` with the elapse times of the expressions in `list` added; expressions whose elapse times are
--- all suppressed by the exceptions may be left out
+-- `new` is the merge `old` with the elapse times of the expressions in `list` added; elapse times at which an exception
+-- elapses, too, may be left out
 pub record IsAdded (at : Setting) (base : ℤ) (list exceptions : List (TimerLine Fields)) (old new : Merge) : Type 0 where
   pub kept : List Timed
   pub are_kept : AreKept (map (timed_entry at) list) (map (timed_entry at) exceptions) kept

@@ -11,8 +11,9 @@ use Rattle.cal_spec.specs.headline.ZoneSuffix.{ZoneSuffix, of_name, ahead}
 use Rattle.cal_timer.specs.TimerText.{TimerLine, Timer}
 
 -- The zone in which an expression with this zone suffix is evaluated: the local zone if there is no suffix, the fixed
--- zone at this offset if the suffix is a UTC offset, and the zone that `at.find` returns if the suffix is a name.
--- `at.find` returns UTC for `UTC`, and `None` if it finds no zone of that name; the result is then `None` too.
+-- zone at this offset if the suffix is a UTC offset, and the zone that `at.find` finds if the suffix is a name. If it
+-- finds no zone with this name, the result is `None`. In every setting of the program, `at.find` returns UTC for the
+-- name `UTC`.
 unfoldable pub zone_for : Setting → Option ZoneSuffix → Option TimeZone
 zone_for at None = Some at.local
 zone_for at (Some (of_name name)) = at.find name
