@@ -88,7 +88,7 @@ abbrev pub reads_input : Request → Bool
 reads_input asked = is_timer asked.verb && is_ok (base_in asked)
 
 -- `read` is what reading the input returned: all of its bytes, or why reading them failed. The first argument says
--- whether the input is read at all. If it isn't, it stays unchanged, and `read` is an empty list of bytes.
+-- whether the input is read at all. If not, the input stays unchanged, and `read` is an empty list of bytes.
 abbrev pub ReadsIf : Bool → Option (List ℕ) → Option (List ℕ) → Result (List ℕ) WholeFault → Type 0
 ReadsIf true old new read = ReadsWhole old new timer_file_limit read
 ReadsIf false old new read = (new ≡ old) × (read ≡ Ok [])
@@ -103,9 +103,9 @@ pub record IsReported (result : Result Status RunFault) (out_old out_new err_old
   pub err : Writes err_old err_new result report.err
   pub unread : read ≡ Err NoMemory → (out_new ≡ out_old) × (err_new ≡ err_old)
 
--- There is a result `read` of reading the input such that `holds_of` is true of `read` and of the request's report for
--- `read`. `failed` says whether the source of the input has failed. It is true if and only if `read` says that a read
--- failed.
+-- There is a possible result of reading the input, `read`, and `holds_of` is true of `read` and of the report that the
+-- request has for it. `failed` says whether the source of the input has failed: it is true if and only if `read` says
+-- that a read failed.
 pub record ByReading (asked : Request) (old new : Option (List ℕ)) (failed : Bool) (holds_of : Result (List ℕ) WholeFault → Report → Type 0) : Type 0 where
   pub read : Result (List ℕ) WholeFault
   pub input : ReadsIf (reads_input asked) old new read

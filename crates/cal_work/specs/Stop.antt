@@ -63,8 +63,8 @@ abbrev pub load_stop : List ℕ → LoadFault → Stop
 load_stop name ReadFailed = with_line (zones_line name (message_of ReadFailed)) 2
 load_stop name (Zone fault) = zone_stop name fault
 
--- the stops for an invalid rule and an unknown name of the local zone, and for a clock without a time in the supported
--- range
+-- the next three stops are for a local zone given by an invalid rule, for a local zone given by an unknown name, and
+-- for a clock that has no time in the supported range
 abbrev pub rule_stop : Stop
 rule_stop = with_line (own_line (codes "--local: bad rule")) 2
 

@@ -16,8 +16,8 @@ pub record Known : Type 0 where
 abbrev pub nothing_known : Known
 nothing_known = record { file = λ path. None; may_fail = λ path. true; time = None }
 
--- `came` agrees with what is known about the clock. It is the time that the clock shows, or `None` if the clock has no
--- time.
+-- `came`, the result of asking the clock, agrees with what is known about the clock. `came` is the time that the clock
+-- shows, or `None` if the clock has no time.
 abbrev pub GivesTime : Option (Option ℤ) → Option ℤ → Type 0
 GivesTime None came = Unit {0}
 GivesTime (Some time) came = came ≡ time

@@ -111,8 +111,9 @@ abbrev pub ran : Result Status RunFault → Result Status declared_stop.Stop
 ran (Ok status) = Ok status
 ran (Err fault) = Err (Run fault)
 
--- The work ended with this stop, as the outcome `expected` requires. If the stop is `Run`, a prefix of each text of the
--- outcome was written, and the exit status is 1. For every other stop, nothing was written, and `StopsAs` holds.
+-- The work ended with this stop, and this agrees with the outcome `expected`. If the stop is `Run`, a prefix of each
+-- text of the outcome was written, and the exit status is 1. For every other stop, nothing was written, and `StopsAs`
+-- holds.
 abbrev pub StopEnds : declared_stop.Stop → Result Report Stop → Option (List ℕ) → Option (List ℕ) → Option (List ℕ) → Option (List ℕ) → Type 0
 StopEnds (Run fault) expected out out' err err' =
     (ended_status {T = Unit} (Err fault) expected ≡ 1) × AppendsFront out out' (out_text expected) × AppendsFront err err' (err_text expected)
@@ -154,8 +155,8 @@ pub record WritesOf {T : Type 0} (written : Result T RunFault) (status : ℕ) (e
   pub out_bytes : Writes out out' written (out_text expected)
   pub err_bytes : Writes err err' written (err_text expected)
 
--- The two results are those before and after standard output is flushed. The flush can change the result only from `Ok`
--- to `OutFailed`.
+-- The first result is the one before standard output is flushed, and the second is the one after the flush. The flush
+-- can change the result only from `Ok` to `OutFailed`.
 abbrev pub IsFlushed : {T : Type 0} → Result T RunFault → Result T RunFault → Type 0
 IsFlushed (Ok all) (Ok flushed) = Unit {0}
 IsFlushed (Ok all) (Err fault) = fault ≡ OutFailed

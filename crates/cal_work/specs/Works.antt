@@ -1,6 +1,5 @@
 -- From the arguments to the bytes: there is a world that agrees with everything that is known about the system, and the
--- bytes written and the status are those of the outcome in this world. A world is everything that the outcome depends
--- on.
+-- bytes written and the status agree with the outcome in this world. A world is everything that the outcome depends on.
 use Rattle.std.specs.Prelude.{◌≡◌, ℕ, Bool, true, false, List, [], ◌∷◌, Option, None, Some, Result, Ok, Err, IfOk, IfNone}
 use Rattle.std.specs.FinMap.{empty}
 use Rattle.std.specs.Io.KnownBytes.{Keeps, Appends, append_known}
@@ -98,15 +97,15 @@ TellsFault old new failed (Ok all) = Keeps old new
 TellsFault old new false (Err fault) = Appends old new (fault_stop fault).err
 TellsFault old new true (Err fault) = AppendsFront old new (fault_stop fault).err
 
--- The text is written to standard error, or a prefix of the text if an output or an allocation failed. After the text
--- or its prefix comes the final error line, as `TellsFault` says.
+-- If nothing failed, the whole text is written to standard error. If an output or an allocation failed, a prefix of the
+-- text is written, and after it the final error line, as `TellsFault` says.
 pub record Tells {T : Type 0} (old new : Option (List ℕ)) (failed : Bool) (written : Result T RunFault) (text : List ℕ) : Type 0 where
   pub before : Option (List ℕ)
   pub text_bytes : Writes old before written text
   pub line : TellsFault before new failed written
 
--- the status and the bytes that the program wrote are those of the outcome in a world that fits the arguments and what
--- is known
+-- the status and the bytes that the program wrote agree, as `Reaches` and `Tells` say, with the outcome in a world that
+-- fits the arguments and what is known
 pub record Works (known : Known) (arguments : List (List ℕ)) (out reached err err' : Option (List ℕ)) (err_failed : Bool) (ended : Ended) : Type 0 where
   pub world : World
   pub fits : FitsArguments known arguments world
