@@ -14,18 +14,18 @@ timers_in (Ok (founds.TheVariants.Timer timer)) = timer ∷ []
 timers_in (Ok founds.TheVariants.Masked) = []
 timers_in (Err fault) = []
 
--- what was found is the unit with this stem, or this unit is masked
+-- either the timer that was found is the unit with this stem, or this unit is masked
 abbrev pub IsUnitFound : Machine → List (List ℕ) → List Alias → List ℕ → founds.Found → Type 0
 IsUnitFound machine path aliases stem (founds.TheVariants.Timer timer) = IsUnitOn machine path aliases stem timer
 IsUnitFound machine path aliases stem founds.TheVariants.Masked = (file : List ℕ) × (unit_in machine path stem ≡ MaskedBy file)
 
--- a timer that was found is a unit of the machine with its drop-ins, or a file of the machine without them; this says
--- nothing about what is masked
+-- a timer that was found was read either from a unit of the machine, with its drop-ins, or from a single file of the
+-- machine, without drop-ins; nothing is said about a unit that is masked
 abbrev pub IsFound : Machine → List (List ℕ) → List Alias → founds.Found → Type 0
 IsFound machine path aliases (founds.TheVariants.Timer timer) = IsTimerOn machine path aliases timer
 IsFound machine path aliases founds.TheVariants.Masked = Unit {0}
 
--- a timer that was found is a file of the machine; this says nothing about what is masked
+-- a timer that was found was read from a single file of the machine; nothing is said about a unit that is masked
 abbrev pub IsFileFound : Machine → founds.Found → Type 0
 IsFileFound machine (founds.TheVariants.Timer timer) = IsFileOn machine timer
 IsFileFound machine founds.TheVariants.Masked = Unit {0}

@@ -52,7 +52,8 @@ bytes_in files = map (λ file. file.bytes) files
 abbrev pub assignments_of : List UnitText → List Assignment
 assignments_of files = assignments_from 1 (bytes_in files)
 
--- the calendar has the expressions and exceptions of these assignments, or nothing if there are no expressions
+-- none of these assignments has an error, and the calendar has their expressions and exceptions, or nothing if there
+-- are no expressions
 abbrev pub IsCalendarBy : List Assignment → calendars.Calendar → Type 0
 IsCalendarBy assignments calendars.TheVariants.Nothing = lists_of expr_in assignments ≡ Err NothingToDo
 IsCalendarBy assignments (calendars.TheVariants.Timer timer) = lists_of expr_in assignments ≡ Ok timer

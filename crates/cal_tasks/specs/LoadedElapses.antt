@@ -31,7 +31,7 @@ elapses_in at base timer = elapses_of_lists (setting_for at timer) base (lists_o
 abbrev pub unzoned_line : Clocked → LoadedTimer → Option ℕ
 unzoned_line at timer = unzoned (setting_for at timer) (lists_of_loaded timer.calendar)
 
--- `unzoned_line` of the first timer that names a zone that wasn't loaded for it, or `None` if there is no such timer
+-- the line that `unzoned_line` finds in the first timer that has such a line, or `None` if no timer has one
 abbrev pub first_unzoned_line : Clocked → List LoadedTimer → Option ℕ
 first_unzoned_line at [] = None
 first_unzoned_line at (timer ∷ timers) = option_or (unzoned_line at timer) (first_unzoned_line at timers)

@@ -42,12 +42,13 @@ abbrev pub fields_without_date : Result Fields SpecFault → Option Fields
 fields_without_date (Err fault) = None
 fields_without_date (Ok fields) = fields_unless_dated fields
 
--- the fields of a weekday with a time, which is a calendar expression that begins with the name of a weekday and has no
--- date; None for any other text
+-- the fields of a weekday with a time, which is a calendar expression that begins with the name of a weekday and whose
+-- year, month and day are `*`, as they are if no date is written; None for any other text
 abbrev pub weekday_time_in : List ℕ → Option Fields
 weekday_time_in text = if begin_with_weekday (words text) then fields_without_date (expr_in text) else None
 
--- the first instant after `after` at which an expression elapses in its zone; None if its zone isn't known
+-- the first instant after `after` at which an expression elapses in its zone; None if it doesn't elapse after `after`,
+-- or if its zone isn't known
 abbrev pub first_in : ℤ → Fields → Option TimeZone → Option ℤ
 first_in after fields None = None
 first_in after fields (Some tz) = slice_get (elapses_after (timed fields tz ∷ []) after) 0
@@ -59,11 +60,12 @@ abbrev pub first_if_some : Setting → ℤ → Option Fields → Option ℤ
 first_if_some at after None = None
 first_if_some at after (Some fields) = first_elapse at after fields
 
--- the first elapse after `after` of a weekday with a time; None for any other text
+-- the first elapse after `after` if the text is a weekday with a time; None if there is no such elapse, and for any
+-- other text
 abbrev pub next_weekday_time : Setting → ℤ → List ℕ → Option ℤ
 next_weekday_time at after text = first_if_some at after (weekday_time_in text)
 
--- the moment of a timestamp in microseconds, rounded down to a whole second
+-- the moment of a timestamp, converted from microseconds to seconds and rounded down; an error is unchanged
 abbrev pub rounded : Result ℤ StampFault → Result ℤ StampFault
 rounded (Err fault) = Err fault
 rounded (Ok micros) = Ok (pos (unsigned_abs micros / micros_per_second))
@@ -72,8 +74,8 @@ abbrev pub or_second : Result ℤ StampFault → Option ℤ → Result ℤ Stamp
 or_second moment None = rounded moment
 or_second moment (Some secs) = Ok secs
 
--- The instant that a text stands for: the first elapse after `after` if the text is a weekday with a time that elapses
--- then. Any other text is a timestamp.
+-- The instant that a text stands for. If the text is a weekday with a time and elapses after `after`, this is its first
+-- elapse after `after`. Any other text is parsed as a timestamp.
 abbrev pub instant_in : ℤ → Setting → ℤ → List ℕ → Result ℤ StampFault
 instant_in now at after text = or_second (moment_in now at text) (next_weekday_time at after text)
 
