@@ -13,7 +13,7 @@ abbrev pub IsCount : ℕ → Type 0
 IsCount count = (1 ≤ count) × (count ≤ max_count)
 
 -- whether the verb accepts this number of targets, which are the arguments other than the verb, the options and their
--- values
+-- values; the start and the end of the range of `between` count as targets, too
 abbrev pub fits_verb : Verb → ℕ → Bool
 fits_verb List count = true
 fits_verb Show count = nat_le 1 count

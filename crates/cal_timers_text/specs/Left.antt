@@ -13,6 +13,6 @@ abbrev pub two_words : List (List ℕ) → List ℕ
 two_words [] = []
 two_words (word ∷ others) = word ++ second_word others
 
--- the two largest units of the time span between two instants
+-- the time span between two instants, printed with only the two largest of its units
 abbrev pub two_units : ℤ → ℤ → List ℕ
 two_units now secs = two_words (words (span_text (unsigned_abs (secs -ℤ now) * 1_000_000)))
