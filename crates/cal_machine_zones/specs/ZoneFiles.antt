@@ -27,7 +27,8 @@ abbrev pub HasZonesOf : Machine → ZoneMap → Type 0
 HasZonesOf machine table =
     (name : List ℕ) → is_utc_name name ≡ false → IfSome (zone_named table name) (IsZoneOn machine name)
 
--- whether the table has gained exactly one zone, for which `IsZone` holds, under a name other than UTC
+-- whether the only change from `old` to `new` is that a zone for which `IsZone` holds is inserted under `name`, which
+-- isn't UTC
 pub record IsAdded (old new : ZoneMap) (name : List ℕ) (IsZone : TimeZone → Type 0) : Type 0 where
   pub zone : TimeZone
   pub is_zone : IsZone zone

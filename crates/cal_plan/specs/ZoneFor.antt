@@ -23,7 +23,8 @@ zone_for at (Some (ahead seconds)) = Some (fixed_offset_zone seconds)
 abbrev pub lacks_zone : Setting → TimerLine Fields → Bool
 lacks_zone at e = is_none (zone_for at e.expr.zone)
 
--- the number of the first line of a list that names a zone missing from the zone table
+-- among the lines of a list, the number of the first line that names a zone missing from the zone table, if there is
+-- one
 abbrev pub first_unzoned : Setting → List (TimerLine Fields) → Option ℕ
 first_unzoned at list = option_map (λ (e : TimerLine Fields). e.number) (find (lacks_zone at) list)
 

@@ -38,14 +38,13 @@ pub record Stand (asked : Request) (s : Schedule) (shown : List ℤ) (front : Li
   pub whole : (before : List ℤ) (elapse : ℤ) (after : List ℤ) → shown ≡ before ++ (elapse ∷ after)
       → Begins front (up_to_line asked s before elapse) ↔ (length before < k)
 
--- `from` is the base time of the next run: the last of the first `k` elapse times shown, or the old base time if `k` is
--- 0
+-- `from` is the base time of the next run: the `k`-th of the elapse times shown, or the old base time if `k` is 0
 abbrev pub IsBaseAfter : ℤ → List ℤ → ℕ → ℤ → Type 0
 IsBaseAfter base shown zero from = from ≡ base
 IsBaseAfter base shown (suc before) from = slice_get shown before ≡ Some from
 
--- `again` is a request that continues `asked` after the first `k` elapse times shown: its base time is the last of
--- them, and it asks for `k` fewer elapse times. If `k` is 0, it has the old base time.
+-- `again` is a request that continues `asked` after the first `k` elapse times shown: its base time is the `k`-th of
+-- the elapse times shown, or the old base time if `k` is 0, and it asks for `k` fewer elapse times.
 pub record IsBegunAgain (asked : Request) (base : ℤ) (shown : List ℤ) (k : ℕ) (again : Request) : Type 0 where
   pub verb : again.verb ≡ asked.verb
   pub texts : again.texts ≡ asked.texts
@@ -57,8 +56,8 @@ pub record IsBegunAgain (asked : Request) (base : ℤ) (shown : List ℤ) (k : �
   pub sought : base_in again ≡ Ok from
   pub after : IsBaseAfter base shown k from
 
--- the base time of the next run as a user writes it: `@` and the seconds of the last of the first `k` elapse times
--- shown, or the old base time if `k` is 0
+-- the base time of the next run as a user writes it: `@` and the seconds of the `k`-th of the elapse times shown, or
+-- the old base time if `k` is 0
 abbrev pub base_after : Option (List ℕ) → List ℤ → ℕ → Option (List ℕ)
 base_after base shown zero = base
 base_after base shown (suc before) = option_map base_text (slice_get shown before)

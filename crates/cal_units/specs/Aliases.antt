@@ -63,8 +63,8 @@ stem_if_of own alias = if bytes_eq alias.unit own then alias.stem ∷ [] else []
 abbrev pub stems_leading_to : List ℕ → List Alias → List (List ℕ)
 stems_leading_to own aliases = flat_map (stem_if_of own) aliases
 
--- the stems whose drop-ins are read for a unit: those of its aliases, then those of the aliases that were followed to
--- find it, and last its own
+-- the stems whose drop-ins are read for a unit: first the stems of its aliases, then the stems of the aliases that were
+-- followed to find the unit, and last the unit's own stem
 abbrev pub stems_of : List Alias → List (List ℕ) → List ℕ → List (List ℕ)
 stems_of aliases followed own = stems_leading_to own aliases ++ followed ++ own ∷ []
 

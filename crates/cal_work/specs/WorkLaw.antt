@@ -12,7 +12,8 @@ use Rattle.cal_report.specs.headline.Report.{Report}
 use Rattle.cal_work.specs.Stop.{Stop, command_stop, memory_stop}
 use Rattle.cal_work.specs.System.{Known, Seen}
 
--- the bytes of each file and the clock's time are known, and no read fails
+-- everything is known: the bytes of each file, or that it can't be opened, and the clock's time, or that it has none;
+-- and no read fails
 pub record TellsAll (known : Known) : Type 0 where
   pub files : (path : List ℕ) → IsSome (known.file path)
   pub sure : (path : List ℕ) → known.may_fail path ≡ false
