@@ -2,8 +2,8 @@
 ghost use Rattle.std.specs.Prelude.{◌≡◌, ◌↔◌, IsSome, IfSome};
 ghost use Rattle.cal_zone.specs.Instant.{IsInstant};
 
-/// A number of whole seconds of Unix time, from 0 to 7,258,211,998. The upper limit is the end of the year 2199 at the
-/// UTC offset farthest west, -25:59:59.
+/// A number of whole seconds of Unix time, from 0 to 7,258,211,998. The upper limit is the last second of the year 2199
+/// at the UTC offset farthest west, -25:59:59.
 #[derive(Clone, Copy, Debug, PartialEq, Eq)]
 pub struct Instant {
     secs: i64,

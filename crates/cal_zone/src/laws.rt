@@ -65,8 +65,8 @@ pub fn places_are_of_one_local_second()
     ensures { (tz : TimeZone) (a b place : ℤ) → place_of tz a ≡ Some place → place_of tz b ≡ Some place → a ≡ b }
 {}
 
-/// How the place of a local second follows from what `jiff` reports for its civil time: that it occurs once, is in a
-/// gap, or is in a fold.
+/// States how the place of a local second follows from what `jiff` reports for its civil time: that it occurs once, is
+/// in a gap, or is in a fold.
 ///
 /// Only one UTC offset is tried. For a civil time that occurs once, it is the offset that `jiff` reports; for a gap or
 /// a fold, it is the offset before the transition. Subtracting this offset from the local second yields an instant. If

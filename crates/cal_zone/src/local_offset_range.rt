@@ -110,10 +110,10 @@ pub(crate) fn range_end_after_table(table: &Tzif, local: i64, constant_until: In
     }
 }
 
-/// Returns the end of a range of local seconds that starts at `local` and has a constant UTC offset, if the zone is a
-/// POSIX rule: [`LOCAL_END`] if the rule has no daylight saving time, and otherwise a second that is at least
-/// [`TRANSITION_MARGIN`] seconds before the rule's next transition and [`MAX_OFFSET`] seconds before `constant_until`.
-/// For every other zone, returns `local`, which makes the range empty.
+/// Returns the end of a range of local seconds that starts at `local` and has a constant UTC offset. If the zone is a
+/// POSIX rule without daylight saving time, the range ends at [`LOCAL_END`]. If it is a POSIX rule with daylight saving
+/// time, the range ends at least [`TRANSITION_MARGIN`] seconds before the rule's next transition and [`MAX_OFFSET`]
+/// seconds before `constant_until`. For every other zone, returns `local`, which makes the range empty.
 ///
 /// The caller guarantees that the UTC offset is constant from [`TRANSITION_MARGIN`] seconds before `local` until
 /// `constant_until`.
@@ -143,13 +143,13 @@ fn range_end_by_rule(rule: posix::TimeZone, local: i64, constant_until: Instant)
     LOCAL_END
 }
 
-/// Returns the end of a range of local seconds without a gap or a fold. `next` is the first transition of a POSIX
-/// rule after `past`.
+/// Returns the end of a range of local seconds without a gap or a fold. `next` is the first transition of a POSIX rule
+/// after `past`.
 ///
 /// The range starts [`TRANSITION_MARGIN`] seconds after `past`, and ends [`TRANSITION_MARGIN`] seconds before the
-/// transition or earlier. Since a POSIX rule is evaluated year by year, a range that starts in the year of `past` also
-/// ends in that year. Returns `past`, which makes the range empty, if there is no transition or if `past` is before
-/// 1970.
+/// transition. If the range starts in the year of `past`, it ends with this year at the latest, since a POSIX rule is
+/// evaluated year by year. Returns `past`, which makes the range empty, if there is no transition or if `past` is
+/// before 1970.
 fn range_end_before_transition(next: Option<Transition>, past: i64) -> i64
     requires { past ≤ℤ pos 7_258_500_000 }
     ensures { IsClearOfTransitionUntil (option_map transition_view next) past result }

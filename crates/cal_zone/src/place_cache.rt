@@ -14,7 +14,7 @@ use crate::{Instant, Zone, place};
 use cal_civil::LOCAL_END;
 use std::marker::Model;
 
-/// If a search for a range that contains a local second finds none, the next search is for a local second that is at
+/// If no range that contains a local second is found, the next search for a range is made for a local second that is at
 /// least this many seconds later. Local seconds before that are converted one by one, since a search costs more than a
 /// conversion.
 const SEEK_RETRY_DISTANCE: i64 = 1_000;
@@ -116,8 +116,9 @@ impl<'z> PlaceCache<'z> {
         self.local_outside(instant)
     }
 
-    /// Computes [`PlaceCache::local_at`] by the zone's rules, for an instant that isn't the place of a local second of
-    /// the cached range. If there is a result, may also cache a range that contains it, for the calls that follow.
+    /// Computes [`PlaceCache::local_at`] by the zone's rules, for an instant that isn't the place of a local second in
+    /// the cached range. If there is a result, may also cache a range that contains this local second, for the calls
+    /// that follow.
     #[cold]
     #[inline(never)]
     fn local_outside(&mut self, instant: Instant) -> Option<i64>

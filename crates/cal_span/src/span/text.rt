@@ -1,5 +1,5 @@
-//! Printing time spans, as in `1h 30min`. For each unit, from the largest to the smallest, the text says how many whole
-//! units fit into what remains of the span; units that don't fit are left out.
+//! Printing time spans, as in `1h 30min`. A span is split into whole years, the rest into whole months, and so on down
+//! to microseconds. Units whose count is zero are left out.
 
 ghost use Rattle.std.specs.Prelude.{◌≡◌, ◌+◌, ◌≤◌, ℕ, List, [], ◌∷◌, ◌++◌, length, false, decimal};
 ghost use Rattle.cal_span.specs.Span.{limit};
