@@ -16,7 +16,7 @@ pub fn one_grouping()
     ensures only { (all : List Group) → AreGroups all → groups (lines_of all) ≡ all }
 {}
 
-/// For each text and each number of its first line, `AreLogical` describes exactly one list of logical lines, and
+/// For each text, whatever number its first line has, `AreLogical` describes exactly one list of logical lines, and
 /// `logical_lines` returns this list. The physical lines lose their leading blanks, comments are dropped, and each
 /// group of continued lines is joined, with a space in place of each backslash that continues a line.
 pub fn logical_lines_are_those_of_the_rule()

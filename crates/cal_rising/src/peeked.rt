@@ -1,5 +1,5 @@
-//! One source of a merge, and the number read ahead, if any: a number that was read from the source, but that the merge
-//! has not returned yet.
+//! A source of a merge that may have been read one number ahead: this number was read from the source, but the merge
+//! has not returned it yet.
 
 ghost use Rattle.std.specs.Prelude.{◌≡◌, ◌≤ℤ◌, None, IfSome};
 ghost use Rattle.std.specs.Set.{is_member};
@@ -10,9 +10,9 @@ ghost use Rattle.cal_rising.specs.RisingList.{IsSameFrom};
 use crate::Rising;
 use std::marker::Model;
 
-/// [`Peeked::has_onward`] reads a number from the source at a miss, but only after this many misses have been counted.
-/// A miss is an answer of the source that it does not have the number asked for. Reading is put off because, in a
-/// source with few numbers, finding the next number costs far more than asking whether the source has a certain number.
+/// How many misses [`Peeked::has_onward`] only counts; at the next miss, it reads a number from the source. A miss is
+/// an answer of the source that it does not have the number asked for. Reading is put off because, in a source with few
+/// numbers, finding the next number costs far more than asking whether the source has a certain number.
 const MISSES_BEFORE_STEP: u8 = 128;
 
 /// A source whose next number may have been read ahead ("peeked"). A contract can see the number read ahead, if any,

@@ -65,8 +65,8 @@ impl<S: Rising> Rising for Sources<S> {
     ghost rest = { union };
 
     /// Removes the smallest remaining number from each source that has it, and returns this number. Returns `None` if
-    /// no source has a number left. The sources are compared by their next numbers, which are read ahead for this
-    /// unless they already were.
+    /// no source has a number left. To compare the sources, first reads the next number of each source ahead, unless
+    /// that has already been done.
     fn next(&mut self) -> Option<i64>
         ensures given { result ≡ slice_get (union self.old) 0 }
         ensures left { union self.new ≡ drop 1 (union self.old) }
