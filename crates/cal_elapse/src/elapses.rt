@@ -67,9 +67,9 @@ impl<'z> Elapses<'z> {
         })
     }
 
-    /// Returns how many searches have been made: one by `new`, and one after each match that `next` has converted to an
-    /// instant or, if the match is in a gap, has skipped. One search finds the first match at or after a local second,
-    /// as one call of [`next_local`](crate::next_local) does.
+    /// Returns how many searches have been made: one by `new`, and one after each match that `next` has dealt with.
+    /// `next` converts a match to an instant, or skips it if it is in a gap. One search finds the first match at or
+    /// after a local second, as one call of [`next_local`](crate::next_local) does.
     pub fn searches(&self) -> u64
         ensures { result ≡ self.now.searcher.searches }
     {

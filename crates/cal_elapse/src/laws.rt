@@ -33,12 +33,13 @@ pub fn elapses_of_each()
         ≡ elapses_except es exceptions base }
 {}
 
-/// An expression is covered by exceptions if and only if, whatever the base is, none of its elapses after the base is
-/// left once the elapses of the exceptions are removed. In the same zone, an expression is covered by another one that
-/// matches all its values, field by field, and counts days from the same end of the month. Suppose that some
-/// expressions are left out, and that each of their elapses is also an elapse of an exception or of an expression that
-/// is kept. Then the same elapses remain once the elapses of the exceptions are removed. So covered expressions may be
-/// left out.
+/// Exceptions cover an expression if and only if, after every base, none of the expression's elapses is left once the
+/// elapses of the exceptions are removed. An exception covers an expression in the same zone if it matches all values
+/// that the expression matches, field by field, and counts days from the same end of the month.
+///
+/// Covered expressions may be left out. More generally, suppose that some expressions are left out, and that each of
+/// their elapses is also an elapse of an exception or of an expression that is kept. Then the same elapses remain once
+/// the elapses of the exceptions are removed.
 pub fn covered_are_left_out()
     ensures covered { (e : Timed) (exceptions : List Timed) → IsCovered e exceptions
         ↔ ((base : ℤ) → elapses_except (e ∷ []) exceptions base ≡ []) }
@@ -48,15 +49,16 @@ pub fn covered_are_left_out()
         → elapses_except kept exceptions base ≡ elapses_except all exceptions base }
 {}
 
-/// If one of the elapses becomes the new base, the elapses after this base are exactly those that follow it in the
-/// list.
+/// If one of the elapses becomes the new base, the elapses after this base are exactly those that follow this elapse in
+/// the list.
 pub fn elapses_go_on()
     ensures { (es exceptions : List Timed) (base e : ℤ) (k : ℕ) → slice_get (elapses_except es exceptions base) k ≡ Some e
         → elapses_except es exceptions e ≡ drop (suc k) (elapses_except es exceptions base) }
 {}
 
-/// If there are at least k + 1 elapses, the first k + 1 of them, followed by the first m elapses after the last of
-/// these k + 1, are the first k + 1 + m elapses.
+/// The first elapses after a base can be listed in two parts: the first k + 1 elapses after the base, if there are that
+/// many, and then the first m elapses after the last of these. Together they are the first k + 1 + m elapses after the
+/// base.
 pub fn elapses_in_parts()
     ensures { (es exceptions : List Timed) (base e : ℤ) (k m : ℕ) → slice_get (elapses_except es exceptions base) k ≡ Some e
         → take (suc k) (elapses_except es exceptions base) ++ take m (elapses_except es exceptions e)

@@ -34,8 +34,8 @@ pub(crate) fn read_date(alloc: Global, word: &[u8]) -> Result<DateFields, SpecFa
     }
 }
 
-/// Parses a time, `hour:minute` or `hour:minute:second` (systemd.time(7), Calendar Events). It may have at most `room`
-/// parts, not counting the first part of each component.
+/// Parses a time, `hour:minute` or `hour:minute:second` (systemd.time(7), Calendar Events). The time may have at most
+/// `room` parts, not counting the first part of each component.
 ///
 /// The number of components is checked first, and the call fails with `BadTime` if it is wrong. Then the components are
 /// parsed from left to right.

@@ -16,8 +16,8 @@ use cal_bytes::{Fill, ShortText, Sink, WriteFault, padding, put_all, put_pieces}
 use cal_civil::push_offset;
 use itoa::Buffer;
 
-/// A component to print: the text before it, the minimum number of digits of a number, and its parts (`None` for `*`).
-/// Shorter numbers are padded with zeros, except steps, which are never padded.
+/// A component to print: the text before the component, the minimum number of digits of each number in it, and its
+/// parts (`None` for `*`). Shorter numbers are padded with zeros, except steps, which are never padded.
 #[derive(Clone, Copy)]
 struct Row<'a> {
     lead: &'a [u8],

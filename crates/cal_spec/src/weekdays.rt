@@ -25,7 +25,8 @@ pub(crate) struct WeekdayRange {
 }
 
 /// Parses a weekday list and returns which weekdays match, from Monday to Sunday (systemd.time(7), Calendar Events).
-/// Its items are weekdays and ranges of weekdays. They are separated by commas, and one trailing comma is allowed.
+/// The items of the list are weekdays and ranges of weekdays. They are separated by commas, and one trailing comma is
+/// allowed.
 ///
 /// Fails with `UnknownShorthand` if the word consists only of letters and `-`, and its leading letters don't name a
 /// weekday. Fails with `BadWeekday` if the word is invalid in any other way.

@@ -1,5 +1,5 @@
 //! The search for the next matching day, month by month (systemd.time(7), Calendar Events). The module `search` calls
-//! this module, which calls `search::month` for the next month and counts the months that it examines.
+//! this module. This module calls `search::month` for the next month, and counts the months that are examined.
 
 ghost use Rattle.std.specs.Prelude.{◌≡◌, ◌+◌, ◌<◌, ◌≤◌, cond};
 ghost use Rattle.cal_elapse.specs.ExaminedMonths.{examined_from};
