@@ -22,8 +22,8 @@ pub struct UnitText<'t> {
 /// Why a timer that is read from several texts is invalid.
 #[derive(Clone, Copy, PartialEq, Eq, Debug)]
 pub struct FileFault {
-    /// The index of the text that contains the invalid line, or `None` if all lines are valid, but the list of
-    /// expressions is empty. If allocation fails, this is the index of the text that was being read, if any.
+    /// The index of the text that contains the invalid line. It is `None` if all lines are valid, and the error is that
+    /// the list of expressions is empty. If allocation fails, it is the index of the text that was being read, if any.
     pub file: Option<usize>,
     /// The error, with the number of its line if it belongs to a line.
     pub fault: TimerFault,

@@ -31,7 +31,7 @@ pub fn one_form()
     ensures only { (text : List ℕ) (form : Form) → HasForm text form → form ≡ form_of text }
 {}
 
-/// A list of words is a civil time if and only if it is `[weekday] [date] [time] [zone]` with a date or a time
+/// A list of words is a civil time if and only if it is `[weekday] [date] [time] [zone]` with at least a date or a time
 /// (systemd.time(7), Parsing Timestamps). `read_stamp` reads the words as that civil time.
 pub fn one_civil_time()
     ensures found { (at : Setting) (ws : List (List ℕ)) (c : CivilStamp)
@@ -81,8 +81,9 @@ pub fn weekdays_are_checked()
 {}
 
 /// The error of a civil time (systemd.time(7), Parsing Timestamps) is the error of the leftmost word that isn't valid
-/// in its position, or `BadDate` if the words end before a date or a time. If all words are valid, the weekday is
-/// checked (`WrongWeekday`), and then the range (`OutOfRange`). In the other forms, too, the range is checked last.
+/// in its position, or `BadDate` if the words end before a date or a time is given. If the words have no error, the
+/// weekday is checked (`WrongWeekday`), and then the range (`OutOfRange`). In the other forms, too, the range is
+/// checked last.
 pub fn first_error()
     ensures { (now : ℤ) (at : Setting) (text : List ℕ) (form : Form) (fault : StampFault) → HasForm text form
         → ((moment_in now at text ≡ Err fault) ↔ HasError now at form fault) }
@@ -97,10 +98,10 @@ pub fn moments_are_in_range()
         → MeansTime now at form time → (IsMoment time → ⊥) → moment_in now at text ≡ Err OutOfRange }
 {}
 
-/// If, at an instant, the clock of a zone shows a year from 1970 to 2199 and its UTC offset is a whole number of
-/// minutes, then parsing the instant as it is printed in this zone gives the same instant, whatever the present, the
-/// local zone and the table of zones are (systemd.time(7), Parsing Timestamps). In UTC, this holds for every instant of
-/// the years 1970 to 2199.
+/// Parsing a printed instant gives the same instant if, at this instant, the clock of the zone in which it is printed
+/// shows a year from 1970 to 2199, and its UTC offset is a whole number of minutes. This holds whatever the present,
+/// the local zone and the table of zones are (systemd.time(7), Parsing Timestamps). In UTC, it holds for every instant
+/// of the years 1970 to 2199.
 ///
 /// An offset that isn't a whole number of minutes is printed with seconds, and the parser rejects offsets with seconds
 /// (`StrayWord`). At the first instants, clocks west of UTC show 1969, and at the last instants most clocks show 2200;

@@ -1,5 +1,5 @@
-//! Computing moments: by adding a time span to a second or subtracting one from it, and from a day and a time of day on
-//! a zone's clock.
+//! Computing moments, either from a second and a time span that is added or subtracted, or from a day and a time of day
+//! on a zone's clock.
 
 ghost use Rattle.std.specs.Prelude.{◌≡◌, ◌≤◌, ◌<◌, ◌+ℤ◌, ◌-ℤ◌, ◌*ℤ◌, pos, neg_ℤ, Ok};
 ghost use Rattle.jiff.specs.Words.{IsBetween};
