@@ -12,8 +12,9 @@ ghost use Rattle.cal_timer.specs.TimerText.{Timer};
 ghost use Rattle.cal_plan.specs.TimerElapses.{IsTimed, elapses_of_lists};
 ghost use Rattle.cal_plan.specs.ZoneFor.{zone_for};
 
-/// An expression without a zone suffix is evaluated in the local zone, one with a zone name in the zone of that name
-/// (systemd.time(7), Calendar Events), and one with a UTC offset in the fixed zone at that offset.
+/// The zone suffix decides in which zone an expression is evaluated. Without a suffix, this is the local zone. If the
+/// suffix is a name, it is the zone of that name (systemd.time(7), Calendar Events), and if the suffix is a UTC offset,
+/// it is the fixed zone at that offset.
 #[tactic(auto, unfolding(crate::specs::ZoneFor::zone_for))]
 pub fn zones_are_those_of_suffixes()
     ensures local { (at : Setting) → zone_for at None ≡ Some at.local }

@@ -9,8 +9,8 @@ use std::alloc::{AllocError, AllocFailed};
 /// Why the elapses of expressions and exceptions can't be computed.
 #[derive(Clone, Copy, PartialEq, Eq, Debug)]
 pub enum PlanFault {
-    /// The expression or exception on the line with this number, from 1, names a zone that is neither `UTC` nor in the
-    /// zone table.
+    /// The expression or exception on the line with this number (counted from 1) names a zone that is neither `UTC` nor
+    /// in the zone table.
     NoSuchZone(u32),
     /// Allocation failed.
     NoMemory,

@@ -12,7 +12,7 @@ use cal_timer::TimerLine;
 use cal_zone::Setting;
 
 /// Returns the number of the first line of `lines` that names a zone missing from the zone table, or `None` if there is
-/// none. The zone `UTC` is never missing.
+/// no such line. The zone `UTC` is never missing.
 pub fn first_unzoned(setting: Setting<'_>, lines: &[TimerLine]) -> Option<u32>
     ensures { result ≡ first_unzoned (setting_seen setting.entry) (map shown lines.now) }
 {

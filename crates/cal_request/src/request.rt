@@ -53,7 +53,7 @@ pub struct Request {
     /// The expressions, timestamps or spans in the order of the arguments; for [`Verb::Timer`], only the path of the
     /// timer file.
     pub texts: Vec<String>,
-    /// The maximum number of elapses in the report of each expression, or in that of the timer file, 1 to 1,000,000.
+    /// The maximum number of elapses in the report of each expression or of the timer file, 1 to 1,000,000.
     pub iterations: u32,
     /// The base time, a timestamp that hasn't been parsed yet. Only elapses after the base time are reported. If this
     /// is `None`, the base time is the present. It is always `None` for verbs that don't compute elapses.
