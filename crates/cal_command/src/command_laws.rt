@@ -26,8 +26,9 @@ pub fn worked_arguments_are_taken()
     ensures options_asked { IsAskOf options_arguments (Ok options_ask) }
 {}
 
-/// `--iterations=0` is reported as `BadIterations`, `--help` as `Help`, and an unknown verb as `Usage`. The law says
-/// nothing about the texts of `clap` in `Help` and `Usage`.
+/// The contract of `Ask::of` allows the result `BadIterations` for `--iterations=0`, the result `Help` for `--help`,
+/// and the result `Usage` for an unknown verb. It allows any text in `Help` and `Usage`, so it says nothing about the
+/// texts of `clap`.
 pub fn worked_arguments_are_refused()
     ensures none { IsAskOf none_arguments (Err bad_iterations) }
     ensures help { (text : List ℕ) → IsAskOf help_arguments (Err (help text)) }

@@ -21,8 +21,8 @@ impl<'b, 'a> VerbMatches<'b, 'a> {
         verb_matches_for(verb_named(name)?, values)
     }
 
-    /// Returns the value of an option of the verbs that compute elapses. Returns `None` if the verb isn't one of them,
-    /// or if the option wasn't given.
+    /// Returns the value of an option that only the verbs that compute elapses have. Returns `None` if the verb doesn't
+    /// compute elapses, or if the option wasn't given.
     pub(crate) fn elapse_option(&self, option: ValueOption) -> Option<&'a str>
         ensures value { option_copied result ≡ elapse_option (shown_matches self.now) option.name.now }
         ensures sought { seeks_elapses self.now.verb ≡ false → result ≡ None }
@@ -34,8 +34,8 @@ impl<'b, 'a> VerbMatches<'b, 'a> {
         }
     }
 
-    /// Returns the value of an option of the verbs that read or print instants. Returns `None` if the verb isn't one of
-    /// them, or if the option wasn't given.
+    /// Returns the value of an option that only the verbs that read or print instants have. Returns `None` if the verb
+    /// neither reads nor prints instants, or if the option wasn't given.
     pub(crate) fn zone_option(&self, option: ValueOption) -> Option<&'a str>
         ensures { option_copied result ≡ zone_option (shown_matches self.now) option.name.now }
     {

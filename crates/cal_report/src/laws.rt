@@ -92,9 +92,9 @@ pub fn headline()
     ensures one_list { (ts exceptions : List Timed) (base : ℤ) (xs ys : List ℤ)
         → AreElapses ts exceptions base xs → AreElapses ts exceptions base ys → xs ≡ ys }
 
-    // Each elapse time is an instant, and `@` with the seconds of an instant is a valid base time for the same instant.
-    // If an elapse time in a list becomes the base time, the elapse times after this base time are exactly those that
-    // follow it in the list. So a list can be printed in parts.
+    // Each elapse time is an instant. Each instant can be given as the base time, by `@` and its seconds. If an elapse
+    // time in a list becomes the base time, the elapse times after this base time are exactly those that follow it in
+    // the list. So a list can be printed in parts.
     ensures instants { (asked : Request) (base : ℤ) (s : Schedule) (xs : List ℤ) → IsInstant asked.now
         → base_in asked ≡ Ok base → AreElapsesOf s base xs → AreInstants xs }
     ensures based { (asked : Request) (secs : ℤ) → IsInstant secs → base_in (started_at asked secs) ≡ Ok secs }
@@ -111,9 +111,9 @@ pub fn headline()
     ensures alone { (fields : Fields) (tz : TimeZone) (i j : ℤ) → IsPlace (timed fields tz) i
         → IsPlace (timed fields tz) j → local_shown_at tz i ≡ local_shown_at tz j → i ≡ j }
     // A local second that the clock never shows (in a gap) has no instant. If `jiff` finds that the clock shows a local
-    // second twice (in a fold), and the local second has an instant, then this instant is computed with the UTC offset
-    // before the transition. If this offset is larger than the one after the transition, the instant is the earlier of
-    // the two instants at which the clock shows the local second.
+    // second twice (in a fold), and the local second has an instant, then this instant is the local second minus the
+    // UTC offset before the transition. If this offset is larger than the one after the transition, the instant is
+    // earlier than the local second minus the offset after the transition, which would be the second occurrence.
     ensures gap { (tz : TimeZone) (local : ℤ) → ((second : ℤ) → local_shown_at tz second ≡ local → ⊥)
         → place_of tz local ≡ None }
     ensures fold { (tz : TimeZone) (local i : ℤ) (before after : Offset)
@@ -125,8 +125,8 @@ pub fn headline()
 
 /// States how to continue a report of which only a prefix was written. Count the elapse times whose first line is
 /// complete in the prefix. If there are any, run the same request with the last of them as its base time, and with
-/// `iterations` reduced by their number: it prints exactly the remaining elapse times, or `never` if none remain, with
-/// labels that count from 1 again. If no elapse time has a complete first line, run the original request again.
+/// `iterations` reduced by their number. This run prints exactly the remaining elapse times, or `never` if none remain;
+/// its labels count from 1 again. If no elapse time has a complete first line, run the original request again.
 pub fn cut_output_resumes()
     // If the request is for one accepted calendar expression, its report can be continued after every prefix `front`.
     ensures calendar { (asked : Request) (read : Result (List ℕ) WholeFault) (base : ℤ) (e : Expression)
