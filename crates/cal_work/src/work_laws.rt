@@ -9,16 +9,16 @@ ghost use Rattle.cal_work.specs.WorkLaw.{IsOr, TellsAll, known_outcome};
 ghost use Rattle.cal_work.specs.WorkedSystem.{bare_system, daily_world};
 ghost use Rattle.cal_work.specs.Works.{FitsArguments};
 
-/// States that only one outcome is possible, unless memory runs out, for a system whose files and clock are known
-/// completely. The law assumes that no read fails and that `clap` accepts the arguments. The outcome can be computed
-/// from the arguments, the system and the zones that `jiff` reads.
+/// If everything about a system's files and clock is known, no read fails, and `clap` accepts the arguments, then only
+/// one outcome is possible, unless memory runs out. The outcome can be computed from the arguments, the system and the
+/// zones that `jiff` reads.
 pub fn known_systems_decide()
     ensures { (known : Known) (arguments : List (List ℕ)) (world : World) → TellsAll known → takes_arguments arguments ≡ true
         → FitsArguments known arguments world → IsOr (outcome world) (known_outcome known (asked_in arguments) world) }
 {}
 
-/// Shows that the conditions of `known_systems_decide` can be met: by a system without files whose clock shows 0, the
-/// arguments `calendar daily`, and a world that fits both.
+/// Shows that the conditions of `known_systems_decide` can be met. They are met by a system that has no files and whose
+/// clock shows 0, the arguments `calendar daily`, and a world that fits both.
 pub fn bare_systems_decide()
     ensures all { TellsAll bare_system }
     ensures taken { takes_arguments daily_arguments ≡ true }
