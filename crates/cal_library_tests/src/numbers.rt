@@ -75,8 +75,8 @@ pub fn merge_two(alloc: Global, one: &[i64], two: &[i64]) -> Result<Merge<Listed
     Ok(merge)
 }
 
-/// Checks that these are the next numbers of the source. If `has` can tell, it must say that the source has each number
-/// just before the number is returned, and that the source doesn't have the number right afterwards.
+/// Checks that these are the next numbers of the source. For each number, `has` must not return `Some(false)` just
+/// before the number is returned, and must not return `Some(true)` just after.
 pub fn expect_first<S: Rising>(source: &mut S, numbers: &[i64]) -> Result<(), Fail> {
     for number in numbers {
         ensure(source.has(*number) != Some(false), "a number is denied")?;

@@ -117,7 +117,8 @@ fn add(
     }
 }
 
-/// Checks that a merge has exactly the lists whose addition didn't run out of memory. Reading from it doesn't allocate.
+/// Checks that a merge has exactly the lists whose addition didn't run out of memory. Reading from the merge doesn't
+/// allocate.
 #[test]
 fn merged_lists(rt: HostRuntime) -> Result<(), Fail> {
     let mut merge = Merge::new(rt.alloc());

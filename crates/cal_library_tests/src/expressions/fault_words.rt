@@ -97,7 +97,7 @@ fn with_blanks(
     Ok(padded)
 }
 
-/// In a text that is too long, the first word that ends past byte 4,096 is at fault.
+/// If a text is too long, the first word that ends past byte 4,096 is at fault, unless an earlier word is.
 #[test]
 fn long_texts(rt: HostRuntime) -> Result<(), Fail> {
     let text = with_blanks(rt.alloc(), 4_092, "12:00", 0)?;
@@ -105,7 +105,7 @@ fn long_texts(rt: HostRuntime) -> Result<(), Fail> {
     ensure(found == Some(4_092..4_097), "blanks and a word")
 }
 
-/// If only blanks are past byte 4,096, no word is at fault.
+/// If a text is too long only because of trailing blanks, they don't put a word at fault.
 #[test]
 fn long_blanks(rt: HostRuntime) -> Result<(), Fail> {
     let text = with_blanks(rt.alloc(), 0, "12:00", 4_092)?;

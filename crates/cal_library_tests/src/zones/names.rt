@@ -34,8 +34,9 @@ fn lengths() -> Result<(), Fail> {
     ensure(!is_zone_name(&letters), "256 letters")
 }
 
-/// Adds the zone of a POSIX rule to the table. If the table rejects the zone, returns the error, and the instant at
-/// which a clock that follows the rules handed back shows 1970-01-01 02:00:00. The instant tells which rules these are.
+/// Adds the zone of a POSIX rule to the table. If the table rejects the zone, it hands the rules back. In that case,
+/// returns the error, and the instant at which a clock that follows these rules shows 1970-01-01 02:00:00. The instant
+/// tells which rules they are.
 fn add(
     alloc: Global,
     table: &mut ZoneTable,

@@ -1,5 +1,6 @@
 //! Valid and invalid POSIX rules and zone files. The rules follow POSIX (Environment Variables, `TZ`). A transition may
-//! be less than 168 hours before or after midnight, as in RFC 8536, and names have at most 15 bytes.
+//! be less than 168 hours before or after midnight, as in RFC 8536, and the names of standard time and daylight saving
+//! time have at most 15 bytes.
 
 use crate::shared::{NEW_YEAR, ensure, zone_file};
 use cal_base::{Rules, Zone, ZoneFault, place};

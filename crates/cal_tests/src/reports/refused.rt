@@ -25,8 +25,8 @@ fn check_refused(alloc: Global, row: &Row<'_>) -> Result<(), Fail> {
     expect_texts_or_none(row, (out.as_slice(), err.as_slice(), ended))
 }
 
-/// Expects that the row's texts were written. If a verb that allocates ran out of memory, expects that nothing was
-/// written, and fails with `NoMemory`.
+/// Expects that the row's texts were written. If the verb allocates and its run ran out of memory, expects instead that
+/// nothing was written, and fails with `NoMemory`.
 fn expect_texts_or_none(row: &Row<'_>, written: RunOutput<'_>) -> Result<(), Fail> {
     let (out, err, ended) = written;
     if ended == Err(RunFault::NoMemory) && row.verb.seeks_elapses() {
