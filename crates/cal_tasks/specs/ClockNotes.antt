@@ -49,7 +49,7 @@ pub record AddsNotesOf (tz : TimeZone) (fields : Fields) (old new : List ClockNo
   pub are_notes : All (IsNoteOf tz fields) more
   pub is : new ≡ old ++ more
 
--- the note is about the expression on one of these lines, in the zone of this expression
+-- the note is about the expression on one of the lines, in the zone of this expression
 pub record IsNoteAmong (at : Setting) (lines : List (TimerLine Fields)) (note : ClockNote) : Type 0 where
   pub line : TimerLine Fields
   pub among : Contains lines line

@@ -1,4 +1,5 @@
-//! Expressions that never elapse, and exceptions that suppress nothing (systemd.timer(5), OnCalendar=).
+//! Expressions that don't elapse any more, and exceptions that suppress none of the next elapses (systemd.timer(5),
+//! OnCalendar=).
 
 ghost use Rattle.std.specs.Prelude.{◌≡◌, ◌≢◌, ◌++◌, [], ◌∷◌, None, IfOk, MatchResult, OnOk, cond, false, map};
 ghost use Rattle.std.specs.List.{list_any};
@@ -27,7 +28,7 @@ use std::alloc::{AllocError, Global};
 /// The number of elapses that an exception is compared with. An exception that suppresses none of them is reported.
 const MAX_ELAPSES: u32 = 10_000;
 
-/// Why a line of a timer has no effect.
+/// Why a line of a timer is reported as having no effect.
 #[derive(Clone, Copy, PartialEq, Eq, Debug)]
 pub enum IdleKind {
     /// The expression doesn't elapse after the present.
@@ -36,7 +37,7 @@ pub enum IdleKind {
     SuppressesNothing,
 }
 
-/// An expression or an exception that has no effect.
+/// An expression or an exception that is reported as having no effect.
 #[derive(Clone, Copy, PartialEq, Eq, Debug)]
 pub struct IdleLine {
     /// The number of the line with the expression or exception. [`LoadedTimer::place`] finds the file of this line.

@@ -39,9 +39,9 @@ impl From<AllocError> for WhenFault {
 /// Parses an instant: a weekday with a time, or a timestamp (systemd.time(7), Parsing Timestamps).
 ///
 /// A weekday with a time, such as `Fri 18:00`, is a calendar expression that begins with the name of a weekday and has
-/// no date. It resolves to its first elapse after `after`. It may name several weekdays, as in `Mon..Fri 9:00`, and it
-/// may end in `UTC` or a UTC offset. Without a time, it stands for midnight. As a timestamp, such a text would be
-/// accepted only if the present day is the weekday that it names.
+/// no date other than `*-*-*`. It resolves to its first elapse after `after`. It may name several weekdays, as in
+/// `Mon..Fri 9:00`, and it may end in `UTC` or a UTC offset. Without a time, it stands for midnight. As a timestamp,
+/// such a text would be accepted only if the present day is the weekday that it names.
 ///
 /// All other texts are parsed as timestamps, and so is a weekday with a time that doesn't elapse after `after`. The
 /// moment of a timestamp is rounded down to a whole second. The only zone that can be named is `UTC`.
@@ -109,8 +109,8 @@ fn first_elapse(
     Ok(Instants::new(elapses).next())
 }
 
-/// Parses a calendar expression that begins with the name of a weekday and has no date. Returns `None` for any other
-/// text.
+/// Parses a calendar expression that begins with the name of a weekday and has no date other than `*-*-*`. Returns
+/// `None` for any other text.
 fn read_weekday_time(alloc: Global, text: &str) -> Result<Option<Expr>, AllocError>
     ensures { IfOk result (λ expr. expr ≡ weekday_time_in text.now) }
 {
@@ -124,7 +124,7 @@ fn read_weekday_time(alloc: Global, text: &str) -> Result<Option<Expr>, AllocErr
     }
 }
 
-/// Returns the expression if it has no date.
+/// Returns the expression if it has no date other than `*-*-*`.
 fn expr_unless_dated(expr: Expr) -> Option<Expr>
     ensures { result ≡ fields_unless_dated expr }
 {
