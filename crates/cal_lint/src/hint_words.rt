@@ -1,4 +1,4 @@
-//! Words of invalid calendar expressions that are common mistakes, and what to write instead of them.
+//! Common mistakes in the words of invalid calendar expressions, and what to write instead of them.
 
 use crate::hints::{Hint, Mistake, is_valid};
 use cal_civil::begins_with_letter;

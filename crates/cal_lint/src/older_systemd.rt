@@ -22,7 +22,8 @@ use std::alloc::Global;
 /// 32-bit numbers, in which a greater step doesn't fit.
 const MAX_SECOND_STEP: u64 = 2147;
 
-/// The greatest number that systemd 252 accepts in the first part of a list of days from the month's end.
+/// The greatest number that systemd 252 accepts in the first part of a list of days that are counted from the month's
+/// end.
 const MAX_DAY_FROM_END: u16 = 28;
 
 /// The greatest number that an expression may contain.

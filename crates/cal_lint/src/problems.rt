@@ -1,4 +1,5 @@
-//! All problems in the settings of a timer unit as data, for programs that print them or mark them in an editor.
+//! All problems in the settings of a timer unit, as data for programs that print the problems or mark them in an
+//! editor.
 //!
 //! An exception is an expression after this project's key `X-ExceptOnCalendar=`. When an exception elapses, the timer
 //! doesn't.
@@ -63,9 +64,10 @@ impl Problem {
 pub struct Finding {
     /// The number of the setting's line, from 1. A continued line has the number of its first physical line.
     pub line: u32,
-    /// The byte of the line, counted from 1, at which the problem begins: at the unknown key, at the word at fault of
-    /// an invalid expression (see [`fault_span`]), or otherwise at the value. It is 1 if the problem is in the value
-    /// and the line doesn't contain the whole value, which happens only if the line is continued.
+    /// The byte of the line, counted from 1, at which the problem begins. This is the first byte of the unknown key, of
+    /// the word at fault in an invalid expression (see [`fault_span`]), or otherwise of the value. The column is 1 if
+    /// the problem is in the value and the line doesn't contain the whole value, which happens only if the line is
+    /// continued.
     pub column: u32,
     pub kind: Kind,
     pub problem: Problem,
@@ -180,7 +182,7 @@ fn add_advice(
 }
 
 /// Appends the reason in `rejected`, if there is one. Suggests the normal form of the expression if systemd 252 accepts
-/// it.
+/// this form.
 fn push_rejection(
     alloc: Global,
     found: &mut Vec<Finding>,
@@ -238,7 +240,7 @@ fn normal_form(alloc: Global, expr: &Expr) -> Result<String, AllocError> {
     String::from_utf8_lossy(alloc, out.into_inner().as_slice())
 }
 
-/// Returns a finding without a mistake.
+/// Returns a finding whose `mistake` is `None`.
 fn finding_with(line: u32, column: u32, problem: Problem, suggestion: Option<String>) -> Finding
     ensures { shown_finding result ≡ report_at line problem }
 {
@@ -252,7 +254,7 @@ fn finding_with(line: u32, column: u32, problem: Problem, suggestion: Option<Str
     }
 }
 
-/// Returns a finding with neither a mistake nor a suggestion.
+/// Returns a finding whose `mistake` and `suggestion` are `None`.
 fn plain_finding(line: u32, column: u32, problem: Problem) -> Finding
     ensures { shown_finding result ≡ report_at line problem }
 {
