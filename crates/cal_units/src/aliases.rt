@@ -31,7 +31,7 @@ pub struct Aliases {
     /// alias is in this list several times.
     pub aliases: Vec<Alias>,
     /// The errors: folders that can't be listed, files that can't be looked at, and links that can't be followed to a
-    /// unit. Their aliases are missing in `aliases`.
+    /// unit. Aliases that couldn't be found because of these errors are missing from `aliases`.
     pub faults: Vec<UnitFault>,
 }
 

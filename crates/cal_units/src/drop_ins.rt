@@ -21,7 +21,7 @@ pub(crate) const NULL_DEVICE: &str = "/dev/null";
 pub struct DropIns {
     /// Their paths, in the order in which they are read.
     pub paths: Vec<String>,
-    /// The folders of drop-ins that have entries whose names are not UTF-8. Those entries are not read.
+    /// The drop-in folders that have entries whose names are not UTF-8. Those entries are not read.
     pub unnamed: Vec<String>,
 }
 

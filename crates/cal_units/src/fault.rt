@@ -15,7 +15,7 @@ pub enum Reason {
     NotUtf8,
     /// The path is a folder, but should be a file.
     IsFolder,
-    /// Nothing is at the path any more, although it was found in its folder.
+    /// Nothing is at the path any more, although something was found there before.
     Vanished,
     /// The file has more than 1,048,576 bytes.
     TooLarge,
@@ -60,7 +60,7 @@ impl UnitFault {
         }
     }
 
-    /// Returns the error for a path, given the error of a method of a [`crate::Tree`] that was called with this path.
+    /// Converts the error that a method of a [`crate::Tree`] returned for this path.
     pub(crate) fn of_tree(alloc: Global, path: &str, fault: TreeFault) -> UnitFault {
         match fault {
             TreeFault::ReadFailed => UnitFault::at(alloc, path, Reason::ReadFailed),

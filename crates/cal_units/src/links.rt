@@ -5,9 +5,11 @@ ghost use Rattle.cal_units.specs.Units.{after_prefix, alias_of, file_stem, stem_
 
 use cal_drop_ins::unit_stem;
 
-/// Returns the stem, which is the name without `.timer`, of the timer for which a link stands. The link must lead to
-/// the path of a timer's file in a folder of the search path, or its target must be only the name of a timer's file.
-/// Returns `None` for any other link. `led` is the path to which the link leads.
+/// Returns the stem of the timer for which a link stands. The stem is the timer's name without `.timer`.
+///
+/// `target` is the link's target, `led` is the path to which the link leads, and `path` is the search path. A link
+/// stands for a timer if its target is only the name of a timer's file, or if it leads to the path of a timer's file in
+/// a folder of the search path. Returns `None` for any other link.
 #[tactic(auto, unfolding(crate::specs::Units::alias_of))]
 pub(crate) fn alias_of<'t>(path: &[String], target: &'t str, led: &'t str) -> Option<&'t str>
     ensures { option_map (λ stem. stem.now) result ≡ alias_of (map string_bytes path.now) target.now led.now }

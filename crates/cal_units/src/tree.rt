@@ -55,8 +55,9 @@ impl<T: Drop> From<AllocFailed<T>> for TreeFault {
 
 /// Access to the folders, files and links of a machine, and to the variables of the environment.
 ///
-/// Contracts can refer to a machine through `shows`. `shows` says nothing about a real machine, and everything about a
-/// machine that exists only in memory.
+/// Through `shows`, the contracts say what the methods return. By default, `shows` never holds, so the contracts say
+/// nothing. This is so for a real machine. An implementation for a machine that exists only in memory can define
+/// `shows`.
 pub trait Tree {
     /// An open file.
     type File: Source + Drop;
@@ -74,8 +75,9 @@ pub trait Tree {
         ensures { IfOk result (λ entry. (machine : Machine) → shows self.now machine
             → shown_entry entry ≡ machine.entry path.now) };
 
-    /// Returns the absolute path to which the link at a path leads if this is its target. Links of folders on the way
-    /// are followed, but not a link at the end. Nothing has to be there.
+    /// Returns the absolute path to which a link leads. `link` is the path of the link, and `target` is its target.
+    /// Links to folders on the way are followed, but not a link at the end. It doesn't matter whether anything is at
+    /// the returned path.
     fn leads_to(&self, alloc: Global, link: &str, target: &str) -> Result<String, TreeFault>
         ensures { IfOk result (λ path. (machine : Machine) → shows self.now machine
             → string_bytes path ≡ machine.leads_to link.now target.now) };

@@ -86,7 +86,7 @@ fn find_named<T: Tree>(
 }
 
 /// Finds the unit with this stem, following fewer than `count` links. `aliases` are the stems from which links led to
-/// it.
+/// `stem`.
 fn follow<T: Tree>(
     alloc: Global,
     tree: &T,
