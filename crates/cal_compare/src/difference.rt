@@ -28,11 +28,12 @@ pub struct Difference {
 }
 
 /// Compares the elapses of the timers `one` and `other` after `base`, through 2199. Returns the first instant at which
-/// only `one` elapses, and the first at which only `other` does.
+/// only `one` elapses, and the first at which only `other` does. When an exception of a timer elapses, the timer
+/// doesn't.
 ///
 /// Fails with [`CompareFault::NoSuchZoneInOne`] if an expression or exception of `one` names a zone that isn't in the
 /// zone table, or else with [`CompareFault::NoSuchZoneInOther`] if an expression or exception of `other` does. Fails
-/// with [`CompareFault::NoMemory`] if allocation fails. When an exception of a timer elapses, the timer doesn't.
+/// with [`CompareFault::NoMemory`] if allocation fails.
 ///
 /// All elapses of both timers up to the difference are computed. This takes longest if the timers elapse at the same
 /// instants: then all their elapses through 2199 are computed, once for each field of the result.

@@ -24,8 +24,8 @@ pub enum LocalZone {
 
 /// Finds the local zone of a machine, without reading the file of this zone.
 ///
-/// If there is an option, its value `argument` decides. It can be `UTC`, ignoring case; an offset, `+hh:mm` or
-/// `-hh:mm`; `posix:` and a POSIX rule; or the name of a zone.
+/// If the option for the local zone is given, its value `argument` decides. It can be `UTC`, ignoring case; an offset,
+/// `+hh:mm` or `-hh:mm`; `posix:` and a POSIX rule; or the name of a zone.
 ///
 /// Otherwise, if the variable `TZ` is set, its value decides (tzset(3)). It can be a POSIX rule; or, with or without a
 /// `:` in front, the name of a zone or the path of a file below `/usr/share/zoneinfo`. If the value is empty or only
@@ -90,7 +90,7 @@ fn unread(origin: Origin, fault: TreeFault) -> ZonesFault
     }
 }
 
-/// Converts `told` to a [`LocalZone`], which has copies of its texts. Fails with [`ZonesFault::Unclear`] for
+/// Converts `told` to a [`LocalZone`] with copies of the texts in `told`. Fails with [`ZonesFault::Unclear`] for
 /// [`Told::Unclear`].
 fn to_owned(alloc: Global, told: Told<'_>) -> Result<LocalZone, ZonesFault>
     requires { HasOffset told }
