@@ -51,7 +51,7 @@ impl LoadFault {
         }
     }
 
-    /// Returns the error for a path, given the error of a method of a `Tree` that was called with this path.
+    /// Converts the error that a method of a `Tree` returned for this path.
     pub fn of_tree(alloc: Global, path: &str, fault: TreeFault) -> LoadFault {
         match fault {
             TreeFault::ReadFailed => LoadFault::at(alloc, path, Reason::ReadFailed),

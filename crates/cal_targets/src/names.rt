@@ -7,8 +7,9 @@ use cal_units::{Names, Tree};
 use std::alloc::{AllocError, Global};
 use std::collections::BTreeSet;
 
-/// Returns the names of the files of all timers in the folders of the search path, sorted by their bytes. Templates
-/// are left out, and so are hidden files and names that no unit can have.
+/// Returns the names in the folders of the search path that can be those of timers' files, sorted by their bytes.
+/// Templates are left out, and so are hidden files and names that no unit can have. A name is not left out if it is
+/// that of a folder.
 ///
 /// A folder that can't be listed is added to `faults`, and the others are still listed.
 pub fn names_in_path<T: Tree>(
@@ -40,8 +41,7 @@ fn push_units<T: Tree>(
     Ok(())
 }
 
-/// Returns the names of those files in a folder that are `wanted`, sorted by their bytes. Names that are not UTF-8 are
-/// left out.
+/// Returns those names in a folder that are `wanted`, sorted by their bytes. Names that are not UTF-8 are left out.
 pub fn files_in<T: Tree>(
     alloc: Global,
     tree: &T,
@@ -87,8 +87,8 @@ fn is_visible(name: &str, suffix: &[u8]) -> bool {
     name.ends_with(suffix) && !name.starts_with(b".")
 }
 
-/// Returns whether this can be the name of a timer's file: it ends with `.timer` and doesn't begin with a dot, it is
-/// valid for a unit, and it isn't that of a template.
+/// Returns whether `name` can be the name of a timer's file: it ends with `.timer`, doesn't begin with a dot, is a
+/// valid name for a unit, and isn't the name of a template.
 fn is_unit_file(name: &str) -> bool {
     is_visible(name, b".timer") && unit_stem(name).is_some() && !is_template_file(name)
 }

@@ -12,7 +12,8 @@ pub enum TargetReason {
     NotFound,
     /// The name is that of a template, which isn't a unit.
     Template,
-    /// The file, folder or link at this path can't be used, for this reason.
+    /// The file, folder or link at this path can't be used, for this reason. With [`Reason::TooManyLinks`], the text is
+    /// not a path but the stem of a unit, its name without `.timer`.
     Path(String, Reason),
     /// The file at this path is not UTF-8.
     NotUtf8(String),
