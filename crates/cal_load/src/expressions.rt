@@ -78,7 +78,8 @@ fn with_zones<T: Tree>(
     match zones_of(alloc, tree, lines.as_slice(), &[]) {
         Ok(zones) => only_timer(alloc, joined(alloc, expressions)?, lines, zones),
         Err(ZonesFault::At(zone, reason)) => only_zone_fault(alloc, lines, zone, reason),
-        // The other errors are those of the local zone, which isn't asked for here.
+        // Of the other errors, only the one for running out of memory can occur. The rest are about the local zone,
+        // which isn't looked up here.
         Err(_) => Err(AllocError),
     }
 }

@@ -1,4 +1,4 @@
-//! A timer from its files.
+//! Reading a timer from its files.
 
 ghost use Rattle.std.specs.Prelude.{◌≡◌, ◌+◌, ◌<◌, ◌^◌, ◌∷◌, ◌++◌, All, IfOk, codes, length, map, string_bytes};
 ghost use Rattle.cal_drop_ins.specs.DropIns.{drop_ins};
@@ -129,7 +129,7 @@ fn parse(alloc: Global, files: &[UnitText]) -> Result<Parsed, LoadFault>
     })
 }
 
-/// Reads the expressions and exceptions of these texts, which are those of `files`. `starts` says whether other
+/// Reads the expressions and exceptions in `texts`, which are the texts of `files`. `starts` says whether other
 /// settings start the unit.
 fn read_calendar(
     alloc: Global,
@@ -206,7 +206,8 @@ fn zone_fault(alloc: Global, files: &[UnitText], parsed: &Parsed, fault: ZonesFa
             Ok(reason) => LoadFault::Target(reason),
             Err(_) => LoadFault::NoMemory,
         },
-        // The other errors are those of the local zone, which isn't asked for here.
+        // Of the other errors, only the one for running out of memory can occur. The rest are about the local zone,
+        // which isn't looked up here.
         _ => LoadFault::NoMemory,
     }
 }

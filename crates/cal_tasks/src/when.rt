@@ -19,7 +19,8 @@ use std::alloc::{AllocError, Global};
 /// Why there is no instant for a text.
 #[derive(Clone, Copy, PartialEq, Eq, Debug)]
 pub enum WhenFault {
-    /// The text isn't a weekday with a time that elapses, and for this reason it isn't a timestamp.
+    /// The text is neither a weekday with a time that elapses nor a timestamp. This is the reason why it isn't a
+    /// timestamp.
     NoInstant(StampFault),
     /// Out of memory.
     NoMemory,
