@@ -1,5 +1,6 @@
 //! Reordering of the arguments. `clap` accepts the options of a verb only after the verb, so the verb is moved to the
-//! front. If no verb is given, `list` is inserted there, unless the arguments ask for help.
+//! front. If no verb is given, `list` is inserted there, unless an argument asks for help or the version before any
+//! target.
 
 use crate::value_option::{COUNT, NOW, ROOT, ZONE};
 use std::alloc::{AllocError, Global};
@@ -20,11 +21,11 @@ enum Kind {
     Word,
 }
 
-/// Returns the arguments with the verb moved to the front. If there is no verb, the first argument that asks for the
-/// help or the version of the program is moved there. If there is no such argument either, `list` is inserted.
+/// Returns the arguments with the verb at the front.
 ///
-/// The verb is the first argument that is neither an option nor the value of an option, if it is the name of a verb or
-/// `help`. An argument that asks for help before it takes its place.
+/// Options and their values are skipped, except for `--help`, `--version` and the short forms of these two. The first
+/// argument that remains before `--` is moved to the front if it is one of these requests, the name of a verb, or
+/// `help`. Otherwise, and if no argument remains, `list` is inserted there.
 pub(crate) fn with_verb_first<'a, S: AsStr>(
     alloc: Global,
     arguments: &'a [S],
@@ -43,7 +44,8 @@ pub(crate) fn with_verb_first<'a, S: AsStr>(
     Ok(texts)
 }
 
-/// Returns the index of the verb, or of an argument that asks for help before it.
+/// Returns the index of the argument that [`with_verb_first`] moves to the front, or `None` if there is nothing to
+/// move.
 fn find_verb<S: AsStr>(arguments: &[S]) -> Option<usize> {
     let mut is_value = false;
     for (index, argument) in arguments.iter().enumerate() {
