@@ -1,8 +1,8 @@
 //! The JSON documents that `calendar-timers --json` prints: one for each verb, except that `next` prints the same
 //! document as `show`.
 //!
-//! Each document is an indented JSON text (RFC 8259) that ends with a line feed. It is made from structs that are
-//! called rows: the members of an object have the names and the order of the fields of its row.
+//! Each document is an indented JSON text (RFC 8259) that ends with a line feed. The structs that are converted to JSON
+//! are called rows. Each row becomes an object whose members have the names and the order of the row's fields.
 #![tactic(auto)]
 
 mod between;

@@ -14,7 +14,8 @@ pub struct LintRow<'a> {
     pub file: &'a str,
     /// The number of the line with the problem, from 1.
     pub line: u32,
-    /// The byte of the line, counted from 1, at which the problem begins, or `None` if that isn't known.
+    /// The byte of the line, counted from 1, at which the problem begins, or 1 if the problem is in a value that
+    /// continues on the next line. `None` if only the line is known.
     pub column: Option<u32>,
     /// `error` or `warning`.
     pub kind: &'a str,

@@ -8,7 +8,8 @@ use cal_units::Reason;
 use std::alloc::{AllocError, Global};
 
 /// Returns the error line about a timer that can't be loaded, without a line feed. The line begins with what is at
-/// fault, and ends with the message. What is at fault is the target as it was given, a path, or a line of a file.
+/// fault, and ends with the message. What is at fault is the target as it was given, a path, a line of a file, or, if
+/// too many links lead from unit to unit, the stem of a unit.
 pub fn fault_text(alloc: Global, fault: &TargetFault) -> Result<String, AllocError> {
     let mut out = String::new(alloc);
     let target = fault.target.as_str();
@@ -66,8 +67,8 @@ fn origin_name(origin: Origin) -> &'static str {
     }
 }
 
-/// Returns the message about a target that isn't found. A target with a slash is a path; any other target is the name
-/// of a unit.
+/// Returns the message about a target that isn't found. A target with a slash is treated as a path, and any other
+/// target as the name of a unit.
 fn not_found_words(target: &str) -> &'static str {
     if target.as_bytes().contains(&b'/') {
         "no such file or folder"
