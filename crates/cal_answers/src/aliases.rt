@@ -9,7 +9,7 @@ use cal_timers_command::Verb;
 use cal_units::{Aliases, Tree, UnitFault, find_aliases};
 use std::alloc::{AllocError, Global};
 
-/// Returns the aliases of all units in the search path, or none if a question is about files or expressions alone.
+/// Returns the aliases of all units in the search path, or none if the question can't be about units.
 pub(crate) fn aliases_for<T: Tree>(
     alloc: Global,
     tree: &T,
@@ -26,7 +26,8 @@ pub(crate) fn aliases_for<T: Tree>(
     })
 }
 
-/// Returns whether a question is about units.
+/// Returns whether a question can be about units: it names no timers, and so is about all units, or it names a timer
+/// that isn't given as a path. `next` is never about units, since its targets are expressions.
 fn has_units(verb: Verb, targets: &[&str]) -> bool {
     match verb {
         Verb::Next => false,
@@ -79,8 +80,8 @@ pub(crate) fn with_folder_faults(
     })
 }
 
-/// Returns those of the errors that are about folders of the search path, in the form that they have if all timers are
-/// loaded.
+/// Returns those errors that are about folders of the search path, in the form in which loading all timers reports
+/// them.
 fn folder_faults(
     alloc: Global,
     path: &[String],

@@ -60,8 +60,8 @@ pub(crate) fn lint<T: Tree>(alloc: Global, tree: &T, asked: Asked<'_>) -> Result
     Ok(Answer { out, err, status })
 }
 
-/// Adds the problems of the files, each file checked by itself. Returns an error for each target whose files can't be
-/// read.
+/// Adds the problems of the files, each file checked by itself. Returns the errors about units, files and folders that
+/// can't be read.
 fn add_files<T: Tree>(
     alloc: Global,
     tree: &T,
@@ -179,8 +179,8 @@ fn idle_problem(
 
 /// Returns whether an error is about the timer as a whole, and so isn't among the problems of its files. Such an error
 /// says that the timer names a zone that can't be loaded, that it has no setting that starts its unit, that all its
-/// files together have too many expressions, or that its file is a link to nothing. `of_files` are the errors of the
-/// targets whose files can't be read.
+/// files together have too many expressions, or that its file is a link to nothing. `of_files` are the errors that
+/// [`add_files`] returned.
 ///
 /// All other errors are left to [`add_files`], which accepts more than loading a timer does, for example comments that
 /// aren't UTF-8.

@@ -1,5 +1,6 @@
-//! Following paths below a root folder, with all their links. The system can't do this by itself, since it would look
-//! for the absolute targets of links in its own root, and doesn't say where the folder of a path is.
+//! Following paths below a root folder, with all their links. The system can't do this by itself: it would look for the
+//! absolute targets of links below its own root, and it doesn't say where the folder of a path is after its links are
+//! followed.
 
 use cal_units::TreeFault;
 use std::alloc::{AllocError, Global};
@@ -12,8 +13,8 @@ use std::rt::Files;
 const MAX_PARTS: usize = 1_000;
 
 /// Returns the path on the system to which `path` leads. Absolute paths and absolute targets of links are relative to
-/// the root. Nothing has to be at the path. `plain` are folders to which no link leads, so that they needn't be looked
-/// at again.
+/// the root. It doesn't matter whether anything is at the path. `plain` are folders whose paths are known to lead
+/// through no links, so that their parts needn't be looked at again.
 ///
 /// Fails with [`TreeFault::ReadFailed`] if the path has too many parts, [`TreeFault::NotUtf8`] if the target of a link
 /// is not UTF-8, and [`TreeFault::NoMemory`] if allocation fails.
@@ -49,9 +50,9 @@ pub(crate) fn followed<R: Files + AllocGlobal>(
     Err(TreeFault::ReadFailed)
 }
 
-/// Returns the absolute path, as seen from the root, to which the link at a path leads if it has this target. Links of
-/// folders on the way are followed, but not a link at the end. The path of the link has to be absolute. An empty root
-/// is the system's own.
+/// Returns the absolute path, as seen from the root, to which a link leads. `link` is the path of the link, which has
+/// to be absolute, and `target` is its target. Links to folders on the way are followed, but not a link at the end. If
+/// `root` is empty, the root is the system's own.
 ///
 /// Fails like [`followed`].
 pub(crate) fn leads_to<R: Files + AllocGlobal>(

@@ -28,7 +28,7 @@ pub struct Machine<'a, R> {
     /// The root folder, to which absolute paths and absolute targets of links are relative. Empty for the system's own
     /// root.
     pub root: &'a str,
-    /// Folders below the root to which no link leads.
+    /// Folders below the root whose paths lead through no links.
     pub plain: &'a [String],
 }
 
@@ -51,8 +51,8 @@ impl<'a, R: Files + Env + AllocGlobal + Clone + Drop> Machine<'a, R> {
         below_root::followed(self.rt, alloc, self.root, self.plain, path)
     }
 
-    /// Returns those of [`UNIT_FOLDERS`] to which no link leads, for [`Machine::plain`]. There are none if
-    /// the root is the system's own.
+    /// Returns those of [`UNIT_FOLDERS`] whose paths lead through no links, for [`Machine::plain`]. Returns an empty
+    /// list if the root is the system's own.
     pub fn plain_folders(&self, alloc: Global) -> Result<Vec<String>, AllocError> {
         let mut plain = Vec::new(alloc);
         if self.root.is_empty() {
@@ -74,8 +74,8 @@ impl<'a, R: Files + Env + AllocGlobal + Clone + Drop> Machine<'a, R> {
         }
     }
 
-    /// Returns the path on the system that stands for `path`. Links in the path of the folder are followed. If there is
-    /// a link at `path` itself, it is not followed.
+    /// Returns the path on the system that stands for `path`. Links to folders on the way are followed, but not a link
+    /// at `path` itself.
     fn path_of(&self, alloc: Global, path: &str) -> Result<String, TreeFault> {
         match path.rsplit_once('/') {
             Some((folder, name)) if !self.root.is_empty() => {
