@@ -73,7 +73,8 @@ fn push_many(alloc: Global, count: u32, found: &mut Names) -> Result<(), TreeFau
     Ok(())
 }
 
-/// Returns a path without empty parts, and without each `..` and the part before it. No folder in memory is a link.
+/// Returns a path without empty parts, and without each `..` and the part before it. This leads to the same place,
+/// since no folder in memory is a link.
 fn plain_path(alloc: Global, path: &str) -> Result<String, AllocError> {
     let mut plain = String::new(alloc);
     for part in path.split('/') {
