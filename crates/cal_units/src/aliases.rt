@@ -27,8 +27,8 @@ pub struct Alias {
 /// The aliases of all units in the search path.
 #[derive(Debug, Drop)]
 pub struct Aliases {
-    /// The aliases, in the order of the folders with their links. If several folders have a link of the same name, the
-    /// alias is in this list several times.
+    /// The aliases, in the order of the folders that have their links. If several folders have a link of the same name,
+    /// the alias is in this list several times.
     pub aliases: Vec<Alias>,
     /// The errors: folders that can't be listed, files that can't be looked at, and links that can't be followed to a
     /// unit. Aliases that couldn't be found because of these errors are missing from `aliases`.
@@ -39,8 +39,10 @@ pub struct Aliases {
 ///
 /// The name of a link in one of the folders is an alias if [`find_unit`] finds a unit with another name for it. If a
 /// folder can't be listed, or looking at a file or following a link fails, the error is in [`Aliases::faults`], and the
-/// other aliases are still found. The errors are [`UnitFault::At`] with the path of the folder and
-/// [`crate::Reason::ReadFailed`], and the errors of [`find_unit`]. Fails only if allocation fails.
+/// other aliases are still found. The errors are [`UnitFault::At`] with the path of the folder and the reason why it
+/// can't be listed, and the errors of [`find_unit`]. This reason is [`crate::Reason::ReadFailed`], or
+/// [`crate::Reason::NotUtf8`] if the target of a link is not UTF-8 and `tree` can't follow the link. Fails only if
+/// allocation fails.
 pub fn find_aliases<T: Tree>(
     alloc: Global,
     tree: &T,

@@ -31,9 +31,9 @@ pub struct DropIns {
 /// aliases, and last its own name.
 ///
 /// Fails with [`UnitFault::At`] and [`Reason::ReadFailed`] if a folder can't be listed or a drop-in can't be looked at,
-/// with [`Reason::NotUtf8`] if the target of a drop-in's link is not UTF-8, and with [`Reason::TooMany`] at the folder
-/// with the 10,001st drop-in, counting also drop-ins that are hidden by others of the same name. Fails with
-/// [`UnitFault::NoMemory`] if allocation fails.
+/// with [`Reason::NotUtf8`] if the target of a link is not UTF-8, and the link is a drop-in or `tree` can't follow it,
+/// and with [`Reason::TooMany`] at the folder with the 10,001st drop-in, counting also drop-ins that are hidden by
+/// others of the same name. Fails with [`UnitFault::NoMemory`] if allocation fails.
 #[tactic(auto, unfolding(cal_drop_ins::specs::DropIns::drop_ins))]
 pub fn find_drop_ins<T: Tree>(
     alloc: Global,

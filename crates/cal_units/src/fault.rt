@@ -52,7 +52,7 @@ impl<T: Drop> From<AllocFailed<T>> for UnitFault {
 }
 
 impl UnitFault {
-    /// Returns the error for a path.
+    /// Returns the error that a path can't be used, for this reason.
     pub(crate) fn at(alloc: Global, path: &str, reason: Reason) -> UnitFault {
         match String::from_str(alloc, path) {
             Ok(path) => UnitFault::At(path, reason),

@@ -27,9 +27,9 @@ pub struct UnitText {
 ///
 /// Fails with [`UnitFault::At`] for the first file that can't be read. The reason is [`Reason::ReadFailed`] if the file
 /// can't be opened, read or looked at, [`Reason::IsFolder`] if it is a folder, [`Reason::Vanished`] if nothing is at
-/// its path, and [`Reason::TooLarge`] if it has more than 1,048,576 bytes. The reason is [`Reason::NotUtf8`] if there
-/// is only a link to nothing, and the target of this link is not UTF-8. Fails with [`UnitFault::NoMemory`] if
-/// allocation fails.
+/// its path, and [`Reason::TooLarge`] if it has more than 1,048,576 bytes. The reason is [`Reason::NotUtf8`] if the
+/// target of a link is not UTF-8, and the link leads to nothing or `tree` can't follow it. Fails with
+/// [`UnitFault::NoMemory`] if allocation fails.
 pub fn read_files<T: Tree>(
     alloc: Global,
     tree: &T,
