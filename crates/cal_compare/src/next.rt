@@ -10,7 +10,8 @@ use std::alloc::Global;
 /// The next elapse of each of several timers.
 #[derive(Debug, Drop)]
 pub struct NextOfAll {
-    /// The next elapse of each timer that has one, soonest first. At the same instant, timers are in the order given.
+    /// The next elapse of each timer that has one, soonest first. Timers that elapse at the same instant are in the
+    /// order given.
     pub soonest: Vec<TimerElapse>,
     /// The indices of the timers that don't elapse any more, in the order given.
     pub never: Vec<usize>,

@@ -10,7 +10,7 @@ use cal_zone::Instant;
 use std::alloc::Global;
 
 /// Returns the elapses of all timers from `from` on (included) and before `before`, in increasing order, each with the
-/// index of its timer. At the same instant, timers are in the order given.
+/// index of its timer. Elapses at the same instant are in the order of their timers.
 ///
 /// Each timer is given as a source of its elapses, such as `cal_plan::merge_of` returns. The base of its elapses should
 /// be [`base_before`] of `from`: an earlier base takes longer, and with a later base, elapses at or after `from` can be

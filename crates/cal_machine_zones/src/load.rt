@@ -17,8 +17,9 @@ use std::alloc::{AllocError, Global};
 /// (RFC 8536). The name `UTC`, ignoring case, needs no file, and a name may be repeated.
 ///
 /// Fails with [`ZonesFault::At`] and the path of the first file that can't be used: with [`FileReason::NotFound`] if
-/// there is no such file, or else with [`FileReason::Load`] and the error of [`load_zone`]. So an invalid name fails
-/// with `NotFound`, unless there is a file at its path. Fails with [`ZonesFault::NoMemory`] if allocation fails.
+/// there is no such file, with [`FileReason::Load`] and [`LoadFault::ReadFailed`] if the file can't be opened, or else
+/// with [`FileReason::Load`] and the error of [`load_zone`]. So an invalid name fails with `NotFound`, unless there is
+/// a file at its path. Fails with [`ZonesFault::NoMemory`] if allocation fails.
 pub fn load_zones<T: Tree>(
     alloc: Global,
     tree: &T,
