@@ -35,7 +35,7 @@ impl From<UnitFault> for LoadFault {
 }
 
 impl LoadFault {
-    /// Returns the error for a path.
+    /// Returns the error that a path can't be used, for this reason.
     pub fn at(alloc: Global, path: &str, reason: Reason) -> LoadFault {
         match String::from_str(alloc, path) {
             Ok(path) => LoadFault::Target(TargetReason::Path(path, reason)),

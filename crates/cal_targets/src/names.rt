@@ -8,8 +8,7 @@ use std::alloc::{AllocError, Global};
 use std::collections::BTreeSet;
 
 /// Returns the names in the folders of the search path that can be those of timers' files, sorted by their bytes.
-/// Templates are left out, and so are hidden files and names that no unit can have. A name is not left out if it is
-/// that of a folder.
+/// Templates are left out, and so are hidden files and names that no unit can have, but not the names of folders.
 ///
 /// A folder that can't be listed is added to `faults`, and the others are still listed.
 pub fn names_in_path<T: Tree>(

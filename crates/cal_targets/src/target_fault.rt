@@ -31,7 +31,7 @@ pub enum TargetReason {
     ExpressionZone(String, FileReason),
 }
 
-/// A timer, a file or a folder that can't be loaded.
+/// A timer, an expression, a file or a folder that can't be loaded.
 #[derive(Debug, Drop)]
 pub struct TargetFault {
     /// The unit or expression as it was given, or the path without slashes at its end. If a folder was given, this can

@@ -53,7 +53,7 @@ pub(crate) fn merge_of_timer<'a>(
     )
 }
 
-/// Returns the present, the local zone, and the zones that the expressions of a timer can name.
+/// Returns the present, the local zone, and the zones that were loaded for a timer.
 pub(crate) fn setting_for<'a>(at: Clocked<'a>, timer: &'a LoadedTimer) -> Setting<'a>
     ensures seen { setting_seen result ≡ setting_for at.entry timer.now }
     ensures now { result.now ≡ at.entry.now }

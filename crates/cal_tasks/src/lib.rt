@@ -1,5 +1,6 @@
 //! The answers of `calendar-timers`, as data: the next elapses of timers, their elapses in a range of instants, the
-//! first instants at which two timers differ, and the expressions and exceptions that have no effect.
+//! first instants at which two timers differ, the expressions and exceptions that have no effect, and the local times
+//! that clock changes skip or repeat.
 #![tactic(auto)]
 
 mod clock_note;
