@@ -77,8 +77,8 @@ fn folder_of(path: &str) -> &str {
     path.rsplit_once('/').map_or("", |parts| parts.0)
 }
 
-/// Splits a path that leads into one of the `plain` folders into the path of this folder and the rest. For any other
-/// path, the first of the two is empty.
+/// Returns the path of the `plain` folder into which `path` leads, and the rest of `path`. If it leads into none of
+/// them, returns an empty text and all of `path`.
 fn plain_part<'p>(plain: &'p [String], path: &'p str) -> (&'p str, &'p str) {
     for folder in plain {
         if let Some(rest) = path.strip_prefix(folder.as_str()) {

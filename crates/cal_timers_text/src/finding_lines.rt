@@ -13,8 +13,8 @@ use std::alloc::{AllocError, Global};
 /// Returns the lines about a problem in the file at `path`, whose content is `text`.
 ///
 /// The first line has the path, the line number, the column and the message. Below it are the line of the file, a caret
-/// below the word at fault, and, if it is known, what to write instead. There is no caret if the problem is in a value
-/// that continues on the next line.
+/// below the word at this column, and what to write instead, if that is known. There is no caret if the problem is in a
+/// value that continues on the next line.
 pub fn finding_text(
     alloc: Global,
     path: &str,
@@ -75,8 +75,8 @@ fn push_kind(out: &mut String, kind: Kind, style: Style) -> Result<(), AllocErro
     }
 }
 
-/// Appends the line of the file that has the problem, a line with a caret if the word at fault is known, and a line
-/// with what to write instead if that is known.
+/// Appends the line of the file that has the problem, a line with a caret if the column of the problem is known, and a
+/// line with what to write instead if that is known.
 fn push_excerpt(out: &mut String, text: &str, finding: &Finding) -> Result<(), AllocError> {
     let line = line_of(text, finding.line);
     push_shown(out, line)?;
@@ -113,8 +113,9 @@ fn line_of(text: &str, number: u32) -> &str {
         .unwrap_or("")
 }
 
-/// Returns the text before the word at fault, and the word. Returns `None` if the column of the word isn't known,
-/// because the value continues on the next line, or if the line doesn't have this column.
+/// Returns the text before the word at the column of the problem, and the word. For an unknown key, the word is the
+/// key. Returns `None` if the column isn't known, because the value continues on the next line, or if the line doesn't
+/// have this column.
 fn word_at_fault<'t>(line: &'t str, finding: &Finding) -> Option<(&'t str, &'t str)> {
     let is_key = matches!(finding.problem, Problem::UnknownKey);
     if finding.column <= 1 && !is_key {
