@@ -245,7 +245,7 @@ fn is_narrow(text: &str) -> bool {
     text.lines().all(|row| row.len() <= 80)
 }
 
-/// Help texts and messages end with exactly one line feed and fit into 80 columns.
+/// Tests that help texts and messages end with exactly one line feed and fit into 80 columns.
 #[test]
 fn texts_fit_a_terminal(rt: HostRuntime) -> Result<(), Fail> {
     for line in TEXTS.lines() {

@@ -73,8 +73,8 @@ fn lines_with_carets(rt: HostRuntime) -> Result<(), Fail> {
     Ok(())
 }
 
-/// A column counts bytes, but the caret is placed by characters: before the word, `Ä`, `ö` and the tab have 5 bytes and
-/// are printed as 6 characters.
+/// Tests that a column counts bytes, but the caret is placed by characters: before the word, `Ä`, `ö` and the tab have
+/// 5 bytes and are printed as 6 characters.
 #[test]
 fn characters_before_the_word(rt: HostRuntime) -> Result<(), Fail> {
     let style = Style {
@@ -107,7 +107,7 @@ fn characters_before_the_word(rt: HostRuntime) -> Result<(), Fail> {
     )
 }
 
-/// A column inside a character, and the number of a line that the file doesn't have.
+/// Tests a column inside a character, and the number of a line that the file doesn't have.
 #[test]
 fn places_that_are_not_there(rt: HostRuntime) -> Result<(), Fail> {
     let mut finding = Finding {

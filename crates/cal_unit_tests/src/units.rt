@@ -173,8 +173,8 @@ fn is_alias(alias: &Alias, stem: &str, unit: &str) -> bool {
     alias.stem.as_str() == stem && alias.unit.as_str() == unit
 }
 
-/// Finds the aliases `far`, `also` and `too` of the unit `a`. The other links are not aliases, and the two links that
-/// form a loop are errors.
+/// Tests that the aliases `far`, `also` and `too` of the unit `a` are found, that the other links are not aliases, and
+/// that the two links that form a loop are errors.
 #[test]
 fn finds_aliases(rt: HostRuntime) -> Result<(), Fail> {
     let alloc = rt.alloc();
