@@ -29,7 +29,9 @@ static MACHINE: [(&str, Item<'static>); 24] = [
     ),
     (
         "/etc/systemd/system/a.timer",
-        Item::File(b"[Timer]\nOnBootSec=1h\nRandomizedDelaySec=1h\nRandomizedDelaySec=0 s\nOnClockChange=yes\n"),
+        Item::File(
+            b"[Timer]\nOnBootSec=1h\nRandomizedDelaySec=1h\nRandomizedDelaySec=0 s\nOnClockChange=yes\n",
+        ),
     ),
     ("/etc/systemd/system/ä.timer", Item::File(b"[Timer]\n")),
     ("/etc/systemd/system/x.timer", Item::Unnamed),

@@ -64,7 +64,11 @@ pub(crate) fn leads_to<R: Files + AllocGlobal>(
     target: &str,
 ) -> Result<String, TreeFault> {
     let root = if root.is_empty() { "/" } else { root };
-    let start = if target.starts_with('/') { "" } else { folder_of(link) };
+    let start = if target.starts_with('/') {
+        ""
+    } else {
+        folder_of(link)
+    };
     let path = format!(in alloc; "{start}/{target}")?;
     let (folder, name) = path.as_str().rsplit_once('/').unwrap_or(("", target));
     let folder = format!(in alloc; "{folder}/")?;

@@ -82,12 +82,7 @@ fn place_of_link<T: Tree>(
 }
 
 /// Returns the path to which a link with this target leads, or the error with the path of the link.
-fn leads_to<T: Tree>(
-    alloc: Global,
-    tree: &T,
-    link: &str,
-    target: &str,
-) -> Result<String, UnitFault>
+fn leads_to<T: Tree>(alloc: Global, tree: &T, link: &str, target: &str) -> Result<String, UnitFault>
     ensures { IfOk result (λ path. (machine : Machine) → T.shows tree.now machine
         → string_bytes path ≡ machine.leads_to link.now target.now) }
 {
