@@ -87,7 +87,7 @@ read_options found =
     })))))
 
 -- What the arguments ask for, or the error for the first invalid value. The function is meant for arguments that `clap`
--- parses. In these, `clap` finds a verb with texts, so the default `usage []` is never the result.
+-- accepts. In these, `clap` finds a verb and its texts, so the default `usage []` is never the result.
 unfoldable pub asked_in : List Text → Result Ask CommandFault
 asked_in arguments = option_map_or read_options (parsed_in arguments) (Err (usage []))
 

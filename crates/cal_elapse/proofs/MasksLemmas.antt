@@ -79,7 +79,8 @@ pub numbers_are : (bit : ℕ → Bool) (first n : ℕ) (holds : ℕ → Bool) �
 numbers_are bit first n holds filled within v = grind (arith, nat_le, nat_tests, false_from_ne_true)
 
 -- if the set bits of the mask of days stand for exactly the days, or the counts from the end of the month, that satisfy
--- the test `holds`, and only numbers from 1 to 31 satisfy it, then the mask contains exactly these numbers
+-- the test `holds`, and no number outside 1 to 31 satisfies it, then the mask contains a number if and only if the
+-- number satisfies `holds`
 pub days_are : (mask : ℕ) (from_end : Bool) (holds : ℕ → Bool)
     → ((i : ℕ) → is_bit mask i ≡ (nat_lt i 31 && holds (if from_end then 31 - i else i + 1)))
     → ((v : ℕ) → holds v ≡ true → (1 ≤ v) × (v < 1 + 31)) → (v : ℕ)

@@ -150,11 +150,11 @@ impl<'z> Window<'z> {
         }
     }
 
-    /// Searches for later matches in the hour of `local`, one after another, and converts them. Stops after the first
-    /// match of the last minute with matches in this hour. `local` is a match that has already been converted. Returns
-    /// the last match that has been converted, which can be `local`.
+    /// Searches for later matches in the hour of `local`, one after another, and converts them. The last one is the
+    /// first match in the last minute of this hour that has matches. `local` is a match that has already been
+    /// converted. Returns the last match that has been converted, which can be `local`.
     ///
-    /// Searches and converts nothing if one of these conditions isn't met:
+    /// Does nothing unless all of these conditions are met:
     ///
     /// - The hour of `local` is known to have a later minute with matches.
     /// - None of the 3,600 local seconds from `local` on is more than `MAX_OFFSET` seconds after the instant returned

@@ -1,4 +1,4 @@
--- If a unit has only one file, and the first line of this file has the number 1, `timer_faults` has all errors of the
+-- If a unit has only one file, and the first line of this file has the number 1, `timer_faults` lists all errors of the
 -- unit.
 use Rattle.std.proofs.Common.{◌≡◌, ◌∙◌, false, [], ◌∷◌, ap, append-nil, map, sym}
 use Rattle.cal_lines.specs.headline.Lines.{logical_lines}

@@ -16,7 +16,7 @@ use std::collections::BTreeSet;
 /// Files that were read.
 #[derive(Debug, Drop)]
 pub struct LoadedFiles {
-    /// The files in the order of the targets, each once. Their bytes may not be UTF-8.
+    /// The files in the order of the targets, each once. Their bytes needn't be UTF-8.
     pub files: Vec<UnitText>,
     /// The units, files and folders that couldn't be read, each with the reason.
     pub faults: Vec<TargetFault>,

@@ -47,7 +47,7 @@ pub runs_first : (s : Piece) (ss : List Piece) → runs (s ∷ ss) ≡ record { 
 runs_first s [] = rw append-nil refl
 runs_first s (t ∷ ss) = grind (arith, nat_tests, runs_second, runs_first t ss)
 
--- Let `rest` be the bytes from index `len` on. If the first character of `rest` is of this kind, then the longest
+-- Let `rest` be the bytes from index `len` on. If the first character of `rest` is of the kind `kind`, then the longest
 -- prefix of `rest` that has only characters of this kind consists of this character and the longest such prefix of the
 -- bytes after it.
 pub front_more : (kind : CharKind) (bytes : List ℕ) (len width : ℕ) (rest : List ℕ) → rest ≡ drop len bytes → characters rest ≡ record { kind = kind; text = take width rest } ∷ characters (drop width rest) → front_of kind (characters (drop len bytes)) ≡ take width (drop len bytes) ++ front_of kind (characters (drop (len + width) bytes))

@@ -55,8 +55,8 @@ characters (b ∷ c ∷ bytes) =
 
 -- Words (systemd.time(7), Parsing Time Spans: blanks may come before, between and after words)
 
--- puts a character in front of runs: if the first run is of the same kind, it is extended by the character; otherwise
--- the character is a run of its own
+-- puts a piece of one character in front of runs: if the first run is of the same kind, it is extended by the
+-- character; otherwise the piece becomes a run of its own
 abbrev pub with_front : Piece → List Piece → List Piece
 with_front s [] = s ∷ []
 with_front s (w ∷ ws) =

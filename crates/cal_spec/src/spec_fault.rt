@@ -4,8 +4,8 @@ ghost use Rattle.std.specs.Prelude.{◌≡◌};
 
 use thiserror::Error;
 
-/// Why a text is not a valid calendar expression (systemd.time(7), Calendar Events): the first error in the order in
-/// which texts are checked.
+/// Why a text is not a valid calendar expression (systemd.time(7), Calendar Events): the error of the first check that
+/// fails.
 #[derive(Clone, Copy, PartialEq, Eq, Debug, Error)]
 pub enum SpecFault {
     /// The text has no words.

@@ -98,10 +98,10 @@ pub fn moments_are_in_range()
         → MeansTime now at form time → (IsMoment time → ⊥) → moment_in now at text ≡ Err OutOfRange }
 {}
 
-/// Parsing a printed instant gives the same instant if, at this instant, the clock of the zone in which it is printed
-/// shows a year from 1970 to 2199, and its UTC offset is a whole number of minutes. This holds whatever the present,
-/// the local zone and the table of zones are (systemd.time(7), Parsing Timestamps). In UTC, it holds for every instant
-/// of the years 1970 to 2199.
+/// Parsing a printed instant (systemd.time(7), Parsing Timestamps) gives the same instant if, at this instant, the
+/// clock of the zone in which it is printed shows a year from 1970 to 2199, and its UTC offset is a whole number of
+/// minutes. This holds whatever the present, the local zone and the table of zones are. In UTC, it holds for every
+/// instant of the years 1970 to 2199.
 ///
 /// An offset that isn't a whole number of minutes is printed with seconds, and the parser rejects offsets with seconds
 /// (`StrayWord`). At the first instants, clocks west of UTC show 1969, and at the last instants most clocks show 2200;

@@ -43,7 +43,7 @@ fn time_numbers(word: &[u8]) -> Option<u64>
 }
 
 /// Returns the microseconds after midnight, given the digits of the hour, the digits of the minute, and the
-/// microseconds since the full minute. Returns `None` if any of the three is invalid.
+/// microseconds since the start of the minute. Returns `None` if any of the three is invalid.
 fn time_of(hour: &[u8], minute: &[u8], micros: Option<u64>) -> Option<u64>
     requires { IfSome micros (λ micros. micros ≤ 120_000_000) }
     ensures value { result ≡ time_by (clock_number 23 hour.now) (clock_number 59 minute.now) micros }

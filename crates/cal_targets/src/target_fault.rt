@@ -26,8 +26,8 @@ pub enum TargetReason {
     Zone(String, u32, String, FileReason),
     /// The expression, which was given instead of a timer, is invalid.
     Expression(SpecFault),
-    /// The expression, which was given instead of a timer, names a zone whose file at this path can't be used for this
-    /// reason.
+    /// The expression, which was given instead of a timer, names a zone whose file at this path can't be used, for
+    /// this reason.
     ExpressionZone(String, FileReason),
 }
 

@@ -67,7 +67,8 @@ pub fn elapses_between(
     Ok(between(alloc, merges.as_mut_slice(), from, before)?)
 }
 
-/// Returns the first instants after the present, through 2199, at which only one of two timers elapses.
+/// Returns, for each of two timers, the first instant after the present, through 2199, at which it elapses and the
+/// other doesn't.
 ///
 /// The call computes elapses until it finds these instants. It takes longest if the timers elapse at the same instants:
 /// then it computes all their elapses through 2199, once for each field of the result. Fails like [`next_of_timers`].

@@ -57,8 +57,8 @@ fn push_elapse(
     out.push('\n')
 }
 
-/// Returns how two timers differ. For each timer that elapses at an instant at which the other doesn't, there is a line
-/// with the first such instant. If there are no such instants, returns the line `same`.
+/// Returns a text that says how two timers differ. For each timer that elapses at an instant at which the other
+/// doesn't, there is a line with the first such instant. If there are no such instants, returns the line `same`.
 pub fn same_text(
     alloc: Global,
     local: Zone<'_>,

@@ -1,7 +1,7 @@
 //! The output of `calendar-timers` for people: tables, lines and messages.
 //!
-//! In names, paths and values, control characters are printed as `\xNN`, so that they can't change the terminal. Widths
-//! are numbers of characters.
+//! In names, paths and values, control characters are printed as `\xNN`, so that they can't change the terminal.
+//! Columns are measured in characters.
 #![tactic(auto)]
 
 mod cells;

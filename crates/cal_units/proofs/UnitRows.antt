@@ -79,8 +79,8 @@ aliases : aliases_in machine (codes "/etc" ∷ codes "/lib" ∷ [])
 unfolding unit_paths template_of alias_of stem_in after_prefix file_stem unit_stem without_suffix is_stem kind_of
 aliases = refl
 
--- If `a` is found by its alias `b`, the stems are those of its aliases `b` and `c`, then again `b`, and last its own.
--- The alias `y` belongs to another unit and is left out.
+-- If the unit `a` is found by its alias `b`, the stems are `b` and `c`, which are its aliases, then `b` again, and last
+-- `a` itself. The alias `y` belongs to another unit and is left out.
 stems : stems_of
     (record { stem = codes "b"; unit = codes "a" } ∷ record { stem = codes "y"; unit = codes "x" }
     ∷ record { stem = codes "c"; unit = codes "a" } ∷ []) (codes "b" ∷ []) (codes "a")

@@ -45,8 +45,8 @@ pub struct Ended {
 /// The status is 0 for success, help and the version. It is 1 if an expression, a timestamp, a span, the base time or
 /// the timer file is rejected, if the timer file can't be opened, if `out` fails or memory runs out, or if `err` fails
 /// while the error lines of rejected texts are written. It is 2 if the arguments, a zone file, the local zone or the
-/// clock are invalid, even if `err` fails while this error is reported. But if the error could be reported, and `out`
-/// can't be flushed after that, the status is 1, and [`Ended::written`] says that `out` failed.
+/// time on the clock can't be used, even if `err` fails while that is reported. But if the error could be reported, and
+/// `out` can't be flushed after that, the status is 1, and [`Ended::written`] says that `out` failed.
 ///
 /// If an output or an allocation fails, each output has a prefix of its whole text. On `err`, the line that reports the
 /// failure follows, unless `err` is what failed.

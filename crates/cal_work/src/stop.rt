@@ -207,7 +207,7 @@ fn write_own<W: Sink>(out: &mut W, message: &str) -> Result<(), WriteFault>
     put_pieces(out, &[b"calendar-analyze: ", message.as_bytes(), b"\n"])
 }
 
-/// Returns the exit status of a run that could write everything: 0, or 1 if at least one input was rejected.
+/// Returns the exit status of a run that wrote all its output: 0, or 1 if at least one input was rejected.
 pub fn exit_status(status: Status) -> u8
     ensures { result ≡ exit_status status }
 {

@@ -60,7 +60,7 @@ pub place_of-fixed_zone : (o : Offset) (local : ℤ) → place_of (fixed_zone o)
 unfolding place_of
 place_of-fixed_zone o local = rw (settle_of-fixed_zone o local, local_shown_at-fixed_zone o local, (Decides-int_eq local local).1 refl)
 
--- `shown` is the civil time of `local`, and `offsets` is what `jiff` reports for it. Then `settle_of` returns the
+-- Let `shown` be the civil time of `local`, and `offsets` what `jiff` reports for it. Then `settle_of` returns the
 -- instant of `shown` at the offset that `jiff`'s compatible conversion picks from `offsets`.
 pub instant_of-settled : (tz : TimeZone) (offsets : AmbiguousOffset) (shown : DateTime) (local : ℤ) → IsEpochDay (day_of local)
     → shown ≡ datetime_of local → offsets ≡ ambiguous_at tz shown → instant_of shown (compatible_offset offsets) ≡ nanos_of_seconds (settle_of tz local)

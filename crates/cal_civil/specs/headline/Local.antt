@@ -27,10 +27,11 @@ first_year = 1_970
 abbrev pub last_year : ℕ
 last_year = 2_199
 
--- the number of days in the years 1970 to 2199, and the day number of the last of these days
+-- the number of days in the years 1970 to 2199
 abbrev pub days_in_all : ℕ
 days_in_all = 84_006
 
+-- the day number of the last of these days
 abbrev pub last_day : ℕ
 last_day = 84_005
 

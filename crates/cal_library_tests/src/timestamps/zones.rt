@@ -23,7 +23,8 @@ Fri 1:2\tTest/Fixed\x20 -> 1353628920000000|today Test/Fixed -> 1353625200000000
     ],
 };
 
-/// `today` and times without a date are on the present day of the named zone, even if the local zone has another day.
+/// `today` and times without a date are on the present day in the named zone, even if it is another day in the local
+/// zone.
 static DAYS_OF_THE_ZONE_NAMED: Table = Table {
     moments: "\
 today East -> 1353664800000000|1:2 East -> 1353668520000000|Sat 1:2 East -> 1353668520000000|\

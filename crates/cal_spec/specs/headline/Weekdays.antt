@@ -13,6 +13,6 @@ days_until day other = (monday_zero other + 7 - monday_zero day) % 7
 abbrev pub is_in_weekday_range : Weekday → WeekdayRange → Bool
 is_in_weekday_range day days = nat_le (days_until days.first day) (days_until days.first days.last)
 
--- which weekdays are in at least one of the ranges, from Monday to Sunday
+-- whether each weekday, from Monday to Sunday, is in at least one of the ranges
 abbrev pub set_of : List WeekdayRange → List Bool
 set_of items = map (λ day. list_any (is_in_weekday_range day) items) week

@@ -2,6 +2,6 @@ use Rattle.std.proofs.Common.{◌≡◌, map}
 use Rattle.cal_drop_ins.specs.DropIns.{by_name, shown, shown_entry}
 use Rattle.cal_drop_ins.proofs.drop_ins.enter_all.Given as goal
 
--- the map has the entries of the files so far
+-- the map has the entries of the files that the loop has visited
 abbrev pub invariant-loop-file : goal.invariant-loop-file
 invariant-loop-file l = map shown_entry l.entered.entries ≡ by_name (map shown l.yielded)
