@@ -1,6 +1,6 @@
 -- The two ways to write the start or the end of a range of instants: as a weekday with a time, or as a timestamp
 -- (systemd.time(7), Parsing Timestamps).
-use Rattle.std.specs.Prelude.{◌≡◌, ℕ, ◌/◌, Bool, false, ◌||◌, if◌then◌else◌, List, [], ◌∷◌, Option, None, Some, is_some, Result, Ok, Err, ℤ, pos, slice_get, unsigned_abs}
+use Rattle.std.specs.Prelude.{◌≡◌, ℕ, ◌/◌, Bool, false, ◌||◌, if◌then◌else◌, List, [], ◌∷◌, Option, None, Some, is_some, Result, Ok, Err, ⊤, ℤ, pos, slice_get, unsigned_abs}
 use Rattle.std.specs.FinMap as map
 use Rattle.jiff.specs.Types.{TimeZone}
 use Rattle.cal_zone.specs.Setting.{Setting}

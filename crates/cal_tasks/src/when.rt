@@ -5,7 +5,7 @@ ghost use Rattle.std.specs.List.{position_or_len};
 ghost use Rattle.cal_zone.specs.Setting.{setting_seen};
 ghost use Rattle.cal_spec.specs.Weekdays.{is_no_letter, leading_letters};
 ghost use Rattle.cal_text.specs.headline.Words.{words};
-ghost use Rattle.cal_tasks.specs.When.{IsUnlessNoMemory, begin_with_weekday, fields_unless_dated, first_elapse, has_date, instant_in, next_weekday_time, setting_without_names, weekday_time_in};
+ghost use Rattle.cal_tasks.specs.When.{IsUnlessNoMemory, begin_with_weekday, fields_unless_dated, first_elapse, first_if_some, has_date, instant_in, next_weekday_time, setting_without_names, weekday_time_in};
 
 use crate::clocked::Clocked;
 use cal_elapse::Elapses;
@@ -83,8 +83,22 @@ fn next_weekday_time(
     ensures { IfOk result (λ found. option_map (λ instant. instant.secs) found
         ≡ next_weekday_time (setting_seen setting.entry) after.secs text.now) }
 {
-    match read_weekday_time(alloc, text)? {
-        Some(expr) => first_elapse(alloc, setting, after, &expr),
+    let expr = read_weekday_time(alloc, text)?;
+    first_if_some(alloc, setting, after, &expr)
+}
+
+/// Returns the first elapse of the expression after `after`, if there is an expression.
+fn first_if_some(
+    alloc: Global,
+    setting: Setting<'_>,
+    after: Instant,
+    expr: &Option<Expr>,
+) -> Result<Option<Instant>, AllocError>
+    ensures { IfOk result (λ found. option_map (λ instant. instant.secs) found
+        ≡ first_if_some (setting_seen setting.entry) after.secs expr.now) }
+{
+    match expr {
+        Some(expr) => first_elapse(alloc, setting, after, expr),
         None => Ok(None),
     }
 }
