@@ -1,4 +1,5 @@
 pub mod AliasLemmas
+pub mod FaultLemmas
 pub mod LinkLemmas
 pub mod UnitLemmas
 mod UnitRows

@@ -1,4 +1,5 @@
 pub mod Aliases
+pub mod Faults
 pub mod Files
 pub mod Machine
 pub mod Units

@@ -1,12 +1,14 @@
 //! The aliases of units: links that give a unit more names (systemd.unit(5), Description). A stem is a unit's name
 //! without its suffix `.timer`.
 
-ghost use Rattle.std.specs.Prelude.{◌≡◌, ◌++◌, [], IfOk, MatchResult, OnOk, map, option_map, string_bytes};
+ghost use Rattle.std.specs.Prelude.{◌≡◌, ◌≢◌, ◌++◌, ◌∷◌, [], All, IfErr, IfOk, MatchResult, OnOk, map, option_map, string_bytes};
 ghost use Rattle.std.specs.List.{filter_map};
 ghost use Rattle.std.specs.Option.{option_to_list};
 ghost use Rattle.cal_units.specs.Aliases.{alias_at, alias_named, alias_of_unit, alias_unless_own, aliases_below, aliases_in, is_link, shown_alias};
+ghost use Rattle.cal_units.specs.Faults.{IsAliasFault, IsListedFault, fault_of};
 ghost use Rattle.cal_units.specs.Machine.{Machine, shown_entry};
 ghost use Rattle.cal_units.specs.Units.{shown_unit};
+ghost use Rattle.cal_units.specs.declared.fault.UnitFault.TheVariants.{NoMemory};
 
 use crate::fault::UnitFault;
 use crate::links::file_stem;
@@ -48,8 +50,10 @@ pub fn find_aliases<T: Tree>(
     tree: &T,
     path: &[String],
 ) -> Result<Aliases, AllocError>
-    ensures { IfOk result (λ found. (machine : Machine) → T.shows tree.now machine → found.faults.items ≡ []
+    ensures known { IfOk result (λ found. (machine : Machine) → T.shows tree.now machine → found.faults.items ≡ []
         → map shown_alias found.aliases.items ≡ aliases_in machine (map string_bytes path.now)) }
+    ensures faults { IfOk result (λ found. All (IsListedFault (T.may_fail tree.now) (T.shows tree.now)
+        (map string_bytes path.now)) found.faults.items) }
 {
     let mut found = Aliases {
         aliases: Vec::new(alloc),
@@ -69,9 +73,12 @@ fn push_folder<T: Tree>(
     folder: &str,
     found: &mut Aliases,
 ) -> Result<(), AllocError>
-    ensures { OnOk result ((machine : Machine) → T.shows tree.now machine → found.new.faults.items ≡ []
+    ensures known { OnOk result ((machine : Machine) → T.shows tree.now machine → found.new.faults.items ≡ []
         → (found.old.faults.items ≡ []) × (map shown_alias found.new.aliases.items
         ≡ map shown_alias found.old.aliases.items ++ aliases_below machine (map string_bytes path.now) folder.now)) }
+    ensures faults { OnOk result (
+        All (IsListedFault (T.may_fail tree.now) (T.shows tree.now) (map string_bytes path.now)) found.old.faults.items
+        → All (IsListedFault (T.may_fail tree.now) (T.shows tree.now) (map string_bytes path.now)) found.new.faults.items) }
 {
     match tree.names(alloc, folder) {
         Ok(Names { names, unnamed: _ }) => push_named(alloc, tree, path, folder, names, found),
@@ -88,10 +95,13 @@ fn push_named<T: Tree>(
     names: Vec<String>,
     found: &mut Aliases,
 ) -> Result<(), AllocError>
-    ensures { OnOk result ((machine : Machine) → T.shows tree.now machine → found.new.faults.items ≡ []
+    ensures known { OnOk result ((machine : Machine) → T.shows tree.now machine → found.new.faults.items ≡ []
         → (found.old.faults.items ≡ []) × (map shown_alias found.new.aliases.items
         ≡ map shown_alias found.old.aliases.items
         ++ filter_map (alias_named machine (map string_bytes path.now) folder.now) (map string_bytes names.items))) }
+    ensures faults { OnOk result (
+        All (IsListedFault (T.may_fail tree.now) (T.shows tree.now) (map string_bytes path.now)) found.old.faults.items
+        → All (IsListedFault (T.may_fail tree.now) (T.shows tree.now) (map string_bytes path.now)) found.new.faults.items) }
 {
     for name in names {
         let alias = alias_named(alloc, tree, path, folder, name.as_str());
@@ -103,9 +113,11 @@ fn push_named<T: Tree>(
 impl Aliases {
     /// Appends the alias that was found, if there is one. If looking for it failed, appends the error.
     fn push(&mut self, alias: Result<Option<Alias>, UnitFault>) -> Result<(), AllocError>
-        ensures { OnOk result (self.new.faults.items ≡ []
+        ensures found { OnOk result (self.new.faults.items ≡ []
             → (self.old.faults.items ≡ []) × MatchResult alias (λ alias. map shown_alias self.new.aliases.items
             ≡ map shown_alias self.old.aliases.items ++ option_to_list (option_map shown_alias alias)) (λ _. ⊥)) }
+        ensures faults { OnOk result (self.new.faults.items ≡ self.old.faults.items ++ fault_of alias) }
+        ensures memory { OnOk result (IfErr alias (λ fault. fault ≢ NoMemory)) }
     {
         match alias {
             Ok(Some(alias)) => self.aliases.push(alias)?,
@@ -118,7 +130,9 @@ impl Aliases {
 
 /// Appends an error. Fails if the error is [`UnitFault::NoMemory`], or if allocation fails.
 fn push_fault(faults: &mut Vec<UnitFault>, fault: UnitFault) -> Result<(), AllocError>
-    ensures { OnOk result (faults.new.items ≡ [] → ⊥) }
+    ensures present { OnOk result (faults.new.items ≡ [] → ⊥) }
+    ensures added { OnOk result (faults.new.items ≡ faults.old.items ++ fault ∷ []) }
+    ensures memory { OnOk result (fault ≢ NoMemory) }
 {
     if let UnitFault::NoMemory = fault {
         return Err(AllocError);
@@ -136,8 +150,9 @@ fn alias_named<T: Tree>(
     folder: &str,
     name: &str,
 ) -> Result<Option<Alias>, UnitFault>
-    ensures { IfOk result (λ alias. (machine : Machine) → T.shows tree.now machine
+    ensures known { IfOk result (λ alias. (machine : Machine) → T.shows tree.now machine
         → option_map shown_alias alias ≡ alias_named machine (map string_bytes path.now) folder.now name.now) }
+    ensures fault { IfErr result (IsAliasFault (T.may_fail tree.now) (T.shows tree.now) (map string_bytes path.now)) }
 {
     match file_stem(name) {
         Some(stem) => alias_at(alloc, tree, path, folder, stem),
@@ -154,8 +169,9 @@ fn alias_at<T: Tree>(
     folder: &str,
     stem: &str,
 ) -> Result<Option<Alias>, UnitFault>
-    ensures { IfOk result (λ alias. (machine : Machine) → T.shows tree.now machine
+    ensures known { IfOk result (λ alias. (machine : Machine) → T.shows tree.now machine
         → option_map shown_alias alias ≡ alias_at machine (map string_bytes path.now) folder.now stem.now) }
+    ensures fault { IfErr result (IsAliasFault (T.may_fail tree.now) (T.shows tree.now) (map string_bytes path.now)) }
 {
     let file = unit_path(alloc, folder, stem)?;
     let entry = look(alloc, tree, file.as_str())?;

@@ -1,9 +1,12 @@
 //! The drop-ins of a unit on a machine (systemd.unit(5), Description).
 
-ghost use Rattle.std.specs.Prelude.{◌≡◌, ◌++◌, ◌∷◌, [], IfOk, OnOk, map, not, filter, if◌then◌else◌, string_bytes};
+ghost use Rattle.std.specs.Prelude.{◌≡◌, ◌<◌, ◌≤◌, ◌++◌, ◌∷◌, [], IfErr, IfOk, OnOk, length, map, not, filter, reverse, if◌then◌else◌, string_bytes};
 ghost use Rattle.std.specs.List.{flat_map};
 ghost use Rattle.cal_drop_ins.specs.DropIns.{candidates, drop_ins, shown};
+ghost use Rattle.cal_drop_ins.specs.Folders.{folders};
+ghost use Rattle.cal_units.specs.Faults.{IfAt, IsDropInFault, IsDropInReason, IsReadFault, max_drop_ins};
 ghost use Rattle.cal_units.specs.Machine.{Machine, disk_of, is_null, shown_entry};
+ghost use Rattle.cal_units.specs.declared.fault.UnitFault.TheVariants.{NoMemory};
 
 use crate::fault::{Reason, UnitFault};
 use crate::tree::{Entry, Names, Tree};
@@ -41,9 +44,11 @@ pub fn find_drop_ins<T: Tree>(
     path: &[String],
     stems: &[&str],
 ) -> Result<DropIns, UnitFault>
-    ensures { IfOk result (λ found. (machine : Machine) → T.shows tree.now machine
+    ensures known { IfOk result (λ found. (machine : Machine) → T.shows tree.now machine
         → map string_bytes found.paths.items
         ≡ drop_ins (disk_of machine) (map string_bytes path.now) (map (λ stem. stem.now) stems.now)) }
+    ensures fault { IfErr result (IsDropInFault (T.may_fail tree.now) (T.shows tree.now)
+        (folders (reverse (map string_bytes path.now)) (map (λ stem. stem.now) stems.now))) }
 {
     let folders = folders_of(alloc, path, stems)?;
     let mut unnamed = Vec::new(alloc);
@@ -59,9 +64,10 @@ fn find_candidates<T: Tree>(
     folders: &[String],
     unnamed: &mut Vec<String>,
 ) -> Result<Vec<DropIn>, UnitFault>
-    ensures { IfOk result (λ found. (machine : Machine) → T.shows tree.now machine
+    ensures known { IfOk result (λ found. (machine : Machine) → T.shows tree.now machine
         → map shown found.items
         ≡ flat_map (λ folder. candidates folder (machine.names folder)) (map string_bytes folders.now)) }
+    ensures fault { IfErr result (IsDropInFault (T.may_fail tree.now) (T.shows tree.now) (map string_bytes folders.now)) }
 {
     let mut found = Vec::new(alloc);
     for folder in folders {
@@ -78,8 +84,12 @@ fn push_folder<T: Tree>(
     found: &mut Vec<DropIn>,
     unnamed: &mut Vec<String>,
 ) -> Result<(), UnitFault>
-    ensures { OnOk result ((machine : Machine) → T.shows tree.now machine
+    ensures known { OnOk result ((machine : Machine) → T.shows tree.now machine
         → map shown found.new.items ≡ map shown found.old.items ++ candidates folder.now (machine.names folder.now)) }
+    ensures fits { OnOk result (length found.new.items ≤ max_drop_ins) }
+    ensures fault { IfErr result (IfAt (IsDropInReason (T.may_fail tree.now) (λ other. (other ≡ folder.now)
+        × ((machine : Machine) → T.shows tree.now machine
+        → max_drop_ins < length (map shown found.old.items ++ candidates folder.now (machine.names folder.now)))))) }
 {
     let listed = match tree.names(alloc, folder) {
         Ok(listed) => listed,
@@ -105,9 +115,10 @@ fn without_masked<T: Tree>(
     tree: &T,
     paths: Vec<String>,
 ) -> Result<Vec<String>, UnitFault>
-    ensures { IfOk result (λ kept. (machine : Machine) → T.shows tree.now machine
+    ensures known { IfOk result (λ kept. (machine : Machine) → T.shows tree.now machine
         → map string_bytes kept.items
         ≡ filter (λ path. not (is_null (machine.entry path))) (map string_bytes paths.items)) }
+    ensures fault { IfErr result (IsReadFault (T.may_fail tree.now)) }
 {
     let mut kept = Vec::new(alloc);
     for path in paths {
@@ -123,9 +134,10 @@ fn keep_unmasked<T: Tree>(
     kept: &mut Vec<String>,
     path: String,
 ) -> Result<(), UnitFault>
-    ensures { OnOk result ((machine : Machine) → T.shows tree.now machine
+    ensures known { OnOk result ((machine : Machine) → T.shows tree.now machine
         → map string_bytes kept.new.items ≡ map string_bytes kept.old.items
         ++ filter (λ path. not (is_null (machine.entry path))) (string_bytes path ∷ [])) }
+    ensures fault { IfErr result (IsReadFault (T.may_fail tree.now)) }
 {
     match tree.look(alloc, path.as_str()) {
         Ok(entry) => push_unless(kept, path, is_null(&entry)),
@@ -145,8 +157,9 @@ fn is_null(entry: &Entry) -> bool
 
 /// Appends a path if `masked` is `false`.
 fn push_unless(kept: &mut Vec<String>, path: String, masked: bool) -> Result<(), UnitFault>
-    ensures { OnOk result (map string_bytes kept.new.items
+    ensures kept { OnOk result (map string_bytes kept.new.items
         ≡ map string_bytes kept.old.items ++ (if masked then [] else string_bytes path ∷ [])) }
+    ensures fault { IfErr result (λ fault. fault ≡ NoMemory) }
 {
     if !masked {
         kept.push(path)?;

@@ -1,6 +1,7 @@
 //! The errors in finding and reading the files of units.
 
 ghost use Rattle.std.specs.Prelude.{◌≡◌};
+ghost use Rattle.cal_units.specs.Faults.{IsAt, IsOfTree};
 ghost use Rattle.cal_units.specs.declared.fault.UnitFault.TheVariants.{NoMemory};
 
 use crate::tree::TreeFault;
@@ -53,7 +54,9 @@ impl<T: Drop> From<AllocFailed<T>> for UnitFault {
 
 impl UnitFault {
     /// Returns the error that a path can't be used, for this reason.
-    pub(crate) fn at(alloc: Global, path: &str, reason: Reason) -> UnitFault {
+    pub(crate) fn at(alloc: Global, path: &str, reason: Reason) -> UnitFault
+        ensures { IsAt path.now reason result }
+    {
         match String::from_str(alloc, path) {
             Ok(path) => UnitFault::At(path, reason),
             Err(_) => UnitFault::NoMemory,
@@ -61,7 +64,9 @@ impl UnitFault {
     }
 
     /// Converts the error that a method of a [`crate::Tree`] returned for this path.
-    pub(crate) fn of_tree(alloc: Global, path: &str, fault: TreeFault) -> UnitFault {
+    pub(crate) fn of_tree(alloc: Global, path: &str, fault: TreeFault) -> UnitFault
+        ensures { IsOfTree path.now fault result }
+    {
         match fault {
             TreeFault::ReadFailed => UnitFault::at(alloc, path, Reason::ReadFailed),
             TreeFault::NotUtf8 => UnitFault::at(alloc, path, Reason::NotUtf8),

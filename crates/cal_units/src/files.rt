@@ -1,6 +1,7 @@
 //! Reading the files of a unit.
 
-ghost use Rattle.std.specs.Prelude.{◌≡◌, ◌++◌, ◌∷◌, [], IfOk, OnOk, map, option_map, string_bytes};
+ghost use Rattle.std.specs.Prelude.{◌≡◌, ◌++◌, ◌∷◌, [], IfErr, IfOk, None, OnOk, map, option_map, string_bytes};
+ghost use Rattle.cal_units.specs.Faults.{IsFileFault};
 ghost use Rattle.cal_units.specs.Files.{file_at, files_at, shown_text};
 ghost use Rattle.cal_units.specs.Machine.{Machine};
 
@@ -36,8 +37,9 @@ pub fn read_files<T: Tree>(
     path: &str,
     drop_ins: &[String],
 ) -> Result<Vec<UnitText>, UnitFault>
-    ensures { IfOk result (λ files. (machine : Machine) → T.shows tree.now machine
+    ensures known { IfOk result (λ files. (machine : Machine) → T.shows tree.now machine
         → map shown_text files.items ≡ files_at machine (path.now ∷ map string_bytes drop_ins.now)) }
+    ensures fault { IfErr result (IsFileFault (T.may_fail tree.now) (T.shows tree.now)) }
 {
     let mut files = Vec::new(alloc);
     push_file(alloc, tree, &mut files, path)?;
@@ -54,8 +56,9 @@ fn push_file<T: Tree>(
     files: &mut Vec<UnitText>,
     path: &str,
 ) -> Result<(), UnitFault>
-    ensures { OnOk result ((machine : Machine) → T.shows tree.now machine
+    ensures known { OnOk result ((machine : Machine) → T.shows tree.now machine
         → map shown_text files.new.items ≡ map shown_text files.old.items ++ file_at machine path.now) }
+    ensures fault { IfErr result (IsFileFault (T.may_fail tree.now) (T.shows tree.now)) }
 {
     let Some(bytes) = read_file(alloc, tree, path)? else {
         return check_link(alloc, tree, path);
@@ -67,8 +70,9 @@ fn push_file<T: Tree>(
 
 /// Reads the file at a path. Returns `None` if there is no file.
 fn read_file<T: Tree>(alloc: Global, tree: &T, path: &str) -> Result<Option<Vec<u8>>, UnitFault>
-    ensures { IfOk result (λ bytes. (machine : Machine) → T.shows tree.now machine
+    ensures known { IfOk result (λ bytes. (machine : Machine) → T.shows tree.now machine
         → option_map (λ bytes. bytes.items) bytes ≡ machine.file path.now) }
+    ensures fault { IfErr result (IsFileFault (T.may_fail tree.now) (T.shows tree.now)) }
 {
     let mut file = match tree.open(path) {
         Ok(Some(file)) => file,
@@ -85,7 +89,10 @@ fn read_file<T: Tree>(alloc: Global, tree: &T, path: &str) -> Result<Option<Vec<
 }
 
 /// Returns why the file at a path can't be opened or read.
-fn unreadable<T: Tree>(alloc: Global, tree: &T, path: &str) -> UnitFault {
+fn unreadable<T: Tree>(alloc: Global, tree: &T, path: &str) -> UnitFault
+    requires { T.may_fail tree.now path.now }
+    ensures { IsFileFault (T.may_fail tree.now) (T.shows tree.now) result }
+{
     match tree.look(alloc, path) {
         Ok(Entry::Folder) => UnitFault::at(alloc, path, Reason::IsFolder),
         _ => UnitFault::at(alloc, path, Reason::ReadFailed),
@@ -94,7 +101,10 @@ fn unreadable<T: Tree>(alloc: Global, tree: &T, path: &str) -> UnitFault {
 
 /// Checks that there is a link at a path. Fails with [`Reason::IsFolder`] if there is a folder, and with
 /// [`Reason::Vanished`] if there is neither a link nor a folder.
-fn check_link<T: Tree>(alloc: Global, tree: &T, path: &str) -> Result<(), UnitFault> {
+fn check_link<T: Tree>(alloc: Global, tree: &T, path: &str) -> Result<(), UnitFault>
+    requires { (machine : Machine) → T.shows tree.now machine → machine.file path.now ≡ None }
+    ensures { IfErr result (IsFileFault (T.may_fail tree.now) (T.shows tree.now)) }
+{
     match look(alloc, tree, path)? {
         Entry::Link(_) => Ok(()),
         Entry::Folder => Err(UnitFault::at(alloc, path, Reason::IsFolder)),

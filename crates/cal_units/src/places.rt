@@ -1,10 +1,12 @@
 //! The paths at which the file of a unit can be (systemd.unit(5), Unit File Load Path). A stem is a unit's name without
 //! its suffix `.timer`.
 
-ghost use Rattle.std.specs.Prelude.{◌≡◌, ◌++◌, ◌∷◌, [], IfOk, IfSome, OnOk, map, string_bytes};
+ghost use Rattle.std.specs.Prelude.{◌≡◌, ◌++◌, ◌∷◌, [], IfErr, IfOk, IfSome, OnOk, map, string_bytes};
 ghost use Rattle.std.specs.Option.{option_map};
+ghost use Rattle.cal_units.specs.Faults.{IsReadFault};
 ghost use Rattle.cal_units.specs.Machine.{Machine, shown_entry};
 ghost use Rattle.cal_units.specs.Units.{first_there, is_there, linked, place_at, place_in, place_of_link, shown_place, unit_path, unit_paths};
+ghost use Rattle.cal_units.specs.declared.fault.UnitFault.TheVariants.{NoMemory};
 
 use crate::drop_ins::NULL_DEVICE;
 use crate::fault::UnitFault;
@@ -33,8 +35,9 @@ pub(crate) fn find_place<T: Tree>(
     path: &[String],
     stem: &str,
 ) -> Result<Place, UnitFault>
-    ensures { IfOk result (λ place. (machine : Machine) → T.shows tree.now machine
+    ensures known { IfOk result (λ place. (machine : Machine) → T.shows tree.now machine
         → shown_place place ≡ place_in machine (map string_bytes path.now) stem.now) }
+    ensures fault { IfErr result (IsReadFault (T.may_fail tree.now)) }
 {
     let paths = unit_paths(alloc, path, stem)?;
     match first_there(alloc, tree, paths.as_slice())? {
@@ -53,8 +56,9 @@ fn place_at<T: Tree>(
     file: &str,
     entry: &Entry,
 ) -> Result<Place, UnitFault>
-    ensures { IfOk result (λ place. (machine : Machine) → T.shows tree.now machine → shown_place place
+    ensures known { IfOk result (λ place. (machine : Machine) → T.shows tree.now machine → shown_place place
         ≡ place_at machine (map string_bytes path.now) stem.now file.now (shown_entry entry.now)) }
+    ensures fault { IfErr result (IsReadFault (T.may_fail tree.now)) }
 {
     match entry {
         Entry::Empty => Ok(Place::MaskedAt(String::from_str(alloc, file)?)),
@@ -71,8 +75,9 @@ fn place_of_link<T: Tree>(
     file: &str,
     target: &str,
 ) -> Result<Place, UnitFault>
-    ensures { IfOk result (λ place. (machine : Machine) → T.shows tree.now machine → shown_place place
+    ensures known { IfOk result (λ place. (machine : Machine) → T.shows tree.now machine → shown_place place
         ≡ place_of_link machine (map string_bytes path.now) stem.now file.now target.now) }
+    ensures fault { IfErr result (IsReadFault (T.may_fail tree.now)) }
 {
     if target == NULL_DEVICE {
         return Ok(Place::MaskedAt(String::from_str(alloc, file)?));
@@ -83,8 +88,9 @@ fn place_of_link<T: Tree>(
 
 /// Returns the path to which a link with this target leads, or the error with the path of the link.
 fn leads_to<T: Tree>(alloc: Global, tree: &T, link: &str, target: &str) -> Result<String, UnitFault>
-    ensures { IfOk result (λ path. (machine : Machine) → T.shows tree.now machine
+    ensures known { IfOk result (λ path. (machine : Machine) → T.shows tree.now machine
         → string_bytes path ≡ machine.leads_to link.now target.now) }
+    ensures fault { IfErr result (IsReadFault (T.may_fail tree.now)) }
 {
     match tree.leads_to(alloc, link, target) {
         Ok(path) => Ok(path),
@@ -93,8 +99,9 @@ fn leads_to<T: Tree>(alloc: Global, tree: &T, link: &str, target: &str) -> Resul
 }
 
 fn linked(alloc: Global, stem: &str, file: &str, alias: Option<&str>) -> Result<Place, UnitFault>
-    ensures { IfOk result (λ place. shown_place place
+    ensures place { IfOk result (λ place. shown_place place
         ≡ linked stem.now file.now (option_map (λ alias. alias.now) alias.entry)) }
+    ensures fault { IfErr result (λ fault. fault ≡ NoMemory) }
 {
     if let Some(other) = alias {
         if other != stem && kind_of(other) != UnitKind::Template {
@@ -163,9 +170,10 @@ pub(crate) fn first_there<'p, T: Tree>(
     tree: &T,
     paths: &'p [String],
 ) -> Result<Option<(&'p str, Entry)>, UnitFault>
-    ensures { IfOk result (λ found. (machine : Machine) → T.shows tree.now machine
+    ensures known { IfOk result (λ found. (machine : Machine) → T.shows tree.now machine
         → (option_map (λ place. place.0.now) found ≡ first_there machine (map string_bytes paths.now))
         × IfSome found (λ place. shown_entry place.1 ≡ machine.entry place.0.now)) }
+    ensures fault { IfErr result (IsReadFault (T.may_fail tree.now)) }
 {
     for path in paths {
         let entry = look(alloc, tree, path.as_str())?;
@@ -178,8 +186,9 @@ pub(crate) fn first_there<'p, T: Tree>(
 
 /// Returns what is at a path, or the error with the path.
 pub(crate) fn look<T: Tree>(alloc: Global, tree: &T, path: &str) -> Result<Entry, UnitFault>
-    ensures { IfOk result (λ entry. (machine : Machine) → T.shows tree.now machine
+    ensures known { IfOk result (λ entry. (machine : Machine) → T.shows tree.now machine
         → shown_entry entry ≡ machine.entry path.now) }
+    ensures fault { IfErr result (IsReadFault (T.may_fail tree.now)) }
 {
     match tree.look(alloc, path) {
         Ok(entry) => Ok(entry),

@@ -1,8 +1,10 @@
 //! The stems for which the drop-ins of a unit are read: all its names without the suffix `.timer`.
 
-ghost use Rattle.std.specs.Prelude.{◌≡◌, ◌++◌, IfOk, OnOk, map, string_bytes};
+ghost use Rattle.std.specs.Prelude.{◌≡◌, ◌++◌, IfErr, IfOk, OnOk, map, reverse, string_bytes};
 ghost use Rattle.cal_drop_ins.specs.DropIns.{drop_ins};
+ghost use Rattle.cal_drop_ins.specs.Folders.{folders};
 ghost use Rattle.cal_units.specs.Aliases.{shown_alias, stem_if_of, stems_leading_to, unit_stems};
+ghost use Rattle.cal_units.specs.Faults.{IsDropInFault};
 ghost use Rattle.cal_units.specs.Machine.{Machine, disk_of};
 
 use crate::aliases::Alias;
@@ -24,9 +26,11 @@ pub fn find_unit_drop_ins<T: Tree>(
     aliases: &[Alias],
     file: &UnitFile,
 ) -> Result<DropIns, UnitFault>
-    ensures { IfOk result (λ found. (machine : Machine) → T.shows tree.now machine
+    ensures known { IfOk result (λ found. (machine : Machine) → T.shows tree.now machine
         → map string_bytes found.paths.items
         ≡ drop_ins (disk_of machine) (map string_bytes path.now) (unit_stems (map shown_alias aliases.now) file.now)) }
+    ensures fault { IfErr result (IsDropInFault (T.may_fail tree.now) (T.shows tree.now)
+        (folders (reverse (map string_bytes path.now)) (unit_stems (map shown_alias aliases.now) file.now))) }
 {
     let stems = unit_stems(alloc, aliases, file)?;
     find_drop_ins(alloc, tree, path, stems.as_slice())

@@ -1,9 +1,11 @@
 //! Finding a unit by its name (systemd.unit(5), Description and Unit File Load Path). A stem is a unit's name without
 //! its suffix `.timer`.
 
-ghost use Rattle.std.specs.Prelude.{◌≡◌, ◌++◌, ◌∷◌, [], IfOk, map, string_bytes};
+ghost use Rattle.std.specs.Prelude.{◌≡◌, ◌++◌, ◌∷◌, [], IfErr, IfOk, map, string_bytes};
+ghost use Rattle.cal_units.specs.Faults.{IsLinkFault, IsUnitFault};
 ghost use Rattle.cal_units.specs.Machine.{Machine};
 ghost use Rattle.cal_units.specs.Units.{follow, is_template, named_unit, shown_unit, unit_in};
+ghost use Rattle.cal_units.specs.Units.Unit.{Endless};
 
 use crate::fault::{Reason, UnitFault};
 use crate::places::{Place, find_place};
@@ -56,8 +58,10 @@ pub fn find_unit<T: Tree>(
     path: &[String],
     stem: &str,
 ) -> Result<Unit, UnitFault>
-    ensures { IfOk result (λ unit. (machine : Machine) → T.shows tree.now machine
+    ensures known { IfOk result (λ unit. (machine : Machine) → T.shows tree.now machine
         → shown_unit unit ≡ unit_in machine (map string_bytes path.now) stem.now) }
+    ensures fault { IfErr result (IsUnitFault (T.may_fail tree.now) (T.shows tree.now)
+        (map string_bytes path.now) stem.now) }
 {
     if is_template(stem) {
         return Ok(Unit::Template);
@@ -78,8 +82,10 @@ fn find_named<T: Tree>(
     path: &[String],
     stem: &str,
 ) -> Result<Unit, UnitFault>
-    ensures { IfOk result (λ unit. (machine : Machine) → T.shows tree.now machine
+    ensures known { IfOk result (λ unit. (machine : Machine) → T.shows tree.now machine
         → shown_unit unit ≡ named_unit machine (map string_bytes path.now) stem.now) }
+    ensures fault { IfErr result (IsLinkFault (T.may_fail tree.now) ((machine : Machine) → T.shows tree.now machine
+        → named_unit machine (map string_bytes path.now) stem.now ≡ Endless)) }
 {
     let stem = String::from_str(alloc, stem)?;
     follow(alloc, tree, path, MAX_LINKS + 1, Vec::new(alloc), stem)
@@ -95,8 +101,10 @@ fn follow<T: Tree>(
     mut aliases: Vec<String>,
     stem: String,
 ) -> Result<Unit, UnitFault>
-    ensures { IfOk result (λ unit. (machine : Machine) → T.shows tree.now machine
+    ensures known { IfOk result (λ unit. (machine : Machine) → T.shows tree.now machine
         → shown_unit unit ≡ follow machine (map string_bytes path.now) count (map string_bytes aliases.items) (string_bytes stem)) }
+    ensures fault { IfErr result (IsLinkFault (T.may_fail tree.now) ((machine : Machine) → T.shows tree.now machine
+        → follow machine (map string_bytes path.now) count (map string_bytes aliases.items) (string_bytes stem) ≡ Endless)) }
 {
     if count == 0 {
         return Err(UnitFault::At(stem, Reason::TooManyLinks));

@@ -1,12 +1,15 @@
 use Rattle.std.proofs.Common.{◌≡◌, [], map, take, string_bytes}
-use Rattle.std.specs.List.{flat_map}
+use Rattle.std.specs.List.{All, flat_map}
 use Rattle.cal_units.specs.Aliases.{aliases_below, shown_alias}
+use Rattle.cal_units.specs.Faults.{IsListedFault}
 use Rattle.cal_units.specs.Machine.{Machine}
 use Rattle.cal_units.proofs.aliases.find_aliases.Given as goal
 
--- if there is no error so far, the aliases found are those in the folders before the loop's index
+-- if there is no error so far, the aliases found are those in the folders before the loop's index; all errors are errors
+-- of looking for aliases
 abbrev pub invariant-loop-folder : goal.invariant-loop-folder
 invariant-loop-folder g l =
-    (machine : Machine) → g.T.Tree.shows l.tree machine → l.found.faults.items ≡ []
+    ((machine : Machine) → g.T.Tree.shows l.tree machine → l.found.faults.items ≡ []
     → map shown_alias l.found.aliases.items
-    ≡ flat_map (aliases_below machine (map string_bytes l.path)) (map string_bytes (take l.folder-index l.path))
+    ≡ flat_map (aliases_below machine (map string_bytes l.path)) (map string_bytes (take l.folder-index l.path)))
+    × All (IsListedFault (g.T.Tree.may_fail l.tree) (g.T.Tree.shows l.tree) (map string_bytes l.path)) l.found.faults.items

@@ -1,14 +1,17 @@
 use Rattle.std.proofs.Common.{◌≡◌, ◌++◌, [], map, string_bytes}
-use Rattle.std.specs.List.{filter_map}
+use Rattle.std.specs.List.{All, filter_map}
 use Rattle.cal_units.specs.Aliases.{alias_named, shown_alias}
+use Rattle.cal_units.specs.Faults.{IsListedFault}
 use Rattle.cal_units.specs.Machine.{Machine}
 use Rattle.cal_units.proofs.aliases.push_named.Given as goal
 
 -- if there is no error so far, there was none before the loop, and the aliases with the names that the loop has visited
--- have been appended
+-- have been appended; new errors are errors of looking for aliases
 abbrev pub invariant-loop-name : goal.invariant-loop-name
 invariant-loop-name g l =
-    (machine : Machine) → g.T.Tree.shows l.tree machine → l.found.faults.items ≡ []
+    ((machine : Machine) → g.T.Tree.shows l.tree machine → l.found.faults.items ≡ []
     → (l.fn.found.faults.items ≡ []) × (map shown_alias l.found.aliases.items
     ≡ map shown_alias l.fn.found.aliases.items
-    ++ filter_map (alias_named machine (map string_bytes l.path) l.folder) (map string_bytes l.yielded))
+    ++ filter_map (alias_named machine (map string_bytes l.path) l.folder) (map string_bytes l.yielded)))
+    × (All (IsListedFault (g.T.Tree.may_fail l.tree) (g.T.Tree.shows l.tree) (map string_bytes l.path)) l.fn.found.faults.items
+    → All (IsListedFault (g.T.Tree.may_fail l.tree) (g.T.Tree.shows l.tree) (map string_bytes l.path)) l.found.faults.items)

@@ -1,12 +1,14 @@
-use Rattle.std.proofs.Common.{◌≡◌, map, take, string_bytes}
+use Rattle.std.proofs.Common.{◌≡◌, ◌≤◌, length, map, take, string_bytes}
 use Rattle.std.specs.List.{flat_map}
 use Rattle.cal_drop_ins.specs.DropIns.{candidates, shown}
+use Rattle.cal_units.specs.Faults.{max_drop_ins}
 use Rattle.cal_units.specs.Machine.{Machine}
 use Rattle.cal_units.proofs.drop_ins.find_candidates.Given as goal
 
--- so far, the drop-ins found are those in the folders before the loop's index
+-- so far, the drop-ins found are those in the folders before the loop's index, and there aren't too many
 abbrev pub invariant-loop-folder : goal.invariant-loop-folder
 invariant-loop-folder g l =
-    (machine : Machine) → g.T.Tree.shows l.tree machine
+    ((machine : Machine) → g.T.Tree.shows l.tree machine
     → map shown l.found.items
-    ≡ flat_map (λ folder. candidates folder (machine.names folder)) (map string_bytes (take l.folder-index l.folders))
+    ≡ flat_map (λ folder. candidates folder (machine.names folder)) (map string_bytes (take l.folder-index l.folders)))
+    × (length l.found.items ≤ max_drop_ins)

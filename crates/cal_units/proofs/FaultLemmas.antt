@@ -1,0 +1,69 @@
+-- How the error of a call follows from the errors of the calls that it makes.
+use Rattle.std.proofs.Common.{◌≡◌, ◌≢◌, ◌<◌, ◌≤◌, ◌∙◌, ℕ, List, ◌∷◌, ◌++◌, Option, Result, Ok, Err, ap, append-nil, drop, length, map, refl, subst, sym, take, string_bytes}
+use Rattle.std.specs.List.{All}
+use Rattle.std.specs.Prelude.{IfErr, String}
+use Rattle.std.specs.declared.alloc.Global.{Global}
+use Rattle.std.proofs.lemmas.List.{drop-map, take-map}
+use Rattle.std.proofs.lemmas.List.Elements.{All-push, All-same}
+use Rattle.cal_drop_ins.specs.DropIns.{Found, candidates}
+use Rattle.cal_units.specs.Faults.{IfAt, IsAliasFault, IsDropInReason, IsLinkFault, IsLinkReason, IsListedFault, IsOverfull, drop_ins_in, fault_of, max_drop_ins}
+use Rattle.cal_units.specs.Machine.{Machine}
+use Rattle.cal_units.specs.declared.aliases.Alias as links
+use Rattle.cal_units.specs.declared.fault.Reason.{Reason}
+use Rattle.cal_units.specs.declared.fault.Reason.TheVariants as reasons
+use Rattle.cal_units.specs.declared.fault.UnitFault.{UnitFault}
+use Rattle.cal_units.specs.declared.fault.UnitFault.TheVariants as faults
+
+link_reason_weaker : (MayFail : List ℕ → Type 0) (P Q : Type 0) → (P → Q) → (path : List ℕ) (reason : Reason) → IsLinkReason MayFail P path reason → IsLinkReason MayFail Q path reason
+link_reason_weaker MayFail P Q f path reasons.TooManyLinks h = f h
+link_reason_weaker MayFail P Q f path reason h = h
+
+-- if `Q` follows from `P`, an error of too many links is allowed under `Q` where it is under `P`
+pub link_weaker : (MayFail : List ℕ → Type 0) (P Q : Type 0) → (P → Q) → (fault : UnitFault) → IsLinkFault MayFail P fault → IsLinkFault MayFail Q fault
+link_weaker MayFail P Q f (faults.At path reason) h = link_reason_weaker MayFail P Q f (string_bytes path) reason h
+link_weaker MayFail P Q f faults.NoMemory h = tt
+
+drop_in_reason_weaker : (MayFail P Q : List ℕ → Type 0) → ((folder : List ℕ) → P folder → Q folder) → (path : List ℕ) (reason : Reason) → IsDropInReason MayFail P path reason → IsDropInReason MayFail Q path reason
+drop_in_reason_weaker MayFail P Q f path reasons.TooMany h = f path h
+drop_in_reason_weaker MayFail P Q f path reason h = h
+
+-- the same for an error of too many drop-ins in a folder
+pub drop_in_weaker : (MayFail P Q : List ℕ → Type 0) → ((folder : List ℕ) → P folder → Q folder) → (fault : UnitFault) → IfAt (IsDropInReason MayFail P) fault → IfAt (IsDropInReason MayFail Q) fault
+drop_in_weaker MayFail P Q f (faults.At path reason) h = drop_in_reason_weaker MayFail P Q f (string_bytes path) reason h
+drop_in_weaker MayFail P Q f faults.NoMemory h = tt
+
+-- If `found` are the drop-ins in the folders before the index `place`, and there are too many with those in the folder
+-- at this index, this is the folder at which there are too many.
+pub overfull : (machine : Machine) (folders : List (String Global)) (place : ℕ) (folder : List ℕ) (after : List (List ℕ)) (found : List Found)
+    → map string_bytes (drop place folders) ≡ folder ∷ after
+    → found ≡ drop_ins_in machine (map string_bytes (take place folders))
+    → length found ≤ max_drop_ins
+    → max_drop_ins < length (found ++ candidates folder (machine.names folder))
+    → IsOverfull machine (map string_bytes folders) folder
+overfull machine folders place folder after found at is fits more =
+    let e : found ≡ drop_ins_in machine (take place (map string_bytes folders)) =
+    is ∙ ap (drop_ins_in machine) (sym (take-map string_bytes place folders)) in
+    record {
+      place = place;
+      after = after;
+      is_at = drop-map string_bytes place folders ∙ at;
+      fits = subst (λ (xs : List Found). length xs ≤ max_drop_ins) e fits;
+      is_more = subst (λ (xs : List Found). max_drop_ins < length (xs ++ candidates folder (machine.names folder))) e more;
+    }
+
+alias_is_listed : (MayFail : List ℕ → Type 0) (Shows : Machine → Type 0) (path : List (List ℕ)) (fault : UnitFault) → fault ≢ faults.NoMemory → IsAliasFault MayFail Shows path fault → IsListedFault MayFail Shows path fault
+alias_is_listed MayFail Shows path (faults.At other reason) some h = h
+alias_is_listed MayFail Shows path faults.NoMemory some h = absurd (some refl)
+
+-- if the error of looking for an alias is appended, all errors are still errors of looking for aliases
+pub listed_more : (MayFail : List ℕ → Type 0) (Shows : Machine → Type 0) (path : List (List ℕ)) (found : Result (Option links.Alias) UnitFault) (before after : List UnitFault)
+    → after ≡ before ++ fault_of found
+    → IfErr found (λ fault. fault ≢ faults.NoMemory)
+    → IfErr found (IsAliasFault MayFail Shows path)
+    → All (IsListedFault MayFail Shows path) before
+    → All (IsListedFault MayFail Shows path) after
+listed_more MayFail Shows path (Ok alias) before after e some told held =
+    All-same (IsListedFault MayFail Shows path) after before (e ∙ append-nil before) held
+listed_more MayFail Shows path (Err fault) before after e some told held =
+    All-same (IsListedFault MayFail Shows path) after _ e
+    (All-push (IsListedFault MayFail Shows path) before fault held (alias_is_listed MayFail Shows path fault some told))
