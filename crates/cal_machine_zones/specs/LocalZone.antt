@@ -12,6 +12,8 @@ use Rattle.cal_civil.specs.headline.ZoneName.{is_utc_name, is_zone_name}
 use Rattle.cal_units.specs.Machine.{Entry, Machine}
 use Rattle.cal_units.specs.Machine.Entry.{Missing, Empty, File, Folder, Link}
 use Rattle.cal_units.specs.Units.{after_prefix}
+use Rattle.cal_units.specs.declared.tree.TreeFault.{TreeFault}
+use Rattle.cal_units.specs.declared.tree.TreeFault.TheVariants as trees
 use Rattle.cal_machine_zones.specs.declared.clock.LocalZone as zones
 use Rattle.cal_machine_zones.specs.declared.fault.Origin.{Origin}
 use Rattle.cal_machine_zones.specs.declared.fault.Origin.TheVariants as origins
@@ -156,3 +158,39 @@ IsUnread (faults.Unclear origin) = ⊥
 IsUnread (faults.Unread origin) = ⊤
 IsUnread (faults.At path reason) = ⊥
 IsUnread faults.NoMemory = ⊤
+
+-- the error with which an origin's error of a `Tree` is reported
+abbrev pub unread_fault : Origin → TreeFault → ZonesFault
+unread_fault origin trees.ReadFailed = faults.Unread origin
+unread_fault origin trees.NotUtf8 = faults.Unread origin
+unread_fault origin trees.NoMemory = faults.NoMemory
+
+-- the error is that an origin doesn't say which zone is the local zone, or that memory ran out
+abbrev pub IsUnclearFault : LocalZone → ZonesFault → Type 0
+IsUnclearFault zone (faults.Unclear origin) = zone ≡ UnclearIn origin
+IsUnclearFault zone (faults.Unread origin) = ⊥
+IsUnclearFault zone (faults.At path reason) = ⊥
+IsUnclearFault zone faults.NoMemory = ⊤
+
+abbrev pub variable_name : List ℕ
+variable_name = codes "TZ"
+
+-- the variable or the link can only be unreadable if reading it may fail
+abbrev pub IsUnreadable : (List ℕ → Type 0) → Origin → Type 0
+IsUnreadable MayFail origins.Argument = ⊥
+IsUnreadable MayFail origins.Variable = MayFail variable_name
+IsUnreadable MayFail origins.Link = MayFail localtime
+
+-- Finding the local zone without an option can end with this error. On a known machine, `IsMissedBy` says when an
+-- origin is unclear.
+abbrev pub IsMachineFault : (List ℕ → Type 0) → ZonesFault → Type 0
+IsMachineFault MayFail (faults.Unclear origin) = ⊤
+IsMachineFault MayFail (faults.Unread origin) = IsUnreadable MayFail origin
+IsMachineFault MayFail (faults.At path reason) = ⊥
+IsMachineFault MayFail faults.NoMemory = ⊤
+
+-- Finding the local zone can end with this error, given the option's value. `MayFail` says at which paths, and for
+-- which variables, reading may fail.
+abbrev pub IsLocalFault : (List ℕ → Type 0) → Option (List ℕ) → ZonesFault → Type 0
+IsLocalFault MayFail None fault = IsMachineFault MayFail fault
+IsLocalFault MayFail (Some text) fault = IsUnclearFault (argument_zone text) fault

@@ -1,14 +1,17 @@
 -- The zone files of a machine, in /usr/share/zoneinfo (tzset(3), localtime(5)).
 use Rattle.std.specs.Prelude.{◌≡◌, ⊤, ℕ, true, false, List, ◌∷◌, ◌++◌, None, IfSome, MatchOption, drop, string_bytes, take}
-use Rattle.std.specs.List.{list_any}
+use Rattle.std.specs.List.{Contains, list_any}
 use Rattle.std.specs.Str.{bytes_eq}
 use Rattle.std.specs.FinMap.{insert}
 use Rattle.jiff.specs.Types.{TimeZone}
-use Rattle.cal_civil.specs.headline.ZoneName.{is_utc_name}
+use Rattle.cal_civil.specs.headline.ZoneName.{is_utc_name, is_zone_name}
 use Rattle.cal_units.specs.Machine.{Machine}
-use Rattle.cal_zone.specs.ZoneFile.{IsFileZone}
+use Rattle.cal_zone.specs.ZoneFile.{IsFileFault, IsFileZone}
 use Rattle.cal_zone.specs.headline.ZoneMap.{ZoneMap}
 use Rattle.cal_zone.specs.headline.ZoneTable.{zone_named}
+use Rattle.cal_zone.specs.declared.zone_fault.ZoneFault.{ZoneFault}
+use Rattle.cal_zone.specs.declared.zone_fault.ZoneFault.TheVariants as zones
+use Rattle.cal_zone.specs.declared.zone_files.LoadFault.TheVariants as loads
 use Rattle.cal_machine_zones.specs.LocalZone.{zone_folder}
 use Rattle.cal_machine_zones.specs.declared.fault.FileReason.{FileReason}
 use Rattle.cal_machine_zones.specs.declared.fault.FileReason.TheVariants as reasons
@@ -56,3 +59,37 @@ pub record IsFirstError (machine : Machine) (names : List (List ℕ)) (fault : Z
   pub is_error : IsLoadError machine name fault
   pub earlier : (other : List ℕ) → list_any (bytes_eq other) (take place names) ≡ true → is_utc_name other ≡ false
       → (zone : TimeZone) × IsZoneOn machine other zone
+
+-- the machine's zone file for this name is rejected with this error
+abbrev pub IsRejected : (Machine → Type 0) → List ℕ → ZoneFault → Type 0
+IsRejected Shows name fault =
+    (machine : Machine) → Shows machine → MatchOption (machine.file (zone_path name)) ⊥ (λ bytes. IsFileFault name bytes fault)
+
+-- The zone of this name can't be loaded because of this error of `load_zone`. If memory runs out, the error is another
+-- one, and a name that the table already has is not loaded again.
+abbrev pub IsNotLoaded : (Machine → Type 0) → List ℕ → ZoneFault → Type 0
+IsNotLoaded Shows name zones.BadName = is_zone_name name ≡ false
+IsNotLoaded Shows name zones.BadRule = ⊥
+IsNotLoaded Shows name zones.BadFile = IsRejected Shows name zones.BadFile
+IsNotLoaded Shows name zones.TooLarge = IsRejected Shows name zones.TooLarge
+IsNotLoaded Shows name zones.NoMemory = ⊥
+IsNotLoaded Shows name zones.NameTaken = ⊥
+
+-- the zone file for this name can't be used for this reason; `MayFail` says at which paths reading may fail
+abbrev pub IsUnusable : (List ℕ → Type 0) → (Machine → Type 0) → List ℕ → FileReason → Type 0
+IsUnusable MayFail Shows name reasons.NotFound =
+    (machine : Machine) → Shows machine → machine.file (zone_path name) ≡ None
+IsUnusable MayFail Shows name (reasons.Load loads.ReadFailed) = MayFail (zone_path name)
+IsUnusable MayFail Shows name (reasons.Load (loads.Zone fault)) = IsNotLoaded Shows name fault
+
+-- loading the zone of this name can end with this error
+abbrev pub IsNameFault : (List ℕ → Type 0) → (Machine → Type 0) → List ℕ → ZonesFault → Type 0
+IsNameFault MayFail Shows name (faults.Unclear origin) = ⊥
+IsNameFault MayFail Shows name (faults.Unread origin) = ⊥
+IsNameFault MayFail Shows name (faults.At path reason) =
+    (string_bytes path ≡ zone_path name) × IsUnusable MayFail Shows name reason
+IsNameFault MayFail Shows name faults.NoMemory = ⊤
+
+-- loading the zones of these names can end with this error
+abbrev pub IsNamesFault : (List ℕ → Type 0) → (Machine → Type 0) → List (List ℕ) → ZonesFault → Type 0
+IsNamesFault MayFail Shows names fault = (name : List ℕ) × Contains names name × IsNameFault MayFail Shows name fault

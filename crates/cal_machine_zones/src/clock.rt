@@ -1,8 +1,8 @@
 //! The local zone of a machine.
 
-ghost use Rattle.std.specs.Prelude.{◌≡◌, IfOk, option_map};
+ghost use Rattle.std.specs.Prelude.{◌≡◌, IfErr, IfOk, option_map};
 ghost use Rattle.cal_units.specs.Machine.{Machine, shown_entry};
-ghost use Rattle.cal_machine_zones.specs.LocalZone.{HasOffset, HasZoneOffset, IsTold, IsUnread, link_zone, localtime, local_zone, machine_zone, shown_told};
+ghost use Rattle.cal_machine_zones.specs.LocalZone.{HasOffset, HasZoneOffset, IsLocalFault, IsMachineFault, IsTold, IsUnclearFault, IsUnread, link_zone, localtime, local_zone, machine_zone, shown_told, unread_fault};
 
 use crate::fault::{Origin, ZonesFault};
 use crate::texts::{LOCALTIME, Told, argument_zone, link_zone, variable_zone};
@@ -46,6 +46,7 @@ pub fn find_local_zone<T: Tree>(
     ensures zone { (machine : Machine) → T.shows tree.now machine
         → IsTold (local_zone machine (option_map (λ text. text.now) argument.entry)) result }
     ensures offset { IfOk result HasZoneOffset }
+    ensures fault { IfErr result (IsLocalFault (T.may_fail tree.now) (option_map (λ text. text.now) argument.entry)) }
 {
     match argument {
         Some(text) => to_owned(alloc, argument_zone(text)),
@@ -56,6 +57,7 @@ pub fn find_local_zone<T: Tree>(
 fn find_machine_zone<T: Tree>(alloc: Global, tree: &T) -> Result<LocalZone, ZonesFault>
     ensures zone { (machine : Machine) → T.shows tree.now machine → IsTold (machine_zone machine) result }
     ensures offset { IfOk result HasZoneOffset }
+    ensures fault { IfErr result (IsMachineFault (T.may_fail tree.now)) }
 {
     let value = match tree.variable(alloc, "TZ") {
         Ok(value) => value,
@@ -74,6 +76,7 @@ fn find_link_zone<T: Tree>(alloc: Global, tree: &T) -> Result<LocalZone, ZonesFa
     ensures zone { (machine : Machine) → T.shows tree.now machine
         → IsTold (link_zone (machine.entry localtime)) result }
     ensures offset { IfOk result HasZoneOffset }
+    ensures fault { IfErr result (IsMachineFault (T.may_fail tree.now)) }
 {
     match tree.look(alloc, LOCALTIME) {
         Ok(entry) => to_owned(alloc, link_zone(&entry)),
@@ -82,7 +85,8 @@ fn find_link_zone<T: Tree>(alloc: Global, tree: &T) -> Result<LocalZone, ZonesFa
 }
 
 fn unread(origin: Origin, fault: TreeFault) -> ZonesFault
-    ensures { IsUnread result }
+    ensures unread { IsUnread result }
+    ensures which { result ≡ unread_fault origin fault }
 {
     match fault {
         TreeFault::NoMemory => ZonesFault::NoMemory,
@@ -96,6 +100,7 @@ fn to_owned(alloc: Global, told: Told<'_>) -> Result<LocalZone, ZonesFault>
     requires { HasOffset told }
     ensures zone { IsTold (shown_told told.entry) result }
     ensures offset { IfOk result HasZoneOffset }
+    ensures fault { IfErr result (IsUnclearFault (shown_told told.entry)) }
 {
     match told {
         Told::Utc => Ok(LocalZone::Utc),

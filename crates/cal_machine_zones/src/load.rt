@@ -1,12 +1,12 @@
 //! Loading the zones that expressions name.
 
-ghost use Rattle.std.specs.Prelude.{◌≡◌, ◌||◌, ℕ, List, IfErr, IfOk, OnOk, is_some, map, string_bytes};
+ghost use Rattle.std.specs.Prelude.{◌≡◌, ◌||◌, ℕ, List, IfErr, IfOk, OnOk, false, is_some, map, string_bytes};
 ghost use Rattle.std.specs.List.{list_any};
 ghost use Rattle.std.specs.Str.{bytes_eq};
 ghost use Rattle.cal_civil.specs.headline.ZoneName.{is_utc_name};
 ghost use Rattle.cal_units.specs.Machine.{Machine};
 ghost use Rattle.cal_zone.specs.headline.ZoneTable.{zone_named};
-ghost use Rattle.cal_machine_zones.specs.ZoneFiles.{HasZonesOf, IsAdded, IsFirstError, IsLoadError, IsZoneOn, zone_path};
+ghost use Rattle.cal_machine_zones.specs.ZoneFiles.{HasZonesOf, IsAdded, IsFirstError, IsLoadError, IsNameFault, IsNamesFault, IsZoneOn, zone_path};
 
 use crate::fault::{FileReason, ZonesFault};
 use cal_units::{Tree, TreeFault};
@@ -30,6 +30,7 @@ pub fn load_zones<T: Tree>(
     ensures zones { IfOk result (λ table. (machine : Machine) → T.shows tree.now machine → HasZonesOf machine table) }
     ensures fault { IfErr result (λ fault. (machine : Machine) → T.shows tree.now machine
         → IsFirstError machine (map string_bytes names.now) fault) }
+    ensures reason { IfErr result (IsNamesFault (T.may_fail tree.now) (T.shows tree.now) (map string_bytes names.now)) }
 {
     let mut table = ZoneTable::new(alloc);
     for name in names {
@@ -53,6 +54,7 @@ fn load_name<T: Tree>(
         → HasZonesOf machine table.old → HasZonesOf machine table.new) }
     ensures fault { IfErr result (λ fault. (machine : Machine) → T.shows tree.now machine
         → IsLoadError machine name.now fault) }
+    ensures reason { IfErr result (IsNameFault (T.may_fail tree.now) (T.shows tree.now) name.now) }
 {
     if table.find(name).is_some() {
         return Ok(());
@@ -67,10 +69,12 @@ fn add_zone<T: Tree>(
     table: &mut ZoneTable,
     name: &str,
 ) -> Result<(), ZonesFault>
+    requires { is_some (zone_named table.old name.now) ≡ false }
     ensures added { OnOk result (IsAdded table.old table.new name.now
         (λ zone. (machine : Machine) → T.shows tree.now machine → IsZoneOn machine name.now zone)) }
     ensures fault { IfErr result (λ fault. (machine : Machine) → T.shows tree.now machine
         → IsLoadError machine name.now fault) }
+    ensures reason { IfErr result (IsNameFault (T.may_fail tree.now) (T.shows tree.now) name.now) }
 {
     let path = zone_path(alloc, name)?;
     let mut file = match tree.open(path.as_str()) {
