@@ -21,6 +21,6 @@ pub use cal_text::{
 };
 pub use cal_zone::{
     Civil, Instant, InstantFormatter, LoadFault, MICROS_PER_SECOND, Moment, PlaceCache, Rules,
-    Setting, Zone, ZoneFault, ZoneTable, civil, laws, load_named, load_zone, place, push_instant,
-    settle, write_instant,
+    Setting, Zone, ZoneFault, ZoneName, ZoneTable, civil, laws, load_named, load_zone, place,
+    push_instant, settle, write_instant,
 };

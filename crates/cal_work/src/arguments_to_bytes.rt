@@ -24,7 +24,7 @@ use cal_command::{Ask, CommandFault, LocalZone, ZoneItem};
 use cal_report::{file_name, run};
 use cal_request::{Request, RunFault, Status, Verb};
 use cal_streams::{Output, Port};
-use cal_zone::{Instant, LoadFault, Rules, Zone, ZoneTable, load_named};
+use cal_zone::{Instant, LoadFault, Rules, Zone, ZoneTable, load_zone};
 use std::alloc::Global;
 use std::convert::AsStr;
 
@@ -173,7 +173,7 @@ fn load_item<S: System>(
     ensures { Loads (S.tells system.now) table.old table.new (shown_item item.now) result }
 {
     match system.open(item.path.as_str()) {
-        Some(mut file) => load_named(alloc, table, item.name.as_str(), &mut file),
+        Some(mut file) => load_zone(alloc, table, item.name.as_str(), &mut file),
         None => Err(LoadFault::ReadFailed),
     }
 }

@@ -23,6 +23,7 @@ mod setting;
 mod zone;
 mod zone_fault;
 mod zone_files;
+mod zone_name;
 mod zone_table;
 
 pub use civil_fields::Civil;
@@ -38,4 +39,5 @@ pub use setting::Setting;
 pub use zone::Zone;
 pub use zone_fault::ZoneFault;
 pub use zone_files::{LoadFault, load_named, load_zone};
+pub use zone_name::ZoneName;
 pub use zone_table::ZoneTable;

@@ -1,13 +1,12 @@
 //! The rules of zones whose UTC offset can change: a POSIX rule, or the table of a zone file.
 
-ghost use Rattle.std.specs.Prelude.{◌≡◌, ◌↔◌, true, ℤ, IsOk, IsSome, IfOk, IfErr, IfSome, MatchResult};
+ghost use Rattle.std.specs.Prelude.{◌≡◌, ◌↔◌, ℤ, IsOk, IsSome, IfOk, IfErr, IfSome, MatchResult};
 ghost use Rattle.jiff.specs.Placed.{IsPosixZone};
 ghost use Rattle.jiff.specs.Types.{DateTime};
 ghost use Rattle.jiff.specs.Words.{ambiguous_at, next_at, offset_at, plain_zone, read_whole};
 ghost use Rattle.cal_civil.specs.Local.{IsLocalSecond};
 ghost use Rattle.cal_zone.specs.LocalOffsetRange.{HaveSameOffsetsUntil, IsLocalOffsetRangeAt};
 ghost use Rattle.cal_zone.specs.ZoneFile.{IsFileFault, IsFileZone};
-ghost use Rattle.cal_civil.specs.headline.ZoneName.{is_zone_name};
 ghost use Rattle.cal_zone.specs.declared.zone_fault.ZoneFault.TheVariants.{BadRule};
 
 use crate::instant_offset_range::constant_offset_until;
@@ -16,8 +15,7 @@ use crate::local_offset_range::{
     range_end_in_zone,
 };
 use crate::places::place_by;
-use crate::{Instant, ZoneFault};
-use cal_civil::is_zone_name;
+use crate::{Instant, ZoneFault, ZoneName};
 use jiff::tz::{Offset, TimeZone, Tzif};
 use jiff::{Error, Timestamp};
 use std::alloc::Global;
@@ -80,24 +78,22 @@ impl Rules {
             (IsFileZone name.now bytes.now)
             (IsFileFault name.now bytes.now) }
     {
-        if is_zone_name(name.as_bytes()) {
-            Self::named_file(alloc, name, bytes)
-        } else {
-            Err(ZoneFault::BadName)
+        match ZoneName::new(name) {
+            Some(name) => Self::named_file(alloc, name, bytes),
+            None => Err(ZoneFault::BadName),
         }
     }
 
-    /// Like [`Rules::file`], for a name that is known to have the form of a zone's name.
-    pub fn named_file(alloc: Global, name: &str, bytes: &[u8]) -> Result<Rules, ZoneFault>
-        requires { is_zone_name name.now ≡ true }
+    /// Like [`Rules::file`], for a name that has been checked already.
+    pub fn named_file(alloc: Global, name: ZoneName<'_>, bytes: &[u8]) -> Result<Rules, ZoneFault>
         ensures { MatchResult result
-            (IsFileZone name.now bytes.now)
-            (IsFileFault name.now bytes.now) }
+            (IsFileZone name.entry.text.now bytes.now)
+            (IsFileFault name.entry.text.now bytes.now) }
     {
         if bytes.len() > Self::FILE_LIMIT {
             return Err(ZoneFault::TooLarge);
         }
-        match Tzif::parse(alloc, Some(name), bytes) {
+        match Tzif::parse(alloc, Some(name.as_str()), bytes) {
             Ok(table) => Ok(Rules {
                 kind: RulesKind::File(table),
             }),

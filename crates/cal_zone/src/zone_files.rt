@@ -1,12 +1,10 @@
 //! Loading of zone files into the table of zones.
 
-ghost use Rattle.std.specs.Prelude.{◌≡◌, true, false, MatchResult, OnErr};
-ghost use Rattle.cal_civil.specs.headline.ZoneName.{is_zone_name};
+ghost use Rattle.std.specs.Prelude.{◌≡◌, false, MatchResult, OnErr};
 ghost use Rattle.cal_zone.specs.LoadZone.{is_load_read_failed, IsLoaded, IsLoadFault};
 
-use crate::{Rules, ZoneFault, ZoneTable};
+use crate::{Rules, ZoneFault, ZoneName, ZoneTable};
 use cal_bytes::Source;
-use cal_civil::is_zone_name;
 use cal_streams::{WholeFault, read_whole};
 use std::alloc::Global;
 
@@ -66,26 +64,24 @@ pub fn load_zone<R: Source>(
     ensures unchanged { OnErr result (table.new ≡ table.old) }
     ensures sure { R.may_fail from.old ≡ false → R.is_failed from.new ≡ false }
 {
-    if is_zone_name(name.as_bytes()) {
-        load_named(alloc, table, name, from)
-    } else {
-        Err(LoadFault::Zone(ZoneFault::BadName))
+    match ZoneName::new(name) {
+        Some(name) => load_named(alloc, table, name, from),
+        None => Err(LoadFault::Zone(ZoneFault::BadName)),
     }
 }
 
-/// Like [`load_zone`], for a name that is known to be valid.
+/// Like [`load_zone`], for a name that has been checked already.
 pub fn load_named<R: Source>(
     alloc: Global,
     table: &mut ZoneTable,
-    name: &str,
+    name: ZoneName<'_>,
     from: &mut R,
 ) -> Result<(), LoadFault>
-    requires named { is_zone_name name.now ≡ true }
-    requires works { R.is_failed from.old ≡ false }
+    requires { R.is_failed from.old ≡ false }
     ensures failed { R.is_failed from.new ≡ is_load_read_failed result }
     ensures loaded { MatchResult result
-        (λ _. IsLoaded (R.remaining from.old) (R.remaining from.new) table.old table.new name.now)
-        (IsLoadFault (R.remaining from.old) (R.remaining from.new) table.old name.now) }
+        (λ _. IsLoaded (R.remaining from.old) (R.remaining from.new) table.old table.new name.entry.text.now)
+        (IsLoadFault (R.remaining from.old) (R.remaining from.new) table.old name.entry.text.now) }
     ensures unchanged { OnErr result (table.new ≡ table.old) }
     ensures sure { R.may_fail from.old ≡ false → R.is_failed from.new ≡ false }
 {

@@ -1,11 +1,10 @@
 //! The table of named zones.
 
-ghost use Rattle.std.specs.Prelude.{◌≡◌, true, option_map, IfSome, IfErr, OnErr, MatchResult};
+ghost use Rattle.std.specs.Prelude.{◌≡◌, option_map, IfSome, IfErr, OnErr, MatchResult};
 ghost use Rattle.std.specs.FinMap as map;
 ghost use Rattle.cal_civil.specs.headline.ZoneName.{is_utc_name};
 
-use crate::{Rules, Zone, ZoneFault};
-use cal_civil::is_zone_name;
+use crate::{Rules, Zone, ZoneFault, ZoneName};
 use std::alloc::Global;
 use std::collections::BTreeMap;
 use std::marker::Model;
@@ -35,7 +34,7 @@ impl Model for ZoneTable {
 
 impl ZoneTable {
     ghost use Rattle.cal_zone.specs.headline.Zone.{is_utc, zone_of};
-    ghost use Rattle.cal_civil.specs.headline.ZoneName.{is_utc_name, is_zone_name};
+    ghost use Rattle.cal_civil.specs.headline.ZoneName.{is_utc_name};
     ghost use Rattle.cal_zone.specs.ZoneTable.{IsAddable, IsAddFault};
     ghost use Rattle.cal_zone.specs.headline.ZoneTable.{zone_named};
 
@@ -61,26 +60,26 @@ impl ZoneTable {
         ensures unchanged { OnErr result (self.new ≡ self.old) }
         ensures handed_back { IfErr result (λ refused. refused.0 ≡ rules) }
     {
-        if is_zone_name(name.as_bytes()) {
-            self.add_named(name, rules)
-        } else {
-            Err((rules, ZoneFault::BadName))
+        match ZoneName::new(name) {
+            Some(name) => self.add_named(name, rules),
+            None => Err((rules, ZoneFault::BadName)),
         }
     }
 
-    /// Like [`ZoneTable::add`], for a name that is known to have the form of a zone's name.
-    pub fn add_named(&mut self, name: &str, rules: Rules) -> Result<(), (Rules, ZoneFault)>
-        requires { is_zone_name name.now ≡ true }
+    /// Like [`ZoneTable::add`], for a name that has been checked already.
+    pub fn add_named(&mut self, name: ZoneName<'_>, rules: Rules) -> Result<(), (Rules, ZoneFault)>
         ensures added { MatchResult result
-            (λ _. IsAddable self.old name.now × (self.new ≡ map.insert self.old name.now rules))
-            (λ refused. IsAddFault self.old name.now refused.1) }
+            (λ _. IsAddable self.old name.entry.text.now
+            × (self.new ≡ map.insert self.old name.entry.text.now rules))
+            (λ refused. IsAddFault self.old name.entry.text.now refused.1) }
         ensures unchanged { OnErr result (self.new ≡ self.old) }
         ensures handed_back { IfErr result (λ refused. refused.0 ≡ rules) }
     {
-        if self.find(name).is_some() {
+        let text = name.as_str();
+        if self.find(text).is_some() {
             return Err((rules, ZoneFault::NameTaken));
         }
-        let Ok(key) = String::from_str(self.alloc, name) else {
+        let Ok(key) = String::from_str(self.alloc, text) else {
             return Err((rules, ZoneFault::NoMemory));
         };
         match self.zones.insert(key, rules) {

@@ -2,7 +2,7 @@
 //! digits, `/`, `_`, `+` or `-`, and has at most 255 bytes.
 
 use crate::shared::{NEW_YEAR, ensure, posix};
-use cal_base::{Zone, ZoneFault, ZoneTable, is_zone_name, place};
+use cal_base::{Zone, ZoneFault, ZoneName, ZoneTable, is_zone_name, place};
 use std::alloc::Global;
 use std::test::Fail;
 
@@ -12,10 +12,19 @@ A|z|UTC|Europe/Berlin|Etc/GMT+12|America/Port-au-Prince|America/Argentina/Rio_Ga
 const NO_NAMES: &str = "\
 | |1x|/a|_a|+a|-a|a b| a|a |a.b|a:b|a,b|a\0|é|aé|Zürich";
 
+/// Returns whether `text` can be made a [`ZoneName`], which then has this text.
+fn keeps_name(text: &str) -> bool {
+    match ZoneName::new(text) {
+        Some(name) => name.as_str() == text,
+        None => false,
+    }
+}
+
 /// Expects all texts to be valid names, or all to be invalid. The texts are separated by `|`.
 fn expect_names(texts: &str, are_names: bool) -> Result<(), Fail> {
     for text in texts.split('|') {
         ensure(is_zone_name(text.as_bytes()) == are_names, text)?;
+        ensure(keeps_name(text) == are_names, text)?;
     }
     Ok(())
 }

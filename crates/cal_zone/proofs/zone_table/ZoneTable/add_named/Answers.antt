@@ -2,17 +2,19 @@ use Rattle.std.proofs.Common.{◌∙◌, sym, ap, is_some}
 use Rattle.std.specs.FinMap.{insert}
 use Rattle.cal_zone.specs.headline.Zone.{zone_of}
 use Rattle.cal_zone.specs.ZoneMap.{zone_map_in}
+use Rattle.cal_zone.specs.ZoneTable.{is_taken}
 use Rattle.cal_zone.proofs.ZoneMapLemmas.{zone_map_in-insert}
 use Rattle.cal_zone.proofs.zone_table.ZoneTable.add_named.Goals as goal
 use Rattle.cal_text.proofs.General.{is_some-option_map}
 
 pub returns-in-Ok-insert-clause-added : goal.returns-in-Ok-insert-clause-added
 returns-in-Ok-insert-clause-added c =
-    let added = zone_map_in-insert c.self.inside.zones c.insert.new.self _ c.args.rules c.in-Ok-insert.ensures.updates in (
+    let added = zone_map_in-insert c.self.inside.zones c.insert.new.self _ c.args.rules c.in-Ok-insert.ensures.updates in
+    let is_name = c.as_str-text.ensures.value in (
       record {
-        named = c.requires;
-        free = ap is_some (sym c.find.ensures.zone) ∙ is_some-option_map zone_of c.find.result ∙ sym c.is_some.ensures ∙ c.if-is_some.false;
+        named = c.args.name.has_form;
+        free = ap (is_taken _) (sym is_name) ∙ ap is_some (sym c.find.ensures.zone) ∙ is_some-option_map zone_of c.find.result ∙ sym c.is_some.ensures ∙ c.if-is_some.false;
       },
-      added ∙ ap (λ name. insert (zone_map_in c.self.inside.zones) name c.args.rules) c.in-Ok.ensures.ok
-          ∙ ap (λ table. insert table c.args.name.now c.args.rules) c.self.view_is,
+      added ∙ ap (λ name. insert (zone_map_in c.self.inside.zones) name c.args.rules) (c.in-Ok.ensures.ok ∙ is_name)
+          ∙ ap (λ table. insert table c.args.name.text.now c.args.rules) c.self.view_is,
     )
