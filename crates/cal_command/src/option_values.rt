@@ -5,7 +5,7 @@
 //! it returns the default. A function whose name ends in `_in` parses a value. Functions of both kinds that check a
 //! value return `None` if it is invalid.
 
-ghost use Rattle.std.specs.Prelude.{◌≡◌, ◌≤◌, ◌<◌, ◌==◌, ◌∷◌, [], true, None, Some, length, map, option_map, IfSome, IfOk, string_bytes, vec_len};
+ghost use Rattle.std.specs.Prelude.{◌≡◌, ◌≤◌, ◌<◌, ◌==◌, ◌∷◌, [], None, Some, length, map, option_map, IfSome, IfOk, string_bytes, vec_len};
 ghost use Rattle.std.specs.List.{slice_split};
 ghost use Rattle.std.specs.Option.{option_copied, option_map_or};
 ghost use Rattle.cal_bytes.specs.SplitPieces.{left, pieces_after};
@@ -14,11 +14,10 @@ ghost use Rattle.cal_command.specs.LocalZone.{IsLocalOffset};
 ghost use Rattle.cal_text.specs.headline.Separators.{is_comma};
 ghost use Rattle.cal_command.specs.OptionValues.{count_in, local_zone_in, number_between, parts_at, present_in, zone_item_in, zones_in};
 ghost use Rattle.cal_request.specs.Request.{IsCount};
-ghost use Rattle.cal_civil.specs.headline.ZoneName.{is_zone_name};
 
 use crate::ask::{LocalZone, ZoneItem};
 use cal_civil::{is_zone_name, read_offset};
-use cal_zone::Instant;
+use cal_zone::{Instant, ZoneName};
 use std::alloc::{AllocError, Global};
 
 /// The maximum of `--iterations`.
@@ -156,24 +155,22 @@ fn first_item(text: &str) -> (&str, Option<&str>)
 /// Splits an item `NAME=FILE` at its first `=`. Returns `None` if there is no `=`, if the name doesn't have the form of
 /// a zone's name, or if the path is empty.
 #[tactic(auto, unfolding(crate::specs::OptionValues::zone_item_in))]
-fn zone_item_in(item: &str) -> Option<(&str, &str)>
-    ensures value { option_map (λ parts. record { name = parts.0.now; path = parts.1.now }) result ≡ zone_item_in item.now }
-    ensures named { IfSome result (λ parts. is_zone_name parts.0.now ≡ true) }
+fn zone_item_in(item: &str) -> Option<(ZoneName<'_>, &str)>
+    ensures { option_map (λ parts. record { name = parts.0.text.now; path = parts.1.now }) result ≡ zone_item_in item.now }
 {
     let (name, path) = parts_at(item, '=')?;
-    if is_zone_name(name.as_bytes()) && !path.is_empty() {
-        Some((name, path))
-    } else {
-        None
+    let name = ZoneName::new(name)?;
+    if path.is_empty() {
+        return None;
     }
+    Some((name, path))
 }
 
-fn zone_item(alloc: Global, name: &str, path: &str) -> Result<ZoneItem, AllocError>
-    requires { is_zone_name name.now ≡ true }
-    ensures { IfOk result (λ item. shown_item item ≡ record { name = name.now; path = path.now }) }
+fn zone_item(alloc: Global, name: ZoneName<'_>, path: &str) -> Result<ZoneItem, AllocError>
+    ensures { IfOk result (λ item. shown_item item ≡ record { name = name.entry.text.now; path = path.now }) }
 {
     Ok(ZoneItem {
-        name: String::from_str(alloc, name)?,
+        name: String::from_str(alloc, name.as_str())?,
         path: String::from_str(alloc, path)?,
     })
 }

@@ -117,7 +117,7 @@ abbrev pub shown_told : tolds.Told → LocalZone
 shown_told tolds.TheVariants.Utc = InUtc
 shown_told (tolds.TheVariants.Offset seconds) = Ahead seconds
 shown_told (tolds.TheVariants.Rule rule) = ByRule rule.now
-shown_told (tolds.TheVariants.Named name) = OfName name.now
+shown_told (tolds.TheVariants.Named name) = OfName name.text.now
 shown_told (tolds.TheVariants.Unclear origin) = UnclearIn origin
 
 abbrev pub shown_zone : zones.LocalZone → LocalZone

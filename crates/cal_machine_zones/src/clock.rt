@@ -106,7 +106,7 @@ fn to_owned(alloc: Global, told: Told<'_>) -> Result<LocalZone, ZonesFault>
         Told::Utc => Ok(LocalZone::Utc),
         Told::Offset(seconds) => Ok(LocalZone::Offset(seconds)),
         Told::Rule(rule) => Ok(LocalZone::Rule(String::from_str(alloc, rule)?)),
-        Told::Named(name) => Ok(LocalZone::Named(String::from_str(alloc, name)?)),
+        Told::Named(name) => Ok(LocalZone::Named(String::from_str(alloc, name.as_str())?)),
         Told::Unclear(origin) => Err(ZonesFault::Unclear(origin)),
     }
 }

@@ -8,9 +8,9 @@ ghost use Rattle.cal_units.specs.Units.{after_prefix};
 ghost use Rattle.cal_machine_zones.specs.LocalZone.{HasOffset, argument_zone, file_zone, link_name, link_zone, name_or_offset, name_zone, offset_zone, shown_told, target_zone, variable_zone, without_folder};
 
 use crate::fault::Origin;
-use cal_civil::{is_zone_name, read_offset};
+use cal_civil::read_offset;
 use cal_units::Entry;
-use cal_zone::Rules;
+use cal_zone::{Rules, ZoneName};
 use std::alloc::Global;
 
 /// The path of the link to the file of the local zone.
@@ -25,7 +25,7 @@ pub(crate) enum Told<'t> {
     /// A POSIX rule.
     Rule(&'t str),
     /// A name below `/usr/share/zoneinfo`.
-    Named(&'t str),
+    Named(ZoneName<'t>),
     /// This origin doesn't say which zone is the local zone.
     Unclear(Origin),
 }
@@ -49,10 +49,9 @@ fn name_or_offset(text: &str) -> Told<'_>
     ensures zone { shown_told result ≡ name_or_offset text.now }
     ensures offset { HasOffset result }
 {
-    if is_zone_name(text.as_bytes()) {
-        Told::Named(text)
-    } else {
-        offset_zone(text)
+    match ZoneName::new(text) {
+        Some(name) => Told::Named(name),
+        None => offset_zone(text),
     }
 }
 
@@ -116,11 +115,11 @@ fn name_zone(origin: Origin, name: &str) -> Told<'_>
     ensures offset { HasOffset result }
 {
     if is_utc_name(name) {
-        Told::Utc
-    } else if is_zone_name(name.as_bytes()) {
-        Told::Named(name)
-    } else {
-        Told::Unclear(origin)
+        return Told::Utc;
+    }
+    match ZoneName::new(name) {
+        Some(name) => Told::Named(name),
+        None => Told::Unclear(origin),
     }
 }
 

@@ -8,7 +8,7 @@ use Rattle.cal_command.proofs.option_values.zones_in.Goals as goal
 pub returns-in_default-zone_item_in : goal.returns-in_default-zone_item_in
 returns-in_default-zone_item_in c =
     zones-bad c.args.text.now _ _ _ _ _ c.loop-rest.invariant (ap (λ r. pieces_after is_comma (option_copied r)) c.in-Some.is ∙ c.first_item.ensures.items)
-    (rw c.in_default-zone_item_in.is at c.zone_item_in.ensures.value)
+    (rw c.in_default-zone_item_in.is at c.zone_item_in.ensures)
 
 pub returns-then-len-eq-MAX_ZONES : goal.returns-then-len-eq-MAX_ZONES
 returns-then-len-eq-MAX_ZONES c =
@@ -18,7 +18,7 @@ returns-then-len-eq-MAX_ZONES c =
 pub loop-rest-preserved : goal.loop-rest-preserved
 loop-rest-preserved c =
     zones-pushed c.args.text.now _ _ _ _ _ c.in_ok-zone_item.field-0 _ _ c.loop-rest.invariant (ap (λ r. pieces_after is_comma (option_copied r)) c.in-Some.is ∙ c.first_item.ensures.items)
-    (ap Some c.in_ok-zone_item.ensures ∙ (rw c.in-Some-zone_item_in.is at c.zone_item_in.ensures.value)) (search rules) (search rules) (search rules)
+    (ap Some c.in_ok-zone_item.ensures ∙ (rw c.in-Some-zone_item_in.is at c.zone_item_in.ensures)) (search rules) (search rules) (search rules)
 
 pub returns : goal.returns
 returns c = zones-end c.args.text.now _ _ _ c.loop-rest.invariant (ap (λ r. pieces_after is_comma (option_copied r)) c.in_default.is)
