@@ -5,7 +5,8 @@ use Rattle.std.specs.Prelude.{is_err}
 use Rattle.std.specs.List.{AllByRecursion, AllZip, filter_map, flat_map, join_by}
 use Rattle.cal_streams.specs.declared.whole.WholeFault.{WholeFault}
 use Rattle.cal_report.specs.Answer.{Answer, report_in, reports_text}
-use Rattle.cal_report.specs.Report.{answer_to, base_in, report, texts_report}
+use Rattle.cal_report.specs.CalendarReport.{calendar_answer}
+use Rattle.cal_report.specs.Report.{answers_report, base_in, report}
 use Rattle.cal_report.specs.Resume.{AreAcceptedAmong, IsReadAs}
 use Rattle.cal_report.specs.headline.Headline.{AreReportsOf, Expression, IsAccepted, IsAnswerTo, IsRejected, IsReportOf, alone}
 use Rattle.cal_report.specs.headline.Report.{Report}
@@ -30,32 +31,32 @@ all_accepted asked texts es among = rw among.kept (all_found asked texts among.f
 
 -- The output consists of the reports of the accepted expressions
 
-none_reported : AreNormalForms → (asked : Request) (base : ℤ) (text : List ℕ) (a : Answer) → asked.verb ≡ Calendar → IsRejected asked text
-    → answer_to asked base text ≡ a → report_in a ≡ []
-none_reported some asked base text (Ok report) verb rejected is =
-    let it = text_accepted some asked base text verb (ap is_err is) in
+none_reported : AreNormalForms → (asked : Request) (base : ℤ) (text : List ℕ) (a : Answer) → IsRejected asked text
+    → calendar_answer asked base text ≡ a → report_in a ≡ []
+none_reported some asked base text (Ok report) rejected is =
+    let it = text_accepted some asked base text (ap is_err is) in
     absurd (rejected it.expression (sym it.same) it.accepted)
-none_reported some asked base text (Err message) verb rejected is = refl
+none_reported some asked base text (Err message) rejected is = refl
 
-reports_found : HaveOneNormalForm → AreNormalForms → (asked : Request) (base : ℤ) (texts : List (List ℕ)) (found : List (Option Expression)) → asked.verb ≡ Calendar
-    → AllZip (IsReadAs asked) texts found → flat_map (λ text. report_in (answer_to asked base text)) texts ≡ map (report_of asked base) (filter_map (λ it. it) found)
-reports_found one some asked base [] [] verb each = refl
-reports_found one some asked base [] (it ∷ found) verb each = absurd each
-reports_found one some asked base (text ∷ texts) [] verb each = absurd each
-reports_found one some asked base (text ∷ texts) (None ∷ found) verb each =
-    rw (none_reported some asked base text (answer_to asked base text) verb each.0 refl) (reports_found one some asked base texts found verb each.1)
-reports_found one some asked base (text ∷ texts) (Some e ∷ found) verb each =
-    let here : answer_to asked base text ≡ Ok (report_of asked base e) = ap (answer_to asked base) each.0.0 ∙ is_answered one asked base e verb each.0.1 in
-    rw here (ap (λ (rs : List (List ℕ)). report_of asked base e ∷ rs) (reports_found one some asked base texts found verb each.1))
+reports_found : HaveOneNormalForm → AreNormalForms → (asked : Request) (base : ℤ) (texts : List (List ℕ)) (found : List (Option Expression))
+    → AllZip (IsReadAs asked) texts found → flat_map (λ text. report_in (calendar_answer asked base text)) texts ≡ map (report_of asked base) (filter_map (λ it. it) found)
+reports_found one some asked base [] [] each = refl
+reports_found one some asked base [] (it ∷ found) each = absurd each
+reports_found one some asked base (text ∷ texts) [] each = absurd each
+reports_found one some asked base (text ∷ texts) (None ∷ found) each =
+    rw (none_reported some asked base text (calendar_answer asked base text) each.0 refl) (reports_found one some asked base texts found each.1)
+reports_found one some asked base (text ∷ texts) (Some e ∷ found) each =
+    let here : calendar_answer asked base text ≡ Ok (report_of asked base e) = ap (calendar_answer asked base) each.0.0 ∙ is_answered one asked base e each.0.1 in
+    rw here (ap (λ (rs : List (List ℕ)). report_of asked base e ∷ rs) (reports_found one some asked base texts found each.1))
 
 pub reports_are_among : HaveOneNormalForm → AreNormalForms → (asked : Request) (read : Result (List ℕ) WholeFault) (base : ℤ) (es : List Expression)
     → asked.verb ≡ Calendar → base_in asked ≡ Ok base → AreAcceptedAmong asked asked.texts es → AreReportsOf asked base es (report asked read).out
-unfolding texts_report reports_text
+unfolding answers_report reports_text
 reports_are_among one some asked read base es verb sought among = record {
   reports = map (report_of asked base) es;
   each = each_report asked base es;
   layout = ap (λ (r : Report). r.out) (report_of_texts asked read base verb sought)
-      ∙ ap (join_by (λ report. report) (codes "\n")) (reports_found one some asked base asked.texts among.found verb among.each ∙ ap (map (report_of asked base)) (sym among.kept));
+      ∙ ap (join_by (λ report. report) (codes "\n")) (reports_found one some asked base asked.texts among.found among.each ∙ ap (map (report_of asked base)) (sym among.kept));
 }
 
 no_reports : (P : Expression → List ℕ → Type 0) (reports : List (List ℕ)) (out : List ℕ) → AllZip P [] reports
@@ -87,7 +88,7 @@ each_found asked base (text ∷ texts) (answer ∷ answers) each =
 
 pub some_among : HaveOneNormalForm → AreNormalForms → (asked : Request) → asked.verb ≡ Calendar → (es : List Expression) × AreAcceptedAmong asked asked.texts es
 some_among one some asked verb =
-    let found = each_found asked asked.now asked.texts _ (each_answered one some asked asked.now asked.texts verb) in
+    let found = each_found asked asked.now asked.texts _ (each_answered one some asked asked.now asked.texts) in
     (filter_map (λ it. it) found.0, record { found = found.0; each = found.1; kept = refl })
 
 same_read : HaveOneNormalForm → (asked : Request) (text : List ℕ) (it other : Option Expression) → IsReadAs asked text it → IsReadAs asked text other → it ≡ other

@@ -173,8 +173,3 @@ answered_before bytes_of xs i answer a b c d e f h out err same_out same_err =
       out = rw same_out (subst (λ (done : List (List ℕ)). Appends a b (reports_text answer done)) texts out);
       err = rw same_err (subst (λ (done : List (List ℕ)). Appends d e (error_lines answer done)) texts err);
     }
-
--- if there are texts and nothing is written, the run stopped at the first text
-pub unanswered : (answer : List ℕ → Answer) (texts : List (List ℕ)) (a c d f : Option (List ℕ)) → 0 < length texts → c ≡ a → f ≡ d → IsAnsweredBefore answer texts a c d f
-unanswered answer texts a c d f h same_out same_err =
-    record { count = 0; before = h; out = rw same_out (out_none a answer); err = rw same_err (err_none d answer) }

@@ -31,13 +31,14 @@ use Rattle.cal_timer.proofs.TimerRuleLemmas.{judged}
 use Rattle.cal_report.specs.Answer.{texts_status}
 use Rattle.cal_report.specs.CalendarReport.{answer_in, answer_with, calendar_answer}
 use Rattle.cal_report.specs.headline.Headline.{AreAccepted, AreSpelled, Expression, IsAccepted, IsAcceptedFile, IsZoneFor, Spells, assigned_in}
-use Rattle.cal_report.specs.Report.{answer_by, answer_to, base_in, file_name, report, texts_report, whole_report}
+use Rattle.cal_report.specs.Report.{answers_report, base_in, report, whole_report}
 use Rattle.cal_report.specs.headline.Report.{Report}
 use Rattle.cal_report.specs.TimerReport.{answer_of_timer, answer_unless, timer_answer}
+use Rattle.cal_request.specs.RequestKind.{file_name}
 use Rattle.cal_request.specs.headline.Request.{Request}
 use Rattle.cal_request.specs.declared.request.Status.TheVariants.{Fine, Refused}
 use Rattle.cal_request.specs.declared.request.Verb.TheVariants as verb
-use Rattle.cal_report.proofs.HeadlineLemmas.{HaveOneNormalForm, report_of_texts, spelled_is_read, text_of}
+use Rattle.cal_report.proofs.HeadlineLemmas.{HaveOneNormalForm, report_of_texts, report_of_timer, spelled_is_read, text_of}
 use Rattle.cal_plan.proofs.PlanLemmas.{all_zoned, none_mapped}
 use Rattle.cal_plan.specs.ZoneFor.{lacks_zone, unzoned, zone_for}
 use Rattle.cal_report.specs.Setting.{setting_of}
@@ -87,19 +88,19 @@ accepted_with : AreNormalForms → (asked : Request) (base : ℤ) (text : List �
 accepted_with some asked base text (Ok fields) read h = accepted_in some asked base text fields (zone_for (setting_of asked) fields.zone) read refl h
 accepted_with some asked base text (Err fault) read h = cc
 
-pub text_accepted : AreNormalForms → (asked : Request) (base : ℤ) (text : List ℕ) → asked.verb ≡ verb.Calendar
-    → is_err (answer_to asked base text) ≡ false → IsAcceptedText asked text
+pub text_accepted : AreNormalForms → (asked : Request) (base : ℤ) (text : List ℕ)
+    → is_err (calendar_answer asked base text) ≡ false → IsAcceptedText asked text
 unfolding calendar_answer
-text_accepted some asked base text verb h =
-    accepted_with some asked base text (expr_in text) refl (sym (ap (λ v. is_err (answer_by v asked base text)) verb) ∙ h)
+text_accepted some asked base text h =
+    accepted_with some asked base text (expr_in text) refl h
 
-texts_accepted : AreNormalForms → (asked : Request) (base : ℤ) (texts : List (List ℕ)) → asked.verb ≡ verb.Calendar
-    → list_any (λ text. is_err (answer_to asked base text)) texts ≡ false → AreAccepted asked texts
-texts_accepted some asked base [] verb h = record { expressions = []; same = refl; each = tt }
-texts_accepted some asked base (text ∷ texts) verb h =
-    let parts = or_parts (is_err (answer_to asked base text)) (list_any (λ text. is_err (answer_to asked base text)) texts) h in
-    let here = text_accepted some asked base text verb parts.0 in
-    let rest = texts_accepted some asked base texts verb parts.1 in
+texts_accepted : AreNormalForms → (asked : Request) (base : ℤ) (texts : List (List ℕ))
+    → list_any (λ text. is_err (calendar_answer asked base text)) texts ≡ false → AreAccepted asked texts
+texts_accepted some asked base [] h = record { expressions = []; same = refl; each = tt }
+texts_accepted some asked base (text ∷ texts) h =
+    let parts = or_parts (is_err (calendar_answer asked base text)) (list_any (λ text. is_err (calendar_answer asked base text)) texts) h in
+    let here = text_accepted some asked base text parts.0 in
+    let rest = texts_accepted some asked base texts parts.1 in
     let same : text ∷ texts ≡ here.expression.text ∷ map text_of rest.expressions = let first = here.same in let later = rest.same in cc in
     record { expressions = here.expression ∷ rest.expressions; same = same; each = (here.accepted, rest.each) }
 
@@ -112,10 +113,10 @@ none_by_status false h = refl
 
 pub fine_texts_are_accepted : AreNormalForms → (asked : Request) (read : Result (List ℕ) WholeFault) (base : ℤ) → asked.verb ≡ verb.Calendar → base_in asked ≡ Ok base
     → (report asked read).status ≡ Fine → AreAccepted asked asked.texts
-unfolding texts_report texts_status
+unfolding answers_report texts_status
 fine_texts_are_accepted some asked read base verb sought h =
     let fine = sym (ap (λ (r : Report). r.status) (report_of_texts asked read base verb sought)) ∙ h in
-    texts_accepted some asked base asked.texts verb (none_by_status _ fine)
+    texts_accepted some asked base asked.texts (none_by_status _ fine)
 
 -- If the status is `Fine`, the timer file was accepted
 
@@ -240,14 +241,9 @@ accepted_of : HaveOneNormalForm → AreNormalForms → (asked : Request) (bytes 
 accepted_of one some asked bytes name base (Ok lists) read h = accepted_unless one some asked bytes name base lists (unzoned (setting_of asked) lists) read refl h
 accepted_of one some asked bytes name base (Err fault) read h = never_fine h
 
-report_of_timer : (asked : Request) (bytes : List ℕ) (base : ℤ) → asked.verb ≡ verb.Timer → base_in asked ≡ Ok base
-    → report asked (Ok bytes) ≡ whole_report (timer_answer asked base (file_name asked) (Ok bytes))
-unfolding report
-report_of_timer asked bytes base verb sought = grind arith
-
 pub fine_file_is_accepted : HaveOneNormalForm → AreNormalForms → (asked : Request) (bytes : List ℕ) (base : ℤ) → asked.verb ≡ verb.Timer → base_in asked ≡ Ok base
     → (report asked (Ok bytes)).status ≡ Fine → IsAcceptedFile asked bytes
 unfolding timer_answer
 fine_file_is_accepted one some asked bytes base verb sought h =
-    accepted_of one some asked bytes (file_name asked) base (timer_in expr_in bytes) refl
+    accepted_of one some asked bytes (file_name asked.texts) base (timer_in expr_in bytes) refl
     (sym (ap (λ (r : Report). r.status) (report_of_timer asked bytes base verb sought)) ∙ h)

@@ -7,8 +7,9 @@ use Rattle.std.specs.List.{AllZip, cons_option, filter_map, flat_map, join_by, l
 use Rattle.std.specs.Result.{result_err, result_ok}
 use Rattle.cal_streams.specs.declared.whole.WholeFault.{WholeFault}
 use Rattle.cal_report.specs.Answer.{Answer, error_line_in, error_line, error_lines, report_in, reports_text, texts_status}
+use Rattle.cal_report.specs.CalendarReport.{calendar_answer}
 use Rattle.cal_report.specs.headline.Headline.{AreAnswered, IsAnswerTo, IsReportOf, alone}
-use Rattle.cal_report.specs.Report.{ByReading, IsReported, answer_to, base_in, report, texts_report}
+use Rattle.cal_report.specs.Report.{ByReading, IsReported, answers_report, base_in, report}
 use Rattle.cal_report.specs.headline.Report.{Report}
 use Rattle.cal_request.specs.headline.Request.{Request}
 use Rattle.cal_request.specs.declared.request.Status.{Status}
@@ -31,27 +32,27 @@ same_report a b h = cc
 never_both : (message report : List ℕ) → ◌≡◌ {A = Answer} (Err message) (Ok report) → ⊥
 never_both message report h = cc
 
-answered_so : HaveOneNormalForm → AreNormalForms → (asked : Request) (base : ℤ) (text : List ℕ) (a : Answer) → asked.verb ≡ Calendar
-    → answer_to asked base text ≡ a → IsAnswerTo asked base text (lined text a)
-answered_so one some asked base text (Ok report) verb is =
-    let it = text_accepted some asked base text verb (ap is_err is) in
-    let whole = is_answered one asked base it.expression verb it.accepted in
-    let same = same_report report (report_of asked base it.expression) (sym is ∙ (ap (answer_to asked base) it.same ∙ whole)) in (
+answered_so : HaveOneNormalForm → AreNormalForms → (asked : Request) (base : ℤ) (text : List ℕ) (a : Answer)
+    → calendar_answer asked base text ≡ a → IsAnswerTo asked base text (lined text a)
+answered_so one some asked base text (Ok report) is =
+    let it = text_accepted some asked base text (ap is_err is) in
+    let whole = is_answered one asked base it.expression it.accepted in
+    let same = same_report report (report_of asked base it.expression) (sym is ∙ (ap (calendar_answer asked base) it.same ∙ whole)) in (
       it.expression,
       sym it.same,
       it.accepted,
       subst (IsReportOf asked base (alone it.expression)) same (is_report asked base it.expression),
     )
-answered_so one some asked base text (Err message) verb is = (
-  λ e same accepted. never_both message (report_of asked base e) (sym is ∙ (ap (answer_to asked base) (sym same) ∙ is_answered one asked base e verb accepted)),
+answered_so one some asked base text (Err message) is = (
+  λ e same accepted. never_both message (report_of asked base e) (sym is ∙ (ap (calendar_answer asked base) (sym same) ∙ is_answered one asked base e accepted)),
   (message, search rules),
 )
 
-pub each_answered : HaveOneNormalForm → AreNormalForms → (asked : Request) (base : ℤ) (texts : List (List ℕ)) → asked.verb ≡ Calendar
-    → AllZip (IsAnswerTo asked base) texts (map (lined_by (answer_to asked base)) texts)
-each_answered one some asked base [] verb = tt
-each_answered one some asked base (text ∷ texts) verb =
-    (answered_so one some asked base text (answer_to asked base text) verb refl, each_answered one some asked base texts verb)
+pub each_answered : HaveOneNormalForm → AreNormalForms → (asked : Request) (base : ℤ) (texts : List (List ℕ))
+    → AllZip (IsAnswerTo asked base) texts (map (lined_by (calendar_answer asked base)) texts)
+each_answered one some asked base [] = tt
+each_answered one some asked base (text ∷ texts) =
+    (answered_so one some asked base text (calendar_answer asked base text) refl, each_answered one some asked base texts)
 
 -- The reports, the error lines and the status are the same for `lined` answers as for the answers themselves
 
@@ -84,13 +85,13 @@ some_fails answer [] = refl
 some_fails answer (text ∷ texts) =
     ap (λ b. b || list_any (λ text. is_err (answer text)) texts) (fails_so text (answer text)) ∙ ap (λ b. is_err (lined_by answer text) || b) (some_fails answer texts)
 
-texts_answered : HaveOneNormalForm → AreNormalForms → (asked : Request) (base : ℤ) → asked.verb ≡ Calendar → AreAnswered asked base asked.texts (texts_report asked base)
-unfolding texts_report reports_text error_lines texts_status
-texts_answered one some asked base verb =
-    let answer = answer_to asked base in
+texts_answered : HaveOneNormalForm → AreNormalForms → (asked : Request) (base : ℤ) → AreAnswered asked base asked.texts (answers_report (calendar_answer asked base) asked.texts)
+unfolding answers_report reports_text error_lines texts_status
+texts_answered one some asked base =
+    let answer = calendar_answer asked base in
     record {
       answers = map (lined_by answer) asked.texts;
-      each = each_answered one some asked base asked.texts verb;
+      each = each_answered one some asked base asked.texts;
       out = ap (join_by (λ report. report) (codes "\n")) (reports_are answer asked.texts);
       err = lines_are answer asked.texts;
       status = ap (λ b. if b then Refused else Fine) (some_fails answer asked.texts);
@@ -99,7 +100,7 @@ texts_answered one some asked base verb =
 pub each_is_answered : HaveOneNormalForm → AreNormalForms → (asked : Request) (read : Result (List ℕ) WholeFault) (base : ℤ)
     → asked.verb ≡ Calendar → base_in asked ≡ Ok base → AreAnswered asked base asked.texts (report asked read)
 each_is_answered one some asked read base verb sought =
-    rw (report_of_texts asked read base verb sought) (texts_answered one some asked base verb)
+    rw (report_of_texts asked read base verb sought) (texts_answered one some asked base)
 
 pub each_is_written : HaveOneNormalForm → AreNormalForms → (asked : Request) (base : ℤ) (old new : Option (List ℕ)) (failed : Bool) (status : Status)
     (out_old out_new err_old err_new : Option (List ℕ)) → asked.verb ≡ Calendar → base_in asked ≡ Ok base

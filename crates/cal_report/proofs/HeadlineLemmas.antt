@@ -32,10 +32,10 @@ use Rattle.cal_report.specs.CalendarReport.{answer_in, answer_with, calendar_ans
 use Rattle.cal_report.specs.headline.CalendarReport.{heading_text}
 use Rattle.cal_report.specs.headline.ElapseLines.{elapses_text}
 use Rattle.cal_report.specs.headline.Headline.{AreAllAccepted, AreReportsOf, AreSpelled, Expression, IsAccepted, IsFileOf, IsFine, IsReportOf, IsZoneFor, Schedule, Spells, alone, assigned_in, headings, meaning}
-use Rattle.cal_report.specs.Report.{ByReading, IsReported, answer_by, answer_to, base_in, file_name, report, texts_report}
+use Rattle.cal_report.specs.Report.{ByReading, IsReported, answers_report, base_in, report, report_from, report_on, whole_report}
 use Rattle.cal_report.specs.TimerReport.{headings_text, timer_answer, timer_report}
 use Rattle.cal_report.specs.headline.ReportLines.{except_label, original_label}
-use Rattle.cal_request.specs.Request.{is_timer}
+use Rattle.cal_request.specs.RequestKind.{file_name, kind_by}
 use Rattle.cal_request.specs.headline.Request.{Request}
 use Rattle.cal_request.specs.declared.request.Status.{Status}
 use Rattle.cal_request.specs.declared.request.Status.TheVariants.{Fine, Refused}
@@ -66,12 +66,11 @@ zone_is_found asked (Some (ahead seconds)) tz h = ap Some (sym h)
 abbrev pub report_of : Request → ℤ → Expression → List ℕ
 report_of asked base e = calendar_report asked base e.text e.fields e.tz
 
-pub is_answered : HaveOneNormalForm → (asked : Request) (base : ℤ) (e : Expression) → asked.verb ≡ verb.Calendar → IsAccepted asked e
-    → answer_to asked base e.text ≡ Ok (report_of asked base e)
+pub is_answered : HaveOneNormalForm → (asked : Request) (base : ℤ) (e : Expression) → IsAccepted asked e
+    → calendar_answer asked base e.text ≡ Ok (report_of asked base e)
 unfolding calendar_answer
-is_answered one asked base e verb h =
-    ap (λ v. answer_by v asked base e.text) verb
-    ∙ ap (answer_with asked base e.text) (spelled_is_read one e.text e.fields h.spelled)
+is_answered one asked base e h =
+    ap (answer_with asked base e.text) (spelled_is_read one e.text e.fields h.spelled)
     ∙ ap (answer_in asked base e.text e.fields) (zone_is_found asked e.fields.zone e.tz h.zone)
 
 -- if there are no exceptions, `elapses_after` computes exactly the elapse times of an expression
@@ -94,47 +93,47 @@ each_report asked base (e ∷ es) = (is_report asked base e, each_report asked b
 abbrev pub text_of : Expression → List ℕ
 text_of e = e.text
 
-reports_are : HaveOneNormalForm → (asked : Request) (base : ℤ) (es : List Expression) → asked.verb ≡ verb.Calendar → AllByRecursion (IsAccepted asked) es
-    → flat_map (λ text. report_in (answer_to asked base text)) (map text_of es) ≡ map (report_of asked base) es
-reports_are one asked base [] verb all = refl
-reports_are one asked base (e ∷ es) verb all =
-    rw (is_answered one asked base e verb all.0) (ap (λ (rs : List (List ℕ)). report_of asked base e ∷ rs) (reports_are one asked base es verb all.1))
+reports_are : HaveOneNormalForm → (asked : Request) (base : ℤ) (es : List Expression) → AllByRecursion (IsAccepted asked) es
+    → flat_map (λ text. report_in (calendar_answer asked base text)) (map text_of es) ≡ map (report_of asked base) es
+reports_are one asked base [] all = refl
+reports_are one asked base (e ∷ es) all =
+    rw (is_answered one asked base e all.0) (ap (λ (rs : List (List ℕ)). report_of asked base e ∷ rs) (reports_are one asked base es all.1))
 
-none_refused : HaveOneNormalForm → (asked : Request) (base : ℤ) (es : List Expression) → asked.verb ≡ verb.Calendar → AllByRecursion (IsAccepted asked) es
-    → error_lines (answer_to asked base) (map text_of es) ≡ []
+none_refused : HaveOneNormalForm → (asked : Request) (base : ℤ) (es : List Expression) → AllByRecursion (IsAccepted asked) es
+    → error_lines (calendar_answer asked base) (map text_of es) ≡ []
 unfolding error_lines
-none_refused one asked base [] verb all = refl
-none_refused one asked base (e ∷ es) verb all =
-    rw (is_answered one asked base e verb all.0) (none_refused one asked base es verb all.1)
+none_refused one asked base [] all = refl
+none_refused one asked base (e ∷ es) all =
+    rw (is_answered one asked base e all.0) (none_refused one asked base es all.1)
 
-none_fails : HaveOneNormalForm → (asked : Request) (base : ℤ) (es : List Expression) → asked.verb ≡ verb.Calendar → AllByRecursion (IsAccepted asked) es
-    → list_any (λ text. is_err (answer_to asked base text)) (map text_of es) ≡ false
-none_fails one asked base [] verb all = refl
-none_fails one asked base (e ∷ es) verb all =
-    rw (is_answered one asked base e verb all.0) (none_fails one asked base es verb all.1)
+none_fails : HaveOneNormalForm → (asked : Request) (base : ℤ) (es : List Expression) → AllByRecursion (IsAccepted asked) es
+    → list_any (λ text. is_err (calendar_answer asked base text)) (map text_of es) ≡ false
+none_fails one asked base [] all = refl
+none_fails one asked base (e ∷ es) all =
+    rw (is_answered one asked base e all.0) (none_fails one asked base es all.1)
 
--- if the base time is valid, the report of a request for calendar expressions is `texts_report`
+-- if the base time is valid, the report of a request for calendar expressions consists of the answers to them
 pub report_of_texts : (asked : Request) (read : Result (List ℕ) WholeFault) (base : ℤ) → asked.verb ≡ verb.Calendar → base_in asked ≡ Ok base
-    → report asked read ≡ texts_report asked base
+    → report asked read ≡ answers_report (calendar_answer asked base) asked.texts
 unfolding report
 report_of_texts asked read base verb sought =
-    let plain : is_timer asked.verb ≡ false = ap is_timer verb in
-    rw (sought, plain) refl
+    ap (λ v. report_on asked read (kind_by v asked.texts)) verb
+    ∙ ap (report_from (λ b. answers_report (calendar_answer asked b) asked.texts)) sought
 
-texts_report_is : HaveOneNormalForm → (asked : Request) (base : ℤ) (es : List Expression) → asked.verb ≡ verb.Calendar
+answers_report_is : HaveOneNormalForm → (asked : Request) (base : ℤ) (es : List Expression)
     → asked.texts ≡ map text_of es → AllByRecursion (IsAccepted asked) es
-    → AreReportsOf asked base es (texts_report asked base).out × IsFine (texts_report asked base)
-unfolding texts_report reports_text texts_status
-texts_report_is one asked base es verb texts all =
-    let answer = answer_to asked base in (
+    → AreReportsOf asked base es (answers_report (calendar_answer asked base) asked.texts).out × IsFine (answers_report (calendar_answer asked base) asked.texts)
+unfolding answers_report reports_text texts_status
+answers_report_is one asked base es texts all =
+    let answer = calendar_answer asked base in (
       record {
         reports = map (report_of asked base) es;
         each = each_report asked base es;
-        layout = ap (reports_text answer) texts ∙ ap (join_by (λ report. report) (codes "\n")) (reports_are one asked base es verb all);
+        layout = ap (reports_text answer) texts ∙ ap (join_by (λ report. report) (codes "\n")) (reports_are one asked base es all);
       },
       record {
-        err = ap (error_lines answer) texts ∙ none_refused one asked base es verb all;
-        status = ap (texts_status answer) texts ∙ ap (λ b. if b then Refused else Fine) (none_fails one asked base es verb all);
+        err = ap (error_lines answer) texts ∙ none_refused one asked base es all;
+        status = ap (texts_status answer) texts ∙ ap (λ b. if b then Refused else Fine) (none_fails one asked base es all);
       },
     )
 
@@ -142,7 +141,7 @@ pub calendar_report_is : HaveOneNormalForm → (asked : Request) (read : Result 
     → asked.verb ≡ verb.Calendar → base_in asked ≡ Ok base → asked.texts ≡ map (λ (e : Expression). e.text) es → AllByRecursion (IsAccepted asked) es
     → AreReportsOf asked base es (report asked read).out × IsFine (report asked read)
 calendar_report_is one asked read base es verb sought texts all =
-    rw (report_of_texts asked read base verb sought) (texts_report_is one asked base es verb texts all)
+    rw (report_of_texts asked read base verb sought) (answers_report_is one asked base es texts all)
 
 -- Timer files
 
@@ -249,14 +248,13 @@ unfolding unzoned
 all_there asked lists s h =
     rw (none_lacks asked lists.expressions s.expressions h.expressions, none_lacks asked lists.exceptions s.exceptions h.exceptions) refl
 
--- if the base time is valid, and the answer to the timer file is the report `text`, then `text` goes to standard
--- output, nothing goes to standard error, and the status is `Fine`
-report_of_file : (asked : Request) (bytes : List ℕ) (base : ℤ) (text : List ℕ) → asked.verb ≡ verb.Timer → base_in asked ≡ Ok base
-    → timer_answer asked base (file_name asked) (Ok bytes) ≡ Ok text → report asked (Ok bytes) ≡ record { out = text; err = []; status = Fine }
+-- if the base time is valid, the report of a request for a timer file is the answer to the file
+pub report_of_timer : (asked : Request) (bytes : List ℕ) (base : ℤ) → asked.verb ≡ verb.Timer → base_in asked ≡ Ok base
+    → report asked (Ok bytes) ≡ whole_report (timer_answer asked base (file_name asked.texts) (Ok bytes))
 unfolding report
-report_of_file asked bytes base text verb sought answered =
-    let timer : is_timer asked.verb ≡ true = ap is_timer verb in
-    rw (sought, timer, answered) refl
+report_of_timer asked bytes base verb sought =
+    ap (λ v. report_on asked (Ok bytes) (kind_by v asked.texts)) verb
+    ∙ ap (report_from (λ b. whole_report (timer_answer asked b (file_name asked.texts) (Ok bytes)))) sought
 
 file_is_answered : HaveOneNormalForm → (asked : Request) (bytes name : List ℕ) (base : ℤ) (s : Schedule) → IsFileOf bytes s
     → AreAllAccepted asked s → timer_answer asked base name (Ok bytes) ≡ Ok (timer_report asked base (entries_in bytes))
@@ -289,7 +287,7 @@ pub timer_report_is : HaveOneNormalForm → (asked : Request) (bytes : List ℕ)
     → asked.verb ≡ verb.Timer → base_in asked ≡ Ok base → IsFileOf bytes s → AreAllAccepted asked s
     → IsReportOf asked base s (report asked (Ok bytes)).out × IsFine (report asked (Ok bytes))
 timer_report_is one asked bytes base s verb sought file all =
-    rw (report_of_file asked bytes base _ verb sought (file_is_answered one asked bytes (file_name asked) base s file all))
+    rw (report_of_timer asked bytes base verb sought, file_is_answered one asked bytes (file_name asked.texts) base s file all)
     (timer_is_report asked base (entries_in bytes) s (file_entries one asked bytes s file all), record { err = refl; status = refl })
 
 -- What a run has written if it returns `Ok`

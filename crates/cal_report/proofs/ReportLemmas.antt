@@ -1,20 +1,23 @@
 -- Lemmas on what a whole run wrote and what it returned.
-use Rattle.std.proofs.Common.{◌≡◌, ℕ, ℤ, Bool, true, false, ◌&&◌, List, [], Option, Result, Ok, Err, IfOk, refl, sym, codes}
+use Rattle.std.proofs.Common.{◌≡◌, ℕ, ℤ, Bool, true, false, List, [], Option, Result, Ok, Err, IfOk, refl, sym, subst}
 use Rattle.std.proofs.lemmas.List.{append-nil}
 use Rattle.std.proofs.KnownBytes.{Appends-nil}
 use Rattle.std.specs.Io.KnownBytes.{Appends}
-use Rattle.cal_stamp.specs.StampFault.{message_of}
-use Rattle.cal_stamp.specs.declared.fault.StampFault.{StampFault}
-use Rattle.cal_report.specs.Answer.{error_line}
+use Rattle.cal_streams.specs.Whole.{is_read_failed}
 use Rattle.cal_streams.specs.declared.whole.WholeFault.{WholeFault}
 use Rattle.cal_report.specs.TimerReport.{HadMemory}
-use Rattle.cal_request.specs.Request.{is_timer}
+use Rattle.cal_request.specs.Request.{seeks_elapses}
+use Rattle.cal_request.specs.RequestKind.{RequestKind, for_file, for_texts, kind_by, kind_of}
 use Rattle.cal_request.specs.headline.Request.{Request}
 use Rattle.cal_bytes.specs.Bytes.{AppendsFront, Writes}
-use Rattle.cal_report.specs.Report.{ByReading, IsReported, ReadsIf, base_in, report, texts_report, whole_report}
+use Rattle.cal_report.specs.Report.{ByReading, IsCut, IsCutAt, IsReported, ReadsFile, ReadsFor, base_in, file_report, report, report_on, texts_report, whole_report}
 use Rattle.cal_request.specs.declared.request.RunFault.{RunFault}
 use Rattle.cal_request.specs.declared.request.Status.{Status}
 use Rattle.cal_request.specs.declared.request.Status.TheVariants.{Fine, Refused}
+use Rattle.cal_request.specs.declared.request.Verb.{Verb}
+use Rattle.cal_request.specs.declared.request.Verb.TheVariants as verbs
+use Rattle.cal_request.specs.declared.request_kind.TextVerb.{TextVerb}
+use Rattle.cal_request.specs.declared.request_kind.TextVerb.TheVariants.{Calendar}
 use Rattle.cal_report.proofs.AnswerLemmas.{writes_nothing}
 use Rattle.cal_text.proofs.General.{if_ok}
 
@@ -32,38 +35,60 @@ pub error_reported : (r : Result Status RunFault) (a d e : Option (List ℕ)) (r
     → answer ≡ Err line → IfOk r (λ status. status ≡ Refused) → HadMemory read → Writes d e r line → IsReported r a a d e read (whole_report answer)
 error_reported r a d e read line answer is status had err = rw is (record { status = status; had = if_ok r (HadMemory read) had; out = writes_nothing a r; err = err; unread = λ h. absurd (had h) })
 
--- The contract of `run` for an invalid base time, and for a verb other than `timer`
+-- The contract of `run` for each kind of request
 
-nothing_had : HadMemory (Ok [])
+pub nothing_had : HadMemory (Ok [])
 nothing_had h = cc
 
-unread_if : (timer : Bool) (a : Option (List ℕ)) → ReadsIf (timer && false) a a (Ok [])
-unread_if true a = (refl, refl)
-unread_if false a = (refl, refl)
-
--- `ByReading` holds if the base time is invalid, the input hasn't failed and wasn't read, and the run returned
--- `Refused` and wrote only the error line about the base time. If the run failed, it is enough that it wrote a prefix
--- of this line.
-pub base_refused : (asked : Request) (a b d e : Option (List ℕ)) (failed : Bool) (r : Result Status RunFault) (fault : StampFault) → base_in asked ≡ Err fault → failed ≡ false
-    → IfOk r (λ status. status ≡ Refused) → Writes d e r (error_line (codes "--base-time") (message_of fault)) → ByReading asked a a failed (IsReported r b b d e)
-unfolding report
-base_refused asked a b d e failed r fault is works status err =
-    record { read = Ok []; input = rw is (unread_if (is_timer asked.verb) a); fails = works; holds = rw is (error_reported r b d e (Ok []) _ _ refl status nothing_had err) }
-
--- `ByReading` holds if the base time is valid, the verb isn't `timer`, the input hasn't failed and wasn't read, and the
--- run wrote the reports and the error lines of all arguments and returned their status. If the run failed, it is enough
--- that it wrote a prefix of the reports and a prefix of the error lines.
-pub texts_reported : (asked : Request) (a b c d e : Option (List ℕ)) (failed : Bool) (r : Result Status RunFault) (base : ℤ) → base_in asked ≡ Ok base → is_timer asked.verb ≡ false
-    → failed ≡ false → IfOk r (λ status. status ≡ (texts_report asked base).status) → Writes b c r (texts_report asked base).out → Writes d e r (texts_report asked base).err
+-- `ByReading` holds if the request is for these texts, the input hasn't failed and wasn't read, and the run wrote the
+-- reports and the error lines of all texts and returned their status, or `Refused` and the error line about the base
+-- time. If the run failed, prefixes of both texts are enough.
+pub texts_reported : (asked : Request) (verb : TextVerb) (texts : List (List ℕ)) (a b c d e : Option (List ℕ)) (failed : Bool) (r : Result Status RunFault) → for_texts verb texts ≡ kind_of asked
+    → failed ≡ false → IfOk r (λ status. status ≡ (texts_report asked verb texts).status) → Writes b c r (texts_report asked verb texts).out → Writes d e r (texts_report asked verb texts).err
     → ByReading asked a a failed (IsReported r b c d e)
 unfolding report
-texts_reported asked a b c d e failed r base is plain works status out err =
+texts_reported asked verb texts a b c d e failed r is works status out err =
     record {
       read = Ok [];
-      input = rw plain (refl, refl);
+      input = subst (λ kind. ReadsFor kind (base_in asked) a a (Ok [])) is (refl, refl);
       fails = works;
-      holds = rw (is, plain) (record { status = status; had = if_ok r (HadMemory (Ok [])) nothing_had; out = out; err = err; unread = λ h. absurd (nothing_had h) });
+      holds = subst (λ kind. IsReported r b c d e (Ok []) (report_on asked (Ok []) kind)) is
+          (record { status = status; had = if_ok r (HadMemory (Ok [])) nothing_had; out = out; err = err; unread = λ h. absurd (nothing_had h) });
     }
+
+-- `ByReading` holds if the request is for this timer file, and the run agrees with the report for what it read from
+-- the file
+pub file_reported : (asked : Request) (name : List ℕ) (read : Result (List ℕ) WholeFault) (a b : Option (List ℕ)) (failed : Bool) (r : Result Status RunFault) (out out' err err' : Option (List ℕ))
+    → for_file name ≡ kind_of asked → ReadsFile (base_in asked) a b read → failed ≡ is_read_failed read → IsReported r out out' err err' read (file_report asked name read)
+    → ByReading asked a b failed (IsReported r out out' err err')
+unfolding report
+file_reported asked name read a b failed r out out' err err' is reads fails reported =
+    record {
+      read = read;
+      input = subst (λ kind. ReadsFor kind (base_in asked) a b read) is reads;
+      fails = fails;
+      holds = subst (λ kind. IsReported r out out' err err' read (report_on asked read kind)) is reported;
+    }
+
+-- `IsCut` holds if the base time is valid, and the run wrote what `IsCutAt` says for the kind of the request
+pub is_cut : (asked : Request) (base : ℤ) (kind : RequestKind) (out out' err err' : Option (List ℕ)) → base_in asked ≡ Ok base → kind ≡ kind_of asked → IsCutAt asked base kind out out' err err'
+    → IsCut asked out out' err err'
+is_cut asked base kind out out' err err' sought is cut =
+    record { base = base; sought = sought; answered = subst (λ k. IsCutAt asked base k out out' err err') is cut }
+
+-- if a request is for texts of the verb `calendar`, then its verb computes elapses
+pub sought_by : (verb : Verb) (texts all : List (List ℕ)) → for_texts Calendar texts ≡ kind_by verb all → seeks_elapses verb ≡ true
+sought_by verbs.Calendar texts all is = refl
+sought_by verbs.Timestamp texts all is = cc
+sought_by verbs.Timespan texts all is = cc
+sought_by verbs.Timer texts all is = refl
+
+-- if a request is for a timer file, then its verb is `timer`
+pub timer_by : (verb : Verb) (name : List ℕ) (all : List (List ℕ)) → for_file name ≡ kind_by verb all → verb ≡ verbs.Timer
+timer_by verbs.Calendar name all is = cc
+timer_by verbs.Timestamp name all is = cc
+timer_by verbs.Timespan name all is = cc
+timer_by verbs.Timer name all is = refl
 
 -- a call that wrote nothing wrote a prefix of every text
 pub nothing_front : (a : Option (List ℕ)) (text : List ℕ) → AppendsFront a a text

@@ -25,7 +25,7 @@ use Rattle.cal_spec.specs.headline.Match.{matches, date_in, time_in}
 use Rattle.cal_spec.specs.headline.Members.{sets_of, part_has}
 use Rattle.cal_report.specs.Answer.{reports_text, error_lines, texts_status}
 use Rattle.cal_elapse.specs.headline.Elapses.{IsElapse}
-use Rattle.cal_report.specs.Report.{base_in, report, texts_report}
+use Rattle.cal_report.specs.Report.{answers_report, base_in, report}
 use Rattle.cal_request.specs.headline.Request.{Request}
 use Rattle.cal_elapse.specs.headline.Timed.{timed}
 use Rattle.cal_report.specs.TimespanReport.{timespan_answer, timespan_report}
@@ -144,15 +144,15 @@ two_spans : Request
 two_spans = record { verb = Timespan; texts = codes "1h" ∷ codes "5x" ∷ []; iterations = 1; base = None; now = pos 0; local = utc; zones = empty }
 
 two_spans-out : (report two_spans (Ok [])).out ≡ codes "Original: 1h\n" ++ (codes "      " ++ (206 ∷ 188 ∷ codes "s: 3600000000\n   Human: 1h\n"))
-unfolding two_spans report texts_report base_in reports_text timespan_answer timespan_report units_text counts_in_row span_of pairs_in words_in worth_of is_number unit_named number_worth spellings_of unit_name digits
+unfolding two_spans report answers_report base_in reports_text timespan_answer timespan_report units_text counts_in_row span_of pairs_in words_in worth_of is_number unit_named number_worth spellings_of unit_name digits
 two_spans-out = refl
 
 two_spans-err : (report two_spans (Ok [])).err ≡ codes "5x: unknown unit\n"
-unfolding two_spans report texts_report base_in error_lines timespan_answer timespan_report units_text counts_in_row span_of pairs_in words_in worth_of is_number unit_named number_worth spellings_of unit_name digits
+unfolding two_spans report answers_report base_in error_lines timespan_answer timespan_report units_text counts_in_row span_of pairs_in words_in worth_of is_number unit_named number_worth spellings_of unit_name digits
 two_spans-err = refl
 
 two_spans-status : (report two_spans (Ok [])).status ≡ Refused
-unfolding two_spans report texts_report base_in texts_status timespan_answer timespan_report units_text counts_in_row span_of pairs_in words_in worth_of is_number unit_named number_worth spellings_of unit_name digits
+unfolding two_spans report answers_report base_in texts_status timespan_answer timespan_report units_text counts_in_row span_of pairs_in words_in worth_of is_number unit_named number_worth spellings_of unit_name digits
 two_spans-status = refl
 
 -- An accepted request, to which the law `headline` applies

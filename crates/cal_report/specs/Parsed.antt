@@ -10,14 +10,14 @@ use Rattle.cal_report.specs.TimestampReport.{timestamp_report}
 use Rattle.cal_report.specs.declared.parsed.Parsed.{Parsed}
 use Rattle.cal_report.specs.declared.parsed.Parsed.TheVariants.{Calendar, Timestamp, Timespan}
 use Rattle.cal_report.specs.declared.text_error.TextError.{TextError}
-use Rattle.cal_request.specs.declared.request.Verb.{Verb}
+use Rattle.cal_request.specs.declared.request_kind.TextVerb.{TextVerb}
 use Rattle.cal_report.specs.declared.text_error.TextError.TheVariants.{Spec, NoSuchZone, Stamp, Span, NoMemory}
 
 -- the verb that takes arguments of this kind
-abbrev pub verb_of : Parsed → Verb
-verb_of (Calendar expr elapses) = Verb.Calendar
-verb_of (Timestamp moment) = Verb.Timestamp
-verb_of (Timespan span) = Verb.Timespan
+abbrev pub verb_of : Parsed → TextVerb
+verb_of (Calendar expr elapses) = TextVerb.Calendar
+verb_of (Timestamp moment) = TextVerb.Timestamp
+verb_of (Timespan span) = TextVerb.Timespan
 
 -- the report of a valid argument; `text` is the argument as the user gave it
 abbrev pub report_text : Request → List ℕ → Parsed → List ℕ

@@ -15,4 +15,4 @@ mod timer_report;
 mod timespan_report;
 mod timestamp_report;
 
-pub use report::{file_name, run};
+pub use report::{run, run_texts, run_timer};

@@ -1,18 +1,17 @@
 //! Parsing one argument of the verbs `calendar`, `timestamp` and `timespan`.
 
-ghost use Rattle.std.specs.Prelude.{◌≡◌, Ok, Err, IfOk, IfErr, IsErrOf, false};
+ghost use Rattle.std.specs.Prelude.{◌≡◌, Ok, Err, IfOk, IfErr, IsErrOf};
 ghost use Rattle.cal_report.specs.Parsed.{report_text, text_error_message, verb_of};
 ghost use Rattle.cal_report.specs.CalendarReport.{calendar_answer};
 ghost use Rattle.cal_report.specs.Context.{asked_by};
-ghost use Rattle.cal_report.specs.Report.{answer_to};
+ghost use Rattle.cal_report.specs.Report.{answer_by};
 ghost use Rattle.cal_report.specs.declared.text_error.TextError.TheVariants.{NoMemory};
-ghost use Rattle.cal_request.specs.Request.{is_timer, seeks_elapses};
 
 use crate::context::Context;
 use crate::text_error::TextError;
 use cal_elapse::Elapses;
 use cal_plan::{Instants, zone_for};
-use cal_request::Verb;
+use cal_request::TextVerb;
 use cal_span::{Span, read_span};
 use cal_spec::{Expr, SpecFault, read_expr};
 use cal_stamp::read_stamp;
@@ -30,7 +29,7 @@ pub enum Parsed<'a> {
     Timespan(Span),
 }
 
-/// Parses `text` as an argument of the request's verb, which must not be [`Verb::Timer`].
+/// Parses `text` as an argument of `verb`.
 ///
 /// Everything that the report of this argument needs is allocated here, so that writing the report cannot run out of
 /// memory. Parsing a timestamp or a time span allocates nothing.
@@ -38,27 +37,26 @@ pub enum Parsed<'a> {
 pub fn read_text<'a>(
     alloc: Global,
     context: Context<'a>,
+    verb: TextVerb,
     text: &str,
 ) -> Result<Parsed<'a>, TextError>
-    requires texts { is_timer context.request.now.verb ≡ false }
-    ensures parsed { IfOk result (λ parsed. answer_to (asked_by context.entry) context.entry.base.secs text.now
+    ensures parsed { IfOk result (λ parsed. answer_by verb (asked_by context.entry) context.entry.base.secs text.now
         ≡ Ok (report_text (asked_by context.entry) text.now parsed)) }
     ensures refused { IfErr result (λ error. (error ≡ NoMemory → ⊥)
-        → answer_to (asked_by context.entry) context.entry.base.secs text.now ≡ Err (text_error_message error)) }
-    ensures verb { IfOk result (λ parsed. verb_of parsed ≡ context.entry.request.now.verb) }
-    ensures memory { seeks_elapses context.entry.request.now.verb ≡ false → IsErrOf result NoMemory → ⊥ }
+        → answer_by verb (asked_by context.entry) context.entry.base.secs text.now ≡ Err (text_error_message error)) }
+    ensures verb { IfOk result (λ parsed. verb_of parsed ≡ verb) }
+    ensures memory { IsErrOf result NoMemory → verb ≡ TextVerb.Calendar }
 {
-    match context.request.verb {
-        Verb::Calendar => read_calendar(alloc, context, text),
-        Verb::Timer => unreachable!(),
-        Verb::Timestamp => {
+    match verb {
+        TextVerb::Calendar => read_calendar(alloc, context, text),
+        TextVerb::Timestamp => {
             let Setting { now, local, zones } = context.setting;
             match read_stamp(text, now, local, zones) {
                 Ok(moment) => Ok(Parsed::Timestamp(moment)),
                 Err(fault) => Err(TextError::Stamp(fault)),
             }
         }
-        Verb::Timespan => match read_span(text) {
+        TextVerb::Timespan => match read_span(text) {
             Ok(span) => Ok(Parsed::Timespan(span)),
             Err(fault) => Err(TextError::Span(fault)),
         },
@@ -79,7 +77,7 @@ fn read_calendar<'a>(
         ≡ Ok (report_text (asked_by context.entry) text.now parsed)) }
     ensures refused { IfErr result (λ error. (error ≡ NoMemory → ⊥)
         → calendar_answer (asked_by context.entry) context.entry.base.secs text.now ≡ Err (text_error_message error)) }
-    ensures verb { IfOk result (λ parsed. verb_of parsed ≡ Verb.Calendar) }
+    ensures verb { IfOk result (λ parsed. verb_of parsed ≡ TextVerb.Calendar) }
 {
     let expr = match read_expr(alloc, text) {
         Ok(expr) => expr,

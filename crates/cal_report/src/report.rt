@@ -1,7 +1,7 @@
 //! Running a whole request: the reports of its arguments or of its timer file go to standard output, the error lines go
 //! to standard error, and the status says whether anything was rejected (systemd-analyze(1)).
 
-ghost use Rattle.std.specs.Prelude.{ℕ, List, Result, slice_index_or, map, ◌≡◌, [], ◌∷◌, false, codes, IfOk, IsErrOf};
+ghost use Rattle.std.specs.Prelude.{ℕ, ℤ, List, Result, Ok, map, ◌≡◌, [], ◌∷◌, false, codes, IfOk, IsErrOf};
 ghost use Rattle.std.specs.String.{string_bytes};
 ghost use Rattle.cal_streams.specs.Whole.{is_read_failed};
 ghost use Rattle.cal_streams.specs.declared.whole.WholeFault.{WholeFault};
@@ -10,8 +10,8 @@ ghost use Rattle.cal_bytes.specs.Bytes.{Writes};
 ghost use Rattle.cal_bytes.specs.Puts.{Puts};
 ghost use Rattle.cal_bytes.specs.headline.Bytes.{joined};
 ghost use Rattle.cal_report.specs.Answer.{IsAnsweredBefore, error_line_in, error_line, later_text, status_in, reports_text, error_lines, texts_status};
-ghost use Rattle.cal_report.specs.Context.{asked_by};
-ghost use Rattle.cal_report.specs.Report.{ByReading, IsCut, IsReported, answer_to, base_in, file_name, secs_or_fault, whole_report};
+ghost use Rattle.cal_report.specs.Context.{asked_by, asked_in};
+ghost use Rattle.cal_report.specs.Report.{ByReading, IsCut, IsReported, ReadsFile, answer_by, base_in, file_report, secs_or_fault, texts_report, whole_report};
 ghost use Rattle.cal_request.specs.Request.{is_timer, seeks_elapses};
 ghost use Rattle.cal_request.specs.RequestView.{asked};
 ghost use Rattle.cal_report.specs.TimerReport.{error_line_at, timer_answer};
@@ -25,14 +25,14 @@ use crate::text_error::TextError;
 use crate::text_report::put_report;
 use crate::timer_report::{TimerError, read_plan, write_timer};
 use cal_bytes::{Sink, Source, WriteFault, put_pieces};
-use cal_request::{Request, RunFault, Status, Verb};
+use cal_request::{Request, RequestKind, RunFault, Status, TextVerb};
 use cal_stamp::{StampFault, read_stamp};
 use cal_zone::{Instant, Setting, Zone, ZoneTable};
 use itoa::Buffer;
 use std::alloc::Global;
 
 /// Runs a request (systemd-analyze(1)). Each valid argument gets a report on `out`, and each invalid one an error line
-/// on `err`. For [`Verb::Timer`], the one argument is the name of the timer file, and `input` is its content: the file
+/// on `err`. For the verb `timer`, the one argument is the name of the timer file, and `input` is its content: the file
 /// gets either a report or an error line. The other verbs don't read `input`.
 ///
 /// The elapse times shown are the first `iterations` after the base time. The request states the base time as a
@@ -71,39 +71,104 @@ pub fn run<R: Source, O: Sink, E: Sink>(
     ensures input { is_timer request.now.verb ≡ false → input.new ≡ input.old }
     ensures sure { R.may_fail input.old ≡ false → R.is_failed input.new ≡ false }
 {
-    let base = match read_base(request, now, local, table) {
-        Ok(base) => base,
-        Err(fault) => return report_error(err, "--base-time", None, fault.words()),
+    let setting = Setting {
+        now,
+        local,
+        zones: table,
     };
-    let context = Context {
-        request,
-        base,
-        setting: Setting {
-            now,
-            local,
-            zones: table,
-        },
-    };
-    match request.verb {
-        Verb::Timer => answer_timer(alloc, context, input, out, err),
-        _ => answer_all(alloc, context, out, err),
+    match request.kind() {
+        RequestKind::Texts { verb, texts } => {
+            run_texts(alloc, request, verb, texts, setting, out, err)
+        }
+        RequestKind::Timer { file } => run_timer(alloc, request, file, setting, input, out, err),
+    }
+}
+
+/// Answers `texts` as [`run`] does, with the base time and the number of elapses that `request` states.
+pub fn run_texts<O: Sink, E: Sink>(
+    alloc: Global,
+    request: &Request,
+    verb: TextVerb,
+    texts: &[String],
+    setting: Setting<'_>,
+    out: &mut O,
+    err: &mut E,
+) -> Result<Status, RunFault>
+    requires out { O.is_failed out.old ≡ false }
+    requires err { E.is_failed err.old ≡ false }
+    ensures status { IfOk result (λ status. status ≡ (texts_report (asked_in request.now setting.entry) verb (map string_bytes texts.now)).status) }
+    ensures out { Writes (O.written out.old) (O.written out.new) result
+        (texts_report (asked_in request.now setting.entry) verb (map string_bytes texts.now)).out }
+    ensures err { Writes (E.written err.old) (E.written err.new) result
+        (texts_report (asked_in request.now setting.entry) verb (map string_bytes texts.now)).err }
+    ensures out_failed { O.is_failed out.new ≡ is_out_failed result }
+    ensures err_failed { E.is_failed err.new ≡ is_err_failed result }
+    ensures memory { IsErrOf result NoMemory → verb ≡ TextVerb.Calendar }
+    ensures cut { IsErrOf result NoMemory → (base : ℤ) × (base_in (asked_in request.now setting.entry) ≡ Ok base)
+        × IsAnsweredBefore (answer_by verb (asked_in request.now setting.entry) base) (map string_bytes texts.now)
+        (O.written out.old) (O.written out.new) (E.written err.old) (E.written err.new) }
+{
+    match read_base(request, setting) {
+        Ok(base) => {
+            let context = Context {
+                request,
+                base,
+                setting,
+            };
+            answer_all(alloc, context, verb, texts, out, err)
+        }
+        Err(fault) => report_error(err, "--base-time", None, fault.words()),
+    }
+}
+
+/// Answers the timer file with the path `file` and the content `input` as [`run`] does, with the base time and the
+/// number of elapses that `request` states.
+pub fn run_timer<R: Source, O: Sink, E: Sink>(
+    alloc: Global,
+    request: &Request,
+    file: &str,
+    setting: Setting<'_>,
+    input: &mut R,
+    out: &mut O,
+    err: &mut E,
+) -> Result<Status, RunFault>
+    requires input { R.is_failed input.old ≡ false }
+    requires out { O.is_failed out.old ≡ false }
+    requires err { E.is_failed err.old ≡ false }
+    ensures reported { (read : Result (List ℕ) WholeFault)
+        × ReadsFile (base_in (asked_in request.now setting.entry)) (R.remaining input.old) (R.remaining input.new) read
+        × (R.is_failed input.new ≡ is_read_failed read)
+        × IsReported result (O.written out.old) (O.written out.new) (E.written err.old) (E.written err.new) read
+        (file_report (asked_in request.now setting.entry) file.now read) }
+    ensures sure { R.may_fail input.old ≡ false → R.is_failed input.new ≡ false }
+    ensures out_failed { O.is_failed out.new ≡ is_out_failed result }
+    ensures err_failed { E.is_failed err.new ≡ is_err_failed result }
+    ensures cut { IsErrOf result NoMemory → (base : ℤ) × (base_in (asked_in request.now setting.entry) ≡ Ok base)
+        × (O.written out.new ≡ O.written out.old) × (E.written err.new ≡ E.written err.old) }
+{
+    match read_base(request, setting) {
+        Ok(base) => {
+            let context = Context {
+                request,
+                base,
+                setting,
+            };
+            answer_timer(alloc, context, file, input, out, err)
+        }
+        Err(fault) => report_error(err, "--base-time", None, fault.words()),
     }
 }
 
 /// Parses the base time of the request. Returns the present if the request doesn't have one.
 #[tactic(auto, unfolding(crate::specs::Report::base_in, crate::specs::TimestampReport::stamp_in))]
-fn read_base(
-    request: &Request,
-    now: Instant,
-    local: Zone<'_>,
-    table: &ZoneTable,
-) -> Result<Instant, StampFault>
-    ensures { secs_or_fault result ≡ base_in (asked request.now now.secs local.entry table.now) }
+fn read_base(request: &Request, setting: Setting<'_>) -> Result<Instant, StampFault>
+    ensures { secs_or_fault result ≡ base_in (asked_in request.now setting.entry) }
 {
     let Some(text) = &request.base else {
-        return Ok(now);
+        return Ok(setting.now);
     };
-    let moment = read_stamp(text.as_str(), now, local, table)?;
+    let Setting { now, local, zones } = setting;
+    let moment = read_stamp(text.as_str(), now, local, zones)?;
     Ok(moment.instant())
 }
 
@@ -112,29 +177,30 @@ fn read_base(
 fn answer_all<O: Sink, E: Sink>(
     alloc: Global,
     context: Context<'_>,
+    verb: TextVerb,
+    texts: &[String],
     out: &mut O,
     err: &mut E,
 ) -> Result<Status, RunFault>
-    requires texts { is_timer context.request.now.verb ≡ false }
     requires out { O.is_failed out.old ≡ false }
     requires err { E.is_failed err.old ≡ false }
-    ensures status { let asked = asked_by context.entry in
-        IfOk result (λ status. status ≡ texts_status (answer_to asked context.entry.base.secs) asked.texts) }
-    ensures out { let asked = asked_by context.entry in
-        Writes (O.written out.old) (O.written out.new) result (reports_text (answer_to asked context.entry.base.secs) asked.texts) }
-    ensures err { let asked = asked_by context.entry in
-        Writes (E.written err.old) (E.written err.new) result (error_lines (answer_to asked context.entry.base.secs) asked.texts) }
+    ensures status { let answer = answer_by verb (asked_by context.entry) context.entry.base.secs in
+        IfOk result (λ status. status ≡ texts_status answer (map string_bytes texts.now)) }
+    ensures out { let answer = answer_by verb (asked_by context.entry) context.entry.base.secs in
+        Writes (O.written out.old) (O.written out.new) result (reports_text answer (map string_bytes texts.now)) }
+    ensures err { let answer = answer_by verb (asked_by context.entry) context.entry.base.secs in
+        Writes (E.written err.old) (E.written err.new) result (error_lines answer (map string_bytes texts.now)) }
     ensures out_failed { O.is_failed out.new ≡ is_out_failed result }
     ensures err_failed { E.is_failed err.new ≡ is_err_failed result }
-    ensures memory { seeks_elapses context.entry.request.now.verb ≡ false → IsErrOf result NoMemory → ⊥ }
-    ensures cut { let asked = asked_by context.entry in
-        IsErrOf result NoMemory → IsAnsweredBefore (answer_to asked context.entry.base.secs) asked.texts
+    ensures memory { IsErrOf result NoMemory → verb ≡ TextVerb.Calendar }
+    ensures cut { let answer = answer_by verb (asked_by context.entry) context.entry.base.secs in
+        IsErrOf result NoMemory → IsAnsweredBefore answer (map string_bytes texts.now)
         (O.written out.old) (O.written out.new) (E.written err.old) (E.written err.new) }
 {
     let mut status = Status::Fine;
     let mut is_later = false;
-    for text in &context.request.texts {
-        let answered = match answer_one(alloc, context, text.as_str(), is_later, out, err) {
+    for text in texts {
+        let answered = match answer_one(alloc, context, verb, text.as_str(), is_later, out, err) {
             Ok(answered) => answered,
             Err(fault) => return Err(fault),
         };
@@ -149,26 +215,26 @@ fn answer_all<O: Sink, E: Sink>(
 fn answer_one<O: Sink, E: Sink>(
     alloc: Global,
     context: Context<'_>,
+    verb: TextVerb,
     text: &str,
     is_later: bool,
     out: &mut O,
     err: &mut E,
 ) -> Result<Status, RunFault>
-    requires texts { is_timer context.request.now.verb ≡ false }
     requires out { O.is_failed out.old ≡ false }
     requires err { E.is_failed err.old ≡ false }
-    ensures status { IfOk result (λ status. status ≡ status_in (answer_to (asked_by context.entry) context.entry.base.secs text.now)) }
+    ensures status { IfOk result (λ status. status ≡ status_in (answer_by verb (asked_by context.entry) context.entry.base.secs text.now)) }
     ensures out { Writes (O.written out.old) (O.written out.new) result
-        (later_text is_later (answer_to (asked_by context.entry) context.entry.base.secs text.now)) }
+        (later_text is_later (answer_by verb (asked_by context.entry) context.entry.base.secs text.now)) }
     ensures err { Writes (E.written err.old) (E.written err.new) result
-        (error_line_in text.now (answer_to (asked_by context.entry) context.entry.base.secs text.now)) }
+        (error_line_in text.now (answer_by verb (asked_by context.entry) context.entry.base.secs text.now)) }
     ensures out_failed { O.is_failed out.new ≡ is_out_failed result }
     ensures err_failed { E.is_failed err.new ≡ is_err_failed result }
-    ensures memory { seeks_elapses context.entry.request.now.verb ≡ false → IsErrOf result NoMemory → ⊥ }
+    ensures memory { IsErrOf result NoMemory → verb ≡ TextVerb.Calendar }
     ensures unwritten { IsErrOf result NoMemory
         → (O.written out.new ≡ O.written out.old) × (E.written err.new ≡ E.written err.old) }
 {
-    match read_text(alloc, context, text) {
+    match read_text(alloc, context, verb, text) {
         Ok(parsed) => match put_report(out, is_later, context, text, parsed) {
             Ok(()) => Ok(Status::Fine),
             Err(WriteFault::Failed) => Err(RunFault::OutFailed),
@@ -182,6 +248,7 @@ fn answer_one<O: Sink, E: Sink>(
 fn answer_timer<R: Source, O: Sink, E: Sink>(
     alloc: Global,
     context: Context<'_>,
+    file: &str,
     input: &mut R,
     out: &mut O,
     err: &mut E,
@@ -193,7 +260,7 @@ fn answer_timer<R: Source, O: Sink, E: Sink>(
         × ReadsWhole (R.remaining input.old) (R.remaining input.new) timer_file_limit read
         × (R.is_failed input.new ≡ is_read_failed read)
         × IsReported result (O.written out.old) (O.written out.new) (E.written err.old) (E.written err.new) read
-        (whole_report (timer_answer (asked_by context.entry) context.entry.base.secs (file_name (asked_by context.entry)) read)) }
+        (whole_report (timer_answer (asked_by context.entry) context.entry.base.secs file.now read)) }
     ensures sure { R.may_fail input.old ≡ false → R.is_failed input.new ≡ false }
     ensures out_failed { O.is_failed out.new ≡ is_out_failed result }
     ensures err_failed { E.is_failed err.new ≡ is_err_failed result }
@@ -206,18 +273,7 @@ fn answer_timer<R: Source, O: Sink, E: Sink>(
             Err(WriteFault::Failed) => Err(RunFault::OutFailed),
         },
         Err(TimerError::NoMemory) => Err(RunFault::NoMemory),
-        Err(error) => report_error(err, file_name(context.request), error.line(), error.words()),
-    }
-}
-
-/// Returns the name of the timer file, which is the only argument of [`Verb::Timer`]. Returns an empty string if there
-/// are no arguments.
-pub fn file_name(request: &Request) -> &str
-    ensures { result.now ≡ slice_index_or (map string_bytes request.now.texts.items) 0 [] }
-{
-    match request.texts.first() {
-        Some(name) => name.as_str(),
-        None => "",
+        Err(error) => report_error(err, file, error.line(), error.words()),
     }
 }
 

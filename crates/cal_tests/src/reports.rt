@@ -11,7 +11,7 @@ mod zones;
 
 use cal_bytes::{Sink, Source};
 use cal_library_tests::shared::{NEW_YEAR, SUMMER_TIME, ensure, instant, posix, zone_file};
-use cal_report::{file_name, run};
+use cal_report::run;
 use cal_request::{Request, RunFault, Status, Verb};
 use cal_streams::Port;
 use cal_zone::{Instant, Rules, Zone, ZoneTable};
@@ -205,17 +205,4 @@ fn request(alloc: Global, row: &Row<'_>) -> Result<Request, Fail> {
         iterations,
         base,
     })
-}
-
-/// Lists of texts, each with what `file_name` returns for a request with these texts: the first text, or an empty name
-/// if there are no texts.
-static NAMES: [(&[&str], &str); 3] = [(&["t"], "t"), (&["a/b", "c"], "a/b"), (&[], "")];
-
-#[test]
-fn names_of_files(rt: HostRuntime) -> Result<(), Fail> {
-    for (texts, name) in &NAMES {
-        let request = request(rt.alloc(), &Row { texts, ..CALENDAR })?;
-        ensure(file_name(&request) == *name, name)?;
-    }
-    Ok(())
 }

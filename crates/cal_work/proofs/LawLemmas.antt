@@ -13,14 +13,13 @@ use Rattle.cal_streams.specs.declared.whole.WholeFault.TheVariants as whole
 use Rattle.cal_timer.specs.TimerText.{timer_file_limit}
 use Rattle.cal_command.specs.Ask.{Ask, CommandFault, ZoneItem}
 use Rattle.cal_command.specs.CommandLine.{asked_in, takes_arguments}
-use Rattle.cal_work.specs.Outcome.{World, ZoneFound, and_then, loaded, or_load_stop, table_by, local_by, present_by, run_by, asked_at, outcome, outcome_of}
-use Rattle.cal_report.specs.Report.{file_name}
-use Rattle.cal_request.specs.Request.{is_timer}
+use Rattle.cal_work.specs.Outcome.{World, ZoneFound, and_then, loaded, or_load_stop, table_by, local_by, present_by, run_by, run_on, asked_at, outcome, outcome_of}
+use Rattle.cal_request.specs.RequestKind.{RequestKind, for_file, for_texts, kind_by}
 use Rattle.cal_request.specs.headline.Request.{Request}
 use Rattle.cal_work.specs.Stop.{Stop}
 use Rattle.cal_work.specs.System.{Known, Seen, GivesTime, SeesBytes, is_cut}
-use Rattle.cal_work.specs.WorkLaw.{TellsAll, taken_of, known_seen, known_time, known_zones, known_world, known_outcome, IsOr}
-use Rattle.cal_work.specs.Works.{SeesZones, SeesIf, Fits, FitsArguments}
+use Rattle.cal_work.specs.WorkLaw.{TellsAll, taken_of, known_seen, known_time, known_zones, known_file, known_world, known_outcome, IsOr}
+use Rattle.cal_work.specs.Works.{SeesZones, SeesFor, Fits, FitsArguments}
 use Rattle.cal_zone.specs.declared.zone_files.LoadFault.{LoadFault}
 use Rattle.cal_command.proofs.CommandLineLemmas.{taken_arguments}
 use Rattle.cal_text.proofs.General.{some_none}
@@ -102,27 +101,26 @@ present_known (Some now) clock time some h = refl
 present_known None clock None some h = absurd (false≢true some)
 present_known None clock (Some t) some h = rw h refl
 
-run_known : (known : Known) (asked : Request) (seen : Seen) (t : Bool) → is_timer asked.verb ≡ t → TellsAll known → SeesIf t known (file_name asked) seen
-    → IsOr (run_by asked seen) (run_by asked (known_seen timer_file_limit (known.file (file_name asked))))
-unfolding run_by
-run_known known asked seen false is all h = rw is (inl refl)
-run_known known asked seen true is all h =
-    elim (seen_known timer_file_limit (known.file (file_name asked)) seen (all.files (file_name asked)) h.bytes (h.sure (all.sure (file_name asked)))) [
+run_known : (known : Known) (asked : Request) (seen : Seen) (kind : RequestKind) → TellsAll known → SeesFor kind known seen
+    → IsOr (run_on asked seen kind) (run_on asked (known_file known kind) kind)
+run_known known asked seen (for_texts verb texts) all h = inl refl
+run_known known asked seen (for_file path) all h =
+    elim (seen_known timer_file_limit (known.file path) seen (all.files path) h.bytes (h.sure (all.sure path))) [
       | inl e ↦ rw e (inl refl)
-      | inr e ↦ rw (e, is) (inr refl)
+      | inr e ↦ rw e (inr refl)
     ]
 
 -- All steps together
 
 ask_known : (known : Known) (ask : Ask) (world : World) → TellsAll known → Fits known ask world → IsOr (outcome_of ask world) (outcome (known_world known ask world))
-unfolding outcome outcome_of known_world
+unfolding outcome outcome_of known_world run_by
 ask_known known ask world all fits =
     and_then_or _ _ _ _ (zones_known known empty ask.zones world.zones all fits.zones) (λ table is_table.
     let after = rw is_table at fits.after in
     and_then_or _ _ (local_by ask.local table world.local) (local_by ask.local table world.local) (inl refl) (λ local is_local.
     let later = rw is_local at after in
     and_then_or _ _ (present_by ask.now world.clock) (present_by ask.now (known_time known.time)) (inl (present_known ask.now world.clock known.time all.time later.1)) (λ now is_now.
-    run_known known (asked_at ask table local now) world.file (is_timer ask.verb) refl all (rw is_now at later.2))))
+    run_known known (asked_at ask table local now) world.file (kind_by ask.verb ask.texts) all (rw is_now at later.2))))
 
 parsed_known : (known : Known) (world : World) (parsed : Result Ask CommandFault) → TellsAll known → world.parsed ≡ parsed → IfOk parsed (λ ask. Fits known ask world) → IsOr (outcome world) (known_outcome known parsed world)
 unfolding outcome outcome_of known_world

@@ -1,15 +1,15 @@
 -- Lemmas on the steps of the work: what all steps found makes up one world, and what was written is the outcome in that
 -- world.
-use Rattle.std.proofs.Common.{◌≡◌, ℕ, ℤ, ◌+◌, ◌<◌, ◌≤◌, Bool, true, false, ◌&&◌, List, [], ◌∷◌, length, Option, None, Some, Result, Ok, Err, IfNone, refl, sym, ap, subst, ◌∙◌, arith, length-append, nat_le}
-use Rattle.std.specs.Prelude.{IsSome, is_some, is_ok, MatchResult}
+use Rattle.std.proofs.Common.{◌≡◌, ℕ, ℤ, ◌+◌, ◌<◌, Bool, true, false, List, [], ◌∷◌, length, Option, None, Some, Result, Ok, Err, IfOk, IfNone, refl, sym, ap, subst, ◌∙◌, arith, length-append, nat_le}
+use Rattle.std.specs.Prelude.{IsSome, is_some, MatchResult}
 use Rattle.std.specs.FinMap.{empty}
 use Rattle.std.proofs.KnownBytes.{Consumes-whole}
-use Rattle.std.proofs.lemmas.Bool.{false≢true, and_left}
+use Rattle.std.proofs.lemmas.Bool.{false≢true}
 use Rattle.std.proofs.lemmas.Bool.Decides.{nat_tests}
 use Rattle.jiff.specs.Placed.{IsPosixZone}
 use Rattle.jiff.specs.Types.{TimeZone}
 use Rattle.jiff.specs.Words.{read_whole as rule_read}
-use Rattle.cal_bytes.specs.Bytes.{AppendsFront}
+use Rattle.cal_bytes.specs.Bytes.{AppendsFront, Writes}
 use Rattle.cal_streams.specs.Whole.{GivesAll, CameBeyond, is_read_failed}
 use Rattle.cal_zone.specs.headline.Zone.{is_utc, utc, zone_of}
 use Rattle.cal_zone.specs.ZoneFile.{file_limit}
@@ -25,15 +25,15 @@ use Rattle.cal_stamp.specs.declared.fault.StampFault.{StampFault}
 use Rattle.cal_command.specs.Ask.{Ask, LocalZone, in_utc, ahead, by_rule, of_name, ZoneItem, shown_fault, bad_iterations, bad_now, bad_zones, bad_local, no_memory}
 use Rattle.cal_command.specs.CommandLine.{IsAskOf}
 use Rattle.cal_zone.specs.LoadZone.{IsLoaded, IsLoadFault, is_load_read_failed}
-use Rattle.cal_work.specs.Outcome.{ZoneFound, and_then, loaded, table_by, local_by, present_by, input_if, run_by, asked_at, outcome, outcome_of, out_text, err_text}
-use Rattle.cal_report.specs.Report.{ByReading, IsReported, ReadsIf, base_in, file_name, reads_input, report, report_from}
+use Rattle.cal_work.specs.Outcome.{ZoneFound, and_then, loaded, table_by, local_by, present_by, run_by, run_on, asked_at, outcome, outcome_of, out_text, err_text}
+use Rattle.cal_report.specs.Report.{IsReported, ReadsFile, base_in, file_report, texts_report}
 use Rattle.cal_report.specs.headline.Report.{Report}
-use Rattle.cal_request.specs.Request.{is_timer}
+use Rattle.cal_request.specs.RequestKind.{for_file, for_texts, kind_of}
 use Rattle.cal_request.specs.headline.Request.{Request}
 use Rattle.cal_work.specs.Stop.{Stop, command_stop, exit_status, load_stop, name_stop, rule_stop, shown_stop, unopened_stop, memory_stop, is_out_stop, is_err_stop}
-use Rattle.cal_work.specs.System.{Known, Opens, GivesTime, Comes, SeesBytes}
+use Rattle.cal_work.specs.System.{Known, Opens, GivesTime, Comes, Seen, Sees, SeesBytes}
 use Rattle.cal_work.specs.WorkSteps.{StopsAs, Loads, ReadsZones, FindsLocal, IsBadRule, EndsAs, Runs, Answered, AnsweredArguments, ran}
-use Rattle.cal_work.specs.Works.{SeesZones, ReadsZone}
+use Rattle.cal_work.specs.Works.{SeesFor, SeesZones, ReadsZone}
 use Rattle.cal_command.specs.declared.command_fault.CommandFault as declared_fault
 use Rattle.cal_command.specs.declared.command_fault.CommandFault.TheVariants as command
 use Rattle.cal_zone.specs.declared.zone_files.LoadFault.{LoadFault}
@@ -41,6 +41,7 @@ use Rattle.cal_zone.specs.declared.zone_files.LoadFault.TheVariants.{ReadFailed,
 use Rattle.cal_request.specs.declared.request.RunFault.{RunFault}
 use Rattle.cal_request.specs.declared.request.RunFault.TheVariants.{OutFailed, ErrFailed, NoMemory}
 use Rattle.cal_request.specs.declared.request.Status.{Status}
+use Rattle.cal_request.specs.declared.request_kind.TextVerb.{TextVerb}
 use Rattle.cal_work.specs.declared.stop.Stop as declared_stop
 use Rattle.cal_work.specs.declared.stop.Stop.TheVariants.{Command, Zones, LocalRule, LocalName, Clock, Open, Run}
 use Rattle.cal_report.proofs.ReportLemmas.{nothing_front}
@@ -283,13 +284,12 @@ early (Run OutFailed) expected out err s = absurd (false≢true (sym s.before_ou
 early (Run ErrFailed) expected out err s = absurd (false≢true (sym s.before_err))
 early (Run NoMemory) expected out err s = (refl, nothing_front out (out_text expected), nothing_front err (err_text expected))
 
--- if what a run wrote and returned agrees with `report`, as `IsReported` says, then the work ended with this report,
--- as `EndsAs` says
-run_ends : (r : Result Status RunFault) (read : Result (List ℕ) WholeFault) (report : Report) (out out' err err' : Option (List ℕ)) → IsReported r out out' err err' read report → EndsAs (ran r) (Ok report) out out' err err'
-run_ends (Ok status) read report out out' err err' t = (ap exit_status (sym t.status), t.out, t.err)
-run_ends (Err OutFailed) read report out out' err err' t = (refl, t.out, t.err)
-run_ends (Err ErrFailed) read report out out' err err' t = (refl, t.out, t.err)
-run_ends (Err NoMemory) read report out out' err err' t = (refl, t.out, t.err)
+-- if what a run wrote and returned agrees with `report`, then the work ended with this report, as `EndsAs` says
+run_ends : (r : Result Status RunFault) (report : Report) (out out' err err' : Option (List ℕ)) → IfOk r (λ status. status ≡ report.status) → Writes out out' r report.out → Writes err err' r report.err → EndsAs (ran r) (Ok report) out out' err err'
+run_ends (Ok status) report out out' err err' is out_bytes err_bytes = (ap exit_status (sym is), out_bytes, err_bytes)
+run_ends (Err OutFailed) report out out' err err' is out_bytes err_bytes = (refl, out_bytes, err_bytes)
+run_ends (Err ErrFailed) report out out' err err' is out_bytes err_bytes = (refl, out_bytes, err_bytes)
+run_ends (Err NoMemory) report out out' err err' is out_bytes err_bytes = (refl, out_bytes, err_bytes)
 
 still_front : (a b : Option (List ℕ)) (text : List ℕ) → b ≡ a → AppendsFront a b text
 still_front a b text is = rw is (nothing_front a text)
@@ -301,84 +301,86 @@ unread_ends (Err OutFailed) report out out' err err' t = (refl, still_front out 
 unread_ends (Err ErrFailed) report out out' err err' t = (refl, still_front out out' _ (t.unread refl).0, still_front err err' _ (t.unread refl).1)
 unread_ends (Err NoMemory) report out out' err err' t = (refl, still_front out out' _ (t.unread refl).0, still_front err err' _ (t.unread refl).1)
 
--- if a run doesn't use its input, its report doesn't depend on the result of reading the input
-same_from : (asked : Request) (a b : Result (List ℕ) WholeFault) (t : Bool) (base : Result ℤ StampFault) → is_timer asked.verb ≡ t → (t && is_ok base) ≡ false → report_from asked a base ≡ report_from asked b base
-same_from asked a b t (Err fault) is h = refl
-same_from asked a b t (Ok base) is h = grind arith
+-- if the base time is invalid, the report doesn't depend on the result of reading the timer file
+file_same : (asked : Request) (name : List ℕ) (fault : StampFault) (a b : Result (List ℕ) WholeFault) → base_in asked ≡ Err fault → file_report asked name a ≡ file_report asked name b
+file_same asked name fault a b is = rw is refl
 
-unread_same : (asked : Request) (a b : Result (List ℕ) WholeFault) → reads_input asked ≡ false → report asked a ≡ report asked b
-unfolding report
-unread_same asked a b h = same_from asked a b (is_timer asked.verb) (base_in asked) refl h
-
-within_had : (asked : Request) (all : List ℕ) (b : Bool) → reads_input asked ≡ false
-    → and_then (λ read. Ok (report asked read)) (input_if true (file_name asked) (Some (came_within b all))) ≡ Ok (report asked (Ok []))
+within_had : (asked : Request) (name all : List ℕ) (fault : StampFault) (b : Bool) → base_in asked ≡ Err fault
+    → run_on asked (Some (came_within b all)) (for_file name) ≡ Ok (file_report asked name (Ok []))
 unfolding came_within
-within_had asked all true h = ap (λ r. Ok r) (unread_same asked (Ok all) (Ok []) h)
-within_had asked all false h = ap (λ r. Ok r) (unread_same asked (Err whole.TooLarge) (Ok []) h)
+within_had asked name all fault true is = ap (λ r. Ok r) (file_same asked name fault (Ok all) (Ok []) is)
+within_had asked name all fault false is = ap (λ r. Ok r) (file_same asked name fault (Err whole.TooLarge) (Ok []) is)
 
-report_had : (asked : Request) (old : Option (List ℕ)) (limit : ℕ) → reads_input asked ≡ false → is_timer asked.verb ≡ true
-    → run_by asked (Some (came_of old limit)) ≡ Ok (report asked (Ok []))
-unfolding run_by came_of came_within
-report_had asked None limit h timer = rw timer refl
-report_had asked (Some all) limit h timer = rw timer (within_had asked all (nat_le (length all) limit) h)
+report_had : (asked : Request) (name : List ℕ) (fault : StampFault) (old : Option (List ℕ)) (limit : ℕ) → base_in asked ≡ Err fault
+    → run_on asked (Some (came_of old limit)) (for_file name) ≡ Ok (file_report asked name (Ok []))
+unfolding came_of
+report_had asked name fault None limit is = refl
+report_had asked name fault (Some all) limit is = within_had asked name all fault (nat_le (length all) limit) is
+
+-- if a request is for a timer file, and the work ended with the outcome for what the program saw of the file, then
+-- `Runs` holds
+runs_file : (known : Known) (asked : Request) (name : List ℕ) (result : Result Status declared_stop.Stop) (out out' err err' : Option (List ℕ)) (seen : Seen) → for_file name ≡ kind_of asked
+    → Sees known timer_file_limit name seen → EndsAs result (run_on asked seen (for_file name)) out out' err err' → Runs known asked result out out' err err'
+unfolding run_by
+runs_file known asked name result out out' err err' seen is sees ends = record {
+  seen = seen;
+  sees = subst (λ kind. SeesFor kind known seen) is sees;
+  ends = subst (λ kind. EndsAs result (run_on asked seen kind) out out' err err') is ends;
+}
 
 -- if the timer file was opened, and what the run wrote and returned agrees with the report for what was read from the
 -- file, then the run agrees with `run_by`, as `Runs` says
-timer_by : (known : Known) (asked : Request) (r : Result Status RunFault) (old new : Option (List ℕ)) (may failed : Bool) (out out' err err' : Option (List ℕ)) (read : Result (List ℕ) WholeFault) (b : Bool)
-    → reads_input asked ≡ b → is_timer asked.verb ≡ true → Opens (known.file (file_name asked)) (Some old) → may ≡ known.may_fail (file_name asked) → (may ≡ false → failed ≡ false)
-    → failed ≡ is_read_failed read → ReadsIf b old new read → IsReported r out out' err err' read (report asked read) → Runs known asked (ran r) out out' err err'
-unfolding run_by
-timer_by known asked r old new may failed out out' err err' (Ok bytes) true reads timer opens mays sure fails input t = record {
-  seen = Some (Ok bytes);
-  sees = rw timer (record { bytes = sees_opened _ _ old (Ok bytes) opens (comes_all old new _ bytes input); sure = λ e. refl });
-  ends = rw timer (run_ends r (Ok bytes) _ out out' err err' t);
-}
-timer_by known asked r old new may failed out out' err err' (Err whole.ReadFailed) true reads timer opens mays sure fails input t = record {
-  seen = Some (Err whole.ReadFailed);
-  sees = rw timer (record { bytes = sees_opened _ _ old (Err whole.ReadFailed) opens tt; sure = λ e. sym fails ∙ sure (mays ∙ e) });
-  ends = rw timer (run_ends r (Err whole.ReadFailed) _ out out' err err' t);
-}
-timer_by known asked r old new may failed out out' err err' (Err whole.TooLarge) true reads timer opens mays sure fails input t = record {
-  seen = Some (Err whole.TooLarge);
-  sees = rw timer (record { bytes = sees_opened _ _ old (Err whole.TooLarge) opens (comes_beyond old new _ input); sure = λ e. refl });
-  ends = rw timer (run_ends r (Err whole.TooLarge) _ out out' err err' t);
-}
-timer_by known asked r old new may failed out out' err err' (Err whole.NoMemory) true reads timer opens mays sure fails input t = record {
-  seen = Some (Err whole.NoMemory);
-  sees = rw timer (record { bytes = sees_opened _ _ old (Err whole.NoMemory) opens tt; sure = λ e. refl });
-  ends = rw timer (unread_ends r _ out out' err err' t);
-}
-timer_by known asked r old new may failed out out' err err' read false reads timer opens mays sure fails input t = record {
-  seen = Some (came_of old timer_file_limit);
-  sees = rw timer (record { bytes = sees_opened _ _ old (came_of old timer_file_limit) opens (came_fits old timer_file_limit); sure = λ e. came_uncut old timer_file_limit });
-  ends = rw (report_had asked old timer_file_limit reads timer) (run_ends r (Ok []) _ out out' err err' (rw input.1 at t));
-}
+timer_by : (known : Known) (asked : Request) (name : List ℕ) (r : Result Status RunFault) (old new : Option (List ℕ)) (may failed : Bool) (out out' err err' : Option (List ℕ)) (read : Result (List ℕ) WholeFault) (base : Result ℤ StampFault)
+    → for_file name ≡ kind_of asked → base_in asked ≡ base → Opens (known.file name) (Some old) → may ≡ known.may_fail name → (may ≡ false → failed ≡ false)
+    → failed ≡ is_read_failed read → ReadsFile base old new read → IsReported r out out' err err' read (file_report asked name read) → Runs known asked (ran r) out out' err err'
+timer_by known asked name r old new may failed out out' err err' (Ok bytes) (Ok base) is based opens mays sure fails input t =
+    runs_file known asked name (ran r) out out' err err' (Some (Ok bytes)) is
+    (record { bytes = sees_opened _ _ old (Ok bytes) opens (comes_all old new _ bytes input); sure = λ e. refl })
+    (run_ends r (file_report asked name (Ok bytes)) out out' err err' t.status t.out t.err)
+timer_by known asked name r old new may failed out out' err err' (Err whole.ReadFailed) (Ok base) is based opens mays sure fails input t =
+    runs_file known asked name (ran r) out out' err err' (Some (Err whole.ReadFailed)) is
+    (record { bytes = sees_opened _ _ old (Err whole.ReadFailed) opens tt; sure = λ e. sym fails ∙ sure (mays ∙ e) })
+    (run_ends r (file_report asked name (Err whole.ReadFailed)) out out' err err' t.status t.out t.err)
+timer_by known asked name r old new may failed out out' err err' (Err whole.TooLarge) (Ok base) is based opens mays sure fails input t =
+    runs_file known asked name (ran r) out out' err err' (Some (Err whole.TooLarge)) is
+    (record { bytes = sees_opened _ _ old (Err whole.TooLarge) opens (comes_beyond old new _ input); sure = λ e. refl })
+    (run_ends r (file_report asked name (Err whole.TooLarge)) out out' err err' t.status t.out t.err)
+timer_by known asked name r old new may failed out out' err err' (Err whole.NoMemory) (Ok base) is based opens mays sure fails input t =
+    runs_file known asked name (ran r) out out' err err' (Some (Err whole.NoMemory)) is
+    (record { bytes = sees_opened _ _ old (Err whole.NoMemory) opens tt; sure = λ e. refl })
+    (unread_ends r _ out out' err err' t)
+timer_by known asked name r old new may failed out out' err err' read (Err fault) is based opens mays sure fails input t =
+    let ended = rw input.1 at t in
+    runs_file known asked name (ran r) out out' err err' (Some (came_of old timer_file_limit)) is
+    (record { bytes = sees_opened _ _ old (came_of old timer_file_limit) opens (came_fits old timer_file_limit); sure = λ e. came_uncut old timer_file_limit })
+    (rw (report_had asked name fault old timer_file_limit based) (run_ends r (file_report asked name (Ok [])) out out' err err' ended.status ended.out ended.err))
 
-pub timer_runs : (known : Known) (asked : Request) (r : Result Status RunFault) (old new : Option (List ℕ)) (may failed : Bool) (out out' err err' : Option (List ℕ))
-    → is_timer asked.verb ≡ true → Opens (known.file (file_name asked)) (Some old) → may ≡ known.may_fail (file_name asked) → (may ≡ false → failed ≡ false)
-    → ByReading asked old new failed (IsReported r out out' err err') → Runs known asked (ran r) out out' err err'
-timer_runs known asked r old new may failed out out' err err' timer opens mays sure by =
-    timer_by known asked r old new may failed out out' err err' by.read (reads_input asked) refl timer opens mays sure by.fails by.input by.holds
+pub timer_runs : (known : Known) (asked : Request) (name : List ℕ) (r : Result Status RunFault) (old new : Option (List ℕ)) (may failed : Bool) (out out' err err' : Option (List ℕ)) (read : Result (List ℕ) WholeFault)
+    → for_file name ≡ kind_of asked → Opens (known.file name) (Some old) → may ≡ known.may_fail name → (may ≡ false → failed ≡ false)
+    → failed ≡ is_read_failed read → ReadsFile (base_in asked) old new read → IsReported r out out' err err' read (file_report asked name read) → Runs known asked (ran r) out out' err err'
+timer_runs known asked name r old new may failed out out' err err' read is opens mays sure fails input t =
+    timer_by known asked name r old new may failed out out' err err' read (base_in asked) is refl opens mays sure fails input t
 
--- if the verb isn't `timer`, and the run fulfills its contract (`ByReading`), then the run agrees with `run_by`, as
--- `Runs` says
-pub texts_run : (known : Known) (asked : Request) (r : Result Status RunFault) (old new : Option (List ℕ)) (failed : Bool) (out out' err err' : Option (List ℕ))
-    → is_timer asked.verb ≡ false → ByReading asked old new failed (IsReported r out out' err err') → Runs known asked (ran r) out out' err err'
+-- if the request is for texts, and the run wrote and returned what their report says, then the run agrees with
+-- `run_by`, as `Runs` says
+pub texts_run : (known : Known) (asked : Request) (verb : TextVerb) (texts : List (List ℕ)) (r : Result Status RunFault) (out out' err err' : Option (List ℕ)) → for_texts verb texts ≡ kind_of asked
+    → IfOk r (λ status. status ≡ (texts_report asked verb texts).status) → Writes out out' r (texts_report asked verb texts).out → Writes err err' r (texts_report asked verb texts).err
+    → Runs known asked (ran r) out out' err err'
 unfolding run_by
-texts_run known asked r old new failed out out' err err' plain by =
-    let same : report asked by.read ≡ report asked (Ok []) = unread_same asked by.read (Ok []) (and_left (is_timer asked.verb) (is_ok (base_in asked)) plain) in
-    record { seen = None; sees = rw plain tt; ends = rw plain (rw (sym same) (run_ends r by.read _ out out' err err' by.holds)) }
+texts_run known asked verb texts r out out' err err' is status out_bytes err_bytes = record {
+  seen = None;
+  sees = subst (λ kind. SeesFor kind known None) is tt;
+  ends = subst (λ kind. EndsAs (ran r) (run_on asked None kind) out out' err err') is (run_ends r (texts_report asked verb texts) out out' err err' status out_bytes err_bytes);
+}
 
 -- if the timer file can't be opened, and nothing was written, then the stop for this file agrees with `run_by`, as
 -- `Runs` says
-pub file_stops : (known : Known) (asked : Request) (stop : declared_stop.Stop) (out err : Option (List ℕ)) → is_timer asked.verb ≡ true → Opens (known.file (file_name asked)) None → StopsAs {X = Unit} stop (Err (unopened_stop (file_name asked)))
+pub file_stops : (known : Known) (asked : Request) (name : List ℕ) (stop : declared_stop.Stop) (out err : Option (List ℕ)) → for_file name ≡ kind_of asked → Opens (known.file name) None → StopsAs {X = Unit} stop (Err (unopened_stop name))
     → Runs known asked (Err stop) out out err err
-unfolding run_by
-file_stops known asked stop out err timer opens s = record {
-  seen = None;
-  sees = rw timer (record { bytes = sees_none _ _ opens; sure = λ e. refl });
-  ends = rw timer (early stop (Err (unopened_stop (file_name asked))) out err (stops_other stop (unopened_stop (file_name asked)) s));
-}
+file_stops known asked name stop out err is opens s =
+    runs_file known asked name (Err stop) out out err err None is
+    (record { bytes = sees_none _ _ opens; sure = λ e. refl })
+    (early stop (Err (unopened_stop name)) out err (stops_other stop (unopened_stop name) s))
 
 -- All steps together: the work stops at the zone files, at the local zone or at the present instant, or it gets to the
 -- run

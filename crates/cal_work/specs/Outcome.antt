@@ -1,6 +1,6 @@
 -- The outcome of the program's work: a report, or a stop, which is what is reported if the work ends before the run.
 -- The outcome depends on a world: the parsed arguments, the files, the zones read from them, and the clock.
-use Rattle.std.specs.Prelude.{ℕ, ℤ, pos, Bool, true, false, not, ◌&&◌, int_lt, List, [], ◌∷◌, Option, None, Some, is_some, Result, Ok, Err, if◌then◌else◌}
+use Rattle.std.specs.Prelude.{ℕ, ℤ, pos, not, ◌&&◌, int_lt, List, [], ◌∷◌, Option, None, Some, is_some, Result, Ok, Err, if◌then◌else◌}
 use Rattle.std.specs.FinMap.{insert, empty}
 use Rattle.jiff.specs.Types.{TimeZone}
 use Rattle.jiff.specs.Words.{read_whole as rule_read}
@@ -15,9 +15,9 @@ use Rattle.cal_streams.specs.declared.whole.WholeFault.TheVariants as whole
 use Rattle.cal_zone.specs.declared.zone.Zone.{Zone as ClockZone}
 use Rattle.cal_zone.specs.declared.zone_fault.ZoneFault.TheVariants.{BadName, BadFile, TooLarge, NoMemory, NameTaken}
 use Rattle.cal_command.specs.Ask.{Ask, LocalZone, in_utc, ahead, by_rule, of_name, ZoneItem, CommandFault}
-use Rattle.cal_report.specs.Report.{file_name, report}
+use Rattle.cal_report.specs.Report.{file_report, texts_report}
 use Rattle.cal_report.specs.headline.Report.{Report}
-use Rattle.cal_request.specs.Request.{is_timer}
+use Rattle.cal_request.specs.RequestKind.{RequestKind, for_file, for_texts, kind_of}
 use Rattle.cal_request.specs.headline.Request.{Request}
 use Rattle.cal_work.specs.Stop.{Stop, command_stop, load_stop, rule_stop, name_stop, clock_stop, unopened_stop, memory_stop, exit_status}
 use Rattle.cal_work.specs.System.{Seen}
@@ -116,14 +116,13 @@ input_by path (Some (Err whole.ReadFailed)) = Ok (Err whole.ReadFailed)
 input_by path (Some (Err whole.TooLarge)) = Ok (Err whole.TooLarge)
 input_by path (Some (Err whole.NoMemory)) = Err memory_stop
 
--- the result of reading the timer file if the verb is `timer`, and no bytes for the other verbs, which don't read a
--- file
-abbrev pub input_if : Bool → List ℕ → Seen → Result (Result (List ℕ) WholeFault) Stop
-input_if true path seen = input_by path seen
-input_if false path seen = Ok (Ok [])
+-- the report of texts, for which no file is read, or of what reading the timer file returned, or the stop for the file
+abbrev pub run_on : Request → Seen → RequestKind → Result Report Stop
+run_on asked seen (for_texts verb texts) = Ok (texts_report asked verb texts)
+run_on asked seen (for_file path) = and_then (λ read. Ok (file_report asked path read)) (input_by path seen)
 
 unfoldable pub run_by : Request → Seen → Result Report Stop
-run_by asked seen = and_then (λ read. Ok (report asked read)) (input_if (is_timer asked.verb) (file_name asked) seen)
+run_by asked seen = run_on asked seen (kind_of asked)
 
 -- All steps together
 

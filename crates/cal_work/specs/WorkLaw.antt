@@ -1,12 +1,13 @@
 -- If everything about a system's files and clock is known, and `clap` accepts the arguments, there is only one possible
 -- outcome, unless memory runs out. The outcome depends on the system, on what `clap` finds in the arguments, and on the
 -- zones that `jiff` reads from the files.
-use Rattle.std.specs.Prelude.{◌≡◌, ◌⊎◌, ℕ, ℤ, Bool, true, false, List, [], ◌∷◌, length, nat_le, Option, None, Some, IsSome, Result, Ok, Err, slice_index_or}
+use Rattle.std.specs.Prelude.{◌≡◌, ◌⊎◌, ℕ, ℤ, Bool, true, false, List, [], ◌∷◌, length, nat_le, Option, None, Some, IsSome, Result, Ok, Err}
 use Rattle.cal_zone.specs.ZoneFile.{file_limit}
 use Rattle.cal_streams.specs.declared.whole.WholeFault.{WholeFault}
 use Rattle.cal_streams.specs.declared.whole.WholeFault.TheVariants.{TooLarge}
 use Rattle.cal_timer.specs.TimerText.{timer_file_limit}
 use Rattle.cal_command.specs.Ask.{Ask, CommandFault, ZoneItem}
+use Rattle.cal_request.specs.RequestKind.{RequestKind, for_file, for_texts, kind_by}
 use Rattle.cal_work.specs.Outcome.{World, ZoneFound, outcome}
 use Rattle.cal_report.specs.headline.Report.{Report}
 use Rattle.cal_work.specs.Stop.{Stop, command_stop, memory_stop}
@@ -43,6 +44,11 @@ known_zones known (item ∷ items) [] = []
 known_zones known (item ∷ items) (f ∷ found) =
     record { seen = known_seen file_limit (known.file item.path); zone = f.zone } ∷ known_zones known items found
 
+-- what the program sees of the timer file, if the request is for one
+abbrev pub known_file : Known → RequestKind → Seen
+known_file known (for_texts verb texts) = None
+known_file known (for_file path) = known_seen timer_file_limit (known.file path)
+
 -- The world of a known system. `ask` is what the arguments ask for. The local zone and the zones that `jiff` reads from
 -- the files are those of `world`.
 unfoldable pub known_world : Known → Ask → World → World
@@ -51,7 +57,7 @@ known_world known ask world = record {
   zones = known_zones known ask.zones world.zones;
   local = world.local;
   clock = known_time known.time;
-  file = known_seen timer_file_limit (known.file (slice_index_or ask.texts 0 []));
+  file = known_file known (kind_by ask.verb ask.texts);
 }
 
 abbrev pub known_outcome : Known → Result Ask CommandFault → World → Result Report Stop

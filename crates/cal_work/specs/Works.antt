@@ -18,8 +18,7 @@ use Rattle.cal_timer.specs.TimerText.{timer_file_limit}
 use Rattle.cal_command.specs.Ask.{Ask, LocalZone, in_utc, ahead, by_rule, of_name, ZoneItem}
 use Rattle.cal_command.specs.CommandLine.{IsAskOf}
 use Rattle.cal_work.specs.Outcome.{World, ZoneFound, loaded, table_by, local_by, present_by, asked_at, outcome, out_text, err_text, ended_status}
-use Rattle.cal_report.specs.Report.{file_name}
-use Rattle.cal_request.specs.Request.{is_timer}
+use Rattle.cal_request.specs.RequestKind.{RequestKind, for_file, for_texts, kind_of}
 use Rattle.cal_request.specs.headline.Request.{Request}
 use Rattle.cal_work.specs.Stop.{fault_stop}
 use Rattle.cal_work.specs.System.{Known, Seen, Sees, GivesTime}
@@ -59,13 +58,13 @@ IsLocal (ahead seconds) table zone =
 IsLocal (by_rule rule) table zone = (is_utc zone ≡ false) × IsPosixZone rule (zone_of zone)
 IsLocal (of_name name) table zone = (is_utc zone ≡ is_utc_name name) × (zone_named table name ≡ Some (zone_of zone))
 
--- for the verb `timer`, what the program sees of the timer file agrees with what is known about it
-abbrev pub SeesIf : Bool → Known → List ℕ → Seen → Type 0
-SeesIf true known path seen = Sees known timer_file_limit path seen
-SeesIf false known path seen = Unit {0}
+-- what the program sees of the timer file, if the request is for one, agrees with what is known about it
+abbrev pub SeesFor : RequestKind → Known → Seen → Type 0
+SeesFor (for_texts verb texts) known seen = Unit {0}
+SeesFor (for_file path) known seen = Sees known timer_file_limit path seen
 
 abbrev pub SeesFile : Known → Request → Seen → Type 0
-SeesFile known asked seen = SeesIf (is_timer asked.verb) known (file_name asked) seen
+SeesFile known asked seen = SeesFor (kind_of asked) known seen
 
 abbrev pub FitsAt : Known → Ask → World → ZoneMap → Type 0
 FitsAt known ask world table =

@@ -21,10 +21,10 @@ use crate::stop::{Outlet, Stop, exit_status, write_stop};
 use crate::system::System;
 use cal_bytes::Sink;
 use cal_command::{Ask, CommandFault, LocalZone, ZoneItem};
-use cal_report::{file_name, run};
-use cal_request::{Request, RunFault, Status, Verb};
-use cal_streams::{Output, Port};
-use cal_zone::{Instant, LoadFault, Rules, Zone, ZoneTable, load_zone};
+use cal_report::{run_texts, run_timer};
+use cal_request::{Request, RequestKind, RunFault, Status};
+use cal_streams::Output;
+use cal_zone::{Instant, LoadFault, Rules, Setting, Zone, ZoneTable, load_zone};
 use std::alloc::Global;
 use std::convert::AsStr;
 
@@ -261,7 +261,7 @@ fn instant_in(secs: i64) -> Option<Instant>
     Instant::new(secs)
 }
 
-/// Runs a request. For the verb `timer`, opens the timer file first.
+/// Runs a request. If it is for a timer file, opens the file first.
 fn run_request<S: System, O: Sink, E: Sink>(
     alloc: Global,
     system: &S,
@@ -279,15 +279,21 @@ fn run_request<S: System, O: Sink, E: Sink>(
     ensures out_failed { O.is_failed out.new ≡ is_out_cut result }
     ensures err_failed { E.is_failed err.new ≡ is_err_cut result }
 {
-    match request.verb {
-        Verb::Timer => match open_file(alloc, system, file_name(request)) {
-            Ok(mut file) => after_run(run(alloc, request, &mut file, now, local, table, out, err)),
+    let setting = Setting {
+        now,
+        local,
+        zones: table,
+    };
+    match request.kind() {
+        RequestKind::Texts { verb, texts } => {
+            after_run(run_texts(alloc, request, verb, texts, setting, out, err))
+        }
+        RequestKind::Timer { file } => match open_file(alloc, system, file) {
+            Ok(mut input) => {
+                after_run(run_timer(alloc, request, file, setting, &mut input, out, err))
+            }
             Err(stop) => Err(stop),
         },
-        _ => {
-            let mut none = Port::new(b"".as_slice());
-            after_run(run(alloc, request, &mut none, now, local, table, out, err))
-        }
     }
 }
 

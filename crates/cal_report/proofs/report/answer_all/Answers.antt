@@ -21,8 +21,8 @@ loop-text-init g c =
 
 pub loop-text-preserved : goal.loop-text-preserved
 loop-text-preserved g c =
-    let done = items_taken string_bytes c.args.context.request.now.texts.items c.loop-text.text-index c.text-item.result c.as_str.result.now (omega arith) (rw c.deref-text-items.ensures.value at c.text-item.is) c.as_str.ensures.value in
-    let next = items_next string_bytes c.args.context.request.now.texts.items c.loop-text.text-index c.text-item.result c.as_str.result.now (omega arith) (rw c.deref-text-items.ensures.value at c.text-item.is) c.as_str.ensures.value in
+    let done = items_taken string_bytes c.args.texts.now c.loop-text.text-index c.text-item.result c.as_str.result.now (omega arith) c.text-item.is c.as_str.ensures.value in
+    let next = items_next string_bytes c.args.texts.now c.loop-text.text-index c.text-item.result c.as_str.result.now (omega arith) c.text-item.is c.as_str.ensures.value in
     record {
       out_works = c.in-Ok.ensures.out_failed;
       err_works = c.in-Ok.ensures.err_failed;
@@ -36,31 +36,31 @@ loop-text-preserved g c =
 
 pub returns-in-Err-clause-out : goal.returns-in-Err-clause-out
 returns-in-Err-clause-out g c =
-    let next = items_next string_bytes c.args.context.request.now.texts.items c.loop-text.text-index c.text-item.result c.as_str.result.now (omega arith) (rw c.deref-text-items.ensures.value at c.text-item.is) c.as_str.ensures.value in
+    let next = items_next string_bytes c.args.texts.now c.loop-text.text-index c.text-item.result c.as_str.result.now (omega arith) c.text-item.is c.as_str.ensures.value in
     out_stops _ _ _ _ _ _ _ _ _ next c.loop-text.invariant.out c.in-Err.ensures.out
 
 pub returns-in-Err-clause-err : goal.returns-in-Err-clause-err
 returns-in-Err-clause-err g c =
-    let next = items_next string_bytes c.args.context.request.now.texts.items c.loop-text.text-index c.text-item.result c.as_str.result.now (omega arith) (rw c.deref-text-items.ensures.value at c.text-item.is) c.as_str.ensures.value in
+    let next = items_next string_bytes c.args.texts.now c.loop-text.text-index c.text-item.result c.as_str.result.now (omega arith) c.text-item.is c.as_str.ensures.value in
     err_stops _ _ _ _ _ _ _ _ next c.loop-text.invariant.err c.in-Err.ensures.err
 
 pub returns-in-Err-clause-cut : goal.returns-in-Err-clause-cut
 returns-in-Err-clause-cut g c = λ refused.
     let same = c.in-Err.ensures.unwritten refused in
-    answered_before string_bytes c.args.context.request.now.texts.items c.loop-text.text-index _ _ _ _ _ _ _ (omega arith)
+    answered_before string_bytes c.args.texts.now c.loop-text.text-index _ _ _ _ _ _ _ (omega arith)
     c.loop-text.invariant.out_done c.loop-text.invariant.err_done same.0 same.1
 
 pub returns-clause-status : goal.returns-clause-status
 returns-clause-status g c =
-    let end = items_end string_bytes c.args.context.request.now.texts.items c.loop-text.text-index (omega arith) in
+    let end = items_end string_bytes c.args.texts.now c.loop-text.text-index (omega arith) in
     sym (status_left-none _ _) ∙ ap (status_left _ _) (sym end) ∙ c.loop-text.invariant.status
 
 pub returns-clause-out : goal.returns-clause-out
 returns-clause-out g c =
-    let end = items_end string_bytes c.args.context.request.now.texts.items c.loop-text.text-index (omega arith) in
+    let end = items_end string_bytes c.args.texts.now c.loop-text.text-index (omega arith) in
     done _ _ _ (respell _ _ _ _ _ c.loop-text.invariant.out (ap (reports_left _ _) end ∙ reports_left-none _ _))
 
 pub returns-clause-err : goal.returns-clause-err
 returns-clause-err g c =
-    let end = items_end string_bytes c.args.context.request.now.texts.items c.loop-text.text-index (omega arith) in
+    let end = items_end string_bytes c.args.texts.now c.loop-text.text-index (omega arith) in
     done _ _ _ (respell _ _ _ _ _ c.loop-text.invariant.err (ap (error_lines _) end ∙ refusals-none _))

@@ -5,17 +5,17 @@ use Rattle.std.specs.String.{string_bytes}
 use Rattle.std.specs.Io.KnownBytes.{Appends}
 use Rattle.cal_bytes.specs.Bytes.{Leaves}
 use Rattle.cal_report.specs.Answer.{reports_text, error_lines, texts_status}
-use Rattle.cal_report.specs.Report.{answer_to}
+use Rattle.cal_report.specs.Report.{answer_by}
 use Rattle.cal_report.specs.Context.{asked_by}
 use Rattle.cal_report.proofs.AnswerLemmas.{GoesOn, reports_left, status_left}
 use Rattle.cal_report.proofs.report.answer_all.Given as goal
 
 abbrev pub invariant-loop-text : goal.invariant-loop-text
 invariant-loop-text g l =
-    let answer = answer_to (asked_by l.context) l.context.base.secs in
-    let all = map string_bytes l.context.request.now.texts.items in
-    let done = map string_bytes (take l.text-index l.context.request.now.texts.items) in
-    let rest = map string_bytes (drop l.text-index l.context.request.now.texts.items) in
+    let answer = answer_by l.verb (asked_by l.context) l.context.base.secs in
+    let all = map string_bytes l.texts in
+    let done = map string_bytes (take l.text-index l.texts) in
+    let rest = map string_bytes (drop l.text-index l.texts) in
     record {
       out_works : g.O.Sink.is_failed l.out ≡ false;
       err_works : g.E.Sink.is_failed l.err ≡ false;

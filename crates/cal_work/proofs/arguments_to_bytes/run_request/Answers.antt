@@ -1,21 +1,18 @@
-use Rattle.std.proofs.Common.{◌≡◌, true, false, refl, rules}
-use Rattle.cal_request.specs.Request.{is_timer}
 use Rattle.cal_work.proofs.WorkLemmas.{file_stops, texts_run, timer_runs}
 use Rattle.cal_work.proofs.arguments_to_bytes.run_request.Goals as goal
 
+pub returns-in-Texts-clause-runs : goal.returns-in-Texts-clause-runs
+returns-in-Texts-clause-runs g c =
+    let kind = rw c.in-Texts.is at c.kind.ensures in
+    rw c.after_run.ensures (texts_run _ _ _ _ _ _ _ _ _ kind c.run_texts.ensures.status c.run_texts.ensures.out c.run_texts.ensures.err)
+
 pub returns-in-Err-clause-runs : goal.returns-in-Err-clause-runs
 returns-in-Err-clause-runs g c =
-    let timer : is_timer c.args.request.now.verb ≡ true = rw c.in-Timer.is refl in
-    let refused = rw c.file_name.ensures at c.in-Err.ensures.refused in
-    file_stops _ _ _ _ _ timer refused.1 refused.0
+    let kind = rw c.in-Timer.is at c.kind.ensures in
+    file_stops _ _ _ _ _ _ kind c.in-Err.ensures.refused.1 c.in-Err.ensures.refused.0
 
 pub returns-in-Ok-clause-runs : goal.returns-in-Ok-clause-runs
 returns-in-Ok-clause-runs g c =
-    let timer : is_timer c.args.request.now.verb ≡ true = rw c.in-Timer.is refl in
-    let file = rw c.file_name.ensures at c.in-Ok.ensures in
-    rw c.after_run.ensures (timer_runs _ _ _ _ _ _ _ _ _ _ _ timer file.opened file.sure c.run.ensures.sure c.run.ensures.reported)
-
-pub returns-in_default-clause-runs : goal.returns-in_default-clause-runs
-returns-in_default-clause-runs g c =
-    let plain : is_timer c.args.request.now.verb ≡ false = search rules in
-    rw c.after_run-in_default.ensures (texts_run _ _ _ _ _ _ _ _ _ _ plain c.run-in_default.ensures.reported)
+    let kind = rw c.in-Timer.is at c.kind.ensures in
+    let ran = c.run_timer.ensures.reported in
+    rw c.after_run-in-Ok.ensures (timer_runs _ _ _ _ _ _ _ _ _ _ _ _ ran.0 kind c.in-Ok.ensures.opened c.in-Ok.ensures.sure c.run_timer.ensures.sure ran.2 ran.1 ran.3)
