@@ -64,8 +64,8 @@ impl<T: Drop> From<AllocFailed<T>> for TreeFault {
 /// nothing. This is so for a real machine. An implementation for a machine that exists only in memory can define
 /// `shows`.
 ///
-/// Through `may_fail`, the contracts restrict errors: at a path at which it doesn't hold, a method fails only if
-/// allocation fails. By default, `may_fail` always holds.
+/// Through `may_fail`, the contracts limit errors: a method fails with another error than [`TreeFault::NoMemory`] only
+/// if `may_fail` is true of the path or the name that it is given. By default, as for a real machine, it always is.
 pub trait Tree {
     /// An open file.
     type File: Source + Drop;

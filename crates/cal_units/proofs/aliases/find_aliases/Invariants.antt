@@ -5,8 +5,8 @@ use Rattle.cal_units.specs.Faults.{IsListedFault}
 use Rattle.cal_units.specs.Machine.{Machine}
 use Rattle.cal_units.proofs.aliases.find_aliases.Given as goal
 
--- if there is no error so far, the aliases found are those in the folders before the loop's index; all errors are
--- errors of looking for aliases
+-- if there is no error so far, the aliases found are those in the folders before the loop's index; each error so far is
+-- one of looking for aliases
 abbrev pub invariant-loop-folder : goal.invariant-loop-folder
 invariant-loop-folder g l =
     ((machine : Machine) → g.T.Tree.shows l.tree machine → l.found.faults.items ≡ []
