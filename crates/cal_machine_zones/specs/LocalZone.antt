@@ -165,7 +165,7 @@ unread_fault origin trees.ReadFailed = faults.Unread origin
 unread_fault origin trees.NotUtf8 = faults.Unread origin
 unread_fault origin trees.NoMemory = faults.NoMemory
 
--- the error is that an origin doesn't say which zone is the local zone, or that memory ran out
+-- whether the error is that this origin doesn't say which zone is the local zone, or that memory ran out
 abbrev pub IsUnclearFault : LocalZone → ZonesFault → Type 0
 IsUnclearFault zone (faults.Unclear origin) = zone ≡ UnclearIn origin
 IsUnclearFault zone (faults.Unread origin) = ⊥
@@ -175,22 +175,21 @@ IsUnclearFault zone faults.NoMemory = ⊤
 abbrev pub variable_name : List ℕ
 variable_name = codes "TZ"
 
--- the variable or the link can only be unreadable if reading it may fail
+-- whether the origin can be unreadable: the variable or the link, if reading it may fail
 abbrev pub IsUnreadable : (List ℕ → Type 0) → Origin → Type 0
 IsUnreadable MayFail origins.Argument = ⊥
 IsUnreadable MayFail origins.Variable = MayFail variable_name
 IsUnreadable MayFail origins.Link = MayFail localtime
 
--- Finding the local zone without an option can end with this error. On a known machine, `IsMissedBy` says when an
--- origin is unclear.
+-- whether finding the local zone without an option can end with this error; `IsMissedBy` says when an origin is unclear
 abbrev pub IsMachineFault : (List ℕ → Type 0) → ZonesFault → Type 0
 IsMachineFault MayFail (faults.Unclear origin) = ⊤
 IsMachineFault MayFail (faults.Unread origin) = IsUnreadable MayFail origin
 IsMachineFault MayFail (faults.At path reason) = ⊥
 IsMachineFault MayFail faults.NoMemory = ⊤
 
--- Finding the local zone can end with this error, given the option's value. `MayFail` says at which paths, and for
--- which variables, reading may fail.
+-- Whether finding the local zone can end with this error, given the option's value. `MayFail` is true of the paths and
+-- the variables that may be unreadable.
 abbrev pub IsLocalFault : (List ℕ → Type 0) → Option (List ℕ) → ZonesFault → Type 0
 IsLocalFault MayFail None fault = IsMachineFault MayFail fault
 IsLocalFault MayFail (Some text) fault = IsUnclearFault (argument_zone text) fault

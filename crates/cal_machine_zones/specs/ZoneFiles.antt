@@ -60,13 +60,13 @@ pub record IsFirstError (machine : Machine) (names : List (List ℕ)) (fault : Z
   pub earlier : (other : List ℕ) → list_any (bytes_eq other) (take place names) ≡ true → is_utc_name other ≡ false
       → (zone : TimeZone) × IsZoneOn machine other zone
 
--- the machine's zone file for this name is rejected with this error
+-- whether the machine has a zone file for this name that is rejected with this error
 abbrev pub IsRejected : (Machine → Type 0) → List ℕ → ZoneFault → Type 0
 IsRejected Shows name fault =
     (machine : Machine) → Shows machine → MatchOption (machine.file (zone_path name)) ⊥ (λ bytes. IsFileFault name bytes fault)
 
--- The zone of this name can't be loaded because of this error of `load_zone`. If memory runs out, the error is another
--- one, and a name that the table already has is not loaded again.
+-- Whether the zone of this name can't be loaded because of this error of `load_zone`. If memory runs out, another error
+-- is reported, and a zone that the table already has is not loaded again.
 abbrev pub IsNotLoaded : (Machine → Type 0) → List ℕ → ZoneFault → Type 0
 IsNotLoaded Shows name zones.BadName = is_zone_name name ≡ false
 IsNotLoaded Shows name zones.BadRule = ⊥
@@ -75,14 +75,15 @@ IsNotLoaded Shows name zones.TooLarge = IsRejected Shows name zones.TooLarge
 IsNotLoaded Shows name zones.NoMemory = ⊥
 IsNotLoaded Shows name zones.NameTaken = ⊥
 
--- the zone file for this name can't be used for this reason; `MayFail` says at which paths reading may fail
+-- whether the zone file for this name can be unusable for this reason; `MayFail` is true of the paths at which reading
+-- may fail
 abbrev pub IsUnusable : (List ℕ → Type 0) → (Machine → Type 0) → List ℕ → FileReason → Type 0
 IsUnusable MayFail Shows name reasons.NotFound =
     (machine : Machine) → Shows machine → machine.file (zone_path name) ≡ None
 IsUnusable MayFail Shows name (reasons.Load loads.ReadFailed) = MayFail (zone_path name)
 IsUnusable MayFail Shows name (reasons.Load (loads.Zone fault)) = IsNotLoaded Shows name fault
 
--- loading the zone of this name can end with this error
+-- whether loading the zone of this name can end with this error
 abbrev pub IsNameFault : (List ℕ → Type 0) → (Machine → Type 0) → List ℕ → ZonesFault → Type 0
 IsNameFault MayFail Shows name (faults.Unclear origin) = ⊥
 IsNameFault MayFail Shows name (faults.Unread origin) = ⊥
@@ -90,6 +91,6 @@ IsNameFault MayFail Shows name (faults.At path reason) =
     (string_bytes path ≡ zone_path name) × IsUnusable MayFail Shows name reason
 IsNameFault MayFail Shows name faults.NoMemory = ⊤
 
--- loading the zones of these names can end with this error
+-- whether loading the zones of these names can end with this error
 abbrev pub IsNamesFault : (List ℕ → Type 0) → (Machine → Type 0) → List (List ℕ) → ZonesFault → Type 0
 IsNamesFault MayFail Shows names fault = (name : List ℕ) × Contains names name × IsNameFault MayFail Shows name fault
