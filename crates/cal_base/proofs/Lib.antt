@@ -10,7 +10,7 @@ pub use Rattle.cal_span.proofs.SpanNumbers
 pub use Rattle.cal_span.proofs.SpanPairRule
 pub use Rattle.cal_span.proofs.SpanPairs
 pub use Rattle.cal_span.proofs.SpanReadBack
-pub use Rattle.cal_span.proofs.SpanRule
+pub use Rattle.cal_span.proofs.SpanRuleLemmas
 pub use Rattle.cal_span.proofs.SpanRuns
 pub use Rattle.cal_span.proofs.SpanWords
 pub use Rattle.cal_span.proofs.WorkedRows

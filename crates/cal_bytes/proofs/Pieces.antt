@@ -7,8 +7,11 @@ use Rattle.std.proofs.lemmas.List.{append-nil, take-append-drop}
 use Rattle.std.specs.Prelude.{IsErr}
 use Rattle.std.proofs.lemmas.Bool.{false≢true}
 use Rattle.std.specs.Io.KnownBytes.{Appends}
-use Rattle.cal_bytes.specs.Bytes.{AppendsFront, Writes, Leaves}
-use Rattle.cal_text.proofs.General.{appends_respelled}
+use Rattle.cal_bytes.specs.Writes.{AppendsFront, Writes, Leaves}
+
+-- if a call appended `xs`, and `ys` is equal to `xs`, it appended `ys`
+appends_respelled : (a b : Option (List ℕ)) (xs ys : List ℕ) → xs ≡ ys → Appends a b xs → Appends a b ys
+appends_respelled a b xs ys e h = subst (Appends a b) e h
 
 -- before the first piece, all of the text is still to be written
 pub start : (a : Option (List ℕ)) (text : List ℕ) → Leaves a a text text

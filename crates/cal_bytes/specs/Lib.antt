@@ -1,5 +1,5 @@
-pub mod Bytes
 pub mod Fill
 pub mod Puts
 pub mod SplitPieces
+pub mod Writes
 pub mod headline

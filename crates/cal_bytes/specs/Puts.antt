@@ -1,6 +1,6 @@
 -- What a call that writes a text does to the sink, and what it returns.
 use Rattle.std.specs.Prelude.{◌≡◌, ℕ, List, Result, is_err}
-use Rattle.cal_bytes.specs.Bytes.{Writes}
+use Rattle.cal_bytes.specs.Writes.{Writes}
 use Rattle.cal_bytes.specs.declared.bytes.Sink.{Ghosts}
 
 -- The call returns an error if and only if the sink has failed. It has written all of the text if it succeeded, and a

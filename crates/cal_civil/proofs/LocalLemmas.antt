@@ -3,7 +3,7 @@
 use Rattle.std.proofs.Common.{◌≡◌, ◌<◌, arith, nat_lt, negsuc, pos, unsigned_abs, ℕ, ℤ}
 use Rattle.std.proofs.lemmas.Int.{ints, to_z-of_z}
 use Rattle.jiff_core.proofs.SignedLemmas.{signed_arith}
-use Rattle.cal_civil.specs.Local.{IsLocalSecond}
+use Rattle.cal_civil.specs.LocalSecond.{IsLocalSecond}
 use Rattle.cal_civil.specs.headline.Local.{seconds_in_all, seconds_in_all-is}
 
 pub local_inside : (local : ℤ) → IsLocalSecond local → unsigned_abs local < seconds_in_all

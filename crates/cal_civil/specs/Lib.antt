@@ -1,3 +1,3 @@
-pub mod Local
-pub mod OffsetWord
+pub mod LocalSecond
+pub mod ReadOffset
 pub mod headline

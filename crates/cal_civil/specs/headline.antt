@@ -1,6 +1,5 @@
 -- The definitions of this crate that the law `headline` of cal_report depends on. A law is a statement that is proved
 -- for all arguments.
-pub mod DayAfter
 pub mod Days
 pub mod Local
 pub mod OffsetText

@@ -1,7 +1,7 @@
 -- Lemmas about the parsing of option values: numbers, the present, and the items of `--zones`.
-use Rattle.std.proofs.Common.{◌≡◌, ◌≢◌, ℕ, ◌<◌, ◌≤◌, ◌^◌, List, [], ◌∷◌, length, Option, None, Some, Result, Ok, Err, true, false, cond, nat_le, ◌==◌, ◌&&◌, get_or, refl, ap, ap₂, sym, ◌∙◌, ◌+◌, lit<, Bor, ◌++◌, map, append-nil, append_assoc, arith, option_map, pos, ℤ, IsSome, IfSome, ◌↔◌}
+use Rattle.std.proofs.Common.{◌≡◌, ◌≢◌, ℕ, ◌<◌, ◌≤◌, ◌^◌, List, [], ◌∷◌, length, Option, None, Some, Result, Ok, Err, true, false, cond, nat_le, ◌==◌, ◌&&◌, get_or, refl, ap, ap₂, sym, ◌∙◌, ◌+◌, lit<, Bor, ◌++◌, map, append-nil, append_assoc, arith, option_map, pos, ℤ, IsSome, IfSome, ◌↔◌, Bool}
 use Rattle.std.specs.Prelude.{not}
-use Rattle.std.specs.List.{slice_split}
+use Rattle.std.specs.List.{slice_split, list_any, position_or_len}
 use Rattle.std.specs.Str.{all_ascii_digits}
 use Rattle.std.proofs.lemmas.List.Splits.{slice_split_first, slice_split_none}
 use Rattle.std.proofs.lemmas.List.Sums.{prefix_len_passes}
@@ -17,7 +17,14 @@ use Rattle.cal_command.specs.OptionValues.{number_between, present_in, parts_at,
 use Rattle.cal_command.specs.Ask.{ZoneItem, shown_item}
 use Rattle.cal_command.specs.declared.ask.ZoneItem as declared_item
 use Rattle.std.proofs.lemmas.List.{map-append}
-use Rattle.cal_text.proofs.General.{any_below, none_above}
+
+any_below : (p : ℕ → Bool) (xs : List ℕ) → position_or_len p xs < length xs → list_any p xs ≡ true
+any_below p [] within = absurd (omega arith)
+any_below p (x ∷ xs) within = grind (arith, any_below p xs)
+
+none_above : (p : ℕ → Bool) (xs : List ℕ) → length xs ≤ position_or_len p xs → list_any p xs ≡ false
+none_above p [] past = refl
+none_above p (x ∷ xs) past = grind (arith, none_above p xs)
 
 own : IsNumeralModel (λ ds. all_ascii_digits ds ≡ true) (digits_value 10)
 own = numerals_by_value _ tells_all_ascii_digits

@@ -5,10 +5,10 @@ use Rattle.std.specs.List.{after_first, before_first, list_any, slice_split, sta
 use Rattle.std.specs.Str.{all_ascii_digits, str_eq_ignore_ascii_case}
 use Rattle.std.specs.Str.Parse.{digits_value}
 use Rattle.cal_zone.specs.Instant.{last_instant}
-use Rattle.cal_civil.specs.OffsetWord.{offset_in}
+use Rattle.cal_civil.specs.ReadOffset.{offset_in}
 use Rattle.cal_civil.specs.headline.ZoneName.{is_zone_name}
 use Rattle.cal_command.specs.Ask.{LocalZone, in_utc, ahead, by_rule, of_name, ZoneItem}
-use Rattle.cal_request.specs.Request.{max_iterations}
+use Rattle.cal_request.specs.VerbOptions.{max_iterations}
 use Rattle.cal_text.specs.headline.Separators.{is_equals, is_comma}
 
 -- the number that a text of digits stands for, if it is from `least` to `most`

@@ -4,7 +4,7 @@ use Rattle.std.specs.Str.{bytes_eq}
 use Rattle.clap.specs.Words.{Row, Text, all_of, first_of, found_of, rows_of}
 use Rattle.cal_command.specs.Ask.{texts_of}
 use Rattle.cal_command.specs.declared.verb_matches.VerbMatches as declared_matches
-use Rattle.cal_request.specs.Request.{has_zones, is_timer, seeks_elapses}
+use Rattle.cal_request.specs.VerbOptions.{has_zones, is_timer, seeks_elapses}
 use Rattle.cal_request.specs.declared.request.Verb.{Verb}
 use Rattle.cal_request.specs.declared.request.Verb.TheVariants.{Calendar, Timer, Timestamp, Timespan}
 

@@ -2,9 +2,8 @@
 
 ghost use Rattle.std.specs.Prelude.{◌≡◌, ◌≢◌, IfOk, MatchResult};
 ghost use Rattle.cal_zone.specs.Setting.{setting_seen};
-ghost use Rattle.cal_plan.specs.PlanFault.{IsUnzoned};
+ghost use Rattle.cal_plan.specs.ZoneFor.{IsUnzoned, unzoned};
 ghost use Rattle.cal_plan.specs.TimerElapses.{IsMergeOf, elapses_of_lists};
-ghost use Rattle.cal_plan.specs.ZoneFor.{unzoned};
 ghost use Rattle.cal_plan.specs.declared.plan_fault.PlanFault.TheVariants.{NoMemory as PlanNoMemory};
 ghost use Rattle.cal_compare.specs.Difference.{IsDifference, IsUnzonedInEither, first_only_in};
 ghost use Rattle.cal_compare.specs.declared.compare_fault.CompareFault.TheVariants.{NoMemory as CompareNoMemory};

@@ -1,14 +1,78 @@
 -- Which bits of a word are set, also after shifts, after the bitwise operations, and after its lowest set bit is
 -- removed.
-use Rattle.std.proofs.Common.{◌≡◌, ◌==◌, ℕ, ◌+◌, ◌&&◌, ◌||◌, bit_and, bit_or, ◌*◌, ◌-◌, ◌/◌, ◌%◌, ◌^◌, ◌<◌, ◌≤◌, true, false, Some, w64, ap, pow_pos, subst, inl, inr, sym, ◌∙◌, arith, nat_le, nat_lt, ◌≢◌}
+use Rattle.std.proofs.Common.{◌≡◌, ◌==◌, ℕ, ◌+◌, ◌&&◌, ◌||◌, bit_and, bit_or, ◌*◌, ◌-◌, ◌/◌, ◌%◌, ◌^◌, ◌<◌, ◌≤◌, true, false, Some, w64, ap, pow_pos, subst, inl, inr, sym, ◌∙◌, arith, nat_le, nat_lt, ◌≢◌, min, max, suc}
 use Rattle.std.specs.Int.{bit_at, trailing_zeros}
 use Rattle.std.proofs.lemmas.Bool.{cases_lt, le-ltb, lt-ltb}
 use Rattle.std.proofs.lemmas.Bool.Decides.{nat_tests}
-use Rattle.std.proofs.lemmas.Nat.{shr_le}
-use Rattle.std.proofs.lemmas.Nat.Bits.{bit_at-lt, bit_at-trailing_zeros, bit_at-zero, bit_at_above, bit_at_and, bit_at_cat_high, bit_at_cat_low, bit_at_or, bit_at_mask_above, bit_at_mask_below, bit_at_mask_inside, bit_at_ones, bit_at_ones_above, ones_shl, ones_shr}
+use Rattle.std.proofs.lemmas.Nat.{shr_le, shr-shr}
+use Rattle.std.proofs.lemmas.Nat.Bits.{bit_at-lt, bit_at-trailing_zeros, bit_at-zero, bit_at_above, bit_at_and, bit_at_cat_high, bit_at_cat_low, bit_at_or, bit_at_mask_above, bit_at_mask_below, bit_at_mask_inside, bit_at_ones, bit_at_ones_above, ones_shl, ones_shr, bit_at-pow_other, bit_at-pow_same, same_from_bits_below}
 use Rattle.cal_elapse.specs.Bits.{is_bit}
 use Rattle.cal_elapse.specs.Search.{IsFirstPassing, NonePasses}
-use Rattle.cal_text.proofs.General.{IsLowestBit, bit_at-mod, bit_at-shift, bit_at-small, high_bits_same, less_split, max_of_bits, min_none, min_none_right, min_of_bits, min_same}
+use Rattle.cal_text.proofs.General.{IsLowestBit}
+use Rattle.std.proofs.Math.Nat.{pow-suc, div-add-mod', mod-lt}
+
+-- bit k of m / 2 ^ j, that is, of m shifted right by j bits, is bit j + k of m
+bit_at-shift : (m j k : ℕ) → bit_at (m / 2 ^ j) k ≡ bit_at m (j + k)
+bit_at-shift m j k = ap (λ (x : ℕ). x % 2) (shr-shr m j k)
+
+bit_at-small : (m i : ℕ) → m < 2 ^ 64 → bit_at m i ≡ 1 → i < 64
+bit_at-small m i fits one = grind (arith, bit_at_above m 64 i fits)
+
+min_of_bits : (x y : ℕ) → x < 2 → y < 2 → (min x y == 1) ≡ ((x == 1) && (y == 1))
+min_of_bits x y p q = grind (arith, nat_tests)
+
+max_of_bits : (x y : ℕ) → x < 2 → y < 2 → (max x y == 1) ≡ ((x == 1) || (y == 1))
+max_of_bits x y p q = grind (arith, nat_tests)
+
+bit_at-mod : (m i : ℕ) → i < 64 → bit_at (m % 2 ^ 64) i ≡ bit_at m i
+bit_at-mod m i low =
+    let whole : m / 2 ^ 64 * 2 ^ 64 + m % 2 ^ 64 ≡ m = omega arith in
+    sym (bit_at_cat_low (m / 2 ^ 64) 64 (m % 2 ^ 64) i low) ∙ ap (λ (x : ℕ). bit_at x i) whole
+
+pow_next : (k : ℕ) → 2 ^ (k + 1) ≡ 2 ^ k + 2 ^ k
+pow_next k = let next : k + 1 ≡ suc k = omega arith in rw (next, pow-suc 2 k) (omega arith)
+
+less_one : (x y m : ℕ) → m ≡ x + y → 0 < y → m - 1 ≡ x + (y - 1)
+less_one x y m whole some = omega arith
+
+-- if bit k is the lowest bit of m that is set, m modulo 2 ^ (k + 1) is 2 ^ k
+lowest_mod : (m k : ℕ) → IsLowestBit m k → m % 2 ^ (k + 1) ≡ 2 ^ k
+lowest_mod m k h =
+    let next = pow_next k in
+    let some = pow_pos k in
+    let part : (i : ℕ) → i < k + 1 → bit_at (m % 2 ^ (k + 1)) i ≡ bit_at m i
+    = λ i low. sym (bit_at_cat_low (m / 2 ^ (k + 1)) (k + 1) (m % 2 ^ (k + 1)) i low) ∙ ap (λ (x : ℕ). bit_at x i) (div-add-mod' m (2 ^ (k + 1))) in
+    same_from_bits_below (k + 1) (m % 2 ^ (k + 1)) (2 ^ k) (mod-lt m (omega arith)) (omega arith)
+    (λ i low.
+    elim (cases_lt i k) [
+      | inl early ↦ part i low ∙ (h.none i early ∙ sym (bit_at-pow_other k i (λ e. omega arith)))
+      | inr late ↦ (let same : i ≡ k = omega arith in part i low ∙ (ap (bit_at m) same ∙ (h.one ∙ (sym (bit_at-pow_same k) ∙ ap (bit_at (2 ^ k)) (sym same)))))
+    ])
+
+lowest_split : (m k : ℕ) → IsLowestBit m k → m ≡ m / 2 ^ (k + 1) * 2 ^ (k + 1) + 2 ^ k
+lowest_split m k h = sym (div-add-mod' m (2 ^ (k + 1))) ∙ ap (λ (r : ℕ). m / 2 ^ (k + 1) * 2 ^ (k + 1) + r) (lowest_mod m k h)
+
+less_split : (m k : ℕ) → IsLowestBit m k → m - 1 ≡ m / 2 ^ (k + 1) * 2 ^ (k + 1) + (2 ^ k - 1)
+less_split m k h = less_one (m / 2 ^ (k + 1) * 2 ^ (k + 1)) (2 ^ k) m (lowest_split m k h) (pow_pos k)
+
+min_same : (x y : ℕ) → x ≡ y → min x y ≡ x
+min_same x y e = omega arith
+
+min_none : (x y : ℕ) → x ≡ 0 → min x y ≡ 0
+min_none x y e = omega arith
+
+min_none_right : (x y : ℕ) → y ≡ 0 → min x y ≡ 0
+min_none_right x y e = omega arith
+
+-- subtracting 1 from m changes no bit above the lowest bit of m that is set
+high_bits_same : (m k i : ℕ) → IsLowestBit m k → k < i → bit_at m i ≡ bit_at (m - 1) i
+high_bits_same m k i h high =
+    let next = pow_next k in
+    let some = pow_pos k in
+    let a : ℕ = m / 2 ^ (k + 1) in
+    ap (λ (x : ℕ). bit_at x i) (lowest_split m k h)
+    ∙ (bit_at_cat_high a (k + 1) (2 ^ k) i (omega arith) (omega arith)
+    ∙ (sym (bit_at_cat_high a (k + 1) (2 ^ k - 1) i (omega arith) (omega arith)) ∙ ap (λ (x : ℕ). bit_at x i) (sym (less_split m k h))))
 
 pub is_bit-same : (m n i j : ℕ) → bit_at m i ≡ bit_at n j → is_bit m i ≡ is_bit n j
 unfolding is_bit

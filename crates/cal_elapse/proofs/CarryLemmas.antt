@@ -5,7 +5,12 @@ use Rattle.std.proofs.Common.{◌≡◌, ℕ, ◌+◌, ◌*◌, ◌/◌, ◌%◌
 use Rattle.std.proofs.lemmas.Bool.{cases_lt, and_from, and_left, and_right}
 use Rattle.std.proofs.lemmas.Nat.{div-add-mod', div_below, le-div, mod_below}
 use Rattle.cal_elapse.specs.Search.{IsFirstPassing, NonePasses}
-use Rattle.cal_text.proofs.General.{quotient_part, remainder_part}
+
+quotient_part : (size a t : ℕ) → 0 < size → a * size ≤ t → t < (a + 1) * size → t / size ≡ a
+quotient_part size a t positive low high = omega (arith, le-div a t size positive low, div_below t size (a + 1) positive high)
+
+remainder_part : (size a l t : ℕ) → t / size ≡ a → a * size + l ≤ t → l ≤ t % size
+remainder_part size a l t same low = omega (arith, (rw same at (div-add-mod' t size)))
 
 -- if no number from `from` up to but not including `mid` passes, a search that starts at `from` has the same result as
 -- a search that starts at `mid`

@@ -12,9 +12,8 @@ use Rattle.cal_rising.specs.headline.Elements.{Has}
 use Rattle.cal_text.proofs.General.{list-no_first, both_follow}
 use Rattle.cal_rising.proofs.WithoutLemmas.{Has-is_member, is_member-Has}
 use Rattle.cal_elapse.specs.Covered.{AreAmong, AreKept, IsCovered}
-use Rattle.cal_elapse.specs.Elapses.{elapses_after, elapses_except}
-use Rattle.cal_elapse.specs.headline.Elapses.{IsElapse, IsPlace, Timed}
-use Rattle.cal_elapse.specs.headline.Timed.{timed}
+use Rattle.cal_elapse.specs.ElapsesAfter.{elapses_after, elapses_except}
+use Rattle.cal_elapse.specs.headline.Elapses.{IsElapse, IsPlace, Timed, timed}
 use Rattle.cal_elapse.proofs.ElapsesLemmas.{AreAbove-elapses_after, AreElapses-elapses_except, AreElapses-only, first-none}
 
 -- if `others` has every value that `sets` has (`AreAmong`), a local second that matches `sets` also matches `others`

@@ -8,9 +8,8 @@ use Rattle.std.proofs.lemmas.Map.Keys.{sorted_tail}
 use Rattle.std.specs.Ordering.{int_cmp}
 use Rattle.std.specs.List.Sorted.{IsStrictlySortedBy}
 use Rattle.cal_civil.specs.headline.Local.{seconds_in_all}
-use Rattle.cal_elapse.specs.Elapses.{places, elapses_after, elapses_except}
+use Rattle.cal_elapse.specs.ElapsesAfter.{places, elapses_after, elapses_except, each_after}
 use Rattle.cal_elapse.specs.headline.Elapses.{Timed, IsPlace, IsElapse, AreAbove, AreElapses}
-use Rattle.cal_elapse.specs.Merged.{each_after}
 use Rattle.cal_rising.specs.Rises.{rises-without}
 use Rattle.cal_rising.specs.RisingList.{HasAny, union, without}
 use Rattle.cal_rising.specs.headline.Elements.{Has}

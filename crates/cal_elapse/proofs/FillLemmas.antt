@@ -1,5 +1,5 @@
 -- Setting several cells of the ring at once, and which instants the ring contains after that.
-use Rattle.std.proofs.Common.{◌≡◌, ◌≢◌, ◌⊎◌, ◌↔◌, ◌<ℤ◌, ◌+ℤ◌, ◌≤ℤ◌, ℕ, ℤ, ◌+◌, ◌-◌, ◌*◌, ◌/◌, ◌%◌, ◌^◌, ◌<◌, ◌≤◌, ◌||◌, Bool, true, List, Option, None, Some, bit_or, length, get_or, set, pos, IsSomeAnd, inl, inr, refl, sym, ap, ◌∙◌, subst, arith, get_or-set_same, get_or-set_other, slice_get}
+use Rattle.std.proofs.Common.{◌≡◌, ◌≢◌, ◌⊎◌, ◌↔◌, ◌<ℤ◌, ◌+ℤ◌, ◌≤ℤ◌, ℕ, ℤ, ◌+◌, ◌-◌, ◌*◌, ◌/◌, ◌%◌, ◌^◌, ◌<◌, ◌≤◌, ◌||◌, Bool, true, List, Option, None, Some, bit_or, length, get_or, set, pos, IsSomeAnd, inl, inr, refl, sym, ap, ◌∙◌, subst, arith, get_or-set_same, get_or-set_other, slice_get, false}
 use Rattle.std.proofs.Math.ListN.{length-set}
 use Rattle.std.proofs.lemmas.Bool.{cases_eq, cases_lt, or_cases, or_left, or_right}
 use Rattle.std.proofs.lemmas.Int.{ints}
@@ -11,7 +11,10 @@ use Rattle.cal_elapse.specs.Search.{IsFirstPassing}
 use Rattle.cal_elapse.proofs.BitLemmas.{is_bit-above, is_bit-or, is_bit-shifted, is_bit-up, is_bit-up_none}
 use Rattle.cal_elapse.proofs.CellLemmas.{in_word}
 use Rattle.cal_elapse.proofs.RingLemmas.{Has-instants, IsIn, first_found, found_kept, kept_some, member, none_found, none_kept, same_second}
-use Rattle.cal_text.proofs.General.{below_end, lt_from_pos, or_false}
+use Rattle.cal_text.proofs.General.{below_end, lt_from_pos}
+
+or_false : (a b : Bool) → b ≡ false → a ≡ (a || b)
+or_false a b h = grind arith
 
 -- Which cells are set after `set_cells`
 

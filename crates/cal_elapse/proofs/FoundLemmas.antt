@@ -1,7 +1,7 @@
 -- The result of a search, as a natural number and as an integer.
 use Rattle.std.proofs.Common.{◌≡◌, ◌≤ℤ◌, arith, true, Bool, IfSome, None, Option, Some, negsuc, option_map, pos, unsigned_abs, ℕ, ℤ}
 use Rattle.std.proofs.lemmas.Int.{ints}
-use Rattle.cal_civil.specs.Local.{IsLocalSecond}
+use Rattle.cal_civil.specs.LocalSecond.{IsLocalSecond}
 use Rattle.cal_civil.specs.headline.Local.{seconds_in_all, seconds_in_all-is}
 use Rattle.cal_elapse.specs.Search.{IsFirstLocal, IsFirstPassing}
 

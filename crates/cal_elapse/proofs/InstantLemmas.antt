@@ -7,11 +7,9 @@ use Rattle.cal_zone.specs.Instant.{IsInstant}
 use Rattle.cal_civil.specs.headline.Local.{seconds_in_all-is}
 use Rattle.cal_zone.proofs.PlaceLemmas.{within}
 use Rattle.cal_spec.specs.headline.Fields.{Fields}
-use Rattle.cal_elapse.specs.Elapses.{elapses_except}
-use Rattle.cal_elapse.specs.headline.Elapses.{IsElapse, IsPlace}
+use Rattle.cal_elapse.specs.ElapsesAfter.{elapses_except}
+use Rattle.cal_elapse.specs.headline.Elapses.{IsElapse, IsPlace, timed, Timed}
 use Rattle.cal_rising.specs.headline.Elements.{Has}
-use Rattle.cal_elapse.specs.headline.Timed.{timed}
-use Rattle.cal_elapse.specs.headline.Elapses.{Timed}
 use Rattle.cal_elapse.proofs.ElapsesLemmas.{AreElapses-elapses_except}
 
 place_in : (fields : Fields) (tz : TimeZone) (i : ℤ) → pos 0 ≤ℤ i → IsPlace (timed fields tz) i → IsInstant i

@@ -7,10 +7,10 @@ pub mod CoveredLemmas
 pub mod DayLemmas
 pub mod ElapseSetLemmas
 pub mod ElapsesLemmas
+pub mod ExaminedMonthLemmas
 pub mod FillLemmas
 pub mod FoundLemmas
 pub mod InstantLemmas
-pub mod ExaminedMonthLemmas
 pub mod MasksLemmas
 pub mod MinuteLemmas
 pub mod MonthLemmas

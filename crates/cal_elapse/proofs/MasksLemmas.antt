@@ -10,7 +10,7 @@ use Rattle.cal_elapse.specs.Masks.{day_place}
 use Rattle.cal_elapse.proofs.BitLemmas.{is_bit-none}
 use Rattle.cal_spec.specs.headline.Members.{component_has, in_field, part_has, values}
 use Rattle.cal_spec.specs.headline.Slot.{least, greatest, day_slot}
-use Rattle.cal_spec.specs.ValidComponents.{IsValidComponent}
+use Rattle.cal_spec.specs.ValidFields.{IsValidComponent}
 use Rattle.cal_spec.specs.headline.ValidParts.{EndsAfter, IsValidPart, IsEndWithin, IsStep, IsWithin}
 use Rattle.cal_spec.specs.declared.part.Part.{Part}
 use Rattle.cal_spec.specs.declared.slot.Slot.{Slot}

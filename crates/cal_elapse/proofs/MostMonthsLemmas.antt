@@ -1,6 +1,6 @@
 -- The largest number of months that a single one of several searches examines, and how it changes when more searches
 -- are made.
-use Rattle.std.proofs.Common.{◌≡◌, ◌∙◌, ℕ, ◌+◌, ◌<◌, ◌≤◌, Bool, true, Option, max, unwrap_or, IsSome, ◌-◌, arith, inl, inr, option_map, refl, subst, sym, unsigned_abs, ℤ}
+use Rattle.std.proofs.Common.{◌≡◌, ◌∙◌, ℕ, ◌+◌, ◌<◌, ◌≤◌, Bool, true, Option, max, unwrap_or, IsSome, ◌-◌, arith, inl, inr, option_map, refl, subst, sym, unsigned_abs, ℤ, ◌⊎◌}
 use Rattle.std.proofs.lemmas.Bool.{cases_lt}
 use Rattle.cal_spec.specs.headline.Match.{Sets, matches}
 use Rattle.cal_elapse.specs.Search.{count_from, IsFirstPassing, NonePasses}
@@ -10,7 +10,10 @@ use Rattle.cal_civil.specs.headline.Local.{seconds_in_all}
 use Rattle.cal_elapse.specs.declared.search.Found.{Found}
 use Rattle.cal_elapse.proofs.CountLemmas.{count_from-nothing, count_from-to}
 use Rattle.cal_elapse.proofs.FoundLemmas.{first_passing}
-use Rattle.cal_text.proofs.General.{max_from_zero, max_is}
+use Rattle.cal_text.proofs.General.{max_from_zero}
+
+max_is : (a b : ℕ) → ((max a b ≡ a) × (b ≤ a)) ⊎ ((max a b ≡ b) × (a ≤ b))
+max_is a b = grind arith
 
 -- the number of months in the result of a search is how many months the search examined
 pub search_examined : (sets : Sets) (from : ℕ) (found : Found) → IsSearch sets from found → IsExamined sets from found.months

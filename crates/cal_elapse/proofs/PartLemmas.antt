@@ -6,16 +6,18 @@ use Rattle.std.proofs.lemmas.List.Folds.{list_any_more}
 use Rattle.std.proofs.lemmas.Bool.{cases_lt, le-ltb, lt-ltb}
 use Rattle.std.proofs.lemmas.Bool.Decides.{nat_tests}
 use Rattle.cal_elapse.specs.Masks.{AreSlotValues, last_number, slot_of}
-use Rattle.cal_spec.specs.Expr.{component}
+use Rattle.cal_spec.specs.Expr.{component, members_of}
 use Rattle.cal_spec.specs.headline.Fields.{Fields}
-use Rattle.cal_spec.specs.Members.{members_of}
 use Rattle.cal_spec.specs.headline.Members.{component_has, is_between, part_has, sets_of, values}
 use Rattle.cal_spec.specs.Parts.{is_from_end}
 use Rattle.cal_spec.specs.headline.Slot.{greatest}
 use Rattle.cal_spec.specs.declared.field.Field.{Field}
 use Rattle.cal_spec.specs.declared.part.Part.{Part}
 use Rattle.cal_spec.specs.declared.slot.Slot.{Slot}
-use Rattle.cal_text.proofs.General.{and_regrouped, and_shared, and_true}
+use Rattle.cal_text.proofs.General.{and_regrouped, and_true}
+
+and_shared : (x y z : Bool) → ((x && y) || (x && z)) ≡ (x && (y || z))
+and_shared x y z = grind arith
 
 -- a field matches exactly the values that its component matches
 pub members_by : (f : Field) (e : Fields) (v : ℕ) → members_of f (sets_of e) v ≡ component_has (slot_of f e.from_end) (component f e) v

@@ -5,13 +5,12 @@ use Rattle.jiff.proofs.SpanFacts.{signed_arith}
 use Rattle.cal_zone.specs.Instant.{IsInstant}
 use Rattle.cal_spec.specs.headline.Fields.{Fields}
 use Rattle.cal_spec.specs.headline.Members.{sets_of}
-use Rattle.cal_elapse.specs.headline.Timed.{timed}
-use Rattle.cal_civil.specs.Local.{IsLocalSecond}
+use Rattle.cal_elapse.specs.headline.Elapses.{timed, Timed}
+use Rattle.cal_civil.specs.LocalSecond.{IsLocalSecond}
 use Rattle.cal_civil.specs.headline.Local.{seconds_in_all, seconds_in_all-is}
 use Rattle.cal_zone.specs.headline.Place.{place_of}
 use Rattle.cal_zone.specs.headline.Zone.{zone_of}
 use Rattle.cal_zone.specs.declared.zone.Zone.{Zone}
-use Rattle.cal_elapse.specs.headline.Elapses.{Timed}
 use Rattle.cal_elapse.specs.ExaminedMonths.{IsSearch}
 use Rattle.cal_elapse.specs.Masks.{sets_in}
 use Rattle.cal_elapse.specs.MostMonths.{IsMost}

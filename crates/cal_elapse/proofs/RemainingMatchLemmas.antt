@@ -13,7 +13,7 @@ use Rattle.cal_civil.specs.headline.Local.{seconds_in_all, seconds_in_all-is}
 use Rattle.cal_zone.specs.LocalOffsetRange.{AreAtOffset}
 use Rattle.cal_zone.specs.headline.Zone.{zone_of}
 use Rattle.cal_zone.specs.Instant.{IsInstant}
-use Rattle.cal_civil.specs.Local.{IsLocalSecond}
+use Rattle.cal_civil.specs.LocalSecond.{IsLocalSecond}
 use Rattle.cal_elapse.specs.Bits.{is_bit}
 use Rattle.cal_elapse.specs.Ring.{IsNear, IsOneOf}
 use Rattle.cal_elapse.specs.Search.{count_from}

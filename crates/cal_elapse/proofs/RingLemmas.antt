@@ -17,8 +17,20 @@ use Rattle.cal_elapse.specs.Ring.{IsNear, cells_in_all, cells_in_all-is, instant
 use Rattle.cal_rising.specs.headline.Elements.{Has}
 use Rattle.cal_elapse.specs.Search.{IsFirstPassing}
 use Rattle.cal_elapse.proofs.ElapsesLemmas.{first-least, first-none}
-use Rattle.cal_text.proofs.General.{int_cmp-less, list-first, list-no_first, get_or-zeros, lt_from_pos, lt_of_pos, rises-drop}
+use Rattle.cal_text.proofs.General.{list-first, list-no_first, lt_from_pos, rises-drop}
 use Rattle.cal_rising.proofs.RisingLemmas.{Has-insert_key, rises-insert_key, later_members, same_rising}
+use Rattle.std.specs.Cmp.{int_cmp_is}
+
+int_cmp-less : (a b : ℤ) → a <ℤ b → int_cmp a b ≡ Less
+int_cmp-less a b h = sym (int_cmp_is a b Less h)
+
+lt_of_pos : (at t : ℕ) (i : ℤ) → pos t ≡ i → at < t → pos at <ℤ i
+lt_of_pos at t i is h = omega (arith, ints)
+
+get_or-zeros : (n i : ℕ) → get_or {A = ℕ} (replicate n 0) i 0 ≡ 0
+get_or-zeros zero i = refl
+get_or-zeros (suc n) zero = refl
+get_or-zeros (suc n) (suc i) = get_or-zeros n i
 
 -- Which of several consecutive numbers pass a test
 

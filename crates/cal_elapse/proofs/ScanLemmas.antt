@@ -6,7 +6,17 @@ use lib.Lanes.{chunk, fold_l}
 use Rattle.std.proofs.lemmas.Bool.{cond-true, eq-eqb, lt-ltb, ne_eqb}
 use Rattle.std.proofs.lemmas.Simd.{get_or-chunk, length-chunk}
 use Rattle.cal_elapse.specs.Bits.{is_set}
-use Rattle.cal_text.proofs.General.{fold_each}
+use Rattle.std.proofs.lemmas.Nat.{le_or_l, le_or_r}
+
+-- the bitwise OR of `a` and all the numbers in `xs` is at least `a`
+fold_least : (a : ℕ) (xs : List ℕ) → a ≤ fold_l bit_or a xs
+fold_least a [] = omega arith
+fold_least a (x ∷ xs) = omega (arith, le_or_l a x, fold_least (bit_or a x) xs)
+
+fold_each : (a : ℕ) (xs : List ℕ) (k : ℕ) → k < length xs → get_or xs k 0 ≤ fold_l bit_or a xs
+fold_each a [] k h = absurd (omega arith)
+fold_each a (x ∷ xs) zero h = omega (arith, le_or_r a x, fold_least (bit_or a x) xs)
+fold_each a (x ∷ xs) (suc k) h = fold_each (bit_or a x) xs k (omega arith)
 
 pub set_word : (x : ℕ) → x ≢ 0 → is_set x ≡ true
 set_word x h = ap not (ne_eqb x 0 h)

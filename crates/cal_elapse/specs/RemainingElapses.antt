@@ -2,7 +2,7 @@
 use Rattle.std.specs.Prelude.{List, [], ◌∷◌, ℤ, int_lt, filter, map}
 use Rattle.std.specs.Ordering.{int_cmp}
 use Rattle.std.specs.List.Sorted.{IsStrictlySortedBy}
-use Rattle.cal_elapse.specs.Elapses.{elapses_after, places}
+use Rattle.cal_elapse.specs.ElapsesAfter.{elapses_after, places}
 use Rattle.cal_rising.specs.Rises.{rises-union}
 use Rattle.cal_elapse.specs.Window.{timed_of}
 use Rattle.cal_elapse.specs.declared.window.Window.{Window}

@@ -1,7 +1,7 @@
 -- The starting point of a search for matches.
 use Rattle.std.specs.Prelude.{◌≡◌, ◌+◌, ℕ, Bool, true, pos, unsigned_abs}
 use Rattle.jiff.specs.Words.{IsBetween}
-use Rattle.cal_civil.specs.Local.{IsLocalSecond}
+use Rattle.cal_civil.specs.LocalSecond.{IsLocalSecond}
 use Rattle.cal_civil.specs.headline.Local.{seconds_in_all}
 use Rattle.cal_elapse.specs.declared.search.searcher.SearchStart.{SearchStart}
 use Rattle.cal_elapse.specs.declared.search.searcher.SearchStart.TheVariants.{At, After}

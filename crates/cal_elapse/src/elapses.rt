@@ -35,11 +35,11 @@ impl<'z> Model for Elapses<'z> {
 impl<'z> Elapses<'z> {
     ghost use Rattle.std.specs.Prelude.{◌≡◌, ◌≤◌, [], ◌∷◌, IfOk};
     ghost use Rattle.cal_zone.specs.headline.Zone.{zone_of};
-    ghost use Rattle.cal_elapse.specs.Elapses.{elapses_after};
+    ghost use Rattle.cal_elapse.specs.ElapsesAfter.{elapses_after};
     ghost use Rattle.cal_elapse.specs.Masks.{sets_in};
     ghost use Rattle.cal_elapse.specs.MostMonths.{IsExamined};
     ghost use Rattle.cal_elapse.specs.RemainingElapses.{remaining_elapses};
-    ghost use Rattle.cal_elapse.specs.headline.Timed.{timed};
+    ghost use Rattle.cal_elapse.specs.headline.Elapses.{timed};
     ghost use Rattle.cal_elapse.specs.Window.{start_of, timed_of};
     ghost use Rattle.cal_spec.specs.headline.Members.{sets_of};
 

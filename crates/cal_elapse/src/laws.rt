@@ -6,13 +6,11 @@ ghost use Rattle.jiff.specs.Types.{TimeZone};
 ghost use Rattle.cal_zone.specs.Instant.{IsInstant};
 ghost use Rattle.cal_spec.specs.headline.Fields.{Fields};
 ghost use Rattle.cal_spec.specs.headline.Members.{sets_of};
-ghost use Rattle.cal_elapse.specs.Elapses.{elapses_after, elapses_except};
-ghost use Rattle.cal_elapse.specs.headline.Elapses.{Timed, AreElapses};
+ghost use Rattle.cal_elapse.specs.ElapsesAfter.{elapses_after, elapses_except, each_after};
+ghost use Rattle.cal_elapse.specs.headline.Elapses.{Timed, AreElapses, timed};
 ghost use Rattle.cal_elapse.specs.Covered.{AreAmong, AreKept, IsCovered};
-ghost use Rattle.cal_elapse.specs.Merged.{each_after};
 ghost use Rattle.cal_rising.specs.RisingList.{union, without};
 ghost use Rattle.cal_rising.specs.headline.Elements.{Has};
-ghost use Rattle.cal_elapse.specs.headline.Timed.{timed};
 
 /// The elapses of expressions after a base, without those of exceptions, form exactly one list. The list is strictly
 /// increasing. It contains an instant if and only if the instant is after the base, a matching local second of an

@@ -1,7 +1,7 @@
 //! Tests whether a local second matches, without a search (systemd.time(7), Calendar Events).
 
 ghost use Rattle.std.specs.Prelude.{◌≡◌, ◌<◌, unsigned_abs};
-ghost use Rattle.cal_civil.specs.Local.{IsLocalSecond};
+ghost use Rattle.cal_civil.specs.LocalSecond.{IsLocalSecond};
 ghost use Rattle.cal_elapse.specs.Masks.{sets_in};
 ghost use Rattle.cal_elapse.specs.Months.{day_in};
 ghost use Rattle.cal_spec.specs.headline.Match.{matches, time_in};

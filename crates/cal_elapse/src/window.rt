@@ -1,7 +1,7 @@
 //! The conversion of an expression's matches to instants, in the order in which the matches are found.
 
 ghost use Rattle.std.specs.Prelude.{◌≡◌, ◌+◌, ◌*◌, ◌/◌, ◌≤◌, ℤ, pos, ◌+ℤ◌, ◌≤ℤ◌, ◌<ℤ◌, Some, cond, unsigned_abs};
-ghost use Rattle.cal_civil.specs.Local.{IsLocalSecond};
+ghost use Rattle.cal_civil.specs.LocalSecond.{IsLocalSecond};
 ghost use Rattle.cal_civil.specs.headline.Local.{seconds_in_all, max_offset};
 ghost use Rattle.cal_zone.specs.Instant.{IsInstant};
 ghost use Rattle.cal_zone.specs.headline.Place.{place_of};
@@ -36,13 +36,12 @@ pub struct Window<'z> {
 impl<'z> Window<'z> {
     ghost use Rattle.std.specs.Prelude.{◌≡◌, ◌↔◌, ◌<◌, ◌≤◌, [], ◌∷◌, ℤ, pos, ◌+ℤ◌, ◌≤ℤ◌, true, None, Some, IfOk, drop, slice_get};
     ghost use Rattle.cal_zone.specs.headline.Zone.{zone_of};
-    ghost use Rattle.cal_elapse.specs.Elapses.{elapses_after};
+    ghost use Rattle.cal_elapse.specs.ElapsesAfter.{elapses_after};
     ghost use Rattle.cal_rising.specs.headline.Elements.{Has};
     ghost use Rattle.cal_elapse.specs.Masks.{sets_in};
     ghost use Rattle.cal_elapse.specs.MostMonths.{IsExamined};
     ghost use Rattle.cal_elapse.specs.Searched.{IsMostSearched, IsSearched};
-    ghost use Rattle.cal_elapse.specs.headline.Elapses.{IsPlace};
-    ghost use Rattle.cal_elapse.specs.headline.Timed.{timed};
+    ghost use Rattle.cal_elapse.specs.headline.Elapses.{IsPlace, timed};
     ghost use Rattle.cal_elapse.specs.Window.{IsPlacedTo, IsReady, timed_of, to_place};
     ghost use Rattle.cal_spec.specs.headline.Members.{sets_of};
 

@@ -4,7 +4,7 @@
 mod filter;
 mod merges;
 
-ghost use Rattle.cal_base.specs.Local.{IsLocalSecond};
+ghost use Rattle.cal_base.specs.LocalSecond.{IsLocalSecond};
 
 use crate::shared::{NEW_YEAR, ensure, expr, instant};
 use cal_base::Zone;

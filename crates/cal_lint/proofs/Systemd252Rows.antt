@@ -2,11 +2,11 @@
 -- with systemd-analyze. In all rows but the last two, the fields are those of `daily`, whatever the text is: the fields
 -- of an expression matter only if days are counted from the month's end, as in the last two rows.
 use Rattle.std.proofs.Common.{◌≡◌, ℕ, List, true, false, ◌++◌, ◌∷◌, [], codes, refl, Option, None, Some}
-use Rattle.cal_text.specs.headline.Words.{words}
+use Rattle.cal_text.specs.headline.Separators.{words}
 use Rattle.cal_civil.specs.headline.Weekday.{name_of}
 use Rattle.cal_spec.specs.headline.Fields.{Fields}
 use Rattle.cal_spec.specs.headline.NormalForm.{point}
-use Rattle.cal_spec.specs.Weekdays.{day_named, days_of}
+use Rattle.cal_spec.specs.WeekdayNames.{day_named, days_of}
 use Rattle.cal_lint.specs.Systemd252.{first_rejection, late_among}
 use Rattle.cal_lint.specs.declared.older_systemd.Rejection.{Rejection}
 use Rattle.cal_lint.specs.declared.older_systemd.Rejection.TheVariants.{Tab, Blanks, PastSunday, OneSecond, SecondStep, Offset, ZoneName}

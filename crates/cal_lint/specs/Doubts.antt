@@ -2,7 +2,7 @@
 use Rattle.std.specs.Prelude.{ℕ, ◌==◌, nat_le, nat_lt, Bool, false, ◌&&◌, List, [], ◌∷◌, Option, None, Some, Result, Ok}
 use Rattle.std.specs.List.{find}
 use Rattle.cal_text.specs.AndThen.{◌>>=◌}
-use Rattle.cal_text.specs.headline.Words.{words}
+use Rattle.cal_text.specs.headline.Separators.{words}
 use Rattle.cal_spec.specs.Expr.{expr_in}
 use Rattle.cal_spec.specs.headline.Fields.{Fields}
 use Rattle.cal_spec.specs.declared.part.Part.{Part}

@@ -6,19 +6,18 @@ use Rattle.std.specs.Option.{option_map_or}
 use Rattle.std.specs.Char.{is_ascii_digit}
 use Rattle.std.specs.Str.Parse.{digits_value}
 use Rattle.jiff_core.specs.Weekday.{monday_zero}
-use Rattle.cal_text.specs.headline.Separators.{is_colon, is_comma}
-use Rattle.cal_text.specs.headline.Words.{words}
-use Rattle.cal_civil.specs.OffsetWord.{begins_zone}
+use Rattle.cal_text.specs.headline.Separators.{is_colon, is_comma, words}
+use Rattle.cal_civil.specs.ReadOffset.{begins_zone}
 use Rattle.cal_civil.specs.headline.OffsetWord.{begins_with_sign}
 use Rattle.cal_civil.specs.headline.ZoneName.{begins_with_letter}
 use Rattle.cal_spec.specs.Parts.{is_slash}
-use Rattle.cal_spec.specs.headline.Parts.{most}
+use Rattle.cal_spec.specs.headline.PartValues.{most}
 use Rattle.cal_spec.specs.Expr.{expr_in}
 use Rattle.cal_spec.specs.headline.Fields.{Fields}
 use Rattle.cal_spec.specs.declared.part.Part.{Part}
 use Rattle.cal_spec.specs.declared.spec_fault.SpecFault.{SpecFault}
 use Rattle.cal_text.specs.AndThen.{◌>>=◌}
-use Rattle.cal_spec.specs.Weekdays.{day_named, days_of, leading_letters}
+use Rattle.cal_spec.specs.WeekdayNames.{day_named, days_of, leading_letters}
 use Rattle.cal_lint.specs.declared.older_systemd.Rejection.{Rejection}
 use Rattle.cal_lint.specs.declared.older_systemd.Rejection.TheVariants.{Tab, Blanks, PastSunday, OneSecond, SecondStep, DaysFromEnd, Offset, ZoneName}
 

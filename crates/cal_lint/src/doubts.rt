@@ -4,7 +4,7 @@ ghost use Rattle.std.specs.Prelude.{◌≡◌};
 ghost use Rattle.std.specs.List.{find};
 ghost use Rattle.std.specs.Option.{option_copied};
 ghost use Rattle.cal_spec.specs.Reads.{GivesUnlessNoMemory};
-ghost use Rattle.cal_text.specs.headline.Words.{words};
+ghost use Rattle.cal_text.specs.headline.Separators.{words};
 ghost use Rattle.cal_lint.specs.Doubts.{doubt_in, is_doubtful, is_hour_list, is_hour_range, is_later_hour, is_month_day, is_range_to, has_month_day, number_of, single, has_hours};
 
 use cal_spec::{Expr, Field, Part, SpecFault, read_expr};

@@ -8,7 +8,7 @@ ghost use Rattle.std.specs.List.{list_any};
 ghost use Rattle.std.specs.Option.{option_map, option_copied};
 ghost use Rattle.std.specs.Char.{is_ascii_alphabetic};
 ghost use Rattle.cal_text.specs.headline.Trim.{trim_matches};
-ghost use Rattle.cal_text.specs.headline.Words.{is_blank};
+ghost use Rattle.cal_text.specs.headline.Separators.{is_blank};
 ghost use Rattle.cal_spec.specs.Expr.{expr_in};
 ghost use Rattle.cal_lint.specs.Hints.{is_comment_mark, is_span, mistake_in};
 ghost use Rattle.cal_lint.specs.declared.hints.Mistake.{Mistake};

@@ -8,7 +8,7 @@ ghost use Rattle.std.specs.Prelude.{◌≡◌, ◌+◌, ◌<◌, ◌^◌, ◌++�
 ghost use Rattle.std.specs.List.{find, list_any};
 ghost use Rattle.std.specs.Option.{option_map, option_to_list};
 ghost use Rattle.cal_read.specs.Settings.{shown_setting};
-ghost use Rattle.cal_timer.specs.AssignmentView.{shown_assignment};
+ghost use Rattle.cal_timer.specs.TimerView.{shown_assignment};
 ghost use Rattle.cal_lint.specs.Doubts.{doubt_in};
 ghost use Rattle.cal_lint.specs.Systemd252.{rejection_in};
 ghost use Rattle.cal_lint.specs.Findings.{advice, fault_on, findings_in, if_valid, is_checked, is_on, is_percent, kind_of, report_at, reports_of, shown_finding, timer_faults};

@@ -2,9 +2,9 @@
 use Rattle.std.specs.Prelude.{◌≡◌, ℕ, List, [], All, Ok, map}
 use Rattle.cal_spec.specs.Expr.{expr_in}
 use Rattle.cal_spec.specs.headline.Fields.{Fields}
-use Rattle.cal_timer.specs.TimerText.{TimerLine}
+use Rattle.cal_timer.specs.TimerEntries.{TimerLine}
 use Rattle.cal_units.specs.Machine.{Machine}
-use Rattle.cal_zone.specs.headline.ZoneMap.{ZoneMap}
+use Rattle.cal_zone.specs.headline.ZoneTable.{ZoneMap}
 use Rattle.cal_load.specs.Loaded.{HasZones, exceptions_in, expressions_in}
 use Rattle.cal_load.specs.declared.loaded.LoadedTimer.{LoadedTimer}
 

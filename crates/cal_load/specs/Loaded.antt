@@ -9,11 +9,11 @@ use Rattle.cal_drop_ins.specs.DropIns.{drop_ins}
 use Rattle.cal_lines.specs.headline.Lines.{logical_lines}
 use Rattle.cal_machine_zones.specs.ZoneFiles.{HasZonesOf}
 use Rattle.cal_spec.specs.Expr.{expr_in}
-use Rattle.cal_spec.specs.ZoneSuffix.{name_in}
+use Rattle.cal_spec.specs.ParsedSuffix.{name_in}
 use Rattle.cal_spec.specs.headline.Fields.{Fields}
 use Rattle.cal_timer.specs.headline.Assignments.{Assignment, assignments_in}
 use Rattle.cal_timer.specs.headline.TimerText.{without_mark}
-use Rattle.cal_timer.specs.TimerText.{TimerLine, lists_of}
+use Rattle.cal_timer.specs.TimerEntries.{TimerLine, lists_of}
 use Rattle.cal_timer.specs.TimerView.{shown}
 use Rattle.cal_timer.specs.declared.fault.TimerFault.TheVariants.{NothingToDo}
 use Rattle.cal_units.specs.Aliases.{Alias, stems_of}
@@ -21,8 +21,7 @@ use Rattle.cal_units.specs.Files.{UnitText, file_at, files_at, shown_text}
 use Rattle.cal_units.specs.Machine.{Machine, disk_of}
 use Rattle.cal_units.specs.Units.{Unit, unit_in}
 use Rattle.cal_units.specs.Units.Unit.{Unfound, TemplateOnly, MaskedBy, FoundAt, Endless}
-use Rattle.cal_zone.specs.headline.ZoneMap.{ZoneMap}
-use Rattle.cal_zone.specs.headline.ZoneTable.{zone_named}
+use Rattle.cal_zone.specs.headline.ZoneTable.{ZoneMap, zone_named}
 use Rattle.cal_load.specs.declared.calendar.Calendar as calendars
 use Rattle.cal_load.specs.declared.loaded.LoadedTimer.{LoadedTimer}
 

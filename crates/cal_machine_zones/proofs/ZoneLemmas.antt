@@ -1,13 +1,12 @@
 -- Lemmas on loading the zones of a machine into a table.
 use Rattle.std.proofs.Common.{◌≡◌, ℕ, List, ◌∷◌, map, take, drop, string_bytes, Bool, true, false, Option, Some, None, refl, sym, ap, ◌∙◌, arith}
-use Rattle.std.specs.Prelude.{◌||◌, IfSome, MatchOption, is_some}
+use Rattle.std.specs.Prelude.{◌||◌, IfSome, MatchOption, is_some, String}
 use Rattle.std.specs.FinMap.{empty, get-empty, insert}
 use Rattle.std.specs.Option.{option_map, unwrap_or}
 use Rattle.std.specs.Str.{bytes_eq}
 use Rattle.std.proofs.lemmas.Bool.{both_ways, false≢true}
 use Rattle.std.proofs.lemmas.List.{append-nil, drop-map}
 use Rattle.std.specs.List.{list_any, take-map}
-use Rattle.std.specs.Prelude.{String}
 use Rattle.std.specs.declared.alloc.Global.{Global}
 use Rattle.std.proofs.lemmas.Option.{none-some}
 use Rattle.std.specs.Cmp.Lexicographic.{slice_cmp}
@@ -19,9 +18,8 @@ use Rattle.cal_streams.specs.Whole.{GivesAll}
 use Rattle.cal_units.specs.Machine.{Machine}
 use Rattle.cal_zone.specs.LoadZone.{IsLoaded}
 use Rattle.cal_zone.specs.ZoneFile.{IsFileZone, file_limit}
-use Rattle.cal_zone.specs.ZoneTable.{is_taken}
-use Rattle.cal_zone.specs.headline.ZoneMap.{ZoneMap}
-use Rattle.cal_zone.specs.headline.ZoneTable.{zone_named}
+use Rattle.cal_zone.specs.AddedZones.{is_taken}
+use Rattle.cal_zone.specs.headline.ZoneTable.{ZoneMap, zone_named}
 use Rattle.cal_zone.proofs.ZoneMapLemmas.{zone_named-here, zone_named-elsewhere}
 use Rattle.cal_machine_zones.specs.ZoneFiles.{HasZonesOf, IsAdded, IsFirstError, IsLoadError, IsZoneOn}
 use Rattle.cal_machine_zones.specs.declared.fault.ZonesFault.{ZonesFault}

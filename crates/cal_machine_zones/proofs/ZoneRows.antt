@@ -1,6 +1,6 @@
 -- Examples that check the definition of the local zone, after tzset(3) and localtime(5).
 use Rattle.std.proofs.Common.{◌≡◌, [], ◌∷◌, codes, map, refl, Some, None}
-use Rattle.cal_civil.specs.OffsetWord.{offset_in}
+use Rattle.cal_civil.specs.ReadOffset.{offset_in}
 use Rattle.cal_civil.specs.headline.ZoneName.{is_utc_name, is_zone_name}
 use Rattle.cal_units.specs.Machine.Entry.{Missing, File, Link}
 use Rattle.cal_units.specs.Units.{after_prefix}

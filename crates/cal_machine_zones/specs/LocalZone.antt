@@ -7,7 +7,7 @@ use Rattle.std.specs.Option.{option_or, unwrap_or}
 use Rattle.std.specs.Str.{bytes_eq}
 use Rattle.jiff.specs.Words.{read_whole}
 use Rattle.jiff_core.specs.Timestamp.{IsOffsetSeconds}
-use Rattle.cal_civil.specs.OffsetWord.{offset_in}
+use Rattle.cal_civil.specs.ReadOffset.{offset_in}
 use Rattle.cal_civil.specs.headline.ZoneName.{is_utc_name, is_zone_name}
 use Rattle.cal_units.specs.Machine.{Entry, Machine}
 use Rattle.cal_units.specs.Machine.Entry.{Missing, Empty, File, Folder, Link}

@@ -7,8 +7,7 @@ use Rattle.jiff.specs.Types.{TimeZone}
 use Rattle.cal_civil.specs.headline.ZoneName.{is_utc_name, is_zone_name}
 use Rattle.cal_units.specs.Machine.{Machine}
 use Rattle.cal_zone.specs.ZoneFile.{IsFileFault, IsFileZone}
-use Rattle.cal_zone.specs.headline.ZoneMap.{ZoneMap}
-use Rattle.cal_zone.specs.headline.ZoneTable.{zone_named}
+use Rattle.cal_zone.specs.headline.ZoneTable.{ZoneMap, zone_named}
 use Rattle.cal_zone.specs.declared.zone_fault.ZoneFault.{ZoneFault}
 use Rattle.cal_zone.specs.declared.zone_fault.ZoneFault.TheVariants as zones
 use Rattle.cal_zone.specs.declared.zone_files.LoadFault.TheVariants as loads

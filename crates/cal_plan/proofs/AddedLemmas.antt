@@ -5,13 +5,11 @@ use Rattle.std.proofs.lemmas.List.{append_assoc, map-append}
 use Rattle.cal_elapse.proofs.CoveredLemmas.{elapses_except-kept, kept_one, kept_without, matches_among}
 use Rattle.cal_elapse.proofs.ElapsesLemmas.{without-elapses}
 use Rattle.cal_elapse.specs.Covered.{AreAmong}
-use Rattle.cal_elapse.specs.Elapses.{elapses_after}
-use Rattle.cal_elapse.specs.headline.Elapses.{IsPlace, Timed}
+use Rattle.cal_elapse.specs.ElapsesAfter.{elapses_after, each_after}
+use Rattle.cal_elapse.specs.headline.Elapses.{IsPlace, Timed, timed}
 use Rattle.cal_elapse.specs.Masks.{sets_in}
-use Rattle.cal_elapse.specs.Merged.{each_after}
-use Rattle.cal_elapse.specs.headline.Timed.{timed}
 use Rattle.cal_elapse.specs.declared.masks.Masks.{Masks}
-use Rattle.cal_timer.specs.TimerText.{TimerLine, Timer}
+use Rattle.cal_timer.specs.TimerEntries.{TimerLine, Timer}
 use Rattle.cal_timer.specs.TimerView.{shown}
 use Rattle.cal_timer.specs.declared.timer.TimerLine as declared_line
 use Rattle.cal_rising.specs.Merge.{Merge, merged}

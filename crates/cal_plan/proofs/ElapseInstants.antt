@@ -1,8 +1,8 @@
 -- The elapse times of an expression in a zone are instants if the base time isn't negative.
 use Rattle.std.proofs.Common.{[], ◌∷◌, ℤ, pos, ◌≤ℤ◌}
 use Rattle.jiff.specs.Types.{TimeZone}
-use Rattle.cal_elapse.specs.Elapses.{elapses_after}
-use Rattle.cal_elapse.specs.headline.Timed.{timed}
+use Rattle.cal_elapse.specs.ElapsesAfter.{elapses_after}
+use Rattle.cal_elapse.specs.headline.Elapses.{timed}
 use Rattle.cal_elapse.proofs.ElapsesLemmas.{elapses_except-none}
 use Rattle.cal_elapse.proofs.InstantLemmas.{IsInstant-pairs}
 use Rattle.cal_spec.specs.headline.Fields.{Fields}

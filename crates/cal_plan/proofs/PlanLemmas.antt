@@ -9,9 +9,8 @@ use Rattle.cal_zone.specs.Setting.{Setting}
 use Rattle.cal_rising.specs.Merge.{Merge, merged}
 use Rattle.cal_elapse.proofs.ElapsesLemmas.{AreElapses-elapses_except}
 use Rattle.cal_elapse.proofs.InstantLemmas.{IsInstant-elapse}
-use Rattle.cal_elapse.specs.headline.Elapses.{AreElapses, Timed}
-use Rattle.cal_elapse.specs.headline.Timed.{timed}
-use Rattle.cal_timer.specs.TimerText.{TimerLine, Timer}
+use Rattle.cal_elapse.specs.headline.Elapses.{AreElapses, Timed, timed}
+use Rattle.cal_timer.specs.TimerEntries.{TimerLine, Timer}
 use Rattle.cal_timer.specs.TimerView.{shown}
 use Rattle.cal_timer.specs.declared.timer.TimerLine as declared_line
 use Rattle.cal_spec.specs.headline.Fields.{Fields}

@@ -1,4 +1,3 @@
 pub mod Instants
-pub mod PlanFault
 pub mod TimerElapses
 pub mod ZoneFor

@@ -6,11 +6,9 @@ use Rattle.jiff.specs.Types.{TimeZone, UTC}
 use Rattle.cal_zone.specs.Setting.{Setting}
 use Rattle.cal_rising.specs.Merge.{Merge, merged}
 use Rattle.cal_elapse.specs.Covered.{AreKept, IsCovered}
-use Rattle.cal_elapse.specs.Elapses.{elapses_except}
-use Rattle.cal_elapse.specs.headline.Elapses.{Timed}
-use Rattle.cal_elapse.specs.headline.Timed.{timed}
-use Rattle.cal_elapse.specs.Merged.{each_after}
-use Rattle.cal_timer.specs.TimerText.{TimerLine, Timer}
+use Rattle.cal_elapse.specs.ElapsesAfter.{elapses_except, each_after}
+use Rattle.cal_elapse.specs.headline.Elapses.{Timed, timed}
+use Rattle.cal_timer.specs.TimerEntries.{TimerLine, Timer}
 use Rattle.cal_timer.specs.TimerView.{shown}
 use Rattle.cal_timer.specs.declared.timer.TimerLine as declared_line
 use Rattle.cal_spec.specs.headline.Fields.{Fields}

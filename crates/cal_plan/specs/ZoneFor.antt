@@ -1,6 +1,7 @@
--- The zone in which an expression is evaluated (systemd.time(7), Calendar Events), and the first line whose expression
--- names a zone that isn't known.
-use Rattle.std.specs.Prelude.{ℕ, Bool, List, min, Option, None, Some, is_none}
+-- The zone in which an expression is evaluated (systemd.time(7), Calendar Events), the first line whose expression
+-- names a zone that isn't known, and the error for it. An exception is an expression, too; when it elapses, the timer
+-- doesn't.
+use Rattle.std.specs.Prelude.{ℕ, Bool, List, min, Option, None, Some, is_none, ◌≡◌}
 use Rattle.std.specs.List.{find}
 use Rattle.std.specs.Option.{option_map}
 use Rattle.jiff.specs.Types.{TimeZone}
@@ -8,7 +9,9 @@ use Rattle.cal_zone.specs.Setting.{Setting}
 use Rattle.cal_zone.specs.headline.FixedOffsetZone.{fixed_offset_zone}
 use Rattle.cal_spec.specs.headline.Fields.{Fields}
 use Rattle.cal_spec.specs.headline.ZoneSuffix.{ZoneSuffix, of_name, ahead}
-use Rattle.cal_timer.specs.TimerText.{TimerLine, Timer}
+use Rattle.cal_timer.specs.TimerEntries.{TimerLine, Timer}
+use Rattle.cal_plan.specs.declared.plan_fault.PlanFault.{PlanFault}
+use Rattle.cal_plan.specs.declared.plan_fault.PlanFault.TheVariants.{NoSuchZone}
 
 -- The zone in which an expression with this zone suffix is evaluated: the local zone if there is no suffix, the fixed
 -- zone at this offset if the suffix is a UTC offset, and the zone that `at.find` finds if the suffix is a name. If it
@@ -38,3 +41,9 @@ lesser_line (Some x) (Some y) = Some (min x y)
 -- table. An exception is an expression; when it elapses, the timer doesn't.
 unfoldable pub unzoned : Setting → Timer Fields → Option ℕ
 unzoned at lists = lesser_line (first_unzoned at lists.expressions) (first_unzoned at lists.exceptions)
+
+-- the error says that the line with this number names a zone missing from the zone table; if there is no number, no
+-- error fits
+abbrev pub IsUnzoned : Option ℕ → PlanFault → Type 0
+IsUnzoned None fault = ⊥
+IsUnzoned (Some number) fault = fault ≡ NoSuchZone number

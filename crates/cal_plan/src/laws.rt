@@ -8,7 +8,7 @@ ghost use Rattle.cal_zone.specs.headline.FixedOffsetZone.{fixed_offset_zone};
 ghost use Rattle.cal_spec.specs.headline.Fields.{Fields};
 ghost use Rattle.cal_spec.specs.headline.ZoneSuffix.{of_name, ahead};
 ghost use Rattle.cal_elapse.specs.headline.Elapses.{AreElapses, Timed};
-ghost use Rattle.cal_timer.specs.TimerText.{Timer};
+ghost use Rattle.cal_timer.specs.TimerEntries.{Timer};
 ghost use Rattle.cal_plan.specs.TimerElapses.{IsTimed, elapses_of_lists};
 ghost use Rattle.cal_plan.specs.ZoneFor.{zone_for};
 

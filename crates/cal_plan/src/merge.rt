@@ -4,14 +4,13 @@
 ghost use Rattle.std.specs.Prelude.{◌≡◌, ◌≢◌, ◌++◌, [], ◌∷◌, None, MatchResult, false, true, map, IfOk, OnOk};
 ghost use Rattle.cal_zone.specs.Setting.{setting_seen};
 ghost use Rattle.cal_rising.specs.Merge.{merged};
-ghost use Rattle.cal_elapse.specs.Elapses.{elapses_after};
+ghost use Rattle.cal_elapse.specs.ElapsesAfter.{elapses_after};
 ghost use Rattle.cal_elapse.specs.Masks.{sets_in};
 ghost use Rattle.cal_elapse.specs.RemainingElapses.{remaining_elapses};
 ghost use Rattle.cal_timer.specs.TimerView.{shown};
 ghost use Rattle.cal_plan.specs.Instants.{AreInstants};
-ghost use Rattle.cal_plan.specs.PlanFault.{IsUnzoned};
+ghost use Rattle.cal_plan.specs.ZoneFor.{IsUnzoned, first_unzoned, lacks_zone, unzoned};
 ghost use Rattle.cal_plan.specs.TimerElapses.{IsAdded, IsCoveredEntry, IsMergeOf, each_of, entry_sets, lists_shown, timed_entry};
-ghost use Rattle.cal_plan.specs.ZoneFor.{first_unzoned, lacks_zone, unzoned};
 ghost use Rattle.cal_plan.specs.declared.plan_fault.PlanFault.TheVariants.{NoMemory};
 
 use crate::plan_fault::PlanFault;

@@ -7,7 +7,7 @@ use Rattle.cal_spec.specs.declared.spec_fault.SpecFault.{SpecFault}
 use Rattle.cal_lines.specs.headline.Lines.{logical_lines}
 use Rattle.cal_timer.specs.headline.Assignments.{assignments_in}
 use Rattle.cal_timer.specs.headline.TimerText.{without_mark}
-use Rattle.cal_timer.specs.TimerText.{Timer, lists_of, timer_of}
+use Rattle.cal_timer.specs.TimerEntries.{Timer, lists_of, timer_of}
 use Rattle.cal_read.specs.TimerTexts.{assignments_at, assignments_of}
 use Rattle.cal_timer.specs.TimerView.{empty_lists, resumed}
 use Rattle.cal_timer.specs.declared.fault.TimerFault.{TimerFault}

@@ -12,9 +12,8 @@ pub use Rattle.cal_stamp.specs.StampPrinted
 pub use Rattle.cal_stamp.specs.StampRule
 pub use Rattle.cal_stamp.specs.StampTime
 pub use Rattle.cal_stamp.specs.StampViews
-pub use Rattle.cal_timer.specs.AssignmentView
+pub use Rattle.cal_timer.specs.TimerView
 pub use Rattle.cal_timer.specs.TimerFault
 pub use Rattle.cal_timer.specs.TimerRule
-pub use Rattle.cal_timer.specs.TimerText
-pub use Rattle.cal_timer.specs.TimerView
+pub use Rattle.cal_timer.specs.TimerEntries
 pub use Rattle.cal_timer.specs.headline

@@ -7,7 +7,7 @@ use Rattle.std.specs.Option.{option_to_list}
 use Rattle.cal_spec.specs.declared.spec_fault.SpecFault.{SpecFault}
 use Rattle.cal_timer.specs.headline.Assignments.{Assignment}
 use Rattle.cal_timer.specs.headline.TimerText.{is_exception, is_exception_reset, is_expression, is_reset, max_expressions}
-use Rattle.cal_timer.specs.TimerText.{bad_line, fault_following}
+use Rattle.cal_timer.specs.TimerEntries.{bad_line, fault_following}
 use Rattle.cal_read.specs.TimerTexts.{assignments_at}
 use Rattle.cal_read.specs.declared.faults.Counts.{Counts}
 use Rattle.cal_timer.specs.declared.fault.TimerFault.{TimerFault}

@@ -6,7 +6,7 @@ use Rattle.cal_spec.specs.declared.spec_fault.SpecFault.{SpecFault}
 use Rattle.cal_lines.specs.headline.Lines.{logical_lines}
 use Rattle.cal_timer.specs.headline.Assignments.{Assignment, assignments_in}
 use Rattle.cal_timer.specs.headline.TimerText.{without_mark}
-use Rattle.cal_timer.specs.TimerText.{first_fault}
+use Rattle.cal_timer.specs.TimerEntries.{first_fault}
 use Rattle.cal_read.specs.declared.texts.UnitText.{UnitText}
 use Rattle.cal_timer.specs.declared.fault.TimerFault.{TimerFault}
 use Rattle.cal_timer.specs.declared.fault.TimerFault.TheVariants.{NothingToDo}

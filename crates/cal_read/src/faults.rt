@@ -4,7 +4,7 @@
 ghost use Rattle.std.specs.Prelude.{◌≡◌, ◌+◌, ◌<◌, ◌≤◌, ◌^◌, ◌++◌, [], IfOk, OnOk, All, length, map};
 ghost use Rattle.std.specs.Option.{option_to_list};
 ghost use Rattle.cal_spec.specs.Expr.{expr_in};
-ghost use Rattle.cal_timer.specs.AssignmentView.{shown_assignment};
+ghost use Rattle.cal_timer.specs.TimerView.{shown_assignment};
 ghost use Rattle.cal_read.specs.TimerFaults.{count_with, counted_faults, counts_over, counts_with, fault_at, fault_beside, faults_of, in_file};
 ghost use Rattle.cal_timer.specs.headline.TimerText.{max_expressions};
 ghost use Rattle.cal_read.specs.TimerTexts.{assignments_at};

@@ -7,7 +7,7 @@ ghost use Rattle.cal_spec.specs.declared.spec_fault.SpecFault.{SpecFault};
 ghost use Rattle.cal_read.specs.Settings.{settings_in};
 ghost use Rattle.cal_timer.specs.headline.Assignments.{Assignment, assignments_in};
 ghost use Rattle.cal_lines.specs.headline.Lines.{Line};
-ghost use Rattle.cal_timer.specs.TimerText.{first_fault, lists_of, timer_of};
+ghost use Rattle.cal_timer.specs.TimerEntries.{first_fault, lists_of, timer_of};
 ghost use Rattle.cal_read.specs.TimerFaults.{all_faults, faults_of};
 ghost use Rattle.cal_read.specs.TimerTexts.{assignments_of, IsFirstOf};
 ghost use Rattle.cal_read.specs.declared.texts.FileFault.{FileFault};

@@ -4,7 +4,7 @@ ghost use Rattle.std.specs.Prelude.{◌≡◌, ◌+◌, ◌<◌, ◌^◌, ◌∷
 ghost use Rattle.std.specs.Option.{option_map, option_to_list};
 ghost use Rattle.cal_lines.specs.LineView.{line_at};
 ghost use Rattle.cal_lines.specs.headline.Lines.{Line, logical_lines};
-ghost use Rattle.cal_timer.specs.AssignmentView.{shown_assignment};
+ghost use Rattle.cal_timer.specs.TimerView.{shown_assignment};
 ghost use Rattle.cal_read.specs.Settings.{settings_in, shown_setting};
 
 use cal_lines::{first_logical, trim};

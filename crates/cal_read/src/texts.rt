@@ -3,7 +3,7 @@
 
 ghost use Rattle.std.specs.Prelude.{◌≡◌, ◌≢◌, ◌+◌, ◌<◌, ◌^◌, Ok, Err, MatchResult, IfErr, All, length};
 ghost use Rattle.cal_spec.specs.Expr.{expr_in};
-ghost use Rattle.cal_timer.specs.TimerText.{lists_of};
+ghost use Rattle.cal_timer.specs.TimerEntries.{lists_of};
 ghost use Rattle.cal_read.specs.TimerTexts.{assignments_of, IsFirstOf};
 
 use cal_timer::{Timer, TimerFault, TimerLists, without_mark};

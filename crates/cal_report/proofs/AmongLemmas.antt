@@ -6,10 +6,10 @@ use Rattle.std.specs.List.{AllByRecursion, AllZip, filter_map, flat_map, join_by
 use Rattle.cal_streams.specs.declared.whole.WholeFault.{WholeFault}
 use Rattle.cal_report.specs.Answer.{Answer, report_in, reports_text}
 use Rattle.cal_report.specs.CalendarReport.{calendar_answer}
-use Rattle.cal_report.specs.Report.{answers_report, base_in, report}
+use Rattle.cal_report.specs.RunReport.{answers_report, base_in, report}
 use Rattle.cal_report.specs.Resume.{AreAcceptedAmong, IsReadAs}
 use Rattle.cal_report.specs.headline.Headline.{AreReportsOf, Expression, IsAccepted, IsAnswerTo, IsRejected, IsReportOf, alone}
-use Rattle.cal_report.specs.headline.Report.{Report}
+use Rattle.cal_report.specs.headline.ReportLines.{Report}
 use Rattle.cal_report.proofs.HeadlineAccepted.{AreNormalForms, text_accepted}
 use Rattle.cal_report.proofs.HeadlineEach.{each_answered}
 use Rattle.cal_report.proofs.HeadlineLemmas.{HaveOneNormalForm, each_report, is_answered, one_meaning, report_of, report_of_texts}

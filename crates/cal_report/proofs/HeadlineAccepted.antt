@@ -2,7 +2,7 @@
 -- timer file was. A law is the contract of a function that does nothing.
 use Rattle.std.proofs.Common.{◌≡◌, ◌<◌, ◌-◌, ◌++◌, ◌∙◌, ℕ, suc, ℤ, Bool, true, false, not, cond, List, [], ◌∷◌, Option, None, Some, Result, Ok, Err, map, take, drop, filter, length, refl, sym, ap, subst, arith, append_assoc}
 use Rattle.std.proofs.lemmas.List.{take-append-drop}
-use Rattle.std.specs.Prelude.{is_err, nat_le, if◌then◌else◌}
+use Rattle.std.specs.Prelude.{is_err, nat_le, if◌then◌else◌, is_none}
 use Rattle.std.specs.List.{AllByRecursion, filter_map, find, list_any, suffix_len}
 use Rattle.std.specs.Str.{is_utf8}
 use Rattle.std.proofs.lemmas.Bool.{or_parts}
@@ -12,7 +12,7 @@ use Rattle.cal_zone.specs.headline.Zone.{zone_of}
 use Rattle.cal_spec.specs.Expr.{expr_in}
 use Rattle.cal_spec.specs.headline.Fields.{Fields}
 use Rattle.cal_spec.specs.Grammar.{fields_in}
-use Rattle.cal_spec.specs.NormalForm.{normal_fields}
+use Rattle.cal_spec.specs.NormalParts.{normal_fields}
 use Rattle.cal_spec.specs.headline.NormalForm.{IsNormalFieldsOf}
 use Rattle.cal_text.specs.AndThen.{◌>>=◌}
 use Rattle.cal_spec.specs.ValidFields.{IsValidFields}
@@ -23,7 +23,7 @@ use Rattle.cal_spec.proofs.FieldLemmas.{valid_fields}
 use Rattle.cal_spec.proofs.WholeRule.{valid_found}
 use Rattle.cal_timer.specs.headline.Assignments.{Assignment}
 use Rattle.cal_timer.specs.TimerRule.{AreFine, JudgesTimer}
-use Rattle.cal_timer.specs.TimerText.{TimerLine, Timer, bad_line, entries, entry_of, fault_joining, timer_in, timer_of}
+use Rattle.cal_timer.specs.TimerEntries.{TimerLine, Timer, bad_line, entries, entry_of, fault_joining, timer_in, timer_of}
 use Rattle.cal_timer.specs.headline.TimerText.{excepted, is_exception, is_exception_reset, is_expression, is_reset, listed, max_expressions}
 use Rattle.cal_timer.specs.declared.fault.TimerFault.{TimerFault}
 use Rattle.cal_timer.proofs.ListedLemmas.{fault_of_exception, fault_of_expression}
@@ -31,8 +31,8 @@ use Rattle.cal_timer.proofs.TimerRuleLemmas.{judged}
 use Rattle.cal_report.specs.Answer.{texts_status}
 use Rattle.cal_report.specs.CalendarReport.{answer_in, answer_with, calendar_answer}
 use Rattle.cal_report.specs.headline.Headline.{AreAccepted, AreSpelled, Expression, IsAccepted, IsAcceptedFile, IsZoneFor, Spells, assigned_in}
-use Rattle.cal_report.specs.Report.{answers_report, base_in, report, whole_report}
-use Rattle.cal_report.specs.headline.Report.{Report}
+use Rattle.cal_report.specs.RunReport.{answers_report, base_in, report, whole_report}
+use Rattle.cal_report.specs.headline.ReportLines.{Report}
 use Rattle.cal_report.specs.TimerReport.{answer_of_timer, answer_unless, timer_answer}
 use Rattle.cal_request.specs.RequestKind.{file_name}
 use Rattle.cal_request.specs.headline.Request.{Request}
@@ -41,8 +41,11 @@ use Rattle.cal_request.specs.declared.request.Verb.TheVariants as verb
 use Rattle.cal_report.proofs.HeadlineLemmas.{HaveOneNormalForm, report_of_texts, report_of_timer, spelled_is_read, text_of}
 use Rattle.cal_plan.proofs.PlanLemmas.{all_zoned, none_mapped}
 use Rattle.cal_plan.specs.ZoneFor.{lacks_zone, unzoned, zone_for}
-use Rattle.cal_report.specs.Setting.{setting_of}
-use Rattle.cal_text.proofs.General.{some_found}
+use Rattle.cal_report.specs.Context.{setting_of}
+
+some_found : {A : Type 0} (o : Option A) → is_none o ≡ false → (x : A) × (o ≡ Some x)
+some_found None h = cc
+some_found (Some x) h = (x, refl)
 
 -- If the status is `Fine`, every text was accepted
 

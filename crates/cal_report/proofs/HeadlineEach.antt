@@ -9,8 +9,8 @@ use Rattle.cal_streams.specs.declared.whole.WholeFault.{WholeFault}
 use Rattle.cal_report.specs.Answer.{Answer, error_line_in, error_line, error_lines, report_in, reports_text, texts_status}
 use Rattle.cal_report.specs.CalendarReport.{calendar_answer}
 use Rattle.cal_report.specs.headline.Headline.{AreAnswered, IsAnswerTo, IsReportOf, alone}
-use Rattle.cal_report.specs.Report.{ByReading, IsReported, answers_report, base_in, report}
-use Rattle.cal_report.specs.headline.Report.{Report}
+use Rattle.cal_report.specs.RunReport.{ByReading, IsReported, answers_report, base_in, report}
+use Rattle.cal_report.specs.headline.ReportLines.{Report}
 use Rattle.cal_request.specs.headline.Request.{Request}
 use Rattle.cal_request.specs.declared.request.Status.{Status}
 use Rattle.cal_request.specs.declared.request.Status.TheVariants.{Fine, Refused}

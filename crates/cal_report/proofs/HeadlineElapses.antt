@@ -16,15 +16,14 @@ use Rattle.cal_zone.proofs.PlaceLemmas.{place_of-Some}
 use Rattle.cal_spec.specs.headline.Fields.{Fields}
 use Rattle.cal_spec.specs.headline.Match.{matches}
 use Rattle.cal_spec.specs.headline.Members.{sets_of}
-use Rattle.cal_elapse.specs.Elapses.{elapses_except}
-use Rattle.cal_elapse.specs.headline.Elapses.{AreElapses, IsPlace, Timed}
-use Rattle.cal_elapse.specs.headline.Timed.{timed}
+use Rattle.cal_elapse.specs.ElapsesAfter.{elapses_except}
+use Rattle.cal_elapse.specs.headline.Elapses.{AreElapses, IsPlace, Timed, timed}
 use Rattle.cal_elapse.proofs.ElapsesLemmas.{AreElapses-elapses_except, AreElapses-only, elapses_except-later}
 use Rattle.cal_elapse.proofs.InstantLemmas.{IsInstant-elapse}
 use Rattle.cal_stamp.specs.declared.fault.StampFault.{StampFault}
 use Rattle.cal_plan.specs.Instants.{AreInstants}
 use Rattle.cal_report.specs.headline.Headline.{AreElapsesOf, Expression, Schedule, meaning}
-use Rattle.cal_report.specs.Report.{base_from, base_in, second_or_fault}
+use Rattle.cal_report.specs.RunReport.{base_from, base_in, second_or_fault}
 use Rattle.cal_report.specs.TimestampReport.{stamp_in}
 use Rattle.cal_request.specs.headline.Request.{Request}
 use Rattle.cal_report.proofs.HeadlineLemmas.{one_elapses}

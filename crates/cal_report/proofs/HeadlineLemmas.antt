@@ -8,33 +8,32 @@ use Rattle.jiff.specs.Types.{TimeZone}
 use Rattle.cal_streams.specs.declared.whole.WholeFault.{WholeFault}
 use Rattle.cal_spec.specs.Expr.{expr_in}
 use Rattle.cal_spec.specs.headline.Fields.{Fields}
-use Rattle.cal_spec.specs.NormalForm.{normal_fields}
+use Rattle.cal_spec.specs.NormalParts.{normal_fields}
 use Rattle.cal_spec.specs.headline.NormalForm.{IsNormalFieldsOf}
 use Rattle.cal_spec.specs.ValidFields.{IsValidFields}
 use Rattle.cal_spec.specs.declared.spec_fault.SpecFault.{SpecFault}
 use Rattle.cal_spec.proofs.FieldLemmas.{valid_fields}
 use Rattle.cal_spec.proofs.WholeRule.{valid_only}
 use Rattle.cal_bytes.specs.headline.Bytes.{joined}
-use Rattle.cal_elapse.specs.Elapses.{elapses_after, elapses_except}
+use Rattle.cal_elapse.specs.ElapsesAfter.{elapses_after, elapses_except}
 use Rattle.cal_elapse.specs.headline.Elapses.{AreElapses, Timed}
 use Rattle.cal_elapse.proofs.ElapsesLemmas.{AreElapses-elapses_except, AreElapses-only, elapses_except-none}
 use Rattle.cal_timer.specs.headline.Assignments.{Assignment}
 use Rattle.cal_timer.specs.TimerRule.{AreFine}
-use Rattle.cal_timer.specs.TimerText.{TimerLine, Timer, entries, entry_of, fault_following, fault_joining, timer_in, timer_of}
+use Rattle.cal_timer.specs.TimerEntries.{TimerLine, Timer, entries, entry_of, fault_following, fault_joining, timer_in, timer_of}
 use Rattle.cal_timer.specs.headline.TimerText.{excepted, is_exception, is_expression, listed, max_expressions}
 use Rattle.cal_timer.proofs.TimerRuleLemmas.{only_judged}
 use Rattle.cal_plan.specs.TimerElapses.{elapses_of_lists, timed_entry}
 use Rattle.cal_plan.specs.ZoneFor.{lacks_zone, unzoned, zone_for}
-use Rattle.cal_report.specs.Setting.{setting_of}
+use Rattle.cal_report.specs.Context.{setting_of}
 use Rattle.cal_report.specs.Answer.{error_lines, report_in, reports_text, texts_status}
 use Rattle.cal_spec.specs.headline.ZoneSuffix.{ZoneSuffix, of_name, ahead}
 use Rattle.cal_report.specs.CalendarReport.{answer_in, answer_with, calendar_answer, calendar_report}
-use Rattle.cal_report.specs.headline.CalendarReport.{heading_text}
+use Rattle.cal_report.specs.headline.ReportLines.{heading_text, except_label, original_label}
 use Rattle.cal_report.specs.headline.ElapseLines.{elapses_text}
 use Rattle.cal_report.specs.headline.Headline.{AreAllAccepted, AreReportsOf, AreSpelled, Expression, IsAccepted, IsFileOf, IsFine, IsReportOf, IsZoneFor, Schedule, Spells, alone, assigned_in, headings, meaning}
-use Rattle.cal_report.specs.Report.{ByReading, IsReported, answers_report, base_in, report, report_from, report_on, whole_report}
+use Rattle.cal_report.specs.RunReport.{ByReading, IsReported, answers_report, base_in, report, report_from, report_on, whole_report}
 use Rattle.cal_report.specs.TimerReport.{headings_text, timer_answer, timer_report}
-use Rattle.cal_report.specs.headline.ReportLines.{except_label, original_label}
 use Rattle.cal_request.specs.RequestKind.{file_name, kind_by}
 use Rattle.cal_request.specs.headline.Request.{Request}
 use Rattle.cal_request.specs.declared.request.Status.{Status}

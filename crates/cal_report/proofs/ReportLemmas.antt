@@ -6,11 +6,11 @@ use Rattle.std.specs.Io.KnownBytes.{Appends}
 use Rattle.cal_streams.specs.Whole.{is_read_failed}
 use Rattle.cal_streams.specs.declared.whole.WholeFault.{WholeFault}
 use Rattle.cal_report.specs.TimerReport.{HadMemory}
-use Rattle.cal_request.specs.Request.{seeks_elapses}
+use Rattle.cal_request.specs.VerbOptions.{seeks_elapses}
 use Rattle.cal_request.specs.RequestKind.{RequestKind, for_file, for_texts, kind_by, kind_of}
 use Rattle.cal_request.specs.headline.Request.{Request}
-use Rattle.cal_bytes.specs.Bytes.{AppendsFront, Writes}
-use Rattle.cal_report.specs.Report.{ByReading, IsCut, IsCutAt, IsReported, ReadsFile, ReadsFor, base_in, file_report, report, report_on, texts_report, whole_report}
+use Rattle.cal_bytes.specs.Writes.{AppendsFront, Writes}
+use Rattle.cal_report.specs.RunReport.{ByReading, IsCut, IsCutAt, IsReported, ReadsFile, ReadsFor, base_in, file_report, report, report_on, texts_report, whole_report}
 use Rattle.cal_request.specs.declared.request.RunFault.{RunFault}
 use Rattle.cal_request.specs.declared.request.Status.{Status}
 use Rattle.cal_request.specs.declared.request.Status.TheVariants.{Fine, Refused}
@@ -19,7 +19,10 @@ use Rattle.cal_request.specs.declared.request.Verb.TheVariants as verbs
 use Rattle.cal_request.specs.declared.request_kind.TextVerb.{TextVerb}
 use Rattle.cal_request.specs.declared.request_kind.TextVerb.TheVariants.{Calendar}
 use Rattle.cal_report.proofs.AnswerLemmas.{writes_nothing}
-use Rattle.cal_text.proofs.General.{if_ok}
+
+if_ok : {T E : Type 0} (r : Result T E) (P : Type 0) → P → IfOk r (λ x. P)
+if_ok (Ok x) P h = h
+if_ok (Err e) P h = tt
 
 -- `IsReported` holds if the answer is a report, reading the input didn't run out of memory, and the run returned `Fine`
 -- and wrote the report to standard output and nothing to standard error. If the run failed, it is enough that it wrote

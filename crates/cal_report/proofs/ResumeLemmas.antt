@@ -1,14 +1,14 @@
 -- Lemmas for the law `cut_output_resumes`, about one report: how many elapse times have a complete first line in a
 -- prefix of the report, and what a request that continues after these elapse times shows. A law is the contract of a
 -- function that does nothing.
-use Rattle.std.proofs.Common.{◌≡◌, ◌↔◌, ◌≤◌, ◌<◌, ◌+◌, ◌++◌, ◌∙◌, ℕ, zero, suc, ℤ, Bool, true, false, List, [], ◌∷◌, Option, None, Some, Result, Ok, Err, map, take, drop, length, codes, nat_le, refl, sym, ap, subst, arith, append-nil, append_assoc, length-append}
+use Rattle.std.proofs.Common.{◌≡◌, ◌↔◌, ◌≤◌, ◌<◌, ◌+◌, ◌++◌, ◌∙◌, ℕ, zero, suc, ℤ, Bool, true, false, List, [], ◌∷◌, Option, None, Some, Result, Ok, Err, map, take, drop, length, codes, nat_le, refl, sym, ap, subst, arith, append-nil, append_assoc, length-append, slice_get, length-take}
 use Rattle.std.proofs.Math.Seq.{take-append_seam}
 use Rattle.std.proofs.lemmas.Bool.Decides.{nat_tests}
-use Rattle.std.proofs.lemmas.List.{drop-take, take-append-drop, take-append-le}
+use Rattle.std.proofs.lemmas.List.{drop-take, take-append-drop, take-append-le, get_or-take}
 use Rattle.std.specs.Io.KnownBytes.{Appends}
 use Rattle.std.specs.List.{AllByRecursion, AllZip, join_by}
 use Rattle.jiff.specs.Types.{TimeZone}
-use Rattle.cal_bytes.specs.Bytes.{AppendsFront, Writes}
+use Rattle.cal_bytes.specs.Writes.{AppendsFront, Writes}
 use Rattle.cal_streams.specs.declared.whole.WholeFault.{WholeFault}
 use Rattle.cal_zone.specs.headline.InstantText.{instant_text}
 use Rattle.cal_zone.specs.declared.zone.Zone.{Zone}
@@ -16,7 +16,7 @@ use Rattle.cal_elapse.specs.headline.Elapses.{AreElapses, Timed}
 use Rattle.cal_report.specs.headline.ElapseLines.{elapse_text, elapse_texts, elapses_text, label_text}
 use Rattle.cal_spec.specs.headline.ZoneSuffix.{ZoneSuffix, of_name, ahead}
 use Rattle.cal_report.specs.headline.Headline.{AreAllAccepted, AreReportsOf, Expression, IsAccepted, IsFileOf, IsReportOf, IsZoneFor, Schedule, alone, headings, meaning}
-use Rattle.cal_report.specs.Report.{ByReading, IsReported, base_in, report}
+use Rattle.cal_report.specs.RunReport.{ByReading, IsReported, base_in, report}
 use Rattle.cal_zone.specs.headline.Moment.{micros_of}
 use Rattle.cal_report.specs.headline.ReportLines.{distance_text, utc_line}
 use Rattle.cal_report.specs.Resume.{AreShown, Begins, IsBaseAfter, IsBegunAgain, Resumes, Stand, showing, up_to_line}
@@ -26,7 +26,13 @@ use Rattle.cal_request.specs.declared.request.Status.{Status}
 use Rattle.cal_request.specs.declared.request.Verb.TheVariants.{Calendar, Timer}
 use Rattle.cal_report.proofs.HeadlineElapses.{goes_on}
 use Rattle.cal_report.proofs.HeadlineLemmas.{HaveOneNormalForm, calendar_report_is, one_elapses, timer_report_is}
-use Rattle.cal_text.proofs.General.{slice_get-taken}
+use Rattle.std.proofs.lemmas.Option.{get_or_from_slice_get, slice_get_read, slice_get_within}
+
+slice_get-taken : (n : ℕ) (xs : List ℤ) (k : ℕ) (e : ℤ) → slice_get (take n xs) k ≡ Some e → slice_get xs k ≡ Some e
+slice_get-taken n xs k e at =
+    let within = slice_get_within (take n xs) k e at in
+    slice_get_read xs (length xs) k e refl (omega (arith, within, length-take n xs))
+    (sym (get_or_from_slice_get (take n xs) k e e at) ∙ get_or-take n xs k e (omega (arith, within, length-take n xs)))
 
 -- The first line of an elapse time
 

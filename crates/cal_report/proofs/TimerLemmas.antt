@@ -3,7 +3,7 @@ use Rattle.std.proofs.Common.{Result, Ok, ◌≡◌, ℕ, ◌+◌, ◌<◌, ◌+
 use Rattle.std.specs.List.{flat_map}
 use Rattle.std.proofs.lemmas.List.Folds.{flat_map-map}
 use Rattle.cal_rising.specs.Merge.{Merge, merged}
-use Rattle.cal_timer.specs.TimerText.{Timer, timer_text}
+use Rattle.cal_timer.specs.TimerEntries.{Timer, timer_text}
 use Rattle.cal_timer.specs.TimerView.{shown}
 use Rattle.cal_timer.specs.declared.timer.TimerLine as declared_line
 use Rattle.cal_streams.specs.declared.whole.WholeFault.{WholeFault}
@@ -11,10 +11,10 @@ use Rattle.cal_spec.specs.Expr.{expr_in}
 use Rattle.cal_spec.specs.headline.Fields.{Fields}
 use Rattle.cal_plan.specs.TimerElapses.{IsMergeOf}
 use Rattle.cal_request.specs.headline.Request.{Request}
-use Rattle.cal_report.specs.Setting.{setting_of}
+use Rattle.cal_report.specs.Context.{setting_of}
 use Rattle.cal_report.specs.TimerPlan.{plan_text}
 use Rattle.cal_report.specs.TimerReport.{HadMemory, headings_text, timer_answer, timer_report}
-use Rattle.cal_report.specs.headline.CalendarReport.{heading_text}
+use Rattle.cal_report.specs.headline.ReportLines.{heading_text}
 use Rattle.cal_text.proofs.General.{item_first}
 
 -- the heading of a line of a timer file, with this label

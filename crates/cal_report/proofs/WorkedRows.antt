@@ -24,10 +24,9 @@ use Rattle.cal_spec.specs.headline.Fields.{Fields}
 use Rattle.cal_spec.specs.headline.Match.{matches, date_in, time_in}
 use Rattle.cal_spec.specs.headline.Members.{sets_of, part_has}
 use Rattle.cal_report.specs.Answer.{reports_text, error_lines, texts_status}
-use Rattle.cal_elapse.specs.headline.Elapses.{IsElapse}
-use Rattle.cal_report.specs.Report.{answers_report, base_in, report}
+use Rattle.cal_elapse.specs.headline.Elapses.{IsElapse, timed}
+use Rattle.cal_report.specs.RunReport.{answers_report, base_in, report}
 use Rattle.cal_request.specs.headline.Request.{Request}
-use Rattle.cal_elapse.specs.headline.Timed.{timed}
 use Rattle.cal_report.specs.TimespanReport.{timespan_answer, timespan_report}
 use Rattle.cal_request.specs.declared.request.Status.TheVariants.{Refused}
 use Rattle.cal_request.specs.declared.request.Verb.TheVariants.{Calendar, Timespan}
@@ -46,10 +45,10 @@ use Rattle.cal_spec.specs.DateAndTime.{date_texts, time_texts, date_fields, time
 use Rattle.cal_spec.specs.Grammar.{fields_in, fields_at}
 use Rattle.cal_spec.specs.Parts.{with_step, after_end, after_start, part_of, fault_of}
 use Rattle.cal_spec.specs.headline.Shorthand.{shorthand_named}
-use Rattle.cal_spec.specs.Weekdays.{day_named, days_of, listed_days, weekdays_of}
+use Rattle.cal_spec.specs.WeekdayNames.{day_named, days_of, listed_days, weekdays_of}
 use Rattle.cal_spec.specs.Words.{roles_of}
 use Rattle.cal_text.specs.headline.Trim.{trim_matches, trim_end_matches, trim_start_matches}
-use Rattle.cal_text.specs.headline.Words.{words}
+use Rattle.cal_text.specs.headline.Separators.{words}
 use Rattle.cal_spec.proofs.WholeRule.{valid_found}
 use Rattle.cal_elapse.proofs.ElapsesLemmas.{AreElapses-only, elapses_except-none, first_elapse-least}
 use Rattle.cal_report.specs.headline.Headline.{AreElapsesOf, AreSpelled, Expression, IsAccepted, IsFileOf, Spells, alone, assigned_in, meaning}

@@ -2,19 +2,18 @@
 use Rattle.std.specs.Prelude.{ℕ, ℤ, List, [], ◌∷◌, take, Option, None, Some, Result, Ok, Err, codes}
 use Rattle.jiff.specs.Types.{TimeZone}
 use Rattle.cal_bytes.specs.headline.Bytes.{joined}
-use Rattle.cal_elapse.specs.Elapses.{elapses_after}
-use Rattle.cal_elapse.specs.headline.Timed.{timed}
+use Rattle.cal_elapse.specs.ElapsesAfter.{elapses_after}
+use Rattle.cal_elapse.specs.headline.Elapses.{timed}
 use Rattle.cal_spec.specs.Expr.{expr_in}
 use Rattle.cal_spec.specs.headline.Fields.{Fields}
 use Rattle.cal_spec.specs.SpecFault.{message_of}
 use Rattle.cal_spec.specs.declared.spec_fault.SpecFault.{SpecFault}
 use Rattle.cal_plan.specs.ZoneFor.{zone_for}
 use Rattle.cal_report.specs.Answer.{Answer}
-use Rattle.cal_report.specs.Setting.{setting_of}
+use Rattle.cal_report.specs.Context.{setting_of}
 use Rattle.cal_report.specs.headline.ElapseLines.{elapses_text}
 use Rattle.cal_request.specs.headline.Request.{Request}
-use Rattle.cal_report.specs.headline.CalendarReport.{heading_text}
-use Rattle.cal_report.specs.headline.ReportLines.{original_label}
+use Rattle.cal_report.specs.headline.ReportLines.{heading_text, original_label}
 
 -- the report of an expression with these elapse times: its heading, and the first `asked.iterations` of its elapse
 -- times

@@ -1,10 +1,9 @@
-pub mod Parsed
 pub mod Answer
 pub mod CalendarReport
 pub mod Context
-pub mod Report
+pub mod Parsed
 pub mod Resume
-pub mod Setting
+pub mod RunReport
 pub mod TimerPlan
 pub mod TimerReport
 pub mod TimespanReport

@@ -7,7 +7,7 @@ use Rattle.cal_streams.specs.declared.whole.WholeFault.{WholeFault}
 use Rattle.cal_zone.specs.headline.InstantText.{instant_text}
 use Rattle.cal_report.specs.headline.ElapseLines.{elapse_texts, elapses_text, label_text}
 use Rattle.cal_report.specs.headline.Headline.{AreElapsesOf, Expression, IsAccepted, IsRejected, Schedule, alone, base_text, headings}
-use Rattle.cal_report.specs.Report.{base_in, report}
+use Rattle.cal_report.specs.RunReport.{base_in, report}
 use Rattle.cal_request.specs.headline.Request.{Request}
 
 -- `shown` are the elapse times that a report shows: the first `asked.iterations` after the base time

@@ -5,18 +5,17 @@ use Rattle.cal_bytes.specs.headline.Bytes.{joined}
 use Rattle.cal_streams.specs.declared.whole.WholeFault.{WholeFault}
 use Rattle.cal_streams.specs.declared.whole.WholeFault.TheVariants.{NoMemory}
 use Rattle.cal_timer.specs.TimerFault.{line_of, message_of}
-use Rattle.cal_timer.specs.TimerText.{TimerLine, Timer, timer_text}
+use Rattle.cal_timer.specs.TimerEntries.{TimerLine, Timer, timer_text}
 use Rattle.cal_timer.specs.declared.fault.TimerFault.{TimerFault}
 use Rattle.cal_spec.specs.Expr.{expr_in}
 use Rattle.cal_spec.specs.headline.Fields.{Fields}
 use Rattle.cal_plan.specs.TimerElapses.{elapses_of_lists}
 use Rattle.cal_plan.specs.ZoneFor.{unzoned}
 use Rattle.cal_report.specs.Answer.{error_line}
-use Rattle.cal_report.specs.Setting.{setting_of}
-use Rattle.cal_report.specs.headline.CalendarReport.{heading_text}
+use Rattle.cal_report.specs.Context.{setting_of}
+use Rattle.cal_report.specs.headline.ReportLines.{heading_text, except_label, original_label}
 use Rattle.cal_report.specs.headline.ElapseLines.{elapses_text}
 use Rattle.cal_request.specs.headline.Request.{Request}
-use Rattle.cal_report.specs.headline.ReportLines.{except_label, original_label}
 
 -- the error line: `FILE:LINE: MESSAGE` if the error concerns one line, and otherwise `FILE: MESSAGE`
 unfoldable pub error_line_at : List ℕ → Option ℕ → List ℕ → List ℕ

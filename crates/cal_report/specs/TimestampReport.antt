@@ -9,7 +9,7 @@ use Rattle.cal_stamp.specs.Stamp.{moment_in}
 use Rattle.cal_stamp.specs.StampFault.{message_of}
 use Rattle.cal_stamp.specs.declared.fault.StampFault.{StampFault}
 use Rattle.cal_report.specs.Answer.{Answer}
-use Rattle.cal_report.specs.Setting.{setting_of}
+use Rattle.cal_report.specs.Context.{setting_of}
 use Rattle.cal_zone.specs.headline.Moment.{micros_of, micros_per_second}
 use Rattle.cal_report.specs.headline.ReportLines.{distance_text, original_label, text_line, utc_line}
 use Rattle.cal_request.specs.headline.Request.{Request}

@@ -1,7 +1,5 @@
 -- The definitions of this crate on which its law `headline` depends. A law is the contract of a function that does
 -- nothing.
-pub mod CalendarReport
 pub mod ElapseLines
 pub mod Headline
-pub mod Report
 pub mod ReportLines

@@ -4,7 +4,7 @@
 ghost use Rattle.std.specs.Prelude.{◌≡◌, [], ◌∷◌, false};
 ghost use Rattle.cal_bytes.specs.Puts.{Puts};
 ghost use Rattle.cal_report.specs.CalendarReport.{report_of_elapses};
-ghost use Rattle.cal_report.specs.headline.CalendarReport.{heading_text, normal_line};
+ghost use Rattle.cal_report.specs.headline.ReportLines.{heading_text, normal_line};
 ghost use Rattle.cal_report.specs.Context.{asked_by};
 
 use crate::context::Context;
@@ -40,7 +40,7 @@ pub fn write_calendar<W: Sink, S: Rising>(
 }
 
 /// Writes two lines: one with `label` and the expression as it was given, and one with its normal form.
-#[tactic(auto, using(cal_bytes::proofs::PutLemmas::puts), unfolding(crate::specs::headline::CalendarReport::heading_text))]
+#[tactic(auto, using(cal_bytes::proofs::PutLemmas::puts), unfolding(crate::specs::headline::ReportLines::heading_text))]
 pub fn put_heading<W: Sink>(
     out: &mut W,
     label: &[u8],
@@ -55,7 +55,7 @@ pub fn put_heading<W: Sink>(
 }
 
 /// Writes the normal form and a line feed. [`put_text`] has already written the label of this line.
-#[tactic(auto, using(cal_bytes::proofs::PutLemmas::puts), unfolding(crate::specs::headline::CalendarReport::normal_line))]
+#[tactic(auto, using(cal_bytes::proofs::PutLemmas::puts), unfolding(crate::specs::headline::ReportLines::normal_line))]
 fn put_normal<W: Sink>(out: &mut W, expr: &Expr) -> Result<(), WriteFault>
     requires { W.is_failed out.old ≡ false }
     ensures { Puts W.Sink out.old out.new result (normal_line expr.now) }

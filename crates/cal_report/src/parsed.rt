@@ -4,7 +4,7 @@ ghost use Rattle.std.specs.Prelude.{◌≡◌, Ok, Err, IfOk, IfErr, IsErrOf};
 ghost use Rattle.cal_report.specs.Parsed.{report_text, text_error_message, verb_of};
 ghost use Rattle.cal_report.specs.CalendarReport.{calendar_answer};
 ghost use Rattle.cal_report.specs.Context.{asked_by};
-ghost use Rattle.cal_report.specs.Report.{answer_by};
+ghost use Rattle.cal_report.specs.RunReport.{answer_by};
 ghost use Rattle.cal_report.specs.declared.text_error.TextError.TheVariants.{NoMemory};
 
 use crate::context::Context;

@@ -6,7 +6,7 @@ ghost use Rattle.std.specs.Prelude.{◌≡◌, ◌≢◌, ℕ, List, Result, Ok,
 ghost use Rattle.cal_bytes.specs.Puts.{Puts};
 ghost use Rattle.cal_streams.specs.Whole.{is_read_failed};
 ghost use Rattle.cal_streams.specs.declared.whole.WholeFault.{WholeFault};
-ghost use Rattle.cal_timer.specs.TimerText.{ReadsWhole, timer_file_limit};
+ghost use Rattle.cal_timer.specs.TimerEntries.{ReadsWhole, timer_file_limit};
 ghost use Rattle.cal_timer.specs.TimerView.{shown};
 ghost use Rattle.cal_report.specs.Context.{asked_by};
 ghost use Rattle.cal_report.specs.TimerReport.{HadMemory, headings_text, lists_text, error_line_at, timer_answer};

@@ -1,6 +1,5 @@
-pub mod Request
 pub mod RequestKind
 pub mod RequestView
-pub mod RunFault
 pub mod Status
+pub mod VerbOptions
 pub mod headline

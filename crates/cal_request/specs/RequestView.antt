@@ -2,7 +2,7 @@
 use Rattle.std.specs.Prelude.{ℤ, map}
 use Rattle.std.specs.String.{string_bytes}
 use Rattle.std.specs.Option.{option_map}
-use Rattle.cal_zone.specs.headline.ZoneMap.{ZoneMap}
+use Rattle.cal_zone.specs.headline.ZoneTable.{ZoneMap}
 use Rattle.cal_zone.specs.declared.zone.Zone.{Zone}
 use Rattle.cal_request.specs.declared.request.Request as declared_request
 use Rattle.cal_request.specs.headline.Request.{Request}

@@ -1,7 +1,9 @@
--- The statuses of runs whose output could be written in full.
-use Rattle.std.specs.Prelude.{Bool, true, false}
+-- How a run ends: its status if its output could be written in full, and otherwise which of its two writers failed.
+use Rattle.std.specs.Prelude.{Bool, true, false, Result, Ok, Err}
 use Rattle.cal_request.specs.declared.request.Status.{Status}
 use Rattle.cal_request.specs.declared.request.Status.TheVariants.{Fine, Refused}
+use Rattle.cal_request.specs.declared.request.RunFault.{RunFault}
+use Rattle.cal_request.specs.declared.request.RunFault.TheVariants.{OutFailed, ErrFailed, NoMemory}
 
 abbrev pub is_fine : Status → Bool
 is_fine Fine = true
@@ -11,3 +13,17 @@ is_fine Refused = false
 abbrev pub status_and : Status → Status → Status
 status_and Fine later = later
 status_and Refused later = Refused
+
+-- whether a run ended because writing a report failed
+abbrev pub is_out_failed : {T : Type 0} → Result T RunFault → Bool
+is_out_failed (Ok ended) = false
+is_out_failed (Err OutFailed) = true
+is_out_failed (Err ErrFailed) = false
+is_out_failed (Err NoMemory) = false
+
+-- whether a run ended because writing an error line failed
+abbrev pub is_err_failed : {T : Type 0} → Result T RunFault → Bool
+is_err_failed (Ok ended) = false
+is_err_failed (Err OutFailed) = false
+is_err_failed (Err ErrFailed) = true
+is_err_failed (Err NoMemory) = false

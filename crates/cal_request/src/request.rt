@@ -1,7 +1,7 @@
 //! The types that describe a request, and how a run ends, as plain data.
 
 ghost use Rattle.std.specs.Prelude.{◌≡◌, None, false, true, vec_len};
-ghost use Rattle.cal_request.specs.Request.{IsCount, is_timer, seeks_elapses};
+ghost use Rattle.cal_request.specs.VerbOptions.{IsCount, is_timer, seeks_elapses};
 
 /// The verb of a request, which says what to report for each text or for a timer file. The verb `timer` is this
 /// project's own; systemd-analyze(1) describes the others.
@@ -19,7 +19,7 @@ pub enum Verb {
 
 impl Verb {
     ghost use Rattle.std.specs.Prelude.{◌≡◌};
-    ghost use Rattle.cal_request.specs.Request.{has_zones, is_timer, seeks_elapses};
+    ghost use Rattle.cal_request.specs.VerbOptions.{has_zones, is_timer, seeks_elapses};
 
     /// Returns whether the verb computes elapses. Only such verbs have a base time, and only runs of such verbs can
     /// fail because memory runs out.

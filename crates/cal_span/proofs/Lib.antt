@@ -4,7 +4,7 @@ pub mod SpanNumbers
 pub mod SpanPairRule
 pub mod SpanPairs
 pub mod SpanReadBack
-pub mod SpanRule
+pub mod SpanRuleLemmas
 pub mod SpanRuns
 pub mod SpanWords
 pub mod WorkedRows

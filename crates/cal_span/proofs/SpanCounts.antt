@@ -11,7 +11,7 @@ use Rattle.cal_span.specs.declared.time_unit.TimeUnit.{TimeUnit}
 use Rattle.cal_span.specs.declared.time_unit.TimeUnit.TheVariants.{Year, Month, Week, Day, Hour, Minute, Second, Millisecond, Microsecond}
 use Rattle.cal_bytes.specs.headline.Bytes.{joined}
 use Rattle.cal_span.specs.headline.TimeUnit.{size_of, all_units, unit_name}
-use Rattle.cal_span.specs.SpanText.{weight, AreReduced, AreCounts, IsSpanText}
+use Rattle.cal_span.specs.SpanTextRule.{weight, AreReduced, AreCounts, IsSpanText}
 use Rattle.cal_span.specs.headline.SpanText.{Count, count_text, counts_in_row, counts_text, positive, counts_of, units_text, span_text}
 use Rattle.std.proofs.lemmas.Bool.Decides.{nat_tests}
 

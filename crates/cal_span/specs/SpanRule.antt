@@ -5,8 +5,7 @@ use Rattle.std.specs.List.{AllByRecursion, flat_map}
 use Rattle.cal_span.specs.declared.span.fault.SpanFault.{SpanFault}
 use Rattle.cal_span.specs.declared.span.fault.SpanFault.TheVariants.{Empty, TooLarge}
 use Rattle.cal_span.specs.declared.span.word.CharKind.TheVariants.{Numeric, Letter}
-use Rattle.cal_span.specs.Span.{limit}
-use Rattle.cal_span.specs.SpanValue.{Piece, Pair, is_kind, worth_of}
+use Rattle.cal_span.specs.SpanValue.{limit, Piece, Pair, is_kind, worth_of}
 
 -- Runs
 

@@ -6,7 +6,7 @@ use Rattle.std.specs.List.{list_any, list_all, find, before_first, after_first}
 use Rattle.std.specs.Str.{bytes_eq}
 use Rattle.std.specs.Char.{digit_value, is_ascii_digit, is_ascii_alphabetic}
 use Rattle.std.specs.Str.Parse.{digits_value}
-use Rattle.cal_text.specs.headline.Words.{is_blank}
+use Rattle.cal_text.specs.headline.Separators.{is_blank, is_point}
 use Rattle.cal_span.specs.declared.time_unit.TimeUnit.{TimeUnit}
 use Rattle.cal_span.specs.declared.time_unit.TimeUnit.TheVariants.{Second}
 use Rattle.cal_span.specs.declared.span.fault.SpanFault.{SpanFault}
@@ -15,9 +15,11 @@ use Rattle.cal_span.specs.declared.span.word.CharKind.{CharKind}
 use Rattle.cal_span.specs.declared.span.word.CharKind.TheVariants.{Blank, Numeric, Letter, Other}
 use Rattle.cal_span.specs.UnitSpellings.{spellings_of}
 use Rattle.cal_span.specs.headline.TimeUnit.{size_of, all_units}
-use Rattle.cal_span.specs.Span.{limit}
-use Rattle.cal_text.specs.headline.Separators.{is_point}
 use Rattle.cal_text.specs.AndThen.{◌>>=◌}
+
+-- the longest time span, in microseconds
+abbrev pub limit : ℕ
+limit = 9223372036854775807
 
 -- Characters
 
@@ -165,3 +167,13 @@ value_of_pairs (p ∷ ps) = judged 0 (p ∷ ps)
 -- the value of a time span in microseconds, or its error
 unfoldable pub span_of : List ℕ → Result ℕ SpanFault
 span_of text = value_of_pairs (pairs_in text)
+
+-- the text of the longest prefix whose characters are all of this kind
+abbrev pub front_of : CharKind → List Piece → List ℕ
+front_of kind [] = []
+front_of kind (s ∷ ss) = if is_kind kind s.kind then s.text ++ front_of kind ss else []
+
+-- the characters after the longest prefix of this kind
+abbrev pub after_front : CharKind → List Piece → List Piece
+after_front kind [] = []
+after_front kind (s ∷ ss) = if is_kind kind s.kind then after_front kind ss else s ∷ ss

@@ -12,7 +12,7 @@ use Rattle.cal_text.specs.headline.Separators.{is_comma}
 use Rattle.cal_spec.specs.Components.{is_star, counted, room_in, part_due, parts_of, first_value_fault, parts_listed, component_of}
 use Rattle.cal_spec.specs.headline.GrammarRule.{IsNumber, IsNext, IsPartText, IsPartOf, AreListed, IsComponent}
 use Rattle.cal_spec.specs.Parts.{is_time, is_within, is_outside, is_backward, is_zero, reaches_no_further_value, fault_of}
-use Rattle.cal_spec.specs.headline.Parts.{with_values}
+use Rattle.cal_spec.specs.headline.PartValues.{with_values}
 use Rattle.cal_spec.specs.headline.Slot.{least, greatest}
 use Rattle.cal_spec.specs.headline.ValidParts.{IsWithin, IsEndWithin, EndsAfter, IsStep, GoesOn, IsValidPart}
 use Rattle.cal_spec.specs.declared.part.Part.{Part}

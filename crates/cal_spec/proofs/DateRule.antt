@@ -1,14 +1,14 @@
 -- The parser accepts exactly the dates and times that the grammar allows.
-use Rattle.std.proofs.Common.{ℕ, ◌-◌, ◌≤◌, ◌≡◌, inl, inr, Bool, true, false, cond, List, [], ◌∷◌, ◌++◌, codes, Option, Some, None, Ok, refl, sym, ap, ◌∙◌, arith}
+use Rattle.std.proofs.Common.{ℕ, ◌-◌, ◌≤◌, ◌≡◌, inl, inr, Bool, true, false, cond, List, [], ◌∷◌, ◌++◌, codes, Option, Some, None, Ok, refl, sym, ap, ◌∙◌, arith, length, ◌<◌}
 use Rattle.std.specs.Prelude.{◌==◌, filter}
-use Rattle.std.specs.List.{AllByRecursion, slice_split, join_with_byte}
+use Rattle.std.specs.List.{AllByRecursion, slice_split, join_with_byte, onto_first}
 use Rattle.std.proofs.lemmas.Bool.{or_cases, eqb-true, false≢true}
 use Rattle.std.proofs.lemmas.Bool.Decides.{nat_tests}
 use Rattle.std.proofs.lemmas.List.Splits.{join_with_byte-slice_split}
 use Rattle.cal_spec.specs.Components.{counted}
 use Rattle.cal_spec.specs.DateAndTime.{DateFields, TimeFields, is_tilde, is_date_sign, date_texts_by, time_texts_by, date_texts, time_texts, date_fields, time_fields, room_after, date_in_word, time_in_word}
 use Rattle.cal_text.specs.headline.Separators.{is_colon}
-use Rattle.cal_spec.specs.headline.DateAndTime.{DateTexts, TimeTexts}
+use Rattle.cal_spec.specs.headline.UnparsedTexts.{DateTexts, TimeTexts}
 use Rattle.cal_spec.specs.headline.Fields.{Fields, counted_parts, max_counted_parts}
 use Rattle.cal_spec.specs.headline.GrammarRule.{last_sign, IsDateShape, IsTimeShape, IsDate, IsTime, IsComponent}
 use Rattle.cal_spec.specs.headline.Slot.{day_slot}
@@ -18,7 +18,40 @@ use Rattle.cal_spec.specs.declared.slot.Slot.TheVariants.{Year, Month, Hour, Min
 use Rattle.cal_spec.specs.headline.ZoneSuffix.{ZoneSuffix}
 use Rattle.cal_spec.proofs.ComponentRule.{is_component_byte, component_found, component_only, component_bytes}
 use Rattle.cal_spec.proofs.FieldLemmas.{fields_with, date_found, time_found, counted_date, counted_time, day_no_time}
-use Rattle.cal_text.proofs.General.{filter_kept, woven, woven_whole, IsClear, Apart, clear_of, split_at, split_alone, filter_at, filter_alone}
+use Rattle.cal_text.proofs.General.{IsClear, Apart, clear_of, split_at, split_alone, some_pieces}
+
+-- if `front` has no separator and `c` is a separator, the separators of `front ++ (c ∷ rest)` are `c` and then those of
+-- `rest`
+filter_at : (p : ℕ → Bool) (front : List ℕ) (c : ℕ) (rest : List ℕ) → IsClear p front → p c ≡ true → filter p (front ++ (c ∷ rest)) ≡ c ∷ filter p rest
+filter_at p [] c rest clear is = rw is refl
+filter_at p (x ∷ xs) c rest clear is = grind (arith, filter_at p xs c rest)
+
+filter_alone : (p : ℕ → Bool) (xs : List ℕ) → IsClear p xs → filter p xs ≡ []
+filter_alone p [] clear = refl
+filter_alone p (x ∷ xs) clear = grind (arith, filter_alone p xs)
+
+-- joins pieces of a text again, with the separators between them
+abbrev woven : List ℕ → List (List ℕ) → List ℕ
+woven cs [] = []
+woven [] (t ∷ ts) = t
+woven (c ∷ cs) (t ∷ ts) = t ++ (c ∷ woven cs ts)
+
+woven_onto : (x : ℕ) (cs : List ℕ) (t : List ℕ) (ts : List (List ℕ)) → woven cs ((x ∷ t) ∷ ts) ≡ x ∷ woven cs (t ∷ ts)
+woven_onto x [] t ts = refl
+woven_onto x (c ∷ cs) t ts = refl
+
+woven_first : (x : ℕ) (cs : List ℕ) (ts : List (List ℕ)) → 0 < length ts → woven cs (onto_first x ts) ≡ x ∷ woven cs ts
+woven_first x cs [] some = absurd (omega arith)
+woven_first x cs (t ∷ ts) some = woven_onto x cs t ts
+
+-- the pieces of a text, with its separators put back between them, are the whole text
+woven_whole : (p : ℕ → Bool) (xs : List ℕ) → woven (filter p xs) (slice_split p xs) ≡ xs
+woven_whole p [] = refl
+woven_whole p (x ∷ xs) = grind (arith, woven_whole p xs, woven_first x (filter p xs) (slice_split p xs) (some_pieces p xs))
+
+filter_kept : (p : ℕ → Bool) (xs : List ℕ) → AllByRecursion (λ b. p b ≡ true) (filter p xs)
+filter_kept p [] = tt
+filter_kept p (x ∷ xs) = grind (arith, filter_kept p xs)
 
 -- Splitting a date into its components agrees with the grammar
 

@@ -6,19 +6,18 @@ use Rattle.std.proofs.lemmas.Bool.{eqb-false}
 use Rattle.std.proofs.lemmas.Bool.Decides.{nat_tests}
 use Rattle.cal_spec.specs.Components.{is_star, counted, room_in, part_due, parts_of, first_value_fault, parts_listed, component_of}
 use Rattle.cal_spec.specs.DateAndTime.{DateFields, date_texts, time_texts, date_fields, time_fields, date_due, time_due, room_after, date_in_word, time_in_word}
-use Rattle.cal_spec.specs.headline.DateAndTime.{DateTexts, TimeTexts}
+use Rattle.cal_spec.specs.headline.UnparsedTexts.{DateTexts, TimeTexts, WordRoles}
 use Rattle.cal_spec.specs.Faults.{pieces_of, numbered, first_number, shape_fault, shape_faults, value_fault, component_faults, numbered_in, date_faults, time_faults, faults_at, judgements_of}
 use Rattle.cal_spec.specs.Grammar.{max_text_bytes, fields_at, fields_due, fields_in}
 use Rattle.cal_spec.specs.Parts.{is_time, part_of}
-use Rattle.cal_spec.specs.headline.Parts.{with_values}
+use Rattle.cal_spec.specs.headline.PartValues.{with_values}
 use Rattle.cal_text.specs.AndThen.{◌>>=◌}
 use Rattle.cal_spec.specs.Reads.{unless, first_of}
 use Rattle.cal_spec.specs.headline.Slot.{day_slot}
-use Rattle.cal_spec.specs.Weekdays.{weekdays_in}
+use Rattle.cal_spec.specs.WeekdayNames.{weekdays_in}
 use Rattle.cal_spec.specs.Words.{roles_of}
-use Rattle.cal_text.specs.headline.Words.{words}
-use Rattle.cal_spec.specs.headline.Words.{WordRoles}
-use Rattle.cal_spec.specs.ZoneSuffix.{suffix_in}
+use Rattle.cal_text.specs.headline.Separators.{words}
+use Rattle.cal_spec.specs.ParsedSuffix.{suffix_in}
 use Rattle.cal_spec.specs.headline.ZoneSuffix.{ZoneSuffix}
 use Rattle.cal_spec.specs.declared.part.Part.{Part}
 use Rattle.cal_spec.specs.declared.slot.Slot.{Slot}

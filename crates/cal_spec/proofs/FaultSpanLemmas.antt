@@ -6,8 +6,8 @@ use Rattle.std.proofs.lemmas.Bool.Decides.{nat_tests}
 use Rattle.std.proofs.lemmas.List.{get_or-drop, length-take, take_all}
 use Rattle.std.proofs.lemmas.List.Sums.{prefix_len_passes, prefix_len_stops, suffix_len_is}
 use Rattle.cal_text.specs.headline.Trim.{trim_end_matches}
-use Rattle.cal_text.specs.headline.Words.{is_blank}
-use Rattle.cal_spec.specs.FaultSpan.{IsWordAt}
+use Rattle.cal_text.specs.headline.Separators.{is_blank}
+use Rattle.cal_spec.specs.WordsOfText.{IsWordAt}
 
 -- `&text[from..]` is the text without its first `from` bytes
 pub rest_from : (text : List ℕ) (from : ℕ) → take (length text - from) (drop from text) ≡ drop from text

@@ -10,11 +10,11 @@ use Rattle.jiff_core.specs.declared.civil.weekday.Weekday.{Weekday}
 use Rattle.jiff_core.specs.declared.civil.weekday.Weekday.TheVariants.{Monday, Tuesday, Wednesday, Thursday, Friday, Saturday, Sunday}
 use Rattle.jiff_core.specs.Weekday.{monday_zero}
 use Rattle.cal_civil.specs.headline.Weekday.{week}
-use Rattle.cal_text.specs.headline.Separators.{is_comma}
+use Rattle.cal_text.specs.headline.Separators.{is_comma, words}
 use Rattle.cal_spec.specs.Components.{counted, component_of}
 use Rattle.cal_spec.specs.DateAndTime.{DateFields, TimeFields, date_texts, time_texts, date_fields, time_fields, date_due, time_due, room_after, date_in_word, time_in_word}
-use Rattle.cal_spec.specs.headline.DateAndTime.{DateTexts, TimeTexts}
-use Rattle.cal_spec.specs.Fields.{fields_of}
+use Rattle.cal_spec.specs.headline.UnparsedTexts.{DateTexts, TimeTexts, WordRoles}
+use Rattle.cal_spec.specs.Views.{fields_of}
 use Rattle.cal_spec.specs.headline.Fields.{Fields, parts_in, counted_parts, max_counted_parts}
 use Rattle.cal_spec.specs.Parts.{is_time}
 use Rattle.cal_spec.specs.Grammar.{max_text_bytes, fields_at, fields_due, fields_in}
@@ -23,15 +23,13 @@ use Rattle.cal_spec.specs.Reads.{GivesUnlessNoMemory}
 use Rattle.cal_spec.specs.declared.fields.Fields as declared_fields
 use Rattle.cal_spec.specs.headline.Slot.{day_slot}
 use Rattle.cal_spec.specs.ValidFields.{IsValidFields}
-use Rattle.cal_spec.specs.Weekdays.{day_named, leading_letters, days_of, items_of, without_comma, listed_days, is_like_shorthand, weekdays_of, weekdays_in}
+use Rattle.cal_spec.specs.WeekdayNames.{day_named, leading_letters, days_of, items_of, without_comma, listed_days, is_like_shorthand, weekdays_of, weekdays_in}
 use Rattle.cal_spec.specs.headline.Weekdays.{days_until, is_in_weekday_range, set_of}
 use Rattle.cal_spec.specs.Words.{roles_of}
-use Rattle.cal_text.specs.headline.Words.{words}
-use Rattle.cal_spec.specs.headline.Words.{WordRoles}
 use Rattle.cal_civil.specs.headline.ZoneName.{is_zone_name}
-use Rattle.cal_civil.specs.OffsetWord.{offset_in}
+use Rattle.cal_civil.specs.ReadOffset.{offset_in}
 use Rattle.cal_civil.proofs.OffsetWordLemmas.{offset-minutes}
-use Rattle.cal_spec.specs.ZoneSuffix.{IsSuffixOption, suffix_due, suffix_in, suffix_of}
+use Rattle.cal_spec.specs.ParsedSuffix.{IsSuffixOption, suffix_due, suffix_in, suffix_of}
 use Rattle.cal_spec.specs.headline.ZoneSuffix.{ZoneSuffix, ahead, kept_name, of_name}
 use Rattle.cal_spec.specs.declared.part.Part.{Part}
 use Rattle.cal_spec.specs.declared.slot.Slot.{Slot}

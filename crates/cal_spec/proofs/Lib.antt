@@ -20,10 +20,10 @@ pub mod FieldLemmas
 pub mod PartRule
 pub mod ReadBackParts
 pub mod ReadLemmas
+pub mod SuffixLemmas
 pub mod SymbolLemmas
+pub mod TrailingBlanks
 pub mod WeekdayRule
 pub mod WholeRule
-pub mod SuffixLemmas
-pub mod TrailingBlanks
 pub mod WordRule
 pub mod WordsBetween

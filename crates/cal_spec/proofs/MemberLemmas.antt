@@ -10,9 +10,8 @@ use Rattle.cal_civil.specs.headline.Local.{civil_date}
 use Rattle.cal_spec.specs.headline.Fields.{Fields}
 use Rattle.cal_spec.specs.headline.Match.{date_in, day_value, matches, time_in}
 use Rattle.cal_spec.specs.headline.Members.{component_has, is_between, is_step_between, part_has, sets_of, values}
-use Rattle.cal_spec.specs.NormalForm.{AreParts, IsPart, normal_component, normal_fields, normal_parts, normal_second, part_eq, reduced, reduced_to, starred}
+use Rattle.cal_spec.specs.NormalParts.{AreParts, IsPart, normal_component, normal_fields, normal_parts, normal_second, part_eq, reduced, reduced_to, starred, in_order}
 use Rattle.cal_spec.specs.headline.NormalForm.{each, normal_from_end, part_cmp, point, range_step}
-use Rattle.cal_spec.specs.Order.{in_order}
 use Rattle.cal_rising.specs.headline.Elements.{Has}
 use Rattle.cal_spec.specs.headline.Slot.{day_slot}
 use Rattle.cal_spec.specs.headline.ValidParts.{EndsAfter, IsStep}
@@ -24,7 +23,14 @@ use Rattle.cal_spec.proofs.NormalLemmas.{part_eq_exact, part_exact, parts_from_s
 use Rattle.cal_spec.proofs.OrderLemmas.{has_in_order}
 use Rattle.std.specs.Cmp.{both_ways}
 use Rattle.cal_spec.proofs.ReducedLemmas.{last_between, last_of, last_reached}
-use Rattle.cal_text.proofs.General.{list_any-map, list_any-same}
+
+list_any-map : {A B : Type 0} (f : B → Bool) (g : A → B) (xs : List A) → list_any f (map g xs) ≡ list_any (λ x. f (g x)) xs
+list_any-map f g [] = refl
+list_any-map f g (x ∷ xs) = ap (λ b. f (g x) || b) (list_any-map f g xs)
+
+list_any-same : {A : Type 0} (f g : A → Bool) (P : A → Type 0) (xs : List A) → AllByRecursion P xs → ((x : A) → P x → f x ≡ g x) → list_any f xs ≡ list_any g xs
+list_any-same f g P [] all same = refl
+list_any-same f g P (x ∷ xs) all same = rw (same x all.0, list_any-same f g P xs all.1 same) refl
 
 -- a range from a to a contains only a
 one_number : (a v : ℕ) → nat_eq v a ≡ is_between a a v

@@ -6,7 +6,7 @@ use Rattle.cal_spec.specs.headline.ZoneSuffix.{of_name}
 use Rattle.cal_spec.specs.declared.part.Part.{Part}
 use Rattle.cal_spec.specs.headline.ExprText.{expr_text, fields_text, row_text, parts_text, part_text, number_text}
 use Rattle.cal_spec.specs.headline.Fields.{Fields}
-use Rattle.cal_spec.specs.NormalForm.{normal_fields, normal_parts, normal_second, reduced}
+use Rattle.cal_spec.specs.NormalParts.{normal_fields, normal_parts, normal_second, reduced}
 use Rattle.cal_spec.specs.headline.NormalForm.{part_cmp, point}
 use Rattle.cal_spec.specs.headline.WeekdayRuns.{weekdays_text, runs_text, run_text}
 

@@ -7,7 +7,7 @@ use Rattle.std.specs.declared.cmp.Ordering.{Ordering}
 use Rattle.cal_rising.specs.Rises.{sorted-insert_key}
 use Rattle.cal_rising.specs.headline.Elements.{Has}
 use Rattle.cal_rising.proofs.OrderLemmas.{has-insert_key}
-use Rattle.cal_spec.specs.Order.{in_order}
+use Rattle.cal_spec.specs.NormalParts.{in_order}
 
 module _ {A : Type 0} (cmp : A → A → Ordering) where
   -- the sorted list has the same elements

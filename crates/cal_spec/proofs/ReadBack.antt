@@ -7,22 +7,21 @@ use Rattle.std.proofs.lemmas.Bool.{and_parts, le-ltb, lt-ltb}
 use Rattle.std.proofs.lemmas.Bool.Decides.{nat_tests}
 use Rattle.std.proofs.lemmas.List.{append-nil}
 use Rattle.cal_bytes.specs.headline.Bytes.{joined}
-use Rattle.cal_text.specs.headline.Separators.{is_colon}
+use Rattle.cal_text.specs.headline.Separators.{is_colon, is_blank, words}
 use Rattle.cal_spec.specs.headline.ExprText.{component_text, day_lead, expr_text, fields_text, row_text, zone_text}
 use Rattle.cal_spec.specs.headline.Fields.{Fields}
 use Rattle.cal_spec.specs.Grammar.{fields_at, fields_in}
-use Rattle.cal_spec.specs.NormalForm.{normal_fields}
+use Rattle.cal_spec.specs.NormalParts.{normal_fields}
 use Rattle.cal_spec.specs.headline.Slot.{day_slot}
 use Rattle.cal_spec.specs.ValidFields.{IsValidFields}
 use Rattle.cal_spec.specs.headline.WeekdayRuns.{runs_from, runs_text}
-use Rattle.cal_spec.specs.Weekdays.{weekdays_in}
+use Rattle.cal_spec.specs.WeekdayNames.{weekdays_in}
 use Rattle.cal_spec.specs.Words.{after_weekdays, date_or_time, roles_of}
-use Rattle.cal_text.specs.headline.Words.{is_blank, words}
-use Rattle.cal_spec.specs.headline.Words.{WordRoles}
+use Rattle.cal_spec.specs.headline.UnparsedTexts.{WordRoles}
 use Rattle.cal_civil.specs.headline.ZoneName.{begins_with_letter}
-use Rattle.cal_civil.specs.OffsetWord.{begins_zone}
+use Rattle.cal_civil.specs.ReadOffset.{begins_zone}
 use Rattle.cal_civil.specs.headline.OffsetWord.{begins_with_sign, is_sign}
-use Rattle.cal_spec.specs.ZoneSuffix.{IsSuffixOption, suffix_due, suffix_in}
+use Rattle.cal_spec.specs.ParsedSuffix.{IsSuffixOption, suffix_due, suffix_in}
 use Rattle.cal_spec.specs.headline.ZoneSuffix.{ZoneSuffix, suffix_text}
 use Rattle.cal_spec.proofs.SuffixLemmas.{suffix_word, letter_some}
 use Rattle.cal_spec.specs.declared.slot.Slot.TheVariants.{Year, Month, Hour, Minute, Second}

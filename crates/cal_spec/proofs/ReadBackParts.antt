@@ -9,8 +9,8 @@ use Rattle.std.proofs.lemmas.List.{append-nil}
 use Rattle.cal_civil.specs.headline.OffsetText.{zeros}
 use Rattle.cal_spec.specs.headline.ExprText.{component_text, number_text, optional_text, part_text, parts_text}
 use Rattle.cal_spec.specs.headline.GrammarRule.{IsNumber, IsNext, IsPartText, IsPartOf, IsComponent}
-use Rattle.cal_spec.specs.headline.Parts.{with_century, with_values}
-use Rattle.cal_spec.specs.ValidComponents.{IsValidComponent}
+use Rattle.cal_spec.specs.headline.PartValues.{with_century, with_values}
+use Rattle.cal_spec.specs.ValidFields.{IsValidComponent}
 use Rattle.cal_spec.specs.headline.ValidParts.{IsEndWithin, IsValidPart}
 use Rattle.cal_spec.specs.declared.part.Part.{Part}
 use Rattle.cal_spec.specs.declared.slot.Slot.{Slot}
@@ -18,7 +18,25 @@ use Rattle.cal_spec.specs.declared.slot.Slot.TheVariants.{Year}
 use Rattle.cal_spec.proofs.ComponentRule.{component_bytes, is_component_byte}
 use Rattle.cal_spec.proofs.LengthLemmas.{AreSmall, IsBelow, IsSmall, step_small}
 use Rattle.cal_spec.proofs.NormalLemmas.{same_part}
-use Rattle.cal_text.proofs.General.{digits_all, some_front, zeros_all, zeros_value}
+use Rattle.cal_text.proofs.General.{some_front}
+use Rattle.std.proofs.lemmas.Str.Parse.{digit_from_value}
+use Rattle.std.specs.Char.{is_ascii_digit}
+use Rattle.std.specs.Str.Parse.{AllDigits, digits_value}
+use Rattle.std.proofs.lemmas.Bool.Decides.{nat_tests}
+
+-- if `AllDigits` holds for a text, each of its bytes passes the test for digits
+digits_all : (ds : List ℕ) → AllDigits 10 ds → list_all is_ascii_digit ds ≡ true
+digits_all [] h = refl
+digits_all (c ∷ cs) h = grind (arith, nat_tests, digit_from_value c h.0, digits_all cs h.1)
+
+-- leading zeros don't affect whether all bytes are digits
+zeros_all : (k : ℕ) (ds : List ℕ) → list_all is_ascii_digit (replicate k 48 ++ ds) ≡ list_all is_ascii_digit ds
+zeros_all zero ds = refl
+zeros_all (suc k) ds = zeros_all k ds
+
+zeros_value : (k : ℕ) (ds : List ℕ) → digits_value 10 (replicate k 48 ++ ds) ≡ digits_value 10 ds
+zeros_value zero ds = refl
+zeros_value (suc k) ds = zeros_value k ds
 
 -- a number padded with zeros to at least `width` digits
 abbrev pub padded : ℕ → ℕ → List ℕ

@@ -1,17 +1,40 @@
 -- Parsing printed weekdays returns the same weekdays. This is checked by computation for all sets of weekdays but the
 -- empty one.
-use Rattle.std.proofs.Common.{◌≡◌, ℕ, Bool, true, false, not, ◌&&◌, ◌||◌, if◌then◌else◌, List, length, map, Option, None, Some, is_none, Result, Ok, Err, refl, sym, ap, ◌∙◌}
+use Rattle.std.proofs.Common.{◌≡◌, ℕ, Bool, true, false, not, ◌&&◌, ◌||◌, if◌then◌else◌, List, length, map, Option, None, Some, is_none, Result, Ok, Err, refl, sym, ap, ◌∙◌, [], ◌∷◌, arith}
 use Rattle.std.specs.List.{list_all, list_any}
 use Rattle.std.proofs.lemmas.Bool.{and_parts, cond-false, cond-true, false≢true, not-true}
 use Rattle.cal_civil.specs.headline.Weekday.{name_of, week}
 use Rattle.cal_spec.specs.headline.Shorthand.{shorthand_named}
 use Rattle.cal_spec.specs.headline.WeekdayRuns.{run_text, runs_from, runs_text}
-use Rattle.cal_spec.specs.Weekdays.{day_named, days_of, listed_days, weekdays_of}
-use Rattle.cal_text.specs.headline.Words.{is_blank}
+use Rattle.cal_spec.specs.WeekdayNames.{day_named, days_of, listed_days, weekdays_of}
+use Rattle.cal_text.specs.headline.Separators.{is_blank}
 use Rattle.cal_civil.specs.headline.ZoneName.{begins_with_letter}
 use Rattle.cal_spec.specs.declared.shorthand.Shorthand.{Shorthand}
 use Rattle.cal_spec.specs.declared.spec_fault.SpecFault.{SpecFault}
-use Rattle.cal_text.proofs.General.{check_all, each_checked, same_bool, same_bools, same_bools_is}
+use Rattle.cal_text.proofs.General.{check_all, each_checked}
+
+-- tests whether two Booleans are equal; `same_bools` tests two lists of Booleans
+unfoldable same_bool : Bool → Bool → Bool
+same_bool true b = b
+same_bool false b = not b
+
+unfoldable same_bools : List Bool → List Bool → Bool
+same_bools [] [] = true
+same_bools [] (c ∷ cs) = false
+same_bools (b ∷ bs) [] = false
+same_bools (b ∷ bs) (c ∷ cs) = same_bool b c && same_bools bs cs
+
+same_bool_is : (b c : Bool) → same_bool b c ≡ true → b ≡ c
+unfolding same_bool
+same_bool_is true c h = grind arith
+same_bool_is false c h = grind arith
+
+same_bools_is : (bs cs : List Bool) → same_bools bs cs ≡ true → bs ≡ cs
+unfolding same_bools
+same_bools_is [] [] h = refl
+same_bools_is [] (c ∷ cs) h = grind arith
+same_bools_is (b ∷ bs) [] h = grind arith
+same_bools_is (b ∷ bs) (c ∷ cs) h = let parts = and_parts (same_bool b c) (same_bools bs cs) h in grind (arith, same_bool_is b c parts.0, same_bools_is bs cs parts.1)
 
 gives_days : Result (List Bool) SpecFault → List Bool → Bool
 gives_days (Ok ds) days = same_bools ds days

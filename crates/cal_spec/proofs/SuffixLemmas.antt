@@ -9,8 +9,8 @@ use Rattle.cal_civil.specs.headline.OffsetText.{offset_text}
 use Rattle.cal_civil.specs.headline.OffsetWord.{IsOffsetWord, begins_with_sign, is_sign}
 use Rattle.cal_civil.specs.headline.ZoneName.{begins_with_letter, is_zone_byte, is_zone_name}
 use Rattle.cal_civil.proofs.OffsetWordLemmas.{is_offset_byte, offset-bytes, offset-only, printed-word}
-use Rattle.cal_text.specs.headline.Words.{is_blank}
-use Rattle.cal_spec.specs.ZoneSuffix.{IsSuffix, suffix_of}
+use Rattle.cal_text.specs.headline.Separators.{is_blank}
+use Rattle.cal_spec.specs.ParsedSuffix.{IsSuffix, suffix_of}
 use Rattle.cal_spec.specs.headline.ZoneSuffix.{ZoneSuffix, ahead, of_name, suffix_text}
 use Rattle.cal_text.proofs.General.{clear_of}
 

@@ -8,9 +8,11 @@ use Rattle.std.proofs.lemmas.Bool.Decides.{nat_tests}
 use Rattle.cal_spec.specs.headline.Members.{is_between}
 use Rattle.std.proofs.lemmas.List.Sums.{prefix_len-le-length}
 use Rattle.cal_bytes.specs.headline.Bytes.{joined}
-use Rattle.cal_spec.specs.WeekdayRuns.{AreApartFrom, AreWeekdayRuns, is_in}
+use Rattle.cal_spec.specs.WeekdayRunsRule.{AreApartFrom, AreWeekdayRuns, is_in}
 use Rattle.cal_spec.specs.headline.WeekdayRuns.{Run, with_day, runs_from, run_text, runs_text, weekdays_text, text_after_first, day_name}
-use Rattle.cal_text.proofs.General.{or_assoc}
+
+or_assoc : (x y z : Bool) → ((x || y) || z) ≡ (x || (y || z))
+or_assoc x y z = grind arith
 
 run : ℕ → ℕ → Run
 run first last = record { first = first; last = last }

@@ -16,7 +16,7 @@ use Rattle.jiff_core.specs.declared.civil.weekday.Weekday.TheVariants.{Monday}
 use Rattle.cal_civil.specs.headline.Weekday.{week, name_of, short_name_of}
 use Rattle.cal_text.specs.headline.Separators.{is_comma}
 use Rattle.cal_spec.specs.headline.GrammarRule.{IsName, IsItem, AreWeekdays, HasWeekdays}
-use Rattle.cal_spec.specs.Weekdays.{day_named, is_no_letter, leading_letters, after_letters, after_joint, days_to, days_from, days_by, days_of, items_of, without_comma, listed_days, weekdays_of, weekdays_in}
+use Rattle.cal_spec.specs.WeekdayNames.{day_named, is_no_letter, leading_letters, after_letters, after_joint, days_to, days_from, days_by, days_of, items_of, without_comma, listed_days, weekdays_of, weekdays_in}
 use Rattle.cal_spec.specs.headline.Weekdays.{set_of}
 use Rattle.cal_civil.specs.headline.ZoneName.{begins_with_letter}
 use Rattle.cal_spec.specs.declared.weekdays.WeekdayRange.{WeekdayRange}

@@ -5,11 +5,11 @@ use Rattle.cal_spec.specs.DateAndTime.{DateFields, TimeFields, room_after, date_
 use Rattle.cal_spec.specs.headline.Fields.{Fields}
 use Rattle.cal_spec.specs.Grammar.{max_text_bytes, fields_at, fields_in}
 use Rattle.cal_spec.specs.headline.GrammarRule.{given, ArePlain, AreShort, IsExpression, IsValid}
-use Rattle.cal_spec.specs.Weekdays.{weekdays_in}
+use Rattle.cal_spec.specs.WeekdayNames.{weekdays_in}
 use Rattle.cal_spec.specs.Words.{roles_of}
-use Rattle.cal_text.specs.headline.Words.{words}
-use Rattle.cal_spec.specs.headline.Words.{WordRoles}
-use Rattle.cal_spec.specs.ZoneSuffix.{suffix_in}
+use Rattle.cal_text.specs.headline.Separators.{words}
+use Rattle.cal_spec.specs.headline.UnparsedTexts.{WordRoles}
+use Rattle.cal_spec.specs.ParsedSuffix.{suffix_in}
 use Rattle.cal_spec.specs.headline.ZoneSuffix.{ZoneSuffix}
 use Rattle.cal_spec.proofs.DateRule.{is_date, is_time, AreFew, are_few, date_only, time_only}
 use Rattle.cal_spec.proofs.FieldLemmas.{fields_with, text_found, valid_fields}

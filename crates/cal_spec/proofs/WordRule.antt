@@ -10,16 +10,15 @@ use Rattle.std.proofs.lemmas.Bool.Decides.{nat_tests}
 use Rattle.std.proofs.lemmas.List.{length-append}
 use Rattle.cal_spec.specs.DateAndTime.{TimeFields, time_texts, time_in_word}
 use Rattle.cal_text.specs.headline.Separators.{is_colon}
-use Rattle.cal_spec.specs.headline.DateAndTime.{TimeTexts}
+use Rattle.cal_spec.specs.headline.UnparsedTexts.{TimeTexts, WordRoles}
 use Rattle.cal_spec.specs.headline.GrammarRule.{given, ArePlain, AreShort, IsSignless, IsZoneWord}
 use Rattle.cal_spec.specs.headline.Shorthand.{any_date, midnight, expansion_of, shorthand_named}
 use Rattle.cal_spec.specs.Words.{roles_after_date, after_weekdays, date_or_time, roles_by, roles_in, roles_of}
-use Rattle.cal_spec.specs.headline.Words.{WordRoles}
 use Rattle.cal_civil.specs.headline.ZoneName.{begins_with_letter, is_zone_byte, is_zone_name}
-use Rattle.cal_civil.specs.OffsetWord.{begins_zone, offset_in}
+use Rattle.cal_civil.specs.ReadOffset.{begins_zone, offset_in}
 use Rattle.cal_civil.specs.headline.OffsetWord.{begins_with_sign}
 use Rattle.cal_civil.proofs.OffsetWordLemmas.{offset-bytes, offset-found}
-use Rattle.cal_spec.specs.ZoneSuffix.{suffix_due, suffix_in, suffix_of}
+use Rattle.cal_spec.specs.ParsedSuffix.{suffix_due, suffix_in, suffix_of}
 use Rattle.cal_spec.specs.headline.ZoneSuffix.{ZoneSuffix, ahead, kept_name, of_name}
 use Rattle.cal_spec.proofs.SuffixLemmas.{no_letter, offset_suffix}
 use Rattle.cal_spec.specs.declared.shorthand.Shorthand.{Shorthand}

@@ -6,7 +6,7 @@ use Rattle.std.specs.Str.{bytes_eq}
 use Rattle.cal_text.specs.AndThen.{◌>>=◌}
 use Rattle.cal_spec.specs.Reads.{unless, first_of}
 use Rattle.cal_spec.specs.Parts.{is_time, part_of, fault_of}
-use Rattle.cal_spec.specs.headline.Parts.{with_values}
+use Rattle.cal_spec.specs.headline.PartValues.{with_values}
 use Rattle.cal_spec.specs.declared.part.Part.{Part}
 use Rattle.cal_spec.specs.declared.slot.Slot.{Slot}
 use Rattle.cal_spec.specs.declared.spec_fault.SpecFault.{SpecFault}

@@ -9,7 +9,7 @@ use Rattle.cal_spec.specs.declared.slot.Slot.TheVariants.{Year, Month, Hour, Min
 use Rattle.cal_spec.specs.declared.spec_fault.SpecFault.{SpecFault}
 use Rattle.cal_spec.specs.declared.spec_fault.SpecFault.TheVariants.{BadDate, BadTime}
 use Rattle.cal_text.specs.headline.Separators.{is_colon}
-use Rattle.cal_spec.specs.headline.DateAndTime.{DateTexts, TimeTexts}
+use Rattle.cal_spec.specs.headline.UnparsedTexts.{DateTexts, TimeTexts}
 use Rattle.cal_spec.specs.headline.Fields.{max_counted_parts}
 
 -- the parsed components of a date, and whether the day is counted from the month's end

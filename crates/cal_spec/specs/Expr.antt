@@ -1,14 +1,16 @@
--- Valid expressions in normal form, and how a text is parsed into one: systemd.time(7), Calendar Events.
-use Rattle.std.specs.Prelude.{◌≡◌, ℕ, List, Option, Result, Ok}
+-- Valid expressions in normal form, how a text is parsed into one, and which values each of its components matches:
+-- systemd.time(7), Calendar Events. A `Field` names a component.
+use Rattle.std.specs.Prelude.{◌≡◌, ℕ, List, Option, Result, Ok, Bool}
 use Rattle.cal_spec.specs.headline.Fields.{Fields}
 use Rattle.cal_spec.specs.Grammar.{fields_in}
-use Rattle.cal_spec.specs.NormalForm.{normal_fields}
+use Rattle.cal_spec.specs.NormalParts.{normal_fields}
 use Rattle.cal_text.specs.AndThen.{◌>>=◌}
 use Rattle.cal_spec.specs.ValidFields.{IsValidFields}
 use Rattle.cal_spec.specs.declared.field.Field.{Field}
 use Rattle.cal_spec.specs.declared.field.Field.TheVariants as field
 use Rattle.cal_spec.specs.declared.part.Part.{Part}
 use Rattle.cal_spec.specs.declared.spec_fault.SpecFault.{SpecFault}
+use Rattle.cal_spec.specs.headline.Match.{Sets}
 
 -- the fields are valid and in normal form
 pub record IsExpr (f : Fields) : Type 0 where
@@ -27,3 +29,11 @@ component field.Day f = f.day
 component field.Hour f = f.hour
 component field.Minute f = f.minute
 component field.Second f = f.second
+
+abbrev pub members_of : Field → Sets → ℕ → Bool
+members_of field.Year sets = sets.year
+members_of field.Month sets = sets.month
+members_of field.Day sets = sets.day
+members_of field.Hour sets = sets.hour
+members_of field.Minute sets = sets.minute
+members_of field.Second sets = sets.second

@@ -4,19 +4,17 @@
 use Rattle.std.specs.Prelude.{ℕ, ◌+◌, ◌-◌, nat_lt, if◌then◌else◌, List, [], ◌∷◌, ◌++◌, length, map, Option, None, Some, Result, Ok, Err}
 use Rattle.std.specs.List.{slice_split}
 use Rattle.std.specs.Result.{result_err}
-use Rattle.cal_text.specs.headline.Separators.{is_comma}
+use Rattle.cal_text.specs.headline.Separators.{is_comma, words}
 use Rattle.cal_spec.specs.Components.{is_star}
 use Rattle.cal_spec.specs.DateAndTime.{date_texts, time_texts}
-use Rattle.cal_spec.specs.headline.DateAndTime.{DateTexts, TimeTexts}
+use Rattle.cal_spec.specs.headline.UnparsedTexts.{DateTexts, TimeTexts, WordRoles}
 use Rattle.cal_spec.specs.Grammar.{max_text_bytes}
 use Rattle.cal_spec.specs.Parts.{is_time, part_of, fault_of}
-use Rattle.cal_spec.specs.headline.Parts.{with_values}
+use Rattle.cal_spec.specs.headline.PartValues.{with_values}
 use Rattle.cal_spec.specs.headline.Slot.{day_slot}
-use Rattle.cal_spec.specs.Weekdays.{weekdays_in}
+use Rattle.cal_spec.specs.WeekdayNames.{weekdays_in}
 use Rattle.cal_spec.specs.Words.{roles_of}
-use Rattle.cal_text.specs.headline.Words.{words}
-use Rattle.cal_spec.specs.headline.Words.{WordRoles}
-use Rattle.cal_spec.specs.ZoneSuffix.{suffix_in}
+use Rattle.cal_spec.specs.ParsedSuffix.{suffix_in}
 use Rattle.cal_spec.specs.declared.part.Part.{Part}
 use Rattle.cal_spec.specs.declared.slot.Slot.{Slot}
 use Rattle.cal_spec.specs.declared.slot.Slot.TheVariants.{Year, Month, Hour, Minute, Second}

@@ -3,11 +3,11 @@ use Rattle.std.specs.Prelude.{ℕ, nat_lt, if◌then◌else◌, List, length, Op
 use Rattle.cal_spec.specs.DateAndTime.{date_in_word, time_in_word, room_after}
 use Rattle.cal_spec.specs.headline.Fields.{Fields}
 use Rattle.cal_text.specs.AndThen.{◌>>=◌}
-use Rattle.cal_spec.specs.Weekdays.{weekdays_in}
+use Rattle.cal_spec.specs.WeekdayNames.{weekdays_in}
 use Rattle.cal_spec.specs.Words.{roles_of}
-use Rattle.cal_text.specs.headline.Words.{words}
-use Rattle.cal_spec.specs.headline.Words.{WordRoles}
-use Rattle.cal_spec.specs.ZoneSuffix.{suffix_in}
+use Rattle.cal_text.specs.headline.Separators.{words}
+use Rattle.cal_spec.specs.headline.UnparsedTexts.{WordRoles}
+use Rattle.cal_spec.specs.ParsedSuffix.{suffix_in}
 use Rattle.cal_spec.specs.declared.spec_fault.SpecFault.{SpecFault}
 use Rattle.cal_spec.specs.declared.spec_fault.SpecFault.TheVariants.{Empty, TextTooLong}
 

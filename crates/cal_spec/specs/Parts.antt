@@ -10,7 +10,7 @@ use Rattle.cal_spec.specs.declared.slot.Slot.{Slot}
 use Rattle.cal_spec.specs.declared.slot.Slot.TheVariants.{DayFromEnd, Hour, Minute, Second}
 use Rattle.cal_spec.specs.declared.spec_fault.SpecFault.{SpecFault}
 use Rattle.cal_spec.specs.declared.spec_fault.SpecFault.TheVariants.{BadDate, BadTime, FractionalSecond, NumberTooLarge, OutOfField, BackwardRange, ZeroRepeat, NoRepeat}
-use Rattle.cal_spec.specs.headline.Parts.{most}
+use Rattle.cal_spec.specs.headline.PartValues.{most}
 use Rattle.cal_text.specs.headline.Separators.{is_point}
 
 -- Kinds of slots

@@ -1,11 +1,18 @@
--- Valid fields of an expression: systemd.time(7), Calendar Events.
-use Rattle.std.specs.Prelude.{◌≡◌, ◌≤◌, true, length}
-use Rattle.std.specs.List.{list_any}
+-- Components and fields with valid values: systemd.time(7), Calendar Events.
+use Rattle.std.specs.Prelude.{◌<◌, List, length, Option, None, Some, ◌≡◌, ◌≤◌, true}
+use Rattle.std.specs.List.{AllByRecursion, list_any}
+use Rattle.cal_spec.specs.declared.part.Part.{Part}
+use Rattle.cal_spec.specs.declared.slot.Slot.{Slot}
+use Rattle.cal_spec.specs.headline.ValidParts.{IsValidPart}
 use Rattle.cal_spec.specs.headline.Fields.{Fields, counted_parts, max_counted_parts}
 use Rattle.cal_spec.specs.headline.Slot.{day_slot}
-use Rattle.cal_spec.specs.ValidComponents.{IsValidComponent}
-use Rattle.cal_spec.specs.ZoneSuffix.{IsSuffixOption}
+use Rattle.cal_spec.specs.ParsedSuffix.{IsSuffixOption}
 use Rattle.cal_spec.specs.declared.slot.Slot.TheVariants.{Year, Month, Hour, Minute, Second}
+
+-- the values of a component are valid: the component is `*`, or it has one or more parts, all with valid values
+abbrev pub IsValidComponent : Slot → Option (List Part) → Type 0
+IsValidComponent slot None = Unit {0}
+IsValidComponent slot (Some ps) = (0 < length ps) × AllByRecursion (IsValidPart slot) ps
 
 pub record IsValidFields (f : Fields) : Type 0 where
   pub seven : length f.weekdays ≡ 7

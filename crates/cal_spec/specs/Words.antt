@@ -4,10 +4,10 @@ use Rattle.std.specs.Prelude.{ℕ, if◌then◌else◌, List, [], ◌∷◌, Opt
 use Rattle.std.specs.List.{list_any}
 use Rattle.cal_text.specs.headline.Separators.{is_colon}
 use Rattle.cal_spec.specs.headline.Shorthand.{any_date, midnight, shorthand_named, expansion_of}
-use Rattle.cal_civil.specs.OffsetWord.{begins_zone}
+use Rattle.cal_civil.specs.ReadOffset.{begins_zone}
 use Rattle.cal_civil.specs.headline.ZoneName.{begins_with_letter}
 use Rattle.cal_spec.specs.declared.shorthand.Shorthand.{Shorthand}
-use Rattle.cal_spec.specs.headline.Words.{WordRoles}
+use Rattle.cal_spec.specs.headline.UnparsedTexts.{WordRoles}
 
 -- the roles of the words after a date: if the first of them begins with a letter, `+` or `-`, it is a zone, otherwise
 -- the time

@@ -1,17 +1,16 @@
 -- The definitions of this crate that the law `headline` of cal_report depends on. A law is a statement that is proved
 -- for all arguments.
-pub mod DateAndTime
 pub mod ExprText
 pub mod Fields
 pub mod GrammarRule
 pub mod Match
 pub mod Members
 pub mod NormalForm
-pub mod Parts
+pub mod PartValues
 pub mod Shorthand
 pub mod Slot
+pub mod UnparsedTexts
 pub mod ValidParts
 pub mod WeekdayRuns
 pub mod Weekdays
-pub mod Words
 pub mod ZoneSuffix

@@ -4,7 +4,7 @@ ghost use Rattle.std.specs.Prelude.{◌≡◌, ◌≤◌, ◌∷◌, [], MatchOp
 ghost use Rattle.std.specs.List.{position, slice_split};
 ghost use Rattle.std.specs.Option.{option_map};
 ghost use Rattle.cal_spec.specs.DateAndTime.{is_date_sign, date_texts, time_texts, date_in_word, time_in_word, date_fields, time_fields, room_after};
-ghost use Rattle.cal_spec.specs.DateAndTimeViews.{date_fields_in, time_fields_in, date_texts_in, time_texts_in};
+ghost use Rattle.cal_spec.specs.Views.{date_fields_in, time_fields_in, date_texts_in, time_texts_in};
 ghost use Rattle.cal_spec.specs.Reads.{GivesUnlessNoMemory};
 ghost use Rattle.cal_spec.specs.headline.Fields.{max_counted_parts};
 

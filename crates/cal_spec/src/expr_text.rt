@@ -6,7 +6,7 @@ ghost use Rattle.cal_bytes.specs.Puts.{Puts};
 ghost use Rattle.cal_bytes.specs.headline.Bytes.{joined};
 ghost use Rattle.cal_civil.specs.headline.OffsetText.{offset_text};
 ghost use Rattle.cal_spec.specs.Expr.{component};
-ghost use Rattle.cal_spec.specs.SuffixView.{shown_suffix};
+ghost use Rattle.cal_spec.specs.Views.{shown_suffix};
 ghost use Rattle.cal_spec.specs.headline.ExprText.{component_text, day_lead, expr_text, fields_text, number_text, optional_text, part_text, parts_text, row_text, zone_text};
 
 use crate::weekday_runs::put_weekdays;

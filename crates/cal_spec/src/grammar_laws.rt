@@ -6,10 +6,10 @@ ghost use Rattle.std.specs.Result.{result_err};
 ghost use Rattle.cal_spec.specs.Faults.{judgements_of};
 ghost use Rattle.cal_spec.specs.headline.Fields.{Fields};
 ghost use Rattle.cal_spec.specs.Grammar.{fields_in};
-ghost use Rattle.cal_spec.specs.GrammarRule.{AreWords};
+ghost use Rattle.cal_spec.specs.WordsOfText.{AreWords};
 ghost use Rattle.cal_spec.specs.headline.GrammarRule.{IsValid};
 ghost use Rattle.cal_spec.specs.Reads.{first_of};
-ghost use Rattle.cal_text.specs.headline.Words.{words};
+ghost use Rattle.cal_text.specs.headline.Separators.{words};
 
 /// Parsing a text succeeds if and only if the grammar of systemd.time(7), Calendar Events, allows the text (`IsValid`).
 /// Parsing then returns the fields that the grammar gives to the text. The grammar is unambiguous: it never gives the

@@ -2,8 +2,8 @@
 
 ghost use Rattle.std.specs.Prelude.{◌≡◌, ◌<◌, false, unsigned_abs, slice_index_or};
 ghost use Rattle.jiff_core.specs.Weekday.{monday_zero};
-ghost use Rattle.cal_civil.specs.Local.{IsLocalSecond};
-ghost use Rattle.cal_spec.specs.Fields.{fields_of};
+ghost use Rattle.cal_civil.specs.LocalSecond.{IsLocalSecond};
+ghost use Rattle.cal_spec.specs.Views.{fields_of};
 ghost use Rattle.cal_spec.specs.headline.Match.{date_in, day_value, matches, time_in};
 ghost use Rattle.cal_spec.specs.headline.Members.{sets_of};
 ghost use Rattle.cal_civil.specs.headline.Local.{seconds_per_day};
@@ -25,7 +25,7 @@ pub fn has_local(fields: &Fields, local: i64) -> bool
 }
 
 /// Returns whether the fields match the date and its weekday.
-#[tactic(auto, unfolding(crate::specs::headline::Match::date_in, crate::specs::headline::Members::sets_of, crate::specs::Fields::fields_of))]
+#[tactic(auto, unfolding(crate::specs::headline::Match::date_in, crate::specs::headline::Members::sets_of, crate::specs::Views::fields_of))]
 fn has_date(fields: &Fields, date: Date) -> bool
     ensures { result ≡ date_in (sets_of (fields_of fields.now)) date }
 {
@@ -43,7 +43,7 @@ fn has_weekday(weekdays: &[bool; 7], weekday: Weekday) -> bool
 }
 
 /// Returns whether the fields match the time of day that is `second` seconds after midnight.
-#[tactic(auto, unfolding(crate::specs::headline::Match::time_in, crate::specs::headline::Members::sets_of, crate::specs::Fields::fields_of))]
+#[tactic(auto, unfolding(crate::specs::headline::Match::time_in, crate::specs::headline::Members::sets_of, crate::specs::Views::fields_of))]
 fn has_time(fields: &Fields, second: u32) -> bool
     requires { second < seconds_per_day }
     ensures { result ≡ time_in (sets_of (fields_of fields.now)) second }

@@ -3,7 +3,7 @@
 ghost use Rattle.std.specs.Prelude.{◌≡◌};
 ghost use Rattle.std.specs.Option.{option_map};
 ghost use Rattle.cal_spec.specs.Parts.{symbols, starts_with_point, bad, is_time, number_due, with_step, after_end, after_start, part_of, is_within, is_outside, is_backward, is_zero, reaches_no_further_value, fault_of};
-ghost use Rattle.cal_spec.specs.headline.Parts.{with_century, with_values};
+ghost use Rattle.cal_spec.specs.headline.PartValues.{with_century, with_values};
 ghost use Rattle.cal_spec.specs.Reads.{Gives};
 
 use crate::numbers::{Symbol, first_symbol, value_of};

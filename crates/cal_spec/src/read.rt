@@ -3,12 +3,11 @@
 ghost use Rattle.std.specs.Prelude.{◌≡◌, IfOk};
 ghost use Rattle.std.specs.Option.{option_copied};
 ghost use Rattle.cal_spec.specs.Expr.{expr_in};
-ghost use Rattle.cal_spec.specs.Fields.{fields_of};
+ghost use Rattle.cal_spec.specs.Views.{fields_of, shown_word_roles};
 ghost use Rattle.cal_spec.specs.Grammar.{fields_at, fields_in};
-ghost use Rattle.cal_spec.specs.WordRolesView.{shown_word_roles};
 ghost use Rattle.cal_spec.specs.Reads.{GivesUnlessNoMemory};
 ghost use Rattle.cal_spec.specs.ValidFields.{IsValidFields};
-ghost use Rattle.cal_spec.specs.Weekdays.{weekdays_in};
+ghost use Rattle.cal_spec.specs.WeekdayNames.{weekdays_in};
 
 use crate::date_and_time::{read_date, read_time, room_after};
 use crate::fields::Fields;
@@ -55,7 +54,7 @@ fn read_fields(alloc: Global, text: &str) -> Result<Fields, SpecFault>
 }
 
 /// Parses the weekdays, date, time and zone, in this order. Fails with the first error.
-#[tactic(auto, unfolding(crate::specs::Grammar::fields_at, crate::specs::Fields::fields_of))]
+#[tactic(auto, unfolding(crate::specs::Grammar::fields_at, crate::specs::Views::fields_of))]
 fn read_roles(alloc: Global, roles: WordRoles<'_>) -> Result<Fields, SpecFault>
     ensures { GivesUnlessNoMemory fields_of result (fields_at (shown_word_roles roles.entry)) }
 {

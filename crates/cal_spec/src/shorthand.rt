@@ -4,7 +4,7 @@ ghost use Rattle.std.specs.Prelude.{◌≡◌, map};
 ghost use Rattle.std.specs.List.{find, list_any};
 ghost use Rattle.std.specs.Str.{str_eq_ignore_ascii_case};
 ghost use Rattle.cal_spec.specs.headline.Shorthand.{dates, times, names_of, expansion_of, shorthand_named};
-ghost use Rattle.cal_spec.specs.ShorthandViews.{shown_expansion};
+ghost use Rattle.cal_spec.specs.Views.{shown_expansion};
 
 use crate::same_word::is_same_word;
 

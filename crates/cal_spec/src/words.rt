@@ -3,9 +3,9 @@
 
 ghost use Rattle.std.specs.Prelude.{◌≡◌};
 ghost use Rattle.std.specs.Option.{option_copied, option_map};
-ghost use Rattle.cal_spec.specs.WordRolesView.{shown_word_roles};
+ghost use Rattle.cal_spec.specs.Views.{shown_word_roles};
 ghost use Rattle.cal_spec.specs.Words.{roles_after_date, after_weekdays, date_or_time, roles_of};
-ghost use Rattle.cal_text.specs.headline.Words.{words};
+ghost use Rattle.cal_text.specs.headline.Separators.{words};
 
 use crate::shorthand::{ANY_DATE, MIDNIGHT, find_shorthand};
 use cal_civil::{begins_with_letter, begins_zone};

@@ -1,11 +1,11 @@
-pub mod StampCivilRule
+mod StampRows
+pub mod StampCivilRuleLemmas
 pub mod StampCounted
-pub mod StampFaultRule
+pub mod StampFaultRuleLemmas
 pub mod StampFaults
 pub mod StampLemmas
-pub mod StampMomentRule
-pub mod StampPrinted
+pub mod StampMomentRuleLemmas
+pub mod StampPrintedLemmas
 pub mod StampPrintedTexts
 pub mod StampPrintedZones
-mod StampRows
-pub mod StampRule
+pub mod StampRuleLemmas

@@ -8,7 +8,7 @@ use Rattle.cal_span.proofs.SpanReadBack.{span_of-decimal}
 use Rattle.cal_text.proofs.General.{all_reverse}
 use Rattle.cal_text.proofs.TrimLemmas.{trim_only}
 use Rattle.cal_text.specs.TrimRule.{IsTrimmed, StartsSolid}
-use Rattle.cal_text.specs.headline.Words.{is_blank}
+use Rattle.cal_text.specs.headline.Separators.{is_blank}
 use Rattle.cal_zone.specs.Instant.{IsInstant}
 use Rattle.cal_zone.specs.headline.Moment.{micros_of}
 use Rattle.cal_zone.specs.Setting.{Setting}

@@ -6,10 +6,10 @@ use Rattle.std.proofs.lemmas.Bool.{cases_Bool}
 use Rattle.jiff.specs.Types.{TimeZone, Weekday}
 use Rattle.cal_span.specs.declared.span.fault.SpanFault.{SpanFault}
 use Rattle.cal_span.specs.SpanValue.{span_of}
-use Rattle.cal_civil.specs.OffsetWord.{offset_in}
+use Rattle.cal_civil.specs.ReadOffset.{offset_in}
 use Rattle.cal_civil.specs.headline.ZoneName.{begins_with_letter}
 use Rattle.cal_text.specs.headline.Separators.{is_colon}
-use Rattle.cal_spec.specs.Weekdays.{day_named}
+use Rattle.cal_spec.specs.WeekdayNames.{day_named}
 use Rattle.cal_text.specs.AndThen.{◌>>=◌}
 use Rattle.cal_zone.specs.Setting.{Setting}
 use Rattle.cal_stamp.specs.Stamp.{CivilStamp, in_moments, after_second, before_second, settle_on, today, name_found, offset_found, zone_of_word, zone_alone, zone_by_words, civil_stamp_in, begins_with_digit, after_date, after_weekday, weekday_found, civil_time, moment_of_civil_stamp, moment_of_form, moment_in}

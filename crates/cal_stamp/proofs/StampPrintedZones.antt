@@ -16,19 +16,18 @@ use Rattle.cal_zone.proofs.PlaceLemmas.{settle_of-UTC, settle_of-fixed_zone, loc
 use Rattle.cal_zone.proofs.ZoneLemmas.{offset_at-in_range}
 use Rattle.cal_civil.specs.headline.OffsetText.{offset_text, sign_text, zeros}
 use Rattle.cal_zone.specs.headline.InstantText.{zone_word}
-use Rattle.cal_civil.specs.OffsetWord.{AreWholeMinutes, offset_in}
+use Rattle.cal_civil.specs.ReadOffset.{AreWholeMinutes, offset_in}
 use Rattle.cal_civil.specs.headline.OffsetWord.{IsOffsetWord}
 use Rattle.cal_zone.specs.headline.Place.{settle_of}
 use Rattle.cal_zone.specs.headline.Zone.{is_utc, is_utc_kind, local_shown_at, zone_of, zone_of_kind}
 use Rattle.cal_zone.specs.headline.FixedOffsetZone.{offset_of_seconds, fixed_offset_zone}
-use Rattle.cal_zone.specs.headline.ZoneMap.{ZoneMap}
+use Rattle.cal_zone.specs.headline.ZoneTable.{ZoneMap, zone_named}
 use Rattle.cal_civil.specs.headline.ZoneName.{begins_with_letter, is_utc_name}
-use Rattle.cal_zone.specs.headline.ZoneTable.{zone_named}
 use Rattle.cal_zone.specs.declared.zone.Zone.{Zone}
 use Rattle.cal_zone.specs.declared.zone.ZoneKind.{ZoneKind}
 use Rattle.cal_zone.specs.declared.zone.ZoneKind.TheVariants.{Utc}
-use Rattle.cal_spec.specs.GrammarRule.{IsWord}
-use Rattle.cal_text.specs.headline.Words.{is_blank}
+use Rattle.cal_spec.specs.WordsOfText.{IsWord}
+use Rattle.cal_text.specs.headline.Separators.{is_blank}
 use Rattle.cal_stamp.specs.Stamp.{zone_of_word}
 use Rattle.cal_stamp.specs.declared.fault.StampFault.TheVariants.{StrayWord}
 

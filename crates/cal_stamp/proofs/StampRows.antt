@@ -8,7 +8,7 @@ use Rattle.jiff_core.proofs.CalendarLemmas.{days_from_civil-day_count}
 use Rattle.jiff_core.proofs.MarchLemmas.{day_count-late}
 use Rattle.jiff_core.specs.Calendar.{days_from_civil, weekday_number}
 use Rattle.cal_span.specs.declared.span.fault.SpanFault.TheVariants.{BadNumber, UnknownUnit, Empty as NoPair}
-use Rattle.cal_civil.specs.OffsetWord.{hour_minute_in, offset_in, two_digits}
+use Rattle.cal_civil.specs.ReadOffset.{hour_minute_in, offset_in, two_digits}
 use Rattle.cal_zone.specs.headline.Place.{datetime_of, settle_of}
 use Rattle.cal_span.specs.UnitSpellings.{spellings_of}
 use Rattle.cal_span.specs.SpanValue.{span_of, pairs_in, words_in, worth_of, is_number, number_worth, unit_named}
@@ -16,9 +16,9 @@ use Rattle.cal_civil.specs.headline.Weekday.{name_of}
 use Rattle.cal_zone.specs.headline.Zone.{local_shown_at}
 use Rattle.cal_zone.specs.headline.FixedOffsetZone.{offset_of_seconds, fixed_offset_zone}
 use Rattle.cal_civil.specs.headline.ZoneName.{is_utc_name}
-use Rattle.cal_spec.specs.Weekdays.{day_named}
+use Rattle.cal_spec.specs.WeekdayNames.{day_named}
 use Rattle.cal_text.specs.headline.Trim.{trim_matches, trim_end_matches, trim_start_matches}
-use Rattle.cal_text.specs.headline.Words.{words}
+use Rattle.cal_text.specs.headline.Separators.{words}
 use Rattle.cal_zone.specs.Setting.{Setting}
 use Rattle.cal_stamp.specs.Stamp.{moment_in, in_moments, today, settle_on, moment_of_civil_stamp, zone_by_words}
 use Rattle.cal_stamp.specs.StampDate.{digits_number, date_numbers, day_of_date, day_written}

@@ -10,7 +10,7 @@ use Rattle.jiff_core.specs.Weekday.{monday_zero}
 use Rattle.cal_span.specs.declared.span.fault.SpanFault.{SpanFault}
 use Rattle.cal_zone.specs.Instant.{last_moment}
 use Rattle.cal_civil.specs.headline.Local.{day_of, seconds_per_day}
-use Rattle.cal_civil.specs.OffsetWord.{offset_in}
+use Rattle.cal_civil.specs.ReadOffset.{offset_in}
 use Rattle.cal_zone.specs.headline.Place.{settle_of}
 use Rattle.cal_span.specs.SpanValue.{span_of}
 use Rattle.cal_zone.specs.headline.Zone.{local_shown_at}
@@ -18,7 +18,7 @@ use Rattle.cal_zone.specs.Setting.{Setting}
 use Rattle.cal_zone.specs.headline.FixedOffsetZone.{fixed_offset_zone}
 use Rattle.cal_civil.specs.headline.ZoneName.{begins_with_letter}
 use Rattle.cal_text.specs.headline.Separators.{is_colon}
-use Rattle.cal_spec.specs.Weekdays.{day_named}
+use Rattle.cal_spec.specs.WeekdayNames.{day_named}
 use Rattle.cal_stamp.specs.StampForm.{Form, nothing, present, later, earlier, counted, from_today, civil, form_of}
 use Rattle.cal_stamp.specs.StampDate.{day_written}
 use Rattle.cal_stamp.specs.StampTime.{time_written}

@@ -6,7 +6,7 @@ use Rattle.jiff.specs.Types.{TimeZone, Weekday}
 use Rattle.cal_civil.specs.headline.OffsetWord.{IsOffsetWord}
 use Rattle.cal_zone.specs.headline.FixedOffsetZone.{fixed_offset_zone}
 use Rattle.cal_civil.specs.headline.ZoneName.{begins_with_letter}
-use Rattle.cal_spec.specs.Weekdays.{day_named}
+use Rattle.cal_spec.specs.WeekdayNames.{day_named}
 use Rattle.cal_zone.specs.Setting.{Setting}
 use Rattle.cal_stamp.specs.Stamp.{CivilStamp}
 use Rattle.cal_stamp.specs.StampDate.{day_written}

@@ -13,7 +13,7 @@ use Rattle.cal_zone.specs.Instant.{IsMoment}
 use Rattle.cal_civil.specs.headline.OffsetWord.{IsOffsetWord}
 use Rattle.cal_civil.specs.headline.ZoneName.{begins_with_letter}
 use Rattle.cal_text.specs.headline.Separators.{is_colon}
-use Rattle.cal_spec.specs.Weekdays.{day_named}
+use Rattle.cal_spec.specs.WeekdayNames.{day_named}
 use Rattle.cal_zone.specs.Setting.{Setting}
 use Rattle.cal_stamp.specs.Stamp.{CivilStamp, begins_with_digit}
 use Rattle.cal_stamp.specs.StampCivilRule.{IsCivilTime, NamesWeekday, NamesZone, WritesDate, WritesTime}

@@ -3,7 +3,7 @@ use Rattle.std.specs.Prelude.{ℕ, ◌==◌, ◌&&◌, if◌then◌else◌, ℤ,
 use Rattle.std.specs.List.{list_any, before_last, after_last}
 use Rattle.std.specs.Str.{bytes_eq}
 use Rattle.cal_text.specs.headline.Trim.{trim_matches}
-use Rattle.cal_text.specs.headline.Words.{is_blank, words}
+use Rattle.cal_text.specs.headline.Separators.{is_blank, words}
 
 -- The forms of a timestamp: nothing; the present; the present plus a time span; the present minus a time span;
 -- 1970-01-01 00:00:00 UTC plus a time span; the midnight at which a day begins; and a civil time. `from_today` has the

@@ -4,7 +4,7 @@
 -- blanks.
 use Rattle.std.specs.Prelude.{ℕ, ◌≡◌, ◌⊎◌, true, ℤ, pos, neg_ℤ, List, [], ◌∷◌, ◌++◌, codes}
 use Rattle.cal_text.specs.TrimRule.{IsTrimmed}
-use Rattle.cal_text.specs.headline.Words.{is_blank, words}
+use Rattle.cal_text.specs.headline.Separators.{is_blank, words}
 use Rattle.cal_stamp.specs.StampForm.{Form, nothing, present, later, earlier, counted, from_today, civil}
 
 -- form 1: an empty text

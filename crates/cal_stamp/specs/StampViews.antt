@@ -6,7 +6,7 @@ use Rattle.cal_zone.specs.declared.moment.Moment.{Moment}
 use Rattle.cal_zone.specs.declared.zone.Zone.{Zone}
 use Rattle.cal_zone.specs.headline.Zone.{zone_of}
 use Rattle.cal_zone.specs.Setting.{Setting}
-use Rattle.cal_text.specs.headline.Words.{words}
+use Rattle.cal_text.specs.headline.Separators.{words}
 use Rattle.cal_stamp.specs.Stamp as meaning
 use Rattle.cal_stamp.specs.StampForm as forms
 use Rattle.cal_stamp.specs.declared.fault.StampFault.{StampFault}

@@ -4,8 +4,7 @@ ghost use Rattle.std.specs.Prelude.{◌≡◌, ◌≤◌, pos, neg_ℤ, IfOk, If
 ghost use Rattle.std.specs.List.{list_any};
 ghost use Rattle.jiff.specs.Words.{IsBetween};
 ghost use Rattle.cal_zone.specs.Setting.{setting_seen};
-ghost use Rattle.cal_text.specs.headline.Separators.{is_colon};
-ghost use Rattle.cal_text.specs.headline.Words.{words};
+ghost use Rattle.cal_text.specs.headline.Separators.{is_colon, words};
 ghost use Rattle.cal_stamp.specs.Stamp.{begins_with_digit, after_date, after_weekday, civil_time, fits_weekday, moment_of_civil_stamp, civil_stamp_in};
 ghost use Rattle.cal_stamp.specs.StampViews.{micros_or_fault, civil_stamp_seen, civil_stamp_or_fault};
 ghost use Rattle.cal_civil.specs.headline.Local.{last_day};

@@ -4,7 +4,7 @@ ghost use Rattle.std.specs.Prelude.{◌≡◌};
 ghost use Rattle.cal_zone.specs.Setting.{setting_seen};
 ghost use Rattle.cal_zone.specs.headline.Zone.{zone_of};
 ghost use Rattle.cal_zone.specs.headline.ZoneTable.{zone_named};
-ghost use Rattle.cal_text.specs.headline.Words.{words};
+ghost use Rattle.cal_text.specs.headline.Separators.{words};
 ghost use Rattle.cal_stamp.specs.Stamp.{zone_by_words, zone_of_word};
 ghost use Rattle.cal_stamp.specs.StampViews.{zone_or_fault};
 

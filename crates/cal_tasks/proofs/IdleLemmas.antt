@@ -4,7 +4,7 @@ use Rattle.std.specs.Prelude.{filter}
 use Rattle.std.proofs.lemmas.List.{map-append}
 use Rattle.std.proofs.lemmas.List.Elements.{filter-append}
 use Rattle.cal_spec.specs.headline.Fields.{Fields}
-use Rattle.cal_timer.specs.TimerText.{TimerLine, Timer}
+use Rattle.cal_timer.specs.TimerEntries.{TimerLine, Timer}
 use Rattle.cal_timer.specs.TimerView.{shown}
 use Rattle.cal_timer.specs.declared.timer.TimerLine as declared_line
 use Rattle.cal_zone.specs.Setting.{Setting}

@@ -2,14 +2,14 @@
 use Rattle.std.specs.Prelude.{◌≡◌, ℕ, ◌++◌, true, List, None, Some, ℤ, ◌<ℤ◌, unsigned_abs}
 use Rattle.std.specs.List.{All, Contains}
 use Rattle.jiff.specs.Types.{TimeZone}
-use Rattle.cal_civil.specs.Local.{IsLocalSecond}
+use Rattle.cal_civil.specs.LocalSecond.{IsLocalSecond}
 use Rattle.cal_zone.specs.Setting.{Setting}
 use Rattle.cal_zone.specs.headline.Place.{place_of}
 use Rattle.cal_zone.specs.headline.Zone.{local_shown_at}
 use Rattle.cal_spec.specs.headline.Fields.{Fields}
 use Rattle.cal_spec.specs.headline.Match.{Sets, matches}
 use Rattle.cal_spec.specs.headline.Members.{sets_of}
-use Rattle.cal_timer.specs.TimerText.{TimerLine}
+use Rattle.cal_timer.specs.TimerEntries.{TimerLine}
 use Rattle.cal_plan.specs.ZoneFor.{zone_for}
 use Rattle.cal_tasks.specs.declared.clock_note.ClockChange.{ClockChange}
 use Rattle.cal_tasks.specs.declared.clock_note.ClockChange.TheVariants.{Skipped, Repeated}

@@ -6,8 +6,8 @@ use Rattle.std.specs.Ordering.{int_eq}
 use Rattle.std.specs.Set.{is_member}
 use Rattle.cal_zone.specs.Setting.{Setting}
 use Rattle.cal_spec.specs.headline.Fields.{Fields}
-use Rattle.cal_elapse.specs.Elapses.{elapses_after}
-use Rattle.cal_timer.specs.TimerText.{TimerLine, Timer}
+use Rattle.cal_elapse.specs.ElapsesAfter.{elapses_after}
+use Rattle.cal_timer.specs.TimerEntries.{TimerLine, Timer}
 use Rattle.cal_plan.specs.TimerElapses.{elapses_of_lists, timed_entry}
 use Rattle.cal_tasks.specs.declared.idle.IdleKind.{IdleKind}
 use Rattle.cal_tasks.specs.declared.idle.IdleKind.TheVariants.{NeverElapses, SuppressesNothing}

@@ -8,7 +8,7 @@ use Rattle.cal_load.specs.Loaded.{exceptions_in, expressions_in}
 use Rattle.cal_load.specs.declared.calendar.Calendar.{Calendar}
 use Rattle.cal_load.specs.declared.loaded.LoadedTimer.{LoadedTimer}
 use Rattle.cal_spec.specs.headline.Fields.{Fields}
-use Rattle.cal_timer.specs.TimerText.{Timer}
+use Rattle.cal_timer.specs.TimerEntries.{Timer}
 use Rattle.cal_plan.specs.TimerElapses.{elapses_of_lists}
 use Rattle.cal_plan.specs.ZoneFor.{unzoned}
 use Rattle.cal_tasks.specs.declared.clocked.Clocked.{Clocked}

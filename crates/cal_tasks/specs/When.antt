@@ -9,12 +9,12 @@ use Rattle.cal_zone.specs.headline.Moment.{micros_per_second}
 use Rattle.cal_zone.specs.headline.Zone.{zone_of}
 use Rattle.cal_zone.specs.headline.ZoneTable.{zone_named}
 use Rattle.cal_spec.specs.Expr.{expr_in}
-use Rattle.cal_spec.specs.Weekdays.{day_named, leading_letters}
+use Rattle.cal_spec.specs.WeekdayNames.{day_named, leading_letters}
 use Rattle.cal_spec.specs.declared.spec_fault.SpecFault.{SpecFault}
 use Rattle.cal_spec.specs.headline.Fields.{Fields}
-use Rattle.cal_text.specs.headline.Words.{words}
-use Rattle.cal_elapse.specs.Elapses.{elapses_after}
-use Rattle.cal_elapse.specs.headline.Timed.{timed}
+use Rattle.cal_text.specs.headline.Separators.{words}
+use Rattle.cal_elapse.specs.ElapsesAfter.{elapses_after}
+use Rattle.cal_elapse.specs.headline.Elapses.{timed}
 use Rattle.cal_plan.specs.ZoneFor.{zone_for}
 use Rattle.cal_stamp.specs.Stamp.{moment_in}
 use Rattle.cal_stamp.specs.declared.fault.StampFault.{StampFault}

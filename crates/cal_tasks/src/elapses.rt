@@ -2,7 +2,7 @@
 
 ghost use Rattle.std.specs.Prelude.{◌≡◌, ◌≢◌, IfOk, MatchResult, take};
 ghost use Rattle.cal_zone.specs.Setting.{setting_seen};
-ghost use Rattle.cal_plan.specs.PlanFault.{IsUnzoned};
+ghost use Rattle.cal_plan.specs.ZoneFor.{IsUnzoned};
 ghost use Rattle.cal_plan.specs.TimerElapses.{IsMergeOf};
 ghost use Rattle.cal_plan.specs.declared.plan_fault.PlanFault.TheVariants.{NoMemory};
 ghost use Rattle.cal_tasks.specs.LoadedElapses.{elapses_in, lists_of_loaded, setting_for, unzoned_line};

@@ -7,7 +7,7 @@ ghost use Rattle.std.specs.Option.{option_or};
 ghost use Rattle.cal_rising.specs.Merge.{merged};
 ghost use Rattle.cal_compare.specs.Difference.{IsDifference, first_only_in};
 ghost use Rattle.cal_compare.specs.SeveralTimers.{by_instant, ended, next_of_each, range_of_each};
-ghost use Rattle.cal_plan.specs.PlanFault.{IsUnzoned};
+ghost use Rattle.cal_plan.specs.ZoneFor.{IsUnzoned};
 ghost use Rattle.cal_plan.specs.declared.plan_fault.PlanFault.TheVariants.{NoMemory};
 ghost use Rattle.cal_tasks.specs.LoadedElapses.{elapses_in, first_unzoned_line, unzoned_line};
 

@@ -3,7 +3,7 @@
 ghost use Rattle.std.specs.Prelude.{◌≡◌, ◌≤◌, ◌≤ℤ◌, pos, IfOk, IfSome, OnOk, Some, length, map, true};
 ghost use Rattle.cal_civil.specs.headline.Local.{seconds_in_all};
 ghost use Rattle.std.specs.List.{All};
-ghost use Rattle.cal_civil.specs.Local.{IsLocalSecond};
+ghost use Rattle.cal_civil.specs.LocalSecond.{IsLocalSecond};
 ghost use Rattle.cal_elapse.specs.Masks.{sets_in};
 ghost use Rattle.cal_timer.specs.TimerView.{shown};
 ghost use Rattle.cal_zone.specs.Setting.{setting_seen};

@@ -3,8 +3,8 @@
 ghost use Rattle.std.specs.Prelude.{◌≡◌, IfOk, ◌≤◌, length, option_map};
 ghost use Rattle.std.specs.List.{position_or_len};
 ghost use Rattle.cal_zone.specs.Setting.{setting_seen};
-ghost use Rattle.cal_spec.specs.Weekdays.{is_no_letter, leading_letters};
-ghost use Rattle.cal_text.specs.headline.Words.{words};
+ghost use Rattle.cal_spec.specs.WeekdayNames.{is_no_letter, leading_letters};
+ghost use Rattle.cal_text.specs.headline.Separators.{words};
 ghost use Rattle.cal_tasks.specs.When.{IsUnlessNoMemory, begin_with_weekday, fields_unless_dated, first_elapse, first_if_some, has_date, instant_in, next_weekday_time, setting_without_names, weekday_time_in};
 
 use crate::clocked::Clocked;

@@ -1,12 +1,22 @@
 -- The results of `trim_start_matches` and `trim_matches` satisfy the relations of `TrimRule`, and no other texts do.
-use Rattle.std.proofs.Common.{◌≡◌, ℕ, Bool, true, false, List, [], ◌∷◌, ◌++◌, reverse, refl, sym, subst, ap, ◌∙◌, append-nil}
+use Rattle.std.proofs.Common.{◌≡◌, ℕ, Bool, true, false, List, [], ◌∷◌, ◌++◌, reverse, refl, sym, subst, ap, ◌∙◌, append-nil, arith, drop, length, length-drop, take, ◌-◌, ◌≤◌}
 use Rattle.std.specs.List.{AllByRecursion, suffix_len}
 use Rattle.std.proofs.Math.Numerals.{one-add}
-use Rattle.std.proofs.lemmas.List.{reverse-append, reverse-reverse}
+use Rattle.std.proofs.lemmas.List.{reverse-append, reverse-reverse, length-reverse, take-append-drop}
 use Rattle.std.proofs.lemmas.List.Sums.{suffix_len-le-length}
 use Rattle.cal_text.specs.TrimRule.{StartsSolid, IsTrimmed, IsUnindented}
 use Rattle.cal_text.specs.headline.Trim.{trim_matches, trim_end_matches, trim_start_matches}
-use Rattle.cal_text.proofs.General.{all_append, all_reverse, take_front}
+use Rattle.cal_text.proofs.General.{all_append, all_reverse}
+use Rattle.std.proofs.Math.Seq.{take-append_seam}
+
+-- a list without its last `n` items is the reversed list without its first `n` items, reversed again
+take_front : (text : List ℕ) (n : ℕ) → n ≤ length text → take (length text - n) text ≡ reverse (drop n (reverse text))
+take_front text n h =
+    let back = reverse text in
+    let parts : text ≡ reverse (drop n back) ++ reverse (take n back) =
+    sym (reverse-reverse text) ∙ (ap reverse (sym (take-append-drop n back)) ∙ reverse-append (take n back) (drop n back)) in
+    let long : length text - n ≡ length (reverse (drop n back)) = simp (length-reverse, length-drop) (omega arith) in
+    ap (take (length text - n)) parts ∙ (ap (λ k. take k (reverse (drop n back) ++ reverse (take n back))) long ∙ take-append_seam (reverse (drop n back)) (reverse (take n back)))
 
 -- if `trim_start_matches` removes exactly the leading blanks from `bs`, it also removes exactly the leading blanks from
 -- `b ∷ bs`

@@ -4,14 +4,24 @@ use Rattle.std.specs.Str.{IsUtf8, IsCharBoundary}
 use Rattle.std.specs.List.{list_any, prefix_len, suffix_len, position_or_len}
 use Rattle.std.proofs.lemmas.Bool.{cases_lt, lt-ltb, not-true, not-false}
 use Rattle.std.proofs.lemmas.Bool.Decides.{nat_tests}
-use Rattle.std.proofs.lemmas.List.{get_or-drop, length-take, take_all, drop_all}
+use Rattle.std.proofs.lemmas.List.{get_or-drop, length-take, take_all, drop_all, get_or-reverse, length-reverse}
 use Rattle.std.proofs.lemmas.List.Folds.{list_any_at, list_any_none}
 use Rattle.std.proofs.lemmas.List.Sums.{prefix_len_passes, prefix_len_stops, prefix_len-le-length}
 use Rattle.std.proofs.lemmas.List.Splits.{slice_split_first, slice_split_none}
 use Rattle.std.proofs.lemmas.Str.{IsCharBoundary-end, IsCharBoundary-before_ascii, IsCharBoundary-after_ascii}
-use Rattle.cal_text.specs.headline.Words.{is_blank, words}
+use Rattle.cal_text.specs.headline.Separators.{is_blank, words}
 use Rattle.cal_text.specs.headline.Trim.{trim_start_matches}
-use Rattle.cal_text.proofs.General.{before_suffix, boundary_at, in_suffix}
+use Rattle.cal_text.proofs.General.{boundary_at, in_suffix}
+use Rattle.std.specs.Prelude.{reverse}
+
+-- The next two lemmas are about the longest suffix whose bytes all pass `p`: the byte before this suffix doesn't pass,
+-- and each byte of the suffix does.
+before_suffix : (p : ℕ → Bool) (text : List ℕ) → suffix_len p text < length text → p (get_or text (length text - suffix_len p text - 1) 0) ≡ false
+before_suffix p text within =
+    let n = suffix_len p text in
+    let there : n < length (reverse text) = omega (arith, length-reverse text) in
+    let here : length text - 1 - n ≡ length text - n - 1 = omega arith in
+    rw (← here, ← get_or-reverse text n 0 within) (prefix_len_stops p (reverse text) 0 there)
 
 -- blanks are ASCII, so each is a single byte
 pub blank_ascii : (b : ℕ) → is_blank b ≡ true → b < 128

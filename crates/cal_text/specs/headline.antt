@@ -2,4 +2,3 @@
 -- for all arguments.
 pub mod Separators
 pub mod Trim
-pub mod Words

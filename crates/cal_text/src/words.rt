@@ -4,7 +4,7 @@
 ghost use Rattle.std.specs.Prelude.{◌≡◌, ◌≤◌, ◌∷◌, [], MatchOption, false, length, not, true};
 ghost use Rattle.std.specs.List.{after_last, before_last, list_any, prefix_len, suffix_len, position_or_len};
 ghost use Rattle.cal_text.specs.headline.Trim.{trim_matches, trim_end_matches, trim_start_matches};
-ghost use Rattle.cal_text.specs.headline.Words.{is_blank, words};
+ghost use Rattle.cal_text.specs.headline.Separators.{is_blank, words};
 
 /// Returns the first word of `text` and everything after it, or `None` if `text` is empty or has only blanks.
 pub fn first_word(text: &str) -> Option<(&str, &str)>

@@ -1,5 +1,5 @@
+mod TimerRows
 pub mod ListedLemmas
 pub mod ResumedLemmas
 pub mod TimerLemmas
-mod TimerRows
 pub mod TimerRuleLemmas

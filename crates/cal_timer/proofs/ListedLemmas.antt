@@ -2,7 +2,7 @@
 -- as filtering all assignments. An exception is an expression after `X-ExceptOnCalendar=`; when it elapses, the timer
 -- doesn't.
 use Rattle.std.proofs.Common.{◌≡◌, ◌≤◌, ◌<◌, ◌+◌, ◌&&◌, cond, ℕ, Bool, true, false, not, List, [], ◌∷◌, ◌++◌, codes, filter, length, refl, sym, subst, ap, ◌∙◌, arith, append_assoc, append-nil, length-append, Option, Some, None, Result, Ok, Err}
-use Rattle.std.specs.List.{after_last}
+use Rattle.std.specs.List.{after_last, list_any}
 use Rattle.std.specs.Prelude.{nat_le}
 use Rattle.std.proofs.lemmas.Bool.Decides.{nat_tests}
 use Rattle.std.proofs.lemmas.Slice.Eq.{bytes_eq-Decides}
@@ -10,16 +10,18 @@ use Rattle.std.proofs.lemmas.List.Elements.{filter-append, filter_map-append}
 use Rattle.cal_spec.specs.declared.spec_fault.SpecFault.{SpecFault}
 use Rattle.cal_timer.specs.headline.Assignments.{Assignment}
 use Rattle.std.specs.Str.{bytes_eq}
-use Rattle.std.specs.List.{list_any}
 use Rattle.std.specs.Option.{option_or}
 use Rattle.std.proofs.lemmas.Bool.{and_right, and_parts, false_from_ne_true}
-use Rattle.cal_timer.specs.TimerText.{TimerLine, Timer, bad_line, entries, entries_of, entry_of, fault_following, fault_joining, first_fault, lists_of, some_entries, unless_fault}
+use Rattle.cal_timer.specs.TimerEntries.{TimerLine, Timer, bad_line, entries, entries_of, entry_of, fault_following, fault_joining, first_fault, lists_of, some_entries, unless_fault}
 use Rattle.cal_timer.specs.headline.TimerText.{excepted, exception_key, has_no_value, is_exception, is_exception_reset, is_expression, is_reset, listed, max_expressions, timer_keys}
 use Rattle.cal_timer.specs.TimerView.{changed, empty_lists, entries_or_fault, with_assignment, resumed, with_list}
 use Rattle.cal_timer.specs.declared.fault.TimerFault.{TimerFault}
 use Rattle.cal_timer.specs.declared.fault.TimerFault.TheVariants.{BadLine}
 use Rattle.cal_timer.proofs.ResumedLemmas.{joined_bad, joined_many, joined_read, resumed_changed, resumed_fault}
-use Rattle.cal_text.proofs.General.{after_last_here, after_last_more, option_or-none}
+use Rattle.cal_text.proofs.General.{after_last_here, after_last_more}
+
+option_or-none : {A : Type 0} (o : Option A) → option_or o None ≡ o
+option_or-none o = grind arith
 
 -- One of the two lists, defined by two tests: assignments that pass `adds` are added to the list, and assignments that
 -- pass `resets` clear it. The lemmas say how one more assignment changes the list.

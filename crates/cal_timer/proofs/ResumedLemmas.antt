@@ -8,7 +8,7 @@ use Rattle.cal_spec.specs.declared.spec_fault.SpecFault.{SpecFault}
 use Rattle.cal_timer.specs.headline.Assignments.{Assignment, assignment_of, assignments_in, is_header, section_of, timer_lines, trimmed}
 use Rattle.cal_text.specs.headline.Trim.{trim_matches}
 use Rattle.cal_lines.specs.headline.Lines.{Line, is_blank_or_return}
-use Rattle.cal_timer.specs.TimerText.{TimerLine, Timer, bad_line, entry_of}
+use Rattle.cal_timer.specs.TimerEntries.{TimerLine, Timer, bad_line, entry_of}
 use Rattle.cal_timer.specs.headline.TimerText.{is_exception, is_exception_reset, is_expression, is_reset, max_expressions}
 use Rattle.cal_timer.specs.TimerView.{changed, with_assignment, resumed, with_list, with_read}
 use Rattle.cal_timer.specs.declared.fault.TimerFault.{TimerFault}

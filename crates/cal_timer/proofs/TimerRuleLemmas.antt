@@ -11,7 +11,7 @@ use Rattle.cal_spec.specs.declared.spec_fault.SpecFault.{SpecFault}
 use Rattle.cal_timer.specs.headline.Assignments.{Assignment, is_header, section_of, timer_lines}
 use Rattle.cal_lines.specs.headline.Lines.{Line}
 use Rattle.cal_timer.specs.TimerRule.{AreFine, IsFirstTimerFault, JudgesTimer}
-use Rattle.cal_timer.specs.TimerText.{TimerLine, Timer, entries, fault_following, first_fault, lists_of, some_entries, some_expressions, unless_fault}
+use Rattle.cal_timer.specs.TimerEntries.{TimerLine, Timer, entries, fault_following, first_fault, lists_of, some_entries, some_expressions, unless_fault}
 use Rattle.cal_timer.specs.headline.TimerText.{excepted, is_exception, is_exception_reset, is_expression, is_reset, listed}
 use Rattle.cal_timer.specs.declared.fault.TimerFault.{TimerFault}
 use Rattle.cal_timer.specs.declared.fault.TimerFault.TheVariants.{NothingToDo}

@@ -1,6 +1,5 @@
-pub mod AssignmentView
+pub mod TimerEntries
 pub mod TimerFault
 pub mod TimerRule
-pub mod TimerText
 pub mod TimerView
 pub mod headline

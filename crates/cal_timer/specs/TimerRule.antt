@@ -3,7 +3,7 @@
 use Rattle.std.specs.Prelude.{◌≡◌, ◌<◌, ℕ, List, [], ◌∷◌, ◌++◌, length, None, Some, Result, Ok, Err}
 use Rattle.cal_spec.specs.declared.spec_fault.SpecFault.{SpecFault}
 use Rattle.cal_timer.specs.headline.Assignments.{Assignment}
-use Rattle.cal_timer.specs.TimerText.{Timer, entries, fault_following}
+use Rattle.cal_timer.specs.TimerEntries.{Timer, entries, fault_following}
 use Rattle.cal_timer.specs.declared.fault.TimerFault.{TimerFault}
 use Rattle.cal_timer.specs.declared.fault.TimerFault.TheVariants.{NothingToDo}
 

@@ -1,17 +1,19 @@
--- How contracts see a timer: by the contents of its lists of expressions and exceptions, not by where the lists are in
--- memory. An exception is an expression after `X-ExceptOnCalendar=`; when it elapses, the timer doesn't. The file also
--- defines what one assignment does to the lists while a timer is read.
+-- How contracts see assignments and timers: by the contents of keys, values and lists, not by where these are in
+-- memory. A timer has a list of expressions and a list of exceptions. An exception is an expression after
+-- `X-ExceptOnCalendar=`; when it elapses, the timer doesn't. The file also defines what one assignment does to the
+-- lists while a timer is read.
 use Rattle.std.specs.Prelude.{ℕ, nat_le, Bool, true, false, if◌then◌else◌, List, [], ◌∷◌, ◌++◌, length, Result, Ok, Err, string_bytes}
 use Rattle.cal_spec.specs.headline.Fields.{Fields}
 use Rattle.cal_spec.specs.declared.spec_fault.SpecFault.{SpecFault}
 use Rattle.cal_timer.specs.headline.Assignments.{Assignment}
-use Rattle.cal_timer.specs.TimerText.{TimerLine, Timer, entries, first_fault, unless_fault}
+use Rattle.cal_timer.specs.TimerEntries.{TimerLine, Timer, entries, first_fault, unless_fault}
 use Rattle.cal_timer.specs.headline.TimerText.{is_exception, is_exception_reset, is_expression, is_reset, max_expressions}
 use Rattle.cal_timer.specs.declared.timer.TimerLine as declared_line
 use Rattle.cal_timer.specs.declared.fault.TimerFault.{TimerFault}
 use Rattle.cal_timer.specs.declared.fault.TimerFault.TheVariants.{BadLine, TooMany}
+use Rattle.cal_timer.specs.declared.assignments.Assignment as declared_assignment
 
--- an entry of either list, converted from the struct `TimerLine` of the code to the record `TimerLine` of `TimerText`
+-- an entry of either list, converted from the struct `TimerLine` of the code to the record of the same name
 abbrev pub shown : declared_line.TimerLine → TimerLine Fields
 shown line = record { number = line.number; text = string_bytes line.text; expr = line.expr }
 
@@ -56,3 +58,6 @@ resumed read lists (a ∷ after) =
 -- empty
 unfoldable pub entries_or_fault : {E : Type 0} → (List ℕ → Result E SpecFault) → List Assignment → Result (Timer E) TimerFault
 entries_or_fault read assignments = unless_fault (first_fault read [] assignments) (Ok (entries read assignments))
+
+abbrev pub shown_assignment : declared_assignment.Assignment → Assignment
+shown_assignment a = record { number = a.number; key = a.key.now; value = a.value.now }

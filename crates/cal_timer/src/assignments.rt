@@ -8,7 +8,7 @@ ghost use Rattle.std.specs.Option.{option_map};
 ghost use Rattle.std.specs.Str.{bytes_eq};
 ghost use Rattle.cal_timer.specs.headline.Assignments.{assignment_of, is_header, section_of};
 ghost use Rattle.cal_lines.specs.LineView.{line_at};
-ghost use Rattle.cal_timer.specs.AssignmentView.{shown_assignment};
+ghost use Rattle.cal_timer.specs.TimerView.{shown_assignment};
 ghost use Rattle.cal_timer.specs.headline.TimerText.{is_exception, is_exception_reset, is_expression, is_reset};
 
 use cal_bytes::is_among;

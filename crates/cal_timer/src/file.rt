@@ -6,7 +6,7 @@ ghost use Rattle.std.specs.Result.{IsErrOf};
 ghost use Rattle.cal_streams.specs.Whole.{is_read_failed};
 ghost use Rattle.cal_streams.specs.declared.whole.WholeFault.{WholeFault};
 ghost use Rattle.cal_spec.specs.Expr.{expr_in};
-ghost use Rattle.cal_timer.specs.TimerText.{timer_file_limit, timer_in, timer_of, timer_text, ReadsWhole};
+ghost use Rattle.cal_timer.specs.TimerEntries.{timer_file_limit, timer_in, timer_of, timer_text, ReadsWhole};
 ghost use Rattle.cal_timer.specs.headline.TimerText.{without_mark};
 
 use crate::{Timer, TimerFault, TimerLists};
@@ -48,7 +48,7 @@ pub fn read_timer<R: Source>(alloc: Global, input: &mut R) -> Result<Timer, Time
 }
 
 /// Parses a timer file from its bytes.
-#[tactic(auto, unfolding(crate::specs::TimerText::timer_in, crate::specs::TimerText::broken_line))]
+#[tactic(auto, unfolding(crate::specs::TimerEntries::timer_in, crate::specs::TimerEntries::broken_line))]
 fn read_bytes(alloc: Global, bytes: &[u8]) -> Result<Timer, TimerFault>
     requires { length bytes.now ≤ timer_file_limit }
     ensures { MatchResult result
@@ -70,7 +70,7 @@ fn line_after(bytes: &[u8]) -> u32
 }
 
 /// Parses a timer file from its text.
-#[tactic(auto, using(crate::proofs::ListedLemmas::lists_from_entries, crate::proofs::ListedLemmas::lists_from_fault), unfolding(crate::specs::TimerText::timer_of))]
+#[tactic(auto, using(crate::proofs::ListedLemmas::lists_from_entries, crate::proofs::ListedLemmas::lists_from_fault), unfolding(crate::specs::TimerEntries::timer_of))]
 fn read_utf8(alloc: Global, text: &str) -> Result<Timer, TimerFault>
     requires { length text.now ≤ timer_file_limit }
     ensures { MatchResult result

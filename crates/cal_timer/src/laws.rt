@@ -11,7 +11,7 @@ ghost use Rattle.cal_timer.specs.headline.Assignments.{Assignment, is_header, se
 ghost use Rattle.cal_lines.specs.headline.Lines.{Line};
 ghost use Rattle.cal_timer.specs.TimerRule.{JudgesTimer};
 ghost use Rattle.cal_timer.specs.declared.fault.TimerFault.{TimerFault};
-ghost use Rattle.cal_timer.specs.TimerText.{Timer, lists_of};
+ghost use Rattle.cal_timer.specs.TimerEntries.{Timer, lists_of};
 ghost use Rattle.cal_timer.specs.TimerView.{entries_or_fault, resumed};
 ghost use Rattle.cal_timer.specs.headline.TimerText.{excepted, is_exception, is_exception_reset, is_expression, is_reset, listed};
 

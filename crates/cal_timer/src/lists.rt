@@ -6,10 +6,9 @@ ghost use Rattle.cal_spec.specs.Expr.{expr_in};
 ghost use Rattle.cal_timer.specs.headline.Assignments as assignments;
 ghost use Rattle.cal_timer.specs.headline.Assignments.{assignments_in};
 ghost use Rattle.cal_lines.specs.LineView.{line_at};
-ghost use Rattle.cal_timer.specs.AssignmentView.{shown_assignment};
+ghost use Rattle.cal_timer.specs.TimerView.{shown_assignment, changed, empty_lists, with_assignment, resumed, shown};
 ghost use Rattle.cal_lines.specs.headline.Lines.{Line, logical_lines};
-ghost use Rattle.cal_timer.specs.TimerText.{bad_line, entry_of, some_entries};
-ghost use Rattle.cal_timer.specs.TimerView.{changed, empty_lists, with_assignment, resumed, shown};
+ghost use Rattle.cal_timer.specs.TimerEntries.{bad_line, entry_of, some_entries};
 
 use crate::assignments::{Assignment, read_assignment, section};
 use crate::{Timer, TimerFault, TimerLine};
@@ -35,7 +34,7 @@ pub struct TimerLists {
 impl Model for TimerLists {
     ghost use Rattle.std.specs.Prelude.{map};
     ghost use Rattle.cal_spec.specs.headline.Fields.{Fields};
-    ghost use Rattle.cal_timer.specs.TimerText.{Timer};
+    ghost use Rattle.cal_timer.specs.TimerEntries.{Timer};
     ghost use Rattle.cal_timer.specs.TimerView.{shown};
 
     ghost Value = { Timer Fields };

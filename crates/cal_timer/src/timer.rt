@@ -31,7 +31,7 @@ pub struct Timer {
 impl Model for Timer {
     ghost use Rattle.std.specs.Prelude.{map};
     ghost use Rattle.cal_spec.specs.headline.Fields.{Fields};
-    ghost use Rattle.cal_timer.specs.TimerText.{Timer};
+    ghost use Rattle.cal_timer.specs.TimerEntries.{Timer};
     ghost use Rattle.cal_timer.specs.TimerView.{shown};
 
     ghost Value = { Timer Fields };

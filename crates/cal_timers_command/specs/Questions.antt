@@ -1,8 +1,10 @@
--- Limits on what the arguments of `calendar-timers` can ask: the number of elapses, and the number of targets of each
--- verb.
-use Rattle.std.specs.Prelude.{ℕ, ◌≤◌, ◌==◌, Bool, true, nat_le}
+-- Limits on what the arguments of `calendar-timers` can ask (the number of elapses, and the number of targets of each
+-- verb), and the texts of the errors that parsing the arguments can return.
+use Rattle.std.specs.Prelude.{ℕ, ◌≤◌, ◌==◌, Bool, true, nat_le, ◌<◌, ⊤, length, string_bytes}
 use Rattle.cal_timers_command.specs.declared.question.Verb.{Verb}
 use Rattle.cal_timers_command.specs.declared.question.Verb.TheVariants.{List, Show, Lint, Between, Same, Next}
+use Rattle.cal_timers_command.specs.declared.command_fault.CommandFault.{CommandFault}
+use Rattle.cal_timers_command.specs.declared.command_fault.CommandFault.TheVariants.{Usage, Help, NoMemory}
 
 -- the maximum value of `--count`
 abbrev pub max_count : ℕ
@@ -21,3 +23,9 @@ fits_verb Lint count = true
 fits_verb Between count = nat_le 2 count
 fits_verb Same count = count == 2
 fits_verb Next count = nat_le 1 count
+
+-- the text to print isn't empty; `NoMemory` has no text
+abbrev pub HasText : CommandFault → Type 0
+HasText (Usage text) = 0 < length (string_bytes text)
+HasText (Help text) = 0 < length (string_bytes text)
+HasText NoMemory = ⊤

@@ -3,8 +3,7 @@
 ghost use Rattle.std.specs.Prelude.{◌≡◌, ◌≤◌, IfErr, IfOk, IfSome};
 ghost use Rattle.std.specs.Option.{ForSome};
 ghost use Rattle.cal_zone.specs.Instant.{IsInstant};
-ghost use Rattle.cal_timers_command.specs.Faults.{HasText};
-ghost use Rattle.cal_timers_command.specs.Questions.{IsCount};
+ghost use Rattle.cal_timers_command.specs.Questions.{HasText, IsCount};
 
 use crate::command_fault::CommandFault;
 use crate::value_option::{COUNT, NOW, ROOT, ValueOption, ZONE};

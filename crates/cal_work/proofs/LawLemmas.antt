@@ -6,11 +6,11 @@ use Rattle.std.specs.FinMap.{empty}
 use Rattle.std.proofs.lemmas.Bool.{false≢true}
 use Rattle.std.proofs.lemmas.Bool.Decides.{nat_tests}
 use Rattle.cal_zone.specs.ZoneFile.{file_limit}
-use Rattle.cal_zone.specs.headline.ZoneMap.{ZoneMap}
+use Rattle.cal_zone.specs.headline.ZoneTable.{ZoneMap}
 use Rattle.cal_civil.specs.headline.ZoneName.{is_zone_name}
 use Rattle.cal_streams.specs.declared.whole.WholeFault.{WholeFault}
 use Rattle.cal_streams.specs.declared.whole.WholeFault.TheVariants as whole
-use Rattle.cal_timer.specs.TimerText.{timer_file_limit}
+use Rattle.cal_timer.specs.TimerEntries.{timer_file_limit}
 use Rattle.cal_command.specs.Ask.{Ask, CommandFault, ZoneItem}
 use Rattle.cal_command.specs.CommandLine.{asked_in, takes_arguments}
 use Rattle.cal_work.specs.Outcome.{World, ZoneFound, and_then, loaded, or_load_stop, table_by, local_by, present_by, run_by, run_on, asked_at, outcome, outcome_of}

@@ -1,12 +1,12 @@
 -- Lemmas on the end of the work: the report of a stop, the flush of standard output, and the exit status.
-use Rattle.std.proofs.Common.{arith, ◌≡◌, ℕ, Bool, true, false, List, [], Option, Result, Ok, Err, refl, sym, ◌∙◌}
+use Rattle.std.proofs.Common.{arith, ◌≡◌, ℕ, Bool, true, false, List, [], Option, Result, Ok, Err, refl, sym, ◌∙◌, None, Some, ap}
 use Rattle.std.specs.Io.KnownBytes.{append_known}
 use Rattle.std.proofs.KnownBytes.{Appends-kept}
 use Rattle.std.proofs.lemmas.Bool.{false≢true}
-use Rattle.cal_bytes.specs.Bytes.{AppendsFront, Writes}
+use Rattle.cal_bytes.specs.Writes.{AppendsFront, Writes}
 use Rattle.cal_streams.specs.Output.{Flushes}
 use Rattle.cal_work.specs.Outcome.{outcome, out_text, err_text, ended_status}
-use Rattle.cal_report.specs.headline.Report.{Report}
+use Rattle.cal_report.specs.headline.ReportLines.{Report}
 use Rattle.cal_work.specs.Stop.{Stop, fault_stop, outlet_of, shown_stop, stop_text}
 use Rattle.cal_work.specs.System.{Known}
 use Rattle.cal_work.specs.WorkSteps.{StopsAs, StopEnds, EndsAs, AnsweredArguments, IsFlushed, TellsOn, TellsStop, status_by, WritesOf}
@@ -24,7 +24,11 @@ use Rattle.cal_work.specs.declared.stop.Stop as declared_stop
 use Rattle.cal_work.specs.declared.stop.Stop.TheVariants.{Command, Zones, LocalRule, LocalName, Clock, Open, Run}
 use Rattle.cal_report.proofs.AnswerLemmas.{writes_nothing}
 use Rattle.cal_report.proofs.ReportLemmas.{nothing_front, whole_front}
-use Rattle.cal_text.proofs.General.{append_known-nil}
+use Rattle.std.proofs.lemmas.List.{append-nil}
+
+append_known-nil : (b : Option (List ℕ)) → append_known b [] ≡ b
+append_known-nil None = refl
+append_known-nil (Some xs) = ap (λ l. Some l) (append-nil xs)
 
 -- What is written for a stop
 

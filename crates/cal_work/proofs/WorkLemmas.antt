@@ -1,7 +1,7 @@
 -- Lemmas on the steps of the work: what all steps found makes up one world, and what was written is the outcome in that
 -- world.
 use Rattle.std.proofs.Common.{◌≡◌, ℕ, ℤ, ◌+◌, ◌<◌, Bool, true, false, List, [], ◌∷◌, length, Option, None, Some, Result, Ok, Err, IfOk, IfNone, refl, sym, ap, subst, ◌∙◌, arith, length-append, nat_le}
-use Rattle.std.specs.Prelude.{IsSome, is_some, MatchResult}
+use Rattle.std.specs.Prelude.{IsSome, is_some, MatchResult, IsErr}
 use Rattle.std.specs.FinMap.{empty}
 use Rattle.std.proofs.KnownBytes.{Consumes-whole}
 use Rattle.std.proofs.lemmas.Bool.{false≢true}
@@ -9,25 +9,24 @@ use Rattle.std.proofs.lemmas.Bool.Decides.{nat_tests}
 use Rattle.jiff.specs.Placed.{IsPosixZone}
 use Rattle.jiff.specs.Types.{TimeZone}
 use Rattle.jiff.specs.Words.{read_whole as rule_read}
-use Rattle.cal_bytes.specs.Bytes.{AppendsFront, Writes}
+use Rattle.cal_bytes.specs.Writes.{AppendsFront, Writes}
 use Rattle.cal_streams.specs.Whole.{GivesAll, CameBeyond, is_read_failed}
 use Rattle.cal_zone.specs.headline.Zone.{is_utc, utc, zone_of}
 use Rattle.cal_zone.specs.ZoneFile.{file_limit}
-use Rattle.cal_zone.specs.headline.ZoneMap.{ZoneMap}
+use Rattle.cal_zone.specs.headline.ZoneTable.{ZoneMap, zone_named}
 use Rattle.cal_civil.specs.headline.ZoneName.{is_utc_name, is_zone_name}
-use Rattle.cal_zone.specs.headline.ZoneTable.{zone_named}
 use Rattle.cal_streams.specs.declared.whole.WholeFault.{WholeFault}
 use Rattle.cal_streams.specs.declared.whole.WholeFault.TheVariants as whole
 use Rattle.cal_zone.specs.declared.zone.Zone.{Zone as ClockZone}
 use Rattle.cal_zone.specs.declared.zone_fault.ZoneFault.TheVariants as zone
-use Rattle.cal_timer.specs.TimerText.{timer_file_limit}
+use Rattle.cal_timer.specs.TimerEntries.{timer_file_limit}
 use Rattle.cal_stamp.specs.declared.fault.StampFault.{StampFault}
 use Rattle.cal_command.specs.Ask.{Ask, LocalZone, in_utc, ahead, by_rule, of_name, ZoneItem, shown_fault, bad_iterations, bad_now, bad_zones, bad_local, no_memory}
 use Rattle.cal_command.specs.CommandLine.{IsAskOf}
 use Rattle.cal_zone.specs.LoadZone.{IsLoaded, IsLoadFault, is_load_read_failed}
 use Rattle.cal_work.specs.Outcome.{ZoneFound, and_then, loaded, table_by, local_by, present_by, run_by, run_on, asked_at, outcome, outcome_of, out_text, err_text}
-use Rattle.cal_report.specs.Report.{IsReported, ReadsFile, base_in, file_report, texts_report}
-use Rattle.cal_report.specs.headline.Report.{Report}
+use Rattle.cal_report.specs.RunReport.{IsReported, ReadsFile, base_in, file_report, texts_report}
+use Rattle.cal_report.specs.headline.ReportLines.{Report}
 use Rattle.cal_request.specs.RequestKind.{for_file, for_texts, kind_of}
 use Rattle.cal_request.specs.headline.Request.{Request}
 use Rattle.cal_work.specs.Stop.{Stop, command_stop, exit_status, load_stop, name_stop, rule_stop, shown_stop, unopened_stop, memory_stop, is_out_stop, is_err_stop}
@@ -46,7 +45,12 @@ use Rattle.cal_work.specs.declared.stop.Stop as declared_stop
 use Rattle.cal_work.specs.declared.stop.Stop.TheVariants.{Command, Zones, LocalRule, LocalName, Clock, Open, Run}
 use Rattle.cal_report.proofs.ReportLemmas.{nothing_front}
 use Rattle.std.proofs.lemmas.Option.{none-some, same_Some}
-use Rattle.cal_text.proofs.General.{no_ok, some_none}
+use Rattle.cal_text.proofs.General.{some_none}
+
+-- if `r` is an error, `IfOk r P` holds for every `P`
+no_ok : {T E : Type 0} (r : Result T E) (P : T → Type 0) → IsErr r → IfOk r P
+no_ok (Ok x) P h = absurd (false≢true h)
+no_ok (Err e) P h = tt
 
 -- How a stop agrees with the definitions
 

@@ -4,8 +4,7 @@ use Rattle.std.proofs.Common.{refl}
 use Rattle.cal_command.proofs.WorkedRows.{daily_asked}
 use Rattle.cal_command.specs.WorkedArguments.{daily_arguments}
 use Rattle.cal_work.specs.Outcome.{instant_in, local_by, present_by, table_by}
-use Rattle.cal_work.specs.WorkLaw.{TellsAll}
-use Rattle.cal_work.specs.WorkedSystem.{bare_system, daily_world}
+use Rattle.cal_work.specs.WorkLaw.{TellsAll, bare_system, daily_world}
 use Rattle.cal_work.specs.Works.{FitsArguments}
 
 pub bare_tells : TellsAll bare_system

@@ -4,4 +4,3 @@ pub mod System
 pub mod WorkLaw
 pub mod WorkSteps
 pub mod Works
-pub mod WorkedSystem

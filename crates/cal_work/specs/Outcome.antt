@@ -6,17 +6,16 @@ use Rattle.jiff.specs.Types.{TimeZone}
 use Rattle.jiff.specs.Words.{read_whole as rule_read}
 use Rattle.cal_zone.specs.Instant.{last_instant}
 use Rattle.cal_zone.specs.headline.Zone.{utc}
-use Rattle.cal_zone.specs.headline.ZoneMap.{ZoneMap}
+use Rattle.cal_zone.specs.headline.ZoneTable.{ZoneMap, zone_named}
 use Rattle.cal_civil.specs.headline.ZoneName.{is_zone_name}
-use Rattle.cal_zone.specs.ZoneTable.{is_taken}
-use Rattle.cal_zone.specs.headline.ZoneTable.{zone_named}
+use Rattle.cal_zone.specs.AddedZones.{is_taken}
 use Rattle.cal_streams.specs.declared.whole.WholeFault.{WholeFault}
 use Rattle.cal_streams.specs.declared.whole.WholeFault.TheVariants as whole
 use Rattle.cal_zone.specs.declared.zone.Zone.{Zone as ClockZone}
 use Rattle.cal_zone.specs.declared.zone_fault.ZoneFault.TheVariants.{BadName, BadFile, TooLarge, NoMemory, NameTaken}
 use Rattle.cal_command.specs.Ask.{Ask, LocalZone, in_utc, ahead, by_rule, of_name, ZoneItem, CommandFault}
-use Rattle.cal_report.specs.Report.{file_report, texts_report}
-use Rattle.cal_report.specs.headline.Report.{Report}
+use Rattle.cal_report.specs.RunReport.{file_report, texts_report}
+use Rattle.cal_report.specs.headline.ReportLines.{Report}
 use Rattle.cal_request.specs.RequestKind.{RequestKind, for_file, for_texts, kind_of}
 use Rattle.cal_request.specs.headline.Request.{Request}
 use Rattle.cal_work.specs.Stop.{Stop, command_stop, load_stop, rule_stop, name_stop, clock_stop, unopened_stop, memory_stop, exit_status}

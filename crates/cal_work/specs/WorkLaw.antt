@@ -1,17 +1,19 @@
 -- If everything about a system's files and clock is known, and `clap` accepts the arguments, there is only one possible
 -- outcome, unless memory runs out. The outcome depends on the system, on what `clap` finds in the arguments, and on the
--- zones that `jiff` reads from the files.
-use Rattle.std.specs.Prelude.{◌≡◌, ◌⊎◌, ℕ, ℤ, Bool, true, false, List, [], ◌∷◌, length, nat_le, Option, None, Some, IsSome, Result, Ok, Err}
+-- zones that `jiff` reads from the files. The last two definitions are an example of such a system.
+use Rattle.std.specs.Prelude.{◌≡◌, ◌⊎◌, ℕ, ℤ, Bool, true, false, List, [], ◌∷◌, length, nat_le, Option, None, Some, IsSome, Result, Ok, Err, pos}
 use Rattle.cal_zone.specs.ZoneFile.{file_limit}
 use Rattle.cal_streams.specs.declared.whole.WholeFault.{WholeFault}
 use Rattle.cal_streams.specs.declared.whole.WholeFault.TheVariants.{TooLarge}
-use Rattle.cal_timer.specs.TimerText.{timer_file_limit}
+use Rattle.cal_timer.specs.TimerEntries.{timer_file_limit}
 use Rattle.cal_command.specs.Ask.{Ask, CommandFault, ZoneItem}
 use Rattle.cal_request.specs.RequestKind.{RequestKind, for_file, for_texts, kind_by}
 use Rattle.cal_work.specs.Outcome.{World, ZoneFound, outcome}
-use Rattle.cal_report.specs.headline.Report.{Report}
+use Rattle.cal_report.specs.headline.ReportLines.{Report}
 use Rattle.cal_work.specs.Stop.{Stop, command_stop, memory_stop}
 use Rattle.cal_work.specs.System.{Known, Seen}
+use Rattle.cal_command.specs.WorkedArguments.{daily_ask}
+use Rattle.cal_zone.specs.headline.Zone.{utc}
 
 -- everything is known: the bytes of each file, or that it can't be opened, and the clock's time, or that it has none;
 -- and no read fails
@@ -67,3 +69,10 @@ known_outcome known (Err fault) world = Err (command_stop fault)
 -- `expected` is the outcome `known`, or the stop for running out of memory
 abbrev pub IsOr : {T : Type 0} → Result T Stop → Result T Stop → Type 0
 IsOr expected known = (expected ≡ known) ⊎ (expected ≡ Err memory_stop)
+
+abbrev pub bare_system : Known
+bare_system = record { file = λ path. Some None; may_fail = λ path. false; time = Some (Some (pos 0)) }
+
+-- the world that the program finds in this system
+abbrev pub daily_world : World
+daily_world = record { parsed = Ok daily_ask; zones = []; local = utc; clock = Some (pos 0); file = None }

@@ -7,12 +7,12 @@ use Rattle.std.specs.Io.KnownBytes.{Appends}
 use Rattle.jiff.specs.Types.{TimeZone}
 use Rattle.jiff.specs.Words.{read_whole as rule_read}
 use Rattle.jiff.specs.Placed.{IsPosixZone}
-use Rattle.cal_bytes.specs.Bytes.{AppendsFront, Writes}
-use Rattle.cal_zone.specs.headline.ZoneMap.{ZoneMap}
+use Rattle.cal_bytes.specs.Writes.{AppendsFront, Writes}
+use Rattle.cal_zone.specs.headline.ZoneTable.{ZoneMap}
 use Rattle.cal_zone.specs.declared.zone.Zone.{Zone as ClockZone}
 use Rattle.cal_command.specs.Ask.{Ask, LocalZone, in_utc, ahead, by_rule, of_name, ZoneItem}
 use Rattle.cal_work.specs.Outcome.{World, ZoneFound, loaded, table_by, local_by, clock_by, present_by, outcome, outcome_of, run_by, out_text, err_text, outcome_status, ended_status}
-use Rattle.cal_report.specs.headline.Report.{Report}
+use Rattle.cal_report.specs.headline.ReportLines.{Report}
 use Rattle.cal_request.specs.headline.Request.{Request}
 use Rattle.cal_work.specs.Stop.{Stop, exit_status, is_for_memory, is_out_stop, is_err_stop, outlet_of, shown_stop, stop_text}
 use Rattle.cal_work.specs.System.{Known, Seen, GivesTime}

@@ -4,13 +4,13 @@
 //! opening the timer file, and the run. The first step that fails ends the work; the steps after it aren't done.
 
 ghost use Rattle.std.specs.Prelude.{◌≡◌, ℕ, List, Option, Result, Ok, Err, Some, None, true, false, is_err, map, option_map, IfOk, IfErr};
-ghost use Rattle.cal_bytes.specs.Bytes.{Writes};
+ghost use Rattle.cal_bytes.specs.Writes.{Writes};
 ghost use Rattle.cal_command.specs.Ask.{shown_local, shown_ask, shown_item};
 ghost use Rattle.cal_command.specs.LocalZone.{IsLocalOffset};
 ghost use Rattle.cal_work.specs.Outcome.{instant_in};
-ghost use Rattle.cal_report.specs.headline.Report.{Report};
+ghost use Rattle.cal_report.specs.headline.ReportLines.{Report};
 ghost use Rattle.cal_request.specs.RequestView.{asked};
-ghost use Rattle.cal_request.specs.RunFault.{is_out_failed, is_err_failed};
+ghost use Rattle.cal_request.specs.Status.{is_out_failed, is_err_failed};
 ghost use Rattle.cal_work.specs.Stop as stops;
 ghost use Rattle.cal_work.specs.Stop.{is_out_stop, is_err_stop, load_stop, rule_stop, unopened_stop};
 ghost use Rattle.cal_work.specs.System.{Opens};

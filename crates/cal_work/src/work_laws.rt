@@ -5,8 +5,7 @@ ghost use Rattle.cal_command.specs.CommandLine.{asked_in, takes_arguments};
 ghost use Rattle.cal_command.specs.WorkedArguments.{daily_arguments};
 ghost use Rattle.cal_work.specs.Outcome.{World, outcome};
 ghost use Rattle.cal_work.specs.System.{Known};
-ghost use Rattle.cal_work.specs.WorkLaw.{IsOr, TellsAll, known_outcome};
-ghost use Rattle.cal_work.specs.WorkedSystem.{bare_system, daily_world};
+ghost use Rattle.cal_work.specs.WorkLaw.{IsOr, TellsAll, known_outcome, bare_system, daily_world};
 ghost use Rattle.cal_work.specs.Works.{FitsArguments};
 
 /// If everything about a system's files and clock is known, no read fails, and `clap` accepts the arguments, then only

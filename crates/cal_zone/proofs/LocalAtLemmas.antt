@@ -3,7 +3,7 @@
 use Rattle.std.proofs.Common.{◌≡◌, None, Some, ℤ, pos, ◌≤ℤ◌, ◌<ℤ◌, arith}
 use Rattle.jiff.proofs.SpanFacts.{signed_arith}
 use Rattle.jiff.specs.Types.{TimeZone}
-use Rattle.cal_zone.specs.LocalAt.{IsLocalAt}
+use Rattle.cal_zone.specs.PlaceAt.{IsLocalAt}
 use Rattle.cal_zone.specs.headline.Place.{place_of}
 use Rattle.cal_zone.specs.headline.Zone.{local_shown_at}
 use Rattle.cal_zone.proofs.PlaceLemmas.{place_of-Some}

@@ -24,13 +24,16 @@ use Rattle.jiff_tz.specs.Tzif as OfTable
 use Rattle.jiff_tz.specs.Tzif.{ambiguous_after, civil_count_at, civil_end, civil_start, count_at, floor_second, is_inside, no_transition, rule_after, transition_at, type_after}
 use Rattle.jiff_tz.specs.TzifText.{no_row, transition_text}
 use Rattle.jiff_tz.proofs.TzifLemmas.{le_no, le_yes, seconds_rise}
-use Rattle.cal_civil.specs.Local.{IsLocalSecond}
+use Rattle.cal_civil.specs.LocalSecond.{IsLocalSecond}
 use Rattle.cal_civil.specs.headline.Local.{day_of}
 use Rattle.cal_zone.specs.headline.Place.{datetime_of, place_of, settle_of, time_of}
 use Rattle.cal_zone.specs.Rules.{zone_of_table}
 use Rattle.cal_civil.proofs.DayLemmas.{epoch_day-date_of}
 use Rattle.cal_zone.proofs.PlaceLemmas.{by_the_offset, place_at-there, place_of-Some, place_of-tried}
-use Rattle.cal_text.proofs.General.{none_by_view}
+
+-- if mapping an option returns `None`, the option is `None`
+none_by_view : {A B : Type 0} (view : A → B) (o : Option A) → None ≡ option_map view o → o ≡ None
+none_by_view view o e = grind arith
 
 -- the smaller of two UTC offsets is in the range of UTC offsets, and so is the larger
 min_in_range : (x y : ℤ) → IsOffsetSeconds x → IsOffsetSeconds y → IsOffsetSeconds (int_min x y)

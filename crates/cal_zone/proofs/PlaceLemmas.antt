@@ -1,7 +1,7 @@
 -- Lemmas on the conversion of local seconds to Unix time. `settle_of` converts every local second to a second of Unix
 -- time. If the zone's clock shows the local second at that second of Unix time, it is the place of the local second,
 -- and `place_of` returns it. Otherwise, `place_of` returns `None`.
-use Rattle.std.proofs.Common.{◌≡◌, ◌∙◌, ℤ, pos, ◌-ℤ◌, Bool, Some, None, refl, sym, ap, arith, int_eq, true, false, if◌then◌else◌}
+use Rattle.std.proofs.Common.{◌≡◌, ◌∙◌, ℤ, pos, ◌-ℤ◌, Bool, Some, None, refl, sym, ap, arith, int_eq, true, false, if◌then◌else◌, Option}
 use Rattle.std.proofs.lemmas.Bool.Decides.{Decides-int_eq}
 use Rattle.std.proofs.lemmas.Int.{ints}
 use Rattle.jiff.specs.Types.{AmbiguousOffset, DateTime, Fixed, Offset, TimeZone, UTC}
@@ -9,12 +9,17 @@ use Rattle.jiff.specs.Words.{ambiguous_at, compatible_offset, civil_nanos, fixed
 use Rattle.jiff.proofs.SpanFacts.{signed_arith}
 use Rattle.jiff.proofs.ZoneFacts.{offset_at-fixed_zone}
 use Rattle.cal_civil.specs.headline.Local.{day_of}
-use Rattle.cal_zone.specs.Place.{place_at}
+use Rattle.cal_zone.specs.PlaceAt.{place_at}
 use Rattle.cal_zone.specs.headline.Place.{datetime_of, place_of, settle_of, time_of}
 use Rattle.cal_zone.specs.headline.Zone.{local_shown_at}
 use Rattle.cal_civil.proofs.DayLemmas.{epoch_day-date_of}
 use Rattle.cal_zone.proofs.ZoneLemmas.{offset_at-in_range}
-use Rattle.cal_text.proofs.General.{some_by_test, int_eq-other}
+
+int_eq-other : (a b : ℤ) → (a ≡ b → ⊥) → int_eq a b ≡ false
+int_eq-other a b e = grind (arith, ints)
+
+some_by_test : (b : Bool) (s place : ℤ) → ◌≡◌ {A = Option ℤ} (if b then Some s else None) (Some place) → (b ≡ true) × (s ≡ place)
+some_by_test b s place e = grind arith
 
 -- the civil time of the local second `local` is `local` seconds after 1970-01-01 00:00:00
 pub civil_nanos-datetime_of : (local : ℤ) → IsEpochDay (day_of local) → civil_nanos (datetime_of local) ≡ nanos_of_seconds local

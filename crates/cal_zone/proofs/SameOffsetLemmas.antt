@@ -20,7 +20,7 @@ use Rattle.jiff_tz.specs.PosixRule as ByPosix
 use Rattle.jiff_tz.specs.Tzif as OfTable
 use Rattle.jiff_tz.specs.Tzif.{count_at, rule_after, type_after}
 use Rattle.cal_civil.specs.headline.Days.{date_of}
-use Rattle.cal_civil.specs.Local.{IsLocalSecond}
+use Rattle.cal_civil.specs.LocalSecond.{IsLocalSecond}
 use Rattle.cal_civil.specs.headline.Local.{day_of}
 use Rattle.cal_zone.specs.headline.Place.{datetime_of}
 use Rattle.cal_zone.specs.Rules.{zone_of_table}

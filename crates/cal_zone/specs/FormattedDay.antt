@@ -1,11 +1,12 @@
--- Days on a zone's clock, as they are cached for printing.
-use Rattle.std.specs.Prelude.{◌≡◌, ℕ, ℤ, pos, ◌-ℤ◌, ◌≤ℤ◌, ◌<ℤ◌, ◌≤◌, unsigned_abs, length, List, [], ◌∷◌}
+-- How the day of an instant is printed, and days on a zone's clock as they are cached for printing.
+use Rattle.std.specs.Prelude.{◌≡◌, ℕ, ℤ, pos, ◌-ℤ◌, ◌≤ℤ◌, ◌<ℤ◌, ◌≤◌, unsigned_abs, length, List, [], ◌∷◌, codes}
 use Rattle.jiff.specs.Words.{IsBetween}
 use Rattle.cal_bytes.specs.headline.Bytes.{joined}
-use Rattle.cal_zone.specs.headline.InstantText.{instant_text, time_text}
+use Rattle.cal_zone.specs.headline.InstantText.{instant_text, time_text, date_text, weekday_name}
 use Rattle.cal_civil.specs.headline.Local.{hour_of, minute_of, second_of}
 use Rattle.cal_zone.specs.declared.formatted_day.FormattedDay.{FormattedDay}
 use Rattle.cal_zone.specs.declared.zone.Zone.{Zone}
+use Rattle.cal_zone.specs.declared.civil_fields.Civil.{Civil}
 
 -- the text that is printed for a time of a cached day: the day, the time and the zone; `second` is the time of day, in
 -- seconds since midnight
@@ -32,3 +33,7 @@ pub record IsOnDay (zone : Zone) (day : FormattedDay) (second : ℤ) : Type 0 wh
 pub record IsFormattedDay (zone : Zone) (day : FormattedDay) : Type 0 where
   pub each : (second : ℤ) → day.from ≤ℤ second → second <ℤ day.to → IsOnDay zone day second
   pub short : HasShortTexts day
+
+-- the weekday and the date, each followed by a space
+unfoldable pub day_text : Civil → List ℕ
+day_text c = joined (weekday_name c.weekday ∷ codes " " ∷ date_text c ∷ codes " " ∷ [])

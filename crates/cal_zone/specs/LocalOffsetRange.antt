@@ -8,7 +8,7 @@ use Rattle.jiff_tz.specs.PosixRule.{first_day}
 use Rattle.jiff_tz.specs.declared.info.OffsetInfo.{OffsetInfo}
 use Rattle.jiff_tz.specs.Tzif.{transition_at}
 use Rattle.jiff_tz.specs.declared.tzif.Tzif.{Tzif as Table}
-use Rattle.cal_civil.specs.Local.{IsLocalSecond}
+use Rattle.cal_civil.specs.LocalSecond.{IsLocalSecond}
 use Rattle.cal_zone.specs.headline.Place.{datetime_of, place_of}
 use Rattle.cal_zone.specs.declared.local_offset_range.LocalOffsetRange.{LocalOffsetRange}
 use Rattle.cal_civil.specs.headline.Local.{seconds_per_day}

@@ -6,5 +6,4 @@ pub mod InstantText
 pub mod Moment
 pub mod Place
 pub mod Zone
-pub mod ZoneMap
 pub mod ZoneTable

@@ -3,7 +3,7 @@
 
 ghost use Rattle.std.specs.Prelude.{◌≡◌, ◌+◌, ◌≤◌, ◌++◌, length};
 ghost use Rattle.cal_bytes.specs.declared.short_text.TheConstants.{SHORT_TEXT_ROOM};
-ghost use Rattle.cal_zone.specs.Civil.{IsCivil};
+ghost use Rattle.cal_zone.specs.CivilAt.{IsCivil};
 ghost use Rattle.cal_zone.specs.headline.Civil.{civil_of};
 ghost use Rattle.cal_zone.specs.headline.InstantText.{instant_text};
 ghost use Rattle.cal_zone.specs.InstantOffsetRange.{IsInstantOffsetRangeAt};

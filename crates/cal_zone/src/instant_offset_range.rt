@@ -5,7 +5,7 @@
 
 ghost use Rattle.std.specs.Prelude.{◌≡◌, option_map, pos};
 ghost use Rattle.jiff_tz.specs.PosixRule.{transition_view};
-ghost use Rattle.cal_civil.specs.Local.{CanSettle};
+ghost use Rattle.cal_civil.specs.LocalSecond.{CanSettle};
 ghost use Rattle.cal_zone.specs.InstantOffsetRange.{IsInstantOffsetRangeAt, IsBeforeTransitionUntil};
 ghost use Rattle.cal_zone.specs.LocalOffsetRange.{HasConstantOffset};
 ghost use Rattle.cal_zone.specs.headline.Zone.{zone_of};

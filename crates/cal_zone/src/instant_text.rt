@@ -3,8 +3,8 @@
 ghost use Rattle.std.specs.Prelude.{◌≡◌, ◌+◌, ◌<◌, ◌≤◌, decimal, ◌++◌, false, length};
 ghost use Rattle.std.specs.Int.{IsInRange};
 ghost use Rattle.cal_bytes.specs.Puts.{Puts};
-ghost use Rattle.cal_zone.specs.Civil.{IsCivil};
-ghost use Rattle.cal_zone.specs.InstantText.{day_text};
+ghost use Rattle.cal_zone.specs.CivilAt.{IsCivil};
+ghost use Rattle.cal_zone.specs.FormattedDay.{day_text};
 ghost use Rattle.cal_civil.specs.headline.OffsetText.{zeros};
 ghost use Rattle.cal_zone.specs.headline.InstantText.{weekday_name, instant_text, shown_text, time_text, zone_word};
 ghost use Rattle.cal_bytes.specs.declared.short_text.TheConstants.{SHORT_TEXT_ROOM};
@@ -46,7 +46,7 @@ pub fn write_instant<W: Sink>(out: &mut W, zone: Zone, instant: Instant) -> Resu
 
 /// Appends everything in a printed instant that comes before the zone: the weekday, the date and the time, each
 /// followed by a space.
-#[tactic(auto, unfolding(crate::specs::headline::InstantText::shown_text, crate::specs::InstantText::day_text))]
+#[tactic(auto, unfolding(crate::specs::headline::InstantText::shown_text, crate::specs::FormattedDay::day_text))]
 fn push_civil(text: &mut ShortText, shown: &Civil)
     requires ranges { IsCivil shown.now }
     requires room { length text.old.items + 44 ≤ SHORT_TEXT_ROOM }
@@ -59,7 +59,7 @@ fn push_civil(text: &mut ShortText, shown: &Civil)
 }
 
 /// Appends the weekday and the date, each followed by a space: `Sat 2020-02-29 `.
-#[tactic(auto, unfolding(crate::specs::InstantText::day_text, crate::specs::headline::InstantText::date_text))]
+#[tactic(auto, unfolding(crate::specs::FormattedDay::day_text, crate::specs::headline::InstantText::date_text))]
 pub(crate) fn push_day(text: &mut ShortText, shown: &Civil)
     requires ranges { IsCivil shown.now }
     requires room { length text.old.items + 26 ≤ SHORT_TEXT_ROOM }

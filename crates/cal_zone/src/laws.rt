@@ -9,14 +9,13 @@ ghost use Rattle.jiff.specs.Words.{ambiguous_at, civil_nanos, epoch_day, fixed_z
 ghost use Rattle.cal_civil.specs.headline.Days.{date_of};
 ghost use Rattle.cal_civil.specs.headline.OffsetText.{offset_text};
 ghost use Rattle.cal_civil.specs.headline.Local.{civil_date, day_of, seconds_in_all, seconds_per_day, first_year, last_year};
-ghost use Rattle.cal_civil.specs.OffsetWord.{AreWholeMinutes, offset_in};
+ghost use Rattle.cal_civil.specs.ReadOffset.{AreWholeMinutes, offset_in};
 ghost use Rattle.cal_civil.specs.headline.OffsetWord.{IsOffsetWord};
-ghost use Rattle.cal_zone.specs.Place.{place_at};
+ghost use Rattle.cal_zone.specs.PlaceAt.{place_at};
 ghost use Rattle.cal_zone.specs.headline.Place.{datetime_of, place_of, settle_of};
 ghost use Rattle.cal_zone.specs.headline.Zone.{local_shown_at};
-ghost use Rattle.cal_zone.specs.headline.ZoneMap.{ZoneMap};
+ghost use Rattle.cal_zone.specs.headline.ZoneTable.{ZoneMap, zone_named};
 ghost use Rattle.cal_civil.specs.headline.ZoneName.{is_utc_name};
-ghost use Rattle.cal_zone.specs.headline.ZoneTable.{zone_named};
 
 /// Every day number in the range of `jiff`'s calendar has a date, and no other date has that day number.
 pub fn days_have_one_date()

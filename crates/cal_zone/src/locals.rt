@@ -2,7 +2,7 @@
 //! first shows it.
 
 ghost use Rattle.std.specs.Prelude.{◌≡◌};
-ghost use Rattle.cal_zone.specs.LocalAt.{IsLocalAt};
+ghost use Rattle.cal_zone.specs.PlaceAt.{IsLocalAt};
 ghost use Rattle.cal_zone.specs.headline.Zone.{local_shown_at, zone_of};
 
 use crate::civil_time::offset_in;

@@ -2,8 +2,8 @@
 //! shows them, and back. Within a cached range, a conversion is one subtraction or addition.
 
 ghost use Rattle.std.specs.Prelude.{◌≡◌, IfSome};
-ghost use Rattle.cal_civil.specs.Local.{IsLocalSecond};
-ghost use Rattle.cal_zone.specs.LocalAt.{IsLocalAt};
+ghost use Rattle.cal_civil.specs.LocalSecond.{IsLocalSecond};
+ghost use Rattle.cal_zone.specs.PlaceAt.{IsLocalAt};
 ghost use Rattle.cal_zone.specs.headline.Place.{place_of};
 ghost use Rattle.cal_zone.specs.headline.Zone.{zone_of};
 

@@ -3,7 +3,7 @@
 
 ghost use Rattle.std.specs.Prelude.{◌≡◌, ◌-ℤ◌};
 ghost use Rattle.jiff.specs.Words.{IsOffsetSeconds};
-ghost use Rattle.cal_civil.specs.Local.{CanSettle, IsLocalSecond, IsNearSettled};
+ghost use Rattle.cal_civil.specs.LocalSecond.{CanSettle, IsLocalSecond, IsNearSettled};
 ghost use Rattle.cal_zone.specs.headline.Place.{datetime_of, place_of, settle_of};
 ghost use Rattle.cal_zone.specs.headline.Zone.{local_shown_at, zone_of};
 

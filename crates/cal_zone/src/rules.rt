@@ -4,7 +4,7 @@ ghost use Rattle.std.specs.Prelude.{◌≡◌, ◌↔◌, ℤ, IsOk, IsSome, IfO
 ghost use Rattle.jiff.specs.Placed.{IsPosixZone};
 ghost use Rattle.jiff.specs.Types.{DateTime};
 ghost use Rattle.jiff.specs.Words.{ambiguous_at, next_at, offset_at, plain_zone, read_whole};
-ghost use Rattle.cal_civil.specs.Local.{IsLocalSecond};
+ghost use Rattle.cal_civil.specs.LocalSecond.{IsLocalSecond};
 ghost use Rattle.cal_zone.specs.LocalOffsetRange.{HaveSameOffsetsUntil, IsLocalOffsetRangeAt};
 ghost use Rattle.cal_zone.specs.ZoneFile.{IsFileFault, IsFileZone};
 ghost use Rattle.cal_zone.specs.declared.zone_fault.ZoneFault.TheVariants.{BadRule};

@@ -20,14 +20,14 @@ pub struct ZoneTable {
 impl Model for ZoneTable {
     ghost use Rattle.std.specs.Coded.{coded_list, coded_ℕ};
     ghost use Rattle.std.specs.FinMap as map;
-    ghost use Rattle.cal_zone.specs.headline.ZoneMap.{ZoneMap};
+    ghost use Rattle.cal_zone.specs.headline.ZoneTable.{ZoneMap};
     ghost use Rattle.cal_zone.specs.contracts.rules.Rules.{the_row};
 
     ghost Value = { ZoneMap };
 
     ghost coded = { map.code (coded_list coded_ℕ) the_row.coded };
 
-    ghost use Rattle.cal_zone.specs.ZoneMap.{zone_map_in};
+    ghost use Rattle.cal_zone.specs.AddedZones.{zone_map_in};
 
     ghost view = { λ table. zone_map_in table.zones };
 }
@@ -35,7 +35,7 @@ impl Model for ZoneTable {
 impl ZoneTable {
     ghost use Rattle.cal_zone.specs.headline.Zone.{is_utc, zone_of};
     ghost use Rattle.cal_civil.specs.headline.ZoneName.{is_utc_name};
-    ghost use Rattle.cal_zone.specs.ZoneTable.{IsAddable, IsAddFault};
+    ghost use Rattle.cal_zone.specs.AddedZones.{IsAddable, IsAddFault};
     ghost use Rattle.cal_zone.specs.headline.ZoneTable.{zone_named};
 
     /// Creates an empty table, in which only `UTC` is found.

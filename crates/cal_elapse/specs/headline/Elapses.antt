@@ -1,9 +1,14 @@
--- The elapses of calendar expressions: systemd.time(7), Calendar Events.
-use Rattle.std.specs.Prelude.{◌≡◌, ◌⊎◌, ◌↔◌, ◌<◌, ℕ, Bool, true, List, [], ◌∷◌, Option, Some, ℤ, ◌<ℤ◌}
+-- The elapses of calendar expressions, and the meaning of an expression in a zone: systemd.time(7), Calendar Events.
+use Rattle.std.specs.Prelude.{◌≡◌, ◌⊎◌, ◌↔◌, ◌<◌, ℕ, Bool, true, List, [], ◌∷◌, Option, Some, ℤ, ◌<ℤ◌, pos}
 use Rattle.std.specs.Ordering.{int_cmp}
 use Rattle.std.specs.List.Sorted.{IsStrictlySortedBy}
 use Rattle.cal_civil.specs.headline.Local.{seconds_in_all}
 use Rattle.cal_rising.specs.headline.Elements.{Has}
+use Rattle.jiff.specs.Types.{TimeZone}
+use Rattle.cal_zone.specs.headline.Place.{place_of}
+use Rattle.cal_spec.specs.headline.Fields.{Fields}
+use Rattle.cal_spec.specs.headline.Match.{matches}
+use Rattle.cal_spec.specs.headline.Members.{sets_of}
 
 -- The meaning of an expression in a zone: which local seconds match, and the place of each local second. The place is
 -- the instant to which the local second resolves, or `None` if the zone's clock skips it.
@@ -36,3 +41,7 @@ pub record AreAbove (Holds : ℤ → Type 0) (b : ℤ) (xs : List ℤ) : Type 0 
 -- `xs` is the list of elapses after `b` of the expressions `es`, without those of the exceptions
 abbrev pub AreElapses : List Timed → List Timed → ℤ → List ℤ → Type 0
 AreElapses es exceptions b xs = AreAbove (IsElapseExcept es exceptions) b xs
+
+-- the local seconds that match, and the instants to which the zone resolves them
+unfoldable pub timed : Fields → TimeZone → Timed
+timed fields tz = record { matches = matches (sets_of fields); place = λ local. place_of tz (pos local) }

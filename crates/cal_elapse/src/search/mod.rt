@@ -6,7 +6,7 @@
 
 ghost use Rattle.std.specs.Prelude.{◌≡◌, ◌+◌, ◌*◌, ◌≤◌, ◌<◌, true, pos, ◌≤ℤ◌, unsigned_abs};
 ghost use Rattle.std.specs.Option.{option_map};
-ghost use Rattle.cal_civil.specs.Local.{IsLocalSecond};
+ghost use Rattle.cal_civil.specs.LocalSecond.{IsLocalSecond};
 ghost use Rattle.cal_civil.specs.headline.Local.{seconds_in_all, days_in_all, seconds_per_day};
 ghost use Rattle.cal_elapse.specs.ExaminedMonths.{IsSearch, examined_months};
 ghost use Rattle.cal_elapse.specs.Masks.{sets_in};

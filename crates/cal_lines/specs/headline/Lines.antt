@@ -5,7 +5,7 @@ use Rattle.std.specs.Prelude.{ℕ, ◌+◌, ◌-◌, ◌%◌, ◌==◌, Bool, no
 use Rattle.std.specs.List.{flat_map, suffix_len}
 use Rattle.std.specs.Str.Lines.{lines}
 use Rattle.cal_text.specs.headline.Trim.{trim_start_matches}
-use Rattle.cal_text.specs.headline.Words.{is_blank}
+use Rattle.cal_text.specs.headline.Separators.{is_blank}
 
 -- a space, a tab or a carriage return
 abbrev pub is_blank_or_return : ℕ → Bool

@@ -13,14 +13,11 @@ use Rattle.cal_spec.specs.headline.Fields.{Fields}
 use Rattle.cal_spec.specs.headline.ZoneSuffix.{ZoneSuffix, of_name, ahead}
 use Rattle.cal_spec.specs.headline.GrammarRule.{IsValid}
 use Rattle.cal_spec.specs.headline.NormalForm.{IsNormalFieldsOf}
-use Rattle.cal_elapse.specs.headline.Elapses.{AreElapses, Timed}
-use Rattle.cal_elapse.specs.headline.Timed.{timed}
+use Rattle.cal_elapse.specs.headline.Elapses.{AreElapses, Timed, timed}
 use Rattle.cal_timer.specs.headline.Assignments.{Assignment, assignments_in}
 use Rattle.cal_timer.specs.headline.TimerText.{excepted, is_exception, is_expression, listed, max_expressions, without_mark}
-use Rattle.cal_report.specs.headline.CalendarReport.{heading_text}
+use Rattle.cal_report.specs.headline.ReportLines.{heading_text, Report, except_label, original_label}
 use Rattle.cal_report.specs.headline.ElapseLines.{elapses_text}
-use Rattle.cal_report.specs.headline.Report.{Report}
-use Rattle.cal_report.specs.headline.ReportLines.{except_label, original_label}
 use Rattle.cal_request.specs.headline.Request.{Request}
 use Rattle.cal_request.specs.declared.request.Status.TheVariants.{Fine, Refused}
 

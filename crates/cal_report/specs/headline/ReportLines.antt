@@ -1,11 +1,15 @@
--- Lines and phrases that several reports share (systemd-analyze(1), calendar and timestamp): an argument as the user
--- gave it, an instant in UTC, and the distance of an instant from the present.
+-- Lines and phrases that several reports share (systemd-analyze(1), calendar and timestamp): the heading of an
+-- expression, an argument as the user gave it, an instant in UTC, and the distance of an instant from the present; and
+-- the result of a run.
 use Rattle.std.specs.Prelude.{ℕ, ℤ, ◌-ℤ◌, int_lt, unsigned_abs, List, [], ◌∷◌, if◌then◌else◌, codes}
 use Rattle.cal_bytes.specs.headline.Bytes.{joined}
 use Rattle.cal_zone.specs.headline.InstantText.{instant_text}
 use Rattle.cal_span.specs.headline.SpanText.{span_text}
 use Rattle.cal_zone.specs.headline.Zone.{is_utc, utc}
 use Rattle.cal_zone.specs.declared.zone.Zone.{Zone}
+use Rattle.cal_spec.specs.headline.ExprText.{expr_text}
+use Rattle.cal_spec.specs.headline.Fields.{Fields}
+use Rattle.cal_request.specs.declared.request.Status.{Status}
 
 -- the label before an expression or a timestamp in its original form: as the user gave it, or as it is written in the
 -- timer file
@@ -36,3 +40,17 @@ direction_text now micros = if int_lt micros now then codes " ago" else codes " 
 -- the time span between the present and a moment, both given in microseconds, followed by ` left` or ` ago`
 unfoldable pub distance_text : ℤ → ℤ → List ℕ
 distance_text now micros = joined (span_text (unsigned_abs (micros -ℤ now)) ∷ direction_text now micros ∷ [])
+
+-- the line of the normal form, without its label
+unfoldable pub normal_line : Fields → List ℕ
+normal_line fields = joined (expr_text fields ∷ codes "\n" ∷ [])
+
+-- the heading: a line with the label and the expression as given, and a line with the normal form
+unfoldable pub heading_text : List ℕ → List ℕ → Fields → List ℕ
+heading_text label text fields = joined (text_line label text ∷ normal_line fields ∷ [])
+
+-- the bytes that a run writes to standard output and to standard error, and its status
+pub record Report : Type 0 where
+  pub out : List ℕ
+  pub err : List ℕ
+  pub status : Status

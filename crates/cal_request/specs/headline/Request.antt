@@ -1,6 +1,6 @@
 -- A request, together with the present and the zones that its answer depends on.
 use Rattle.std.specs.Prelude.{ℕ, ℤ, List, Option}
-use Rattle.cal_zone.specs.headline.ZoneMap.{ZoneMap}
+use Rattle.cal_zone.specs.headline.ZoneTable.{ZoneMap}
 use Rattle.cal_zone.specs.declared.zone.Zone.{Zone}
 use Rattle.cal_request.specs.declared.request.Verb.{Verb}
 

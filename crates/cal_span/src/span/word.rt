@@ -2,8 +2,7 @@
 //! blanks only separate words (systemd.time(7), Parsing Time Spans).
 
 ghost use Rattle.std.specs.Prelude.{◌≡◌, ◌≤◌, ◌<◌, ◌∷◌, [], MatchOption, length, take, drop};
-ghost use Rattle.cal_span.specs.SpanValue.{characters, words_in};
-ghost use Rattle.cal_span.specs.SpanWord.{front_of, after_front};
+ghost use Rattle.cal_span.specs.SpanValue.{characters, words_in, front_of, after_front};
 
 /// The kind of a character in a time span.
 #[derive(Clone, Copy, PartialEq, Eq)]

@@ -7,16 +7,14 @@ use Rattle.std.specs.Char.{is_ascii_digit, to_ascii_lowercase}
 use Rattle.std.specs.Str.Parse.{digits_value}
 use Rattle.jiff_core.specs.declared.civil.weekday.Weekday.{Weekday}
 use Rattle.cal_civil.specs.headline.Weekday.{week, name_of, short_name_of}
-use Rattle.cal_text.specs.headline.Separators.{is_colon}
-use Rattle.cal_spec.specs.headline.DateAndTime.{DateTexts, TimeTexts}
+use Rattle.cal_text.specs.headline.Separators.{is_colon, words}
+use Rattle.cal_spec.specs.headline.UnparsedTexts.{DateTexts, TimeTexts, WordRoles}
 use Rattle.cal_spec.specs.headline.Fields.{Fields, counted_parts, max_counted_parts}
-use Rattle.cal_spec.specs.headline.Parts.{most, with_values}
+use Rattle.cal_spec.specs.headline.PartValues.{most, with_values}
 use Rattle.cal_spec.specs.headline.Shorthand.{any_date, midnight, shorthand_named, expansion_of}
 use Rattle.cal_spec.specs.headline.Slot.{day_slot}
 use Rattle.cal_spec.specs.headline.ValidParts.{IsValidPart}
 use Rattle.cal_spec.specs.headline.Weekdays.{set_of}
-use Rattle.cal_text.specs.headline.Words.{words}
-use Rattle.cal_spec.specs.headline.Words.{WordRoles}
 use Rattle.cal_civil.specs.headline.OffsetWord.{IsOffsetWord, begins_with_sign}
 use Rattle.cal_civil.specs.headline.ZoneName.{begins_with_letter, is_zone_name}
 use Rattle.cal_spec.specs.headline.ZoneSuffix.{ZoneSuffix, of_name, ahead, kept_name}

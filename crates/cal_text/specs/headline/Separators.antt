@@ -1,5 +1,7 @@
--- Characters that separate the parts of an input: equals sign, comma, colon and point.
-use Rattle.std.specs.Prelude.{ℕ, ◌==◌, Bool}
+-- Characters that separate the parts of an input (blanks, equals sign, comma, colon and point), and the words between
+-- blanks, as in the formats of systemd.time(7).
+use Rattle.std.specs.Prelude.{ℕ, ◌==◌, Bool, nat_lt, ◌||◌, List, length, filter}
+use Rattle.std.specs.List.{slice_split}
 
 abbrev pub is_equals : ℕ → Bool
 is_equals b = b == 61
@@ -12,3 +14,11 @@ is_colon b = b == 58
 
 abbrev pub is_point : ℕ → Bool
 is_point b = b == 46
+
+-- a space or a tab
+abbrev pub is_blank : ℕ → Bool
+is_blank b = (b == 32) || (b == 9)
+
+-- the nonempty pieces into which the blanks divide the text
+unfoldable pub words : List ℕ → List (List ℕ)
+words text = filter (λ word. nat_lt 0 (length word)) (slice_split is_blank text)

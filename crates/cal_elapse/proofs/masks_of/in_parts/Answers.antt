@@ -1,4 +1,4 @@
-use Rattle.std.proofs.Common.{◌&&◌, ◌+◌, List, nat_lt, sym, ap, ◌∙◌, arith}
+use Rattle.std.proofs.Common.{◌&&◌, ◌+◌, List, nat_lt, sym, ap, ◌∙◌, arith, Bool, false, ◌≡◌}
 use Rattle.std.specs.List.{list_any}
 use Rattle.std.proofs.lemmas.List.{take_all}
 use Rattle.cal_elapse.specs.Bits.{is_bit}
@@ -7,7 +7,9 @@ use Rattle.cal_elapse.proofs.PartLemmas.{parts_more}
 use Rattle.cal_spec.specs.headline.Members.{part_has}
 use Rattle.cal_spec.specs.declared.part.Part.{Part}
 use Rattle.cal_elapse.proofs.masks_of.in_parts.Goals as goal
-use Rattle.cal_text.proofs.General.{and_none}
+
+and_none : (x : Bool) → (x && false) ≡ false
+and_none x = grind arith
 
 pub loop-part-init : goal.loop-part-init
 loop-part-init c = λ slot w i. is_bit-none i ∙ sym (and_none (nat_lt i c.args.count))

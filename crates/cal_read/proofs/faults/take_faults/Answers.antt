@@ -1,6 +1,6 @@
 use Rattle.std.proofs.Common.{◌≡◌, ◌∙◌, ◌++◌, ap, false, map}
 use Rattle.cal_spec.specs.Expr.{expr_in}
-use Rattle.cal_timer.specs.AssignmentView.{shown_assignment}
+use Rattle.cal_timer.specs.TimerView.{shown_assignment}
 use Rattle.cal_read.specs.TimerFaults.{counted_faults, counts_over, in_file}
 use Rattle.cal_read.specs.TimerTexts.{assignments_at}
 use Rattle.cal_read.proofs.SettingsLemmas.{settings_of_timer}

@@ -1,10 +1,18 @@
-use Rattle.std.proofs.Common.{sym, ◌∙◌, ap, arith}
+use Rattle.std.proofs.Common.{sym, ◌∙◌, ap, arith, List, [], length, ℕ, ◌++◌, ◌<◌, ◌∷◌, ◌≡◌, get_or, map, take, ◌+◌}
 use Rattle.std.specs.String.{string_bytes}
 use Rattle.cal_bytes.proofs.Pieces.{start, done, respell}
 use Rattle.cal_report.proofs.AnswerLemmas.{answered_before, err_more, err_none, goes_on-more, goes_on-none, out_more, out_none, reports_left, reports_left-all, reports_left-none, refusals-none, status_left, status_left-all, status_left-none, out_next, out_stops, err_next, err_stops, status_next}
 use Rattle.cal_report.specs.Answer.{error_lines}
 use Rattle.cal_report.proofs.report.answer_all.Goals as goal
-use Rattle.cal_text.proofs.General.{items_end, items_next, items_taken}
+use Rattle.cal_text.proofs.General.{items_end, items_next}
+use Rattle.std.proofs.lemmas.List.{map-append, take_more}
+
+-- if `y` is the item at index `i` mapped by `f`, then the first `i + 1` mapped items are the first `i` mapped items
+-- followed by `y`
+items_taken : {A B : Type 0} (f : A → B) (xs : List A) (i : ℕ) (x : A) (y : B) → i < length xs → x ≡ get_or xs i x → y ≡ f x
+    → map f (take (i + 1) xs) ≡ map f (take i xs) ++ y ∷ []
+items_taken f xs i x y h is e =
+    rw (take_more xs i x h) (map-append f (take i xs) (get_or xs i x ∷ []) ∙ ap (λ y. map f (take i xs) ++ f y ∷ []) (sym is) ∙ ap (λ t. map f (take i xs) ++ t ∷ []) (sym e))
 
 pub loop-text-init : goal.loop-text-init
 loop-text-init g c =

@@ -2,7 +2,7 @@ use Rattle.std.proofs.Common.{◌≡◌, ◌∙◌, Err, sym, rules}
 use Rattle.std.proofs.KnownBytes.{Appends-nil}
 use Rattle.cal_report.specs.Parsed.{text_error_message}
 use Rattle.cal_report.specs.Context.{asked_by}
-use Rattle.cal_report.specs.Report.{answer_by}
+use Rattle.cal_report.specs.RunReport.{answer_by}
 use Rattle.cal_report.specs.TimerReport.{error_line_at}
 use Rattle.cal_report.proofs.AnswerLemmas.{writes_nothing}
 use Rattle.cal_report.proofs.report.answer_one.Goals as goal

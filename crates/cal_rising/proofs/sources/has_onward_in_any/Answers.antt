@@ -1,11 +1,20 @@
-use Rattle.std.proofs.Common.{rules, ◌∙◌, List, ap, arith, length-set, map, set, sym, w64, int_eq}
+use Rattle.std.proofs.Common.{rules, ◌∙◌, List, ap, arith, length-set, map, set, sym, w64, int_eq, drop, length, ℕ, ◌++◌, ◌≡◌, take, ◌≤◌}
 use Rattle.std.proofs.lemmas.Int.{to_z-of_z}
 use Rattle.std.specs.List.{list_any}
 use Rattle.std.specs.Set.{is_member}
 use Rattle.cal_rising.specs.Merge.{Peeked, numbers}
 use Rattle.cal_rising.proofs.WithoutLemmas.{any_replaced, behind_all, behind_here, behind_more}
 use Rattle.cal_rising.proofs.sources.has_onward_in_any.Goals as goal
-use Rattle.cal_text.proofs.General.{taken_whole}
+use Rattle.std.proofs.lemmas.List.{append-nil}
+use Rattle.std.proofs.Math.Seq.{take-length}
+use Rattle.std.proofs.Math.ListN.{drop_of_length-le}
+
+-- if two lists `xs` and `ys` have `n` items each, and `xs` is written over `ys`, the first `n` items of the result are
+-- `xs`
+taken_whole : {X : Type 0} (xs ys : List X) (n : ℕ) → length xs ≡ length ys → n ≡ length ys → take n (xs ++ drop (length xs) ys) ≡ xs
+taken_whole xs ys n long e =
+    let past : length ys ≤ length xs = omega arith in
+    rw (drop_of_length-le ys past, append-nil xs, e, sym long) (take-length xs)
 
 pub returns-then-has_onward-clause-has : goal.returns-then-has_onward-clause-has
 returns-then-has_onward-clause-has g c =

@@ -1,5 +1,5 @@
 use Rattle.std.proofs.Common.{◌≡◌, ◌⊎◌, inl, inr, Option, None, Some, refl}
-use Rattle.cal_spec.specs.ZoneSuffix.{name_in, offset_said}
+use Rattle.cal_spec.specs.ParsedSuffix.{name_in, offset_said}
 use Rattle.cal_spec.specs.headline.ZoneSuffix.{ZoneSuffix, of_name, ahead}
 use Rattle.cal_spec.proofs.laws.zones_are_names_or_offsets.Goals as goal
 

@@ -1,5 +1,5 @@
 use Rattle.std.proofs.Common.{rules}
-use Rattle.cal_spec.specs.Fields.{fields_of}
+use Rattle.cal_spec.specs.Views.{fields_of}
 use Rattle.cal_spec.specs.Grammar.{fields_in}
 use Rattle.cal_spec.specs.Reads.{GivesUnlessNoMemory}
 use Rattle.cal_spec.proofs.FieldLemmas.{gives_valid}

@@ -1,11 +1,24 @@
-use Rattle.std.proofs.Common.{◌≡◌, true, arith, sym, ◌∙◌}
+use Rattle.std.proofs.Common.{◌≡◌, true, arith, sym, ◌∙◌, List, [], ℕ, ◌∷◌, length, ◌<◌, ◌^◌, ◌≤◌}
 use Rattle.std.specs.Char.{is_ascii_digit}
 use Rattle.std.specs.List.{list_all}
-use Rattle.std.specs.Str.Parse.{digits_value}
+use Rattle.std.specs.Str.Parse.{digits_value, AllDigits}
 use Rattle.std.proofs.lemmas.Bool.Decides.{nat_tests}
 use Rattle.cal_stamp.specs.StampDate.{digits_number}
 use Rattle.cal_stamp.proofs.date.read_number.Goals as goal
-use Rattle.cal_text.proofs.General.{short_number}
+use Rattle.std.proofs.lemmas.Bool.{and_parts}
+use Rattle.cal_text.proofs.General.{digit_below}
+use Rattle.std.proofs.Math.Nat.{pow-le-pow_right}
+use Rattle.std.proofs.lemmas.Int.Digits.{digits_value-lt}
+
+all_digits : (ds : List ℕ) → list_all is_ascii_digit ds ≡ true → AllDigits 10 ds
+all_digits [] h = tt
+all_digits (d ∷ ds) h = let parts = and_parts (is_ascii_digit d) (list_all is_ascii_digit ds) h in (digit_below d parts.0, all_digits ds parts.1)
+
+-- a number of at most four digits is below 10,000
+short_number : (ds : List ℕ) → list_all is_ascii_digit ds ≡ true → length ds ≤ 4 → digits_value 10 ds < 10_000
+short_number ds all short =
+    let most : 10 ^ length ds ≤ 10 ^ 4 = pow-le-pow_right (omega arith) short in
+    omega (arith, digits_value-lt 10 ds (all_digits ds all), most)
 
 pub overflow_cast-result : goal.overflow_cast-result
 overflow_cast-result c =

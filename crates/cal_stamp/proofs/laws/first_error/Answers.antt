@@ -1,4 +1,4 @@
-use Rattle.cal_stamp.proofs.StampMomentRule.{has_error}
+use Rattle.cal_stamp.proofs.StampMomentRuleLemmas.{has_error}
 use Rattle.cal_stamp.proofs.laws.first_error.Goals as goal
 
 pub returns : goal.returns

@@ -1,4 +1,4 @@
-use Rattle.cal_stamp.proofs.StampMomentRule.{beyond, in_range}
+use Rattle.cal_stamp.proofs.StampMomentRuleLemmas.{beyond, in_range}
 use Rattle.cal_stamp.proofs.laws.moments_are_in_range.Goals as goal
 
 pub returns-clause-inside : goal.returns-clause-inside

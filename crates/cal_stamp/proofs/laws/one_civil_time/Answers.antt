@@ -1,4 +1,4 @@
-use Rattle.cal_stamp.proofs.StampCivilRule.{found, only}
+use Rattle.cal_stamp.proofs.StampCivilRuleLemmas.{found, only}
 use Rattle.cal_stamp.proofs.laws.one_civil_time.Goals as goal
 
 pub returns-clause-found : goal.returns-clause-found

@@ -1,4 +1,4 @@
-use Rattle.cal_stamp.proofs.StampRule as rule
+use Rattle.cal_stamp.proofs.StampRuleLemmas as rule
 use Rattle.cal_stamp.proofs.laws.one_form.Goals as goal
 
 pub returns-clause-found : goal.returns-clause-found

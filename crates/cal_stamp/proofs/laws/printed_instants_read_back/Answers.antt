@@ -1,4 +1,4 @@
-use Rattle.cal_stamp.proofs.StampPrinted.{reads_as_none, reads_back, reads_back_utc, seconds_are_unread}
+use Rattle.cal_stamp.proofs.StampPrintedLemmas.{reads_as_none, reads_back, reads_back_utc, seconds_are_unread}
 use Rattle.cal_stamp.proofs.laws.printed_instants_read_back.Goals as goal
 
 pub returns-clause-back : goal.returns-clause-back

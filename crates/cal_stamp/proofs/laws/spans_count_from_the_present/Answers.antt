@@ -1,5 +1,5 @@
 use Rattle.cal_stamp.specs.StampForm.{counted, earlier, later}
-use Rattle.cal_stamp.proofs.StampMomentRule.{exactly}
+use Rattle.cal_stamp.proofs.StampMomentRuleLemmas.{exactly}
 use Rattle.cal_stamp.proofs.laws.spans_count_from_the_present.Goals as goal
 
 pub returns-clause-later : goal.returns-clause-later

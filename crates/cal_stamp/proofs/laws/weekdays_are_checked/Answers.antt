@@ -1,5 +1,5 @@
 use Rattle.cal_stamp.specs.StampForm.{civil}
-use Rattle.cal_stamp.proofs.StampMomentRule.{exactly, has_wrong_weekday}
+use Rattle.cal_stamp.proofs.StampMomentRuleLemmas.{exactly, has_wrong_weekday}
 use Rattle.cal_stamp.proofs.laws.weekdays_are_checked.Goals as goal
 
 pub returns-clause-right : goal.returns-clause-right

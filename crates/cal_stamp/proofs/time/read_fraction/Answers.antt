@@ -1,10 +1,14 @@
-use Rattle.std.proofs.Common.{◌≡◌, true, take, arith, sym, ◌∙◌}
+use Rattle.std.proofs.Common.{◌≡◌, true, take, arith, sym, ◌∙◌, Bool, List, [], refl, suc, zero, ℕ, ◌∷◌}
 use Rattle.std.specs.Char.{is_ascii_digit}
 use Rattle.std.specs.List.{list_all}
 use Rattle.std.proofs.lemmas.List.{length-take}
 use Rattle.cal_stamp.proofs.StampLemmas.{fraction_bound}
 use Rattle.cal_stamp.proofs.time.read_fraction.Goals as goal
-use Rattle.cal_text.proofs.General.{list_all-take}
+
+list_all-take : (p : ℕ → Bool) (xs : List ℕ) (n : ℕ) → list_all p xs ≡ true → list_all p (take n xs) ≡ true
+list_all-take p xs zero h = refl
+list_all-take p [] (suc n) h = refl
+list_all-take p (x ∷ xs) (suc n) h = grind (arith, list_all-take p xs n)
 
 pub returns-clause-bound : goal.returns-clause-bound
 returns-clause-bound c =

@@ -4,7 +4,7 @@ use Rattle.std.proofs.lemmas.Int.{to_z-of_z}
 use Rattle.jiff.specs.Types.{DateTime, TimeZone}
 use Rattle.jiff.specs.Words.{ambiguous_at, compatible_offset, instant_of, nanos_of_seconds, IsEpochDay}
 use Rattle.jiff.proofs.SpanFacts.{signed_arith}
-use Rattle.cal_civil.specs.Local.{CanSettle}
+use Rattle.cal_civil.specs.LocalSecond.{CanSettle}
 use Rattle.cal_civil.specs.headline.Local.{day_of}
 use Rattle.cal_zone.specs.headline.Place.{datetime_of, settle_of}
 use Rattle.cal_zone.proofs.PlaceLemmas.{instant_of-settled, settle_of-near}

@@ -1,7 +1,11 @@
 use Rattle.std.proofs.lemmas.Bool.{and_parts}
 use Rattle.cal_elapse.proofs.AmongLemmas.{among}
 use Rattle.cal_elapse.proofs.masks.Masks.covers.Goals as goal
-use Rattle.cal_text.proofs.General.{beq_same}
+use Rattle.std.proofs.Common.{Bool, arith, true, ◌≡◌}
+use Rattle.std.proofs.Math.Bool.{beq}
+
+beq_same : (a b : Bool) → beq a b ≡ true → a ≡ b
+beq_same a b h = grind arith
 
 pub returns : goal.returns
 returns c = λ all.

@@ -1,5 +1,5 @@
 use Rattle.cal_span.proofs.SpanPairRule.{are_pairs, only_pairs}
-use Rattle.cal_span.proofs.SpanRule.{spelled_once, judges_span, one_judgement}
+use Rattle.cal_span.proofs.SpanRuleLemmas.{spelled_once, judges_span, one_judgement}
 use Rattle.cal_span.proofs.SpanRuns.{runs_cut, runs_longest, runs_only}
 use Rattle.cal_span.proofs.span.rule.one_value.Goals as goal
 

@@ -1,10 +1,12 @@
-use Rattle.std.proofs.Common.{◌∙◌, ◌++◌, ap, sym, arith}
-use Rattle.std.proofs.lemmas.List.{append-nil, drop_all}
+use Rattle.std.proofs.Common.{◌∙◌, ◌++◌, ap, sym, arith, List, ℕ, ◌≡◌}
+use Rattle.std.proofs.lemmas.List.{append-nil, drop_all, append_assoc}
 use Rattle.cal_span.proofs.SpanCounts.{led, led_taken, led_skipped, counts_in_row-led}
 use Rattle.cal_span.specs.headline.SpanText.{positive, counts_of}
 use Rattle.cal_span.proofs.span.text.push_counts.Goals as goal
 use Rattle.cal_span.proofs.span.text.push_counts.Goals.{then-rest-size, else-rest-size}
-use Rattle.cal_text.proofs.General.{appended}
+
+appended : (text piece left later whole : List ℕ) → left ≡ piece ++ later → text ++ left ≡ whole → (text ++ piece) ++ later ≡ whole
+appended text piece left later whole e h = append_assoc text piece later ∙ ap (λ rest. text ++ rest) (sym e) ∙ h
 
 pub loop-unit-init : goal.loop-unit-init
 loop-unit-init c = record {

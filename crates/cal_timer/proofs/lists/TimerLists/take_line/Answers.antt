@@ -4,8 +4,7 @@ use Rattle.std.proofs.lemmas.Result.{err_from_is_err_and}
 use Rattle.cal_spec.specs.Expr.{expr_in}
 use Rattle.cal_timer.specs.headline.Assignments.{assignments_in}
 use Rattle.cal_lines.specs.LineView.{line_at}
-use Rattle.cal_timer.specs.AssignmentView.{shown_assignment}
-use Rattle.cal_timer.specs.TimerView.{resumed}
+use Rattle.cal_timer.specs.TimerView.{shown_assignment, resumed}
 use Rattle.cal_timer.proofs.ResumedLemmas.{assigned_here, header_here, nothing_here, outside_here}
 use Rattle.cal_timer.proofs.lists.TimerLists.take_line.Goals as goal
 

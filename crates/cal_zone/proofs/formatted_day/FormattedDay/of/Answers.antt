@@ -2,13 +2,18 @@ use Rattle.std.proofs.Common.{◌≡◌, ◌∙◌, ◌++◌, ◌+ℤ◌, ◌-�
 use Rattle.std.proofs.lemmas.Int.{to_z-of_z}
 use Rattle.jiff.proofs.SpanFacts.{signed_arith}
 use Rattle.jiff.specs.Words.{nanos_of_seconds, offset_at}
-use Rattle.cal_zone.specs.Civil.{at_second}
-use Rattle.cal_zone.specs.InstantText.{day_text}
+use Rattle.cal_zone.specs.CivilAt.{at_second}
+use Rattle.cal_zone.specs.FormattedDay.{day_text}
 use Rattle.cal_zone.specs.headline.InstantText.{zone_word}
 use Rattle.cal_zone.specs.headline.Zone.{is_utc, zone_of}
 use Rattle.cal_zone.proofs.FormattedDayLemmas.{day_goes_on, seconds_shown, text_on_day}
 use Rattle.cal_zone.proofs.formatted_day.FormattedDay.of.Goals as goal
-use Rattle.cal_text.proofs.General.{max_to, min_from}
+use Rattle.cal_text.proofs.General.{min_from}
+use Rattle.std.specs.Int.{int_max}
+
+-- an upper bound of two numbers is an upper bound of their maximum
+max_to : (a b high : ℤ) → a ≤ℤ high → b ≤ℤ high → int_max a b ≤ℤ high
+max_to a b high p q = grind arith
 
 pub overflow_sub-midnight : goal.overflow_sub-midnight
 overflow_sub-midnight c =

@@ -1,11 +1,13 @@
-use Rattle.std.proofs.Common.{◌∙◌, sym, ap, is_some}
+use Rattle.std.proofs.Common.{◌∙◌, sym, ap, is_some, Option, arith, ◌≡◌}
 use Rattle.std.specs.FinMap.{insert}
 use Rattle.cal_zone.specs.headline.Zone.{zone_of}
-use Rattle.cal_zone.specs.ZoneMap.{zone_map_in}
-use Rattle.cal_zone.specs.ZoneTable.{is_taken}
+use Rattle.cal_zone.specs.AddedZones.{zone_map_in, is_taken}
 use Rattle.cal_zone.proofs.ZoneMapLemmas.{zone_map_in-insert}
 use Rattle.cal_zone.proofs.zone_table.ZoneTable.add_named.Goals as goal
-use Rattle.cal_text.proofs.General.{is_some-option_map}
+use Rattle.std.specs.Prelude.{option_map}
+
+is_some-option_map : {A B : Type 0} (f : A → B) (o : Option A) → is_some (option_map f o) ≡ is_some o
+is_some-option_map f o = grind arith
 
 pub returns-in-Ok-insert-clause-added : goal.returns-in-Ok-insert-clause-added
 returns-in-Ok-insert-clause-added c =

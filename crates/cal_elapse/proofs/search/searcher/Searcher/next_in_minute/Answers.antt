@@ -1,4 +1,4 @@
-use Rattle.std.proofs.Common.{◌+◌, FitsSigned, IsSome, arith, option_map, subst, sym, unsigned_abs, unwrap_or, w64}
+use Rattle.std.proofs.Common.{◌+◌, FitsSigned, IsSome, arith, option_map, subst, sym, unsigned_abs, unwrap_or, w64, Option, ◌≡◌, IfSome}
 use Rattle.std.proofs.lemmas.Int.{ints, to_z-of_z}
 use Rattle.std.proofs.lemmas.Option.{IfSome_then}
 use Rattle.cal_spec.specs.headline.Match.{matches}
@@ -12,7 +12,9 @@ use Rattle.cal_elapse.proofs.FoundLemmas.{first_match, first_passing}
 use Rattle.cal_elapse.proofs.MinuteLemmas.{next_found}
 use Rattle.cal_elapse.proofs.MostMonthsLemmas.{next_counted, next_most}
 use Rattle.cal_elapse.proofs.search.searcher.Searcher.next_in_minute.Goals as goal
-use Rattle.cal_text.proofs.General.{unwrap_or_kept}
+
+unwrap_or_kept : {A : Type 0} (next : Option A) (local last : A) → IsSome next → IfSome next (λ l. l ≡ last) → unwrap_or next local ≡ last
+unwrap_or_kept next local last some kept = grind arith
 
 pub returns-then-not-has_more_in_minute-clause-counted : goal.returns-then-not-has_more_in_minute-clause-counted
 returns-then-not-has_more_in_minute-clause-counted c =

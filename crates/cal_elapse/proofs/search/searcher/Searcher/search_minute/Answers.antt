@@ -1,5 +1,5 @@
-use Rattle.std.proofs.Common.{◌≡◌, ◌∙◌, ◌+◌, ◌-◌, FitsSigned, Some, arith, of_z, refl, rules, subst, sym, to_z, unsigned_abs, w64, ℕ, ℤ}
-use Rattle.std.proofs.lemmas.Int.{to_z-of_z}
+use Rattle.std.proofs.Common.{◌≡◌, ◌∙◌, ◌+◌, ◌-◌, FitsSigned, Some, arith, of_z, refl, rules, subst, sym, to_z, unsigned_abs, w64, ℕ, ℤ, ◌-ℤ◌, ◌<◌, pos, ◌^◌}
+use Rattle.std.proofs.lemmas.Int.{to_z-of_z, ints, to_z_pos}
 use Rattle.cal_civil.specs.headline.Local.{seconds_in_all-is}
 use Rattle.cal_spec.specs.headline.Match.{matches}
 use Rattle.cal_elapse.specs.Search.{count_from}
@@ -8,11 +8,20 @@ use Rattle.cal_elapse.specs.Masks.{sets_in}
 use Rattle.cal_elapse.specs.MostMonths.{IsMostAfter}
 use Rattle.cal_elapse.specs.declared.masks.Masks.{Masks}
 use Rattle.cal_elapse.proofs.CountLemmas.{count_from-most, count_from-nothing, count_from-then}
-use Rattle.cal_text.proofs.General.{between_whole, pos_unsigned_abs}
+use Rattle.cal_text.proofs.General.{pos_unsigned_abs}
 use Rattle.cal_civil.proofs.LocalLemmas.{local_inside}
 use Rattle.cal_elapse.proofs.MinuteLemmas.{rest_on, rest_unknown}
 use Rattle.cal_elapse.proofs.MostMonthsLemmas.{most_begun, most_on, most_then}
 use Rattle.cal_elapse.proofs.search.searcher.Searcher.search_minute.Goals as goal
+
+-- if m < n < 2 ^ 63, then n - m - 1, the number of integers strictly between m and n, can be computed with 64-bit
+-- integers without overflow
+between_whole : (a b : ℤ) (n m : ℕ) → a ≡ pos n → b ≡ pos m → m < n → n < 2 ^ 63
+    → unsigned_abs (to_z w64 (of_z w64 (to_z w64 (of_z w64 (to_z w64 (of_z w64 a) -ℤ to_z w64 (of_z w64 b))) -ℤ pos 1))) ≡ n - m - 1
+between_whole a b n m is_n is_m less small =
+    let apart : (pos n -ℤ pos m) ≡ pos (n - m) = omega (arith, ints) in
+    let between : (pos (n - m) -ℤ pos 1) ≡ pos (n - m - 1) = omega (arith, ints) in
+    rw (is_n, is_m, to_z_pos w64 n small, to_z_pos w64 m (omega arith), apart, to_z_pos w64 (n - m) (omega arith), between, to_z_pos w64 (n - m - 1) (omega arith)) refl
 
 -- `local` fits into a 64-bit integer, so passing it as an argument doesn't change it
 local_is : (local : ℤ) → FitsSigned w64 local → to_z w64 (of_z w64 local) ≡ local

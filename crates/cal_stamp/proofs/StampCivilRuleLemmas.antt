@@ -1,7 +1,7 @@
 -- Parsing words gives a civil time if and only if the words and the civil time satisfy `IsCivilTime`.
 use Rattle.std.proofs.Common.{ℕ, ◌<◌, ◌≡◌, Bool, inl, inr, true, false, ◌&&◌, ◌||◌, List, [], ◌∷◌, ◌++◌, length, refl, sym, ap, ◌∙◌, arith, Option, Some, None, Ok, ℤ}
 use Rattle.std.specs.Prelude.{nat_le, is_some}
-use Rattle.std.specs.Char.{is_ascii_digit}
+use Rattle.std.specs.Char.{is_ascii_digit, is_ascii_alphabetic}
 use Rattle.std.specs.List.{list_all, list_any, slice_split, join_with_byte}
 use Rattle.std.specs.Option.{option_to_list}
 use Rattle.std.proofs.lemmas.Bool.{and_parts, cases_Bool}
@@ -10,12 +10,12 @@ use Rattle.std.proofs.lemmas.List.Folds.{list_any-append}
 use Rattle.std.proofs.lemmas.List.Splits.{join_with_byte-slice_split}
 use Rattle.jiff.specs.Types.{TimeZone, Weekday}
 use Rattle.cal_civil.proofs.OffsetWordLemmas.{offset-found, offset-only}
-use Rattle.cal_civil.specs.OffsetWord.{offset_in}
+use Rattle.cal_civil.specs.ReadOffset.{offset_in}
 use Rattle.cal_civil.specs.headline.OffsetWord.{IsOffsetWord}
 use Rattle.cal_zone.specs.headline.FixedOffsetZone.{fixed_offset_zone}
 use Rattle.cal_civil.specs.headline.ZoneName.{begins_with_letter}
 use Rattle.cal_text.specs.headline.Separators.{is_colon}
-use Rattle.cal_spec.specs.Weekdays.{day_named}
+use Rattle.cal_spec.specs.WeekdayNames.{day_named}
 use Rattle.cal_zone.specs.Setting.{Setting}
 use Rattle.cal_stamp.specs.Stamp.{CivilStamp, begins_with_digit, name_found, offset_found, zone_of_word, zone_alone, zone_by_words, civil_stamp_in, after_date, after_weekday, weekday_found, civil_time}
 use Rattle.cal_stamp.specs.StampCivilRule.{IsCivilTime, MeansZone, NamesWeekday, WritesDate, WritesTime, NamesZone}
@@ -23,7 +23,13 @@ use Rattle.cal_stamp.specs.declared.date.DateNumbers.{DateNumbers}
 use Rattle.cal_stamp.specs.StampDate.{is_hyphen, digits_number, date_by, date_of_pieces, date_numbers, day_due, day_written}
 use Rattle.cal_stamp.specs.StampTime.{up_to, clock_number, time_by, time_of_pieces, time_numbers, micros_due, time_written}
 use Rattle.cal_spec.proofs.ReadLemmas.{bind_ok}
-use Rattle.cal_text.proofs.General.{clear_of, digit_no_letter, letter_no_digit}
+use Rattle.cal_text.proofs.General.{clear_of}
+
+digit_no_letter : (b : ℕ) → is_ascii_digit b ≡ true → is_ascii_alphabetic b ≡ false
+digit_no_letter b h = grind (arith, nat_tests)
+
+letter_no_digit : (b : ℕ) → is_ascii_alphabetic b ≡ true → is_ascii_digit b ≡ false
+letter_no_digit b h = grind (arith, nat_tests)
 
 -- What each word begins with and contains
 

@@ -26,10 +26,10 @@ use Rattle.cal_stamp.specs.StampMomentRule.{LiesAfter, LiesBefore, IsPresentDay,
 use Rattle.cal_stamp.specs.StampRule.{HasForm}
 use Rattle.cal_stamp.specs.declared.fault.StampFault.{StampFault}
 use Rattle.cal_stamp.specs.declared.fault.StampFault.TheVariants.{OutOfRange, WrongWeekday, BadSpan}
-use Rattle.cal_stamp.proofs.StampCivilRule as civil_rule
-use Rattle.cal_stamp.proofs.StampFaultRule.{err_of, first-found, first-only, zone-found, zone-only}
+use Rattle.cal_stamp.proofs.StampCivilRuleLemmas as civil_rule
+use Rattle.cal_stamp.proofs.StampFaultRuleLemmas.{err_of, first-found, first-only, zone-found, zone-only}
 use Rattle.cal_stamp.proofs.StampLemmas.{too_late}
-use Rattle.cal_stamp.proofs.StampRule as form_rule
+use Rattle.cal_stamp.proofs.StampRuleLemmas as form_rule
 
 -- The range of moments
 

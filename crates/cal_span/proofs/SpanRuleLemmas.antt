@@ -7,10 +7,9 @@ use Rattle.cal_span.specs.declared.span.fault.SpanFault.{SpanFault}
 use Rattle.cal_span.specs.declared.span.fault.SpanFault.TheVariants.{Empty, BadNumber, UnknownUnit, TooLarge}
 use Rattle.cal_span.specs.declared.time_unit.TimeUnit.TheVariants.{Year, Month, Week, Day, Hour, Minute, Second, Millisecond, Microsecond}
 use Rattle.cal_span.specs.UnitSpellings.{spellings_of}
-use Rattle.cal_span.specs.Span.{limit}
+use Rattle.cal_span.specs.SpanValue.{limit, unit_named, Pair, pairs_in, is_number, unit_in, worth_in, worth_of, sum_with, judged, value_of_pairs, span_of}
 use Rattle.std.specs.List.{AllByRecursion}
 use Rattle.cal_text.specs.AndThen.{◌>>=◌}
-use Rattle.cal_span.specs.SpanValue.{unit_named, Pair, pairs_in, is_number, unit_in, worth_in, worth_of, sum_with, judged, value_of_pairs, span_of}
 use Rattle.cal_span.specs.SpanRule.{AreWorth, IsFaultAfter, IsFirstFault, Judges}
 use Rattle.std.proofs.lemmas.Bool.Decides.{nat_tests}
 

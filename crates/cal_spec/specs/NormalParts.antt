@@ -1,13 +1,19 @@
 -- Computation of the normal form of a calendar expression: systemd.time(7), Calendar Events.
-use Rattle.std.specs.Prelude.{◌≡◌, ◌&&◌, ℕ, ◌+◌, ◌-◌, ◌*◌, ◌/◌, ◌%◌, ◌<◌, Bool, if◌then◌else◌, List, [], ◌∷◌, map, Option, None, Some, nat_eq}
+use Rattle.std.specs.Prelude.{List, [], ◌∷◌, ◌≡◌, ◌&&◌, ℕ, ◌+◌, ◌-◌, ◌*◌, ◌/◌, ◌%◌, ◌<◌, Bool, if◌then◌else◌, map, Option, None, Some, nat_eq}
+use Rattle.std.specs.BTreeSet.{insert_key}
+use Rattle.std.specs.declared.cmp.Ordering.{Ordering}
 use Rattle.std.specs.List.{AllByRecursion}
 use Rattle.std.specs.List.Sorted.{IsStrictlySortedBy}
 use Rattle.std.specs.Option.{option_map, option_and_then, option_eq}
 use Rattle.cal_spec.specs.headline.Fields.{Fields}
-use Rattle.cal_spec.specs.Order.{in_order}
 use Rattle.cal_spec.specs.headline.ValidParts.{EndsAfter, IsStep}
 use Rattle.cal_spec.specs.declared.part.Part.{Part}
 use Rattle.cal_spec.specs.headline.NormalForm.{each, normal_from_end, part_cmp, range_to, step_of}
+
+-- sorts the elements by `cmp`; of elements that compare as equal, one is kept
+abbrev pub in_order : {A : Type 0} → (A → A → Ordering) → List A → List A
+in_order cmp [] = []
+in_order cmp (x ∷ xs) = insert_key cmp (in_order cmp xs) x
 
 -- the part has a normal form: its end, if it has one, isn't below its start, and its step, if it has one, isn't zero
 pub record IsPart (p : Part) : Type 0 where

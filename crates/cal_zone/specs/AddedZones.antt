@@ -1,10 +1,15 @@
--- When a zone can be added to a zone table, and with which errors adding it fails.
-use Rattle.std.specs.Prelude.{◌≡◌, ℕ, Bool, true, false, List, is_some}
-use Rattle.cal_zone.specs.headline.ZoneMap.{ZoneMap}
+-- How contracts see the `BTreeMap` in a zone table, when a zone can be added to the table, and with which errors adding
+-- it fails.
+use Rattle.std.specs.Prelude.{◌≡◌, ℕ, Bool, true, false, List, is_some, String, map}
+use Rattle.cal_zone.specs.headline.ZoneTable.{ZoneMap, zone_named}
 use Rattle.cal_civil.specs.headline.ZoneName.{is_zone_name}
 use Rattle.cal_zone.specs.declared.zone_fault.ZoneFault.{ZoneFault}
 use Rattle.cal_zone.specs.declared.zone_fault.ZoneFault.TheVariants.{BadName, BadRule, BadFile, TooLarge, NoMemory, NameTaken}
-use Rattle.cal_zone.specs.headline.ZoneTable.{zone_named}
+use Rattle.std.specs.BTreeMap.{BTreeMap}
+use Rattle.std.specs.FinMap.{from_entries}
+use Rattle.std.specs.String.{string_bytes}
+use Rattle.std.specs.declared.alloc.Global.{Global}
+use Rattle.jiff.specs.Types.{TimeZone}
 
 -- whether the table has a zone named `name`
 abbrev pub is_taken : ZoneMap → List ℕ → Bool
@@ -24,3 +29,7 @@ IsAddFault table name BadFile = ⊥
 IsAddFault table name TooLarge = ⊥
 IsAddFault table name NoMemory = IsAddable table name
 IsAddFault table name NameTaken = (is_zone_name name ≡ true) × (is_taken table name ≡ true)
+
+-- the map with the entries of the `BTreeMap`, whose keys are the bytes of the names
+abbrev pub zone_map_in : BTreeMap (String Global) TimeZone → ZoneMap
+zone_map_in zones = from_entries (map (λ entry. (string_bytes entry.0, entry.1)) zones.entries)

@@ -1,7 +1,7 @@
 -- Parsing of the zone at the end of a calendar expression: a name (systemd.time(7), Calendar Events), or a UTC offset,
 -- which systemd doesn't accept.
 use Rattle.std.specs.Prelude.{ℕ, ℤ, ◌≡◌, true, if◌then◌else◌, List, [], ◌∷◌, Option, None, Some, option_map, Result, Ok, Err}
-use Rattle.cal_civil.specs.OffsetWord.{AreWholeMinutes, offset_in}
+use Rattle.cal_civil.specs.ReadOffset.{AreWholeMinutes, offset_in}
 use Rattle.cal_civil.specs.headline.ZoneName.{is_zone_name}
 use Rattle.cal_spec.specs.declared.spec_fault.SpecFault.{SpecFault}
 use Rattle.cal_spec.specs.declared.spec_fault.SpecFault.TheVariants.{StrayWord}

@@ -1,5 +1,6 @@
--- The elapses of calendar expressions, as lists.
-use Rattle.std.specs.Prelude.{List, ℤ, int_lt, map, filter}
+-- The elapses of calendar expressions, as lists; of several expressions, one list for each (systemd.timer(5),
+-- OnCalendar=).
+use Rattle.std.specs.Prelude.{List, ℤ, int_lt, map, filter, [], ◌∷◌}
 use Rattle.std.specs.List.{filter_map, range_with_len}
 use Rattle.cal_civil.specs.headline.Local.{seconds_in_all}
 use Rattle.cal_rising.specs.RisingList.{union, without}
@@ -18,3 +19,7 @@ elapses_after es b = union (map (λ e. filter (int_lt b) (places e)) es)
 -- whose elapses a timer doesn't elapse
 unfoldable pub elapses_except : List Timed → List Timed → ℤ → List ℤ
 elapses_except es exceptions b = without (elapses_after es b) (elapses_after exceptions b)
+
+-- the lists of elapses after `b`, one list for each expression
+abbrev pub each_after : List Timed → ℤ → List (List ℤ)
+each_after es b = map (λ e. elapses_after (e ∷ []) b) es

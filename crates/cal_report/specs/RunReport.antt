@@ -1,12 +1,12 @@
 -- The report of a request: what goes to standard output, what goes to standard error, and the status.
 use Rattle.std.specs.Prelude.{◌≡◌, ℕ, ℤ, Bool, List, [], Option, None, Some, Result, Ok, Err, IfOk, codes}
 use Rattle.std.specs.Result.{result_map_both}
-use Rattle.cal_bytes.specs.Bytes.{Writes}
+use Rattle.cal_bytes.specs.Writes.{Writes}
 use Rattle.cal_streams.specs.Whole.{is_read_failed}
 use Rattle.cal_streams.specs.declared.whole.WholeFault.{WholeFault}
 use Rattle.cal_streams.specs.declared.whole.WholeFault.TheVariants.{NoMemory}
 use Rattle.cal_zone.specs.declared.instant.Instant.{Instant}
-use Rattle.cal_timer.specs.TimerText.{ReadsWhole, timer_file_limit}
+use Rattle.cal_timer.specs.TimerEntries.{ReadsWhole, timer_file_limit}
 use Rattle.cal_stamp.specs.StampFault.{message_of}
 use Rattle.cal_stamp.specs.declared.fault.StampFault.{StampFault}
 use Rattle.cal_report.specs.Answer.{Answer, IsAnsweredBefore, error_line, reports_text, error_lines, texts_status}
@@ -21,7 +21,7 @@ use Rattle.cal_request.specs.declared.request.Status.{Status}
 use Rattle.cal_request.specs.declared.request.Status.TheVariants.{Fine, Refused}
 use Rattle.cal_request.specs.declared.request_kind.TextVerb.{TextVerb}
 use Rattle.cal_request.specs.declared.request_kind.TextVerb.TheVariants.{Calendar, Timestamp, Timespan}
-use Rattle.cal_report.specs.headline.Report.{Report}
+use Rattle.cal_report.specs.headline.ReportLines.{Report}
 
 -- the answer to one text of this verb, for this base time
 abbrev pub answer_by : TextVerb → Request → ℤ → List ℕ → Answer

@@ -21,24 +21,22 @@ use Rattle.cal_civil.specs.headline.Days.{date_of}
 use Rattle.cal_zone.specs.Instant.{IsInstant}
 use Rattle.cal_civil.specs.headline.OffsetText.{zeros}
 use Rattle.cal_zone.specs.headline.InstantText.{date_text, instant_text, shown_text, time_text, weekday_name}
-use Rattle.cal_civil.specs.Local.{IsLocalSecond}
+use Rattle.cal_civil.specs.LocalSecond.{IsLocalSecond}
 use Rattle.cal_civil.specs.headline.Local.{day_of, hour_of, minute_of, second_of, second_of_day}
 use Rattle.cal_zone.specs.headline.Place.{settle_of}
 use Rattle.cal_civil.specs.headline.Weekday.{short_name_of, week}
 use Rattle.cal_zone.specs.headline.Zone.{local_shown_at, utc, zone_of}
-use Rattle.cal_zone.specs.headline.ZoneMap.{ZoneMap}
-use Rattle.cal_zone.specs.headline.ZoneTable.{zone_named}
+use Rattle.cal_zone.specs.headline.ZoneTable.{ZoneMap, zone_named}
 use Rattle.cal_zone.specs.declared.civil_fields.Civil.{Civil}
 use Rattle.cal_zone.specs.declared.zone.Zone.{Zone}
 use Rattle.cal_spec.proofs.WordsBetween.{words_only}
-use Rattle.cal_text.specs.headline.Separators.{is_colon}
-use Rattle.cal_spec.specs.GrammarRule.{IsWord}
+use Rattle.cal_text.specs.headline.Separators.{is_colon, is_blank, words}
+use Rattle.cal_spec.specs.WordsOfText.{IsWord}
 use Rattle.cal_text.specs.TrimRule.{StartsSolid, IsTrimmed}
-use Rattle.cal_text.specs.headline.Words.{is_blank, words}
 use Rattle.cal_stamp.proofs.StampPrintedTexts.{IsClock, IsDayName, date_back, date_no_colon, date_solid, date_some, date_word, in_week, other_date_back, short_names, time_back, time_digit, time_solid, time_some, time_word, year_of}
 use Rattle.cal_zone.proofs.PlaceLemmas.{local_shown_at-UTC}
 use Rattle.cal_stamp.proofs.StampPrintedZones.{IsLastWord, last_byte, shown_last, shown_offset, shown_read, shown_unread, shown_word, utc_minutes}
-use Rattle.cal_stamp.proofs.StampRule.{only}
+use Rattle.cal_stamp.proofs.StampRuleLemmas.{only}
 use Rattle.cal_text.specs.AndThen.{◌>>=◌}
 use Rattle.cal_zone.specs.headline.Moment.{micros_of}
 use Rattle.cal_zone.specs.Setting.{Setting}
