@@ -83,7 +83,8 @@ fn add_files<T: Tree>(
     Ok(loaded.faults)
 }
 
-/// Adds the problems of a file. Adds nothing if the text is longer than [`MAX_TEXT`], but no file is that long.
+/// Adds the problems of a file. If its text were longer than [`MAX_TEXT`], nothing would be added, but such files have
+/// been rejected before.
 fn add_findings(
     alloc: Global,
     path: &str,

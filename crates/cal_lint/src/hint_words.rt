@@ -101,7 +101,7 @@ fn rewrite(alloc: Global, is_first: bool, word: &str) -> Result<Option<Rewritten
     rewrite_signed(alloc, word)
 }
 
-/// Returns the rewritten word for this mistake: the time as `hh:mm`.
+/// Returns what to write instead of a time of day with this mistake: the time as `hh:mm`.
 fn clock(
     alloc: Global,
     mistake: Mistake,

@@ -1,4 +1,4 @@
-//! Keys in the sections `Timer` of a unit file that neither systemd 252 nor this project knows.
+//! Unknown keys: those in `[Timer]` sections of a unit file that neither systemd 252 nor this project knows.
 
 ghost use Rattle.std.specs.Prelude.{◌≡◌, ◌+◌, ◌<◌, ◌-◌, ◌^◌, IfOk, codes, drop, false, filter, length, map, nat_eq, take};
 ghost use Rattle.std.specs.List.{starts_with};

@@ -33,10 +33,14 @@ pub struct DropIns {
 /// `path` is the search path, the most important folder first. `stems` are the unit's names without `.timer`: its
 /// aliases, and last its own name.
 ///
-/// Fails with [`UnitFault::At`] and [`Reason::ReadFailed`] if a folder can't be listed or a drop-in can't be looked at,
-/// with [`Reason::NotUtf8`] if the target of a link is not UTF-8, and the link is a drop-in or `tree` can't follow it,
-/// and with [`Reason::TooMany`] at the folder with the 10,001st drop-in, counting also drop-ins that are hidden by
-/// others of the same name. Fails with [`UnitFault::NoMemory`] if allocation fails.
+/// Fails with [`UnitFault::At`] and one of these reasons:
+///
+/// - [`Reason::ReadFailed`] if a folder can't be listed or a drop-in can't be looked at;
+/// - [`Reason::NotUtf8`] if the target of a link is not UTF-8, and the link is a drop-in or `tree` can't follow it;
+/// - [`Reason::TooMany`] at the folder with the 10,001st drop-in; drop-ins that are hidden by others of the same name
+///   count, too.
+///
+/// Fails with [`UnitFault::NoMemory`] if allocation fails.
 #[tactic(auto, unfolding(cal_drop_ins::specs::DropIns::drop_ins))]
 pub fn find_drop_ins<T: Tree>(
     alloc: Global,

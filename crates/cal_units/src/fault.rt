@@ -10,7 +10,7 @@ use std::alloc::{AllocError, AllocFailed, Global};
 /// Why a path of a unit can't be used.
 #[derive(Clone, Copy, PartialEq, Eq, Debug)]
 pub enum Reason {
-    /// The path can't be listed, opened or read.
+    /// The path can't be looked at, listed, opened or read.
     ReadFailed,
     /// The path is a link whose target is not UTF-8.
     NotUtf8,

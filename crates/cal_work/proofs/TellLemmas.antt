@@ -32,8 +32,8 @@ append_known-nil (Some xs) = ap (λ l. Some l) (append-nil xs)
 
 -- What is written for a stop
 
--- if a run failed with `fault`, the exit status for this is 1, and a prefix of each text of the outcome was written,
--- then what was written and the status agree with the outcome, as `WritesOf` says
+-- Suppose that a run failed with `fault`, for which the exit status is 1, and that a prefix of each text of the outcome
+-- was written. Then what was written and the status agree with the outcome in the sense of `WritesOf`.
 fault_written : (fault : RunFault) (expected : Result Report Stop) (out out' err err' : Option (List ℕ)) → ended_status {T = Unit} (Err fault) expected ≡ 1 → AppendsFront out out' (out_text expected) → AppendsFront err err' (err_text expected)
     → WritesOf {T = Unit} (Err fault) (fault_stop fault).status expected out out' err err'
 fault_written OutFailed expected out out' err err' status o e = record { by_status = refl; out_bytes = o; err_bytes = e }

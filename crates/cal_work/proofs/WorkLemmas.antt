@@ -200,10 +200,10 @@ loads_none known table item opens = record {
   loads = refl;
 }
 
--- If the program finds `rest` in `left`, the files that remain to be loaded, then it can have found `found` in all
--- files: adding all files to the empty table gives the same table or stop as adding the remaining files to `table`, the
--- table so far. `GoesOn`, the invariant of the loop over the zone files, says that there is such a `found` for every
--- `rest`.
+-- `rest` is what the program finds in `left`, the files that remain to be loaded. `found` is something that it could
+-- find in all files. With these, adding all files to the empty table gives the same table or stop as adding the
+-- remaining files to `table`, the table so far. `GoesOn`, the invariant of the loop over the zone files, says that such
+-- a `found` exists for every `rest`.
 pub record Continues (known : Known) (items : List ZoneItem) (table : ZoneMap) (left : List ZoneItem) (rest : List ZoneFound) : Type 0 where
   pub found : List ZoneFound
   pub sees : SeesZones known empty items found

@@ -129,8 +129,8 @@ outlet_of Clock = OnErr
 outlet_of (Open path) = OnErr
 outlet_of (Run fault) = Later fault
 
--- Whether a stop is due to a failure of standard output, a failure of standard error, or a lack of memory. The first
--- three definitions take the outlet of the stop, the last three the stop itself.
+-- The next six definitions say whether a stop is due to a failure of standard output, a failure of standard error, or a
+-- lack of memory. Three of them take an `Outlet`, which says where the stop is reported, and three the stop itself.
 
 abbrev pub is_out_outlet : Outlet → Bool
 is_out_outlet (Later run.OutFailed) = true

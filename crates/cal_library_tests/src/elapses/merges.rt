@@ -52,8 +52,8 @@ fn expect_without(
     expect_numbers(&mut merge, numbers)
 }
 
-/// Checks that a merge leaves out the numbers of its exception, and that a number of the exception that is in no list
-/// changes nothing.
+/// Checks that a merge leaves out the numbers of its exception. A number of the exception that none of the merged lists
+/// has makes no difference.
 #[test]
 fn exceptions(rt: HostRuntime) -> Result<(), Fail> {
     expect_without(rt.alloc(), &[1, 5, 9], &[5, 7], &[5, 8], &[1, 7, 9])?;

@@ -121,7 +121,8 @@ fn expect_refused(alloc: Global, piece: &str, fault: SpecFault, lines: &str) -> 
     Ok(())
 }
 
-/// Expects the accepted expressions to have their normal forms, and the others to be rejected with their errors.
+/// Checks a table: each expression in `accepted` is parsed to the normal form beside it, and each in `refused` is
+/// rejected with the error beside it.
 fn expect_table(alloc: Global, table: &Table) -> Result<(), Fail> {
     expect_accepted(alloc, table.piece, table.accepted)?;
     for (fault, lines) in table.refused {

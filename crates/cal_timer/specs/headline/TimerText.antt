@@ -1,6 +1,6 @@
--- Which assignments of a timer file are its expressions and its exceptions: systemd.timer(5), OnCalendar=, and
--- `X-ExceptOnCalendar=`, this project's own key for exceptions. When an exception elapses, the timer doesn't. Each list
--- has the assignments of its kind after the last assignment that clears the list.
+-- Which assignments of a timer file are its expressions (systemd.timer(5), OnCalendar=), and which are its exceptions
+-- (`X-ExceptOnCalendar=`, this project's own key). When an exception elapses, the timer doesn't. Each list has the
+-- assignments of its kind after the last assignment that clears the list.
 use Rattle.std.specs.Prelude.{ℕ, ◌==◌, nat_eq, Bool, not, ◌&&◌, if◌then◌else◌, List, [], ◌∷◌, length, filter, drop, codes}
 use Rattle.std.specs.List.{after_last, list_any, starts_with}
 use Rattle.std.specs.Str.{bytes_eq}
