@@ -83,8 +83,7 @@ fn add_files<T: Tree>(
     Ok(loaded.faults)
 }
 
-/// Adds the problems of a file. If its text were longer than [`MAX_TEXT`], nothing would be added, but such files have
-/// been rejected before.
+/// Adds the problems of a file. Adds nothing if its text is longer than [`MAX_TEXT`], which no text of a file is.
 fn add_findings(
     alloc: Global,
     path: &str,

@@ -1,4 +1,4 @@
-//! The elapse times of calendar expressions in a time zone (systemd.time(7), Calendar Events).
+//! The elapses of calendar expressions in a time zone (systemd.time(7), Calendar Events).
 #![tactic(auto)]
 
 mod bits;

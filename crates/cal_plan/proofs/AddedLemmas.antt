@@ -20,7 +20,7 @@ use Rattle.cal_plan.specs.TimerElapses.{IsAdded, IsCoveredEntry, each_of, elapse
 use Rattle.cal_zone.specs.Setting.{Setting}
 
 -- if `f` has the same zone suffix as `e`, and each field of `f` matches all values that the same field of `e` matches,
--- then every elapse time of `e` is an elapse time of `f`
+-- then every elapse of `e` is an elapse of `f`
 place_among : (e f : TimerLine Fields) → e.expr.zone ≡ f.expr.zone → AreAmong (entry_sets e) (entry_sets f) → (at : Setting) (i : ℤ)
     → IsPlace (timed_entry at e) i → IsPlace (timed_entry at f) i
 unfolding timed_entry timed
@@ -69,7 +69,7 @@ added_without at base lines exceptions i line old new h is a covered =
     }
 
 -- if the expressions of a timer file, and then its exceptions, have been added to an empty merge, the merge yields the
--- elapse times of the timer file
+-- elapses of the timer file
 pub merge_added : (at : Setting) (base : ℤ) (lists : Timer Fields) (empty some merge : Merge) → empty ≡ record { started = false; lists = []; exceptions = [] }
     → IsAdded at base lists.expressions lists.exceptions empty some
     → merge ≡ record { started = false; lists = some.lists; exceptions = some.exceptions ++ each_of at base lists.exceptions }

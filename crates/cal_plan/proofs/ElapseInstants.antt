@@ -1,4 +1,4 @@
--- The elapse times of an expression in a zone are instants if the base time isn't negative.
+-- The elapses of an expression in a zone are instants if the base time isn't negative.
 use Rattle.std.proofs.Common.{[], ◌∷◌, ℤ, pos, ◌≤ℤ◌}
 use Rattle.jiff.specs.Types.{TimeZone}
 use Rattle.cal_elapse.specs.ElapsesAfter.{elapses_after}

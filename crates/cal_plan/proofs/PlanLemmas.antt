@@ -1,4 +1,4 @@
--- Lemmas on zones that are missing from the zone table, and on the elapse times that the merge yields.
+-- Lemmas on zones that are missing from the zone table, and on the elapses that the merge yields.
 use Rattle.std.proofs.Common.{◌≢◌, ◌≡◌, ℕ, zero, suc, ◌+◌, ◌<◌, ◌++◌, Bool, true, false, List, [], ◌∷◌, length, map, take, get_or, Option, None, Some, ℤ, pos, ◌≤ℤ◌, refl, sym, ap, ◌∙◌, arith}
 use Rattle.std.specs.List.{AllZip, find}
 use Rattle.std.specs.Option.{option_map, unwrap_or}
@@ -53,8 +53,8 @@ pub all_zoned : (at : Setting) (lists : Timer Fields) → unzoned at lists ≡ N
 unfolding unzoned
 all_zoned at lists h = lesser_none (first_unzoned at lists.expressions) (first_unzoned at lists.exceptions) h
 
--- if `merge` is the merge of a timer, as `IsMergeOf` says, and the base time isn't negative, then the elapse times that
--- it yields are instants
+-- if `merge` is the merge of a timer, as `IsMergeOf` says, and the base time isn't negative, then the elapses that it
+-- yields are instants
 pub merge_instants : (at : Setting) (base : ℤ) (lists : Timer Fields) (merge : Merge) → IsMergeOf at base lists merge → pos 0 ≤ℤ base → AreInstants (merged merge)
 unfolding timed_entry elapses_of_lists
 merge_instants at base lists merge m low i h =
@@ -73,7 +73,7 @@ timed_entries at (line ∷ list) (e ∷ es) h =
     ∙ (ap (λ (t : Timed). t ∷ map (timed_entry at) list) (sym h.0.2) ∙ ap (λ (ts : List Timed). e ∷ ts) (timed_entries at list es h.1))
 
 -- Suppose that `es` and `exceptions` are the meanings of a timer's expressions and exceptions in their zones, which are
--- all known. Then `elapses_of_lists` returns exactly the elapse times of `es` after the base time, without those of
+-- all known. Then `elapses_of_lists` returns exactly the elapses of `es` after the base time, without those of
 -- `exceptions`. An exception is an expression; when it elapses, the timer doesn't.
 pub elapses_of_zones : (at : Setting) (base : ℤ) (lists : Timer Fields) (es exceptions : List Timed) → AllZip (IsTimed at) lists.expressions es → AllZip (IsTimed at) lists.exceptions exceptions
     → AreElapses es exceptions base (elapses_of_lists at base lists)

@@ -1,4 +1,4 @@
--- The condition that all elapse times in a list are instants.
+-- The condition that all elapses in a list are instants.
 use Rattle.std.specs.Prelude.{ℤ, List}
 use Rattle.cal_zone.specs.Instant.{IsInstant}
 use Rattle.cal_rising.specs.headline.Elements.{Has}

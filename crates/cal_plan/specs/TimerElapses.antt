@@ -1,5 +1,5 @@
--- The elapse times of expressions and of exceptions, each in its zone, and the merge that yields the elapse times of
--- the timer: systemd.timer(5), OnCalendar=. An exception is an expression; when it elapses, the timer doesn't.
+-- The elapses of expressions and of exceptions, each in its zone, and the merge that yields the elapses of the timer:
+-- systemd.timer(5), OnCalendar=. An exception is an expression; when it elapses, the timer doesn't.
 use Rattle.std.specs.Prelude.{◌≡◌, ◌++◌, ℤ, false, map, List, None, Some}
 use Rattle.std.specs.Option.{unwrap_or}
 use Rattle.jiff.specs.Types.{TimeZone, UTC}
@@ -33,12 +33,12 @@ zone_or_utc at line = unwrap_or (zone_for at line.expr.zone) UTC
 unfoldable pub timed_entry : Setting → TimerLine Fields → Timed
 timed_entry at line = timed line.expr (zone_or_utc at line)
 
--- the elapse times of the expressions after the base time, without the elapse times of the exceptions
+-- the elapses of the expressions after the base time, without the elapses of the exceptions
 unfoldable pub elapses_of_lists : Setting → ℤ → Timer Fields → List ℤ
 elapses_of_lists at base lists =
     elapses_except (map (timed_entry at) lists.expressions) (map (timed_entry at) lists.exceptions) base
 
--- for each expression of a list, its elapse times after the base time, in its zone
+-- for each expression of a list, its elapses after the base time, in its zone
 abbrev pub each_of : Setting → ℤ → List (TimerLine Fields) → List (List ℤ)
 each_of at base list = each_after (map (timed_entry at) list) base
 
@@ -46,19 +46,19 @@ each_of at base list = each_after (map (timed_entry at) list) base
 abbrev pub entry_sets : TimerLine Fields → Sets
 entry_sets e = sets_of e.expr
 
--- in every setting, each elapse time of the expression on this line is also an elapse time of one of the exceptions
+-- in every setting, each elapse of the expression on this line is also an elapse of one of the exceptions
 abbrev pub IsCoveredEntry : TimerLine Fields → List (TimerLine Fields) → Type 0
 IsCoveredEntry e exceptions = (at : Setting) → IsCovered (timed_entry at e) (map (timed_entry at) exceptions)
 
--- `new` is the merge `old` with the elapse times of the expressions in `list` added; elapse times at which an exception
--- elapses, too, may be left out
+-- `new` is the merge `old` with the elapses of the expressions in `list` added; elapses at which an exception elapses,
+-- too, may be left out
 pub record IsAdded (at : Setting) (base : ℤ) (list exceptions : List (TimerLine Fields)) (old new : Merge) : Type 0 where
   pub kept : List Timed
   pub are_kept : AreKept (map (timed_entry at) list) (map (timed_entry at) exceptions) kept
   pub is : new ≡ record { started = false; lists = old.lists ++ each_after kept base; exceptions = old.exceptions }
 
--- no line names a zone missing from the zone table, and the merge yields the elapse times of all expressions, without
--- the elapse times of the exceptions
+-- no line names a zone missing from the zone table, and the merge yields the elapses of all expressions, without the
+-- elapses of the exceptions
 pub record IsMergeOf (at : Setting) (base : ℤ) (lists : Timer Fields) (merge : Merge) : Type 0 where
   pub found : unzoned at lists ≡ None
   pub is : merged merge ≡ elapses_of_lists at base lists

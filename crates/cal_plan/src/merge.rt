@@ -22,11 +22,11 @@ use cal_timer::TimerLine;
 use cal_zone::{Instant, Setting};
 use std::alloc::{AllocError, Global};
 
-/// Creates the iterator over the elapse times of all expressions after `base`, without the elapse times of the
-/// exceptions. Each expression and each exception is evaluated in its own zone.
+/// Creates the source of the elapses of all expressions after `base`, without the elapses of the exceptions. Each
+/// expression and each exception is evaluated in its own zone.
 ///
 /// Fails with [`PlanFault::NoSuchZone`] if one of these zones is neither `UTC` nor in the zone table, and with
-/// [`PlanFault::NoMemory`] if allocation fails. Calling `next` on the iterator doesn't allocate.
+/// [`PlanFault::NoMemory`] if allocation fails. Calling `next` on the source doesn't allocate.
 pub fn merge_of<'a>(
     alloc: Global,
     setting: Setting<'a>,
@@ -48,11 +48,11 @@ pub fn merge_of<'a>(
     Ok(merge)
 }
 
-/// Adds the elapse times of expressions to a merge. The zones of all expressions must be known, and the merge must not
-/// have returned an elapse time yet.
+/// Adds the elapses of expressions to a merge. The zones of all expressions must be known, and the merge must not have
+/// returned an elapse yet.
 ///
-/// Skips an expression that an exception covers: the merge would suppress all its elapse times anyway, but one by one,
-/// which could take very long.
+/// Skips an expression that an exception covers: the merge would suppress all its elapses anyway, but one by one, which
+/// could take very long.
 fn add_expressions<'a>(
     alloc: Global,
     setting: Setting<'a>,
@@ -90,8 +90,8 @@ fn masks_of_lines(alloc: Global, lines: &[TimerLine]) -> Result<Vec<Masks>, Allo
 }
 
 /// Checks whether one of the exceptions covers an expression: the exception is in the same zone, and each of its fields
-/// matches all values that the same field of the expression matches. Such an exception suppresses every elapse time of
-/// the expression.
+/// matches all values that the same field of the expression matches. Such an exception suppresses every elapse of the
+/// expression.
 ///
 /// `masks` are the masks of the exceptions, in the same order; a mask has one bit for each value that a field matches.
 /// Returns `false` if the expression is covered only by several exceptions together.
@@ -115,8 +115,8 @@ fn is_same_zone(one: &Expr, other: &Expr) -> bool
     one.zone_offset() == other.zone_offset() && one.zone_name() == other.zone_name()
 }
 
-/// Adds the elapse times of exceptions to a merge, which then suppresses them. The zones of all exceptions must be
-/// known, and the merge must not have returned an elapse time yet.
+/// Adds the elapses of exceptions to a merge, which then suppresses them. The zones of all exceptions must be known,
+/// and the merge must not have returned an elapse yet.
 fn add_exceptions<'a>(
     alloc: Global,
     setting: Setting<'a>,
@@ -138,7 +138,7 @@ fn add_exceptions<'a>(
     Ok(())
 }
 
-/// Creates the iterator over the elapse times of an expression in its zone, which must be known.
+/// Creates the source of the elapses of an expression in its zone, which must be known.
 #[tactic(auto, unfolding(crate::specs::TimerElapses::timed_entry))]
 fn elapses_of<'a>(
     alloc: Global,

@@ -1,5 +1,5 @@
--- Lemmas on the request that continues after some elapse times of a report: its base time resolves to the last of these
--- elapse times.
+-- Lemmas on the request that continues after some elapses of a report: its base time resolves to the last of these
+-- elapses.
 use Rattle.std.proofs.Common.{◌≡◌, ◌≤◌, ◌*◌, ◌/◌, ◌∙◌, inl, inr, ℕ, zero, suc, ℤ, pos, negsuc, List, [], ◌∷◌, Option, None, Some, Result, Ok, take, drop, length, length-take, refl, sym, ap, subst, arith, get_or}
 use Rattle.std.proofs.lemmas.Option.{slice_get-get_or}
 use Rattle.std.specs.List.{slice_get}
@@ -41,8 +41,8 @@ unfolding stamp_in
 same_base asked shown k None = refl
 same_base asked shown k (Some text) = refl
 
--- the base time of the request that `begun_again` returns resolves to the last of the first `k` elapse times shown, or
--- to the old base time if `k` is 0
+-- the base time of the request that `begun_again` returns resolves to the last of the first `k` elapses shown, or to
+-- the old base time if `k` is 0
 record IsSought (asked : Request) (base : ℤ) (shown : List ℤ) (k : ℕ) : Type 0 where
   from : ℤ
   sought : base_in (begun_again asked shown k) ≡ Ok from
@@ -66,8 +66,7 @@ instants_shown (suc n) [] h i there = absurd there
 instants_shown (suc n) (x ∷ xs) h i (inl e) = h i (inl e)
 instants_shown (suc n) (x ∷ xs) h i (inr there) = instants_shown n xs (λ j k. h j (inr k)) i there
 
--- the request that `begun_again` returns continues `asked` after the first `k` elapse times shown, as `IsBegunAgain`
--- says
+-- the request that `begun_again` returns continues `asked` after the first `k` elapses shown, as `IsBegunAgain` says
 pub is_begun_again : (asked : Request) (base : ℤ) (s : Schedule) (shown : List ℤ) (k : ℕ) → IsInstant asked.now → base_in asked ≡ Ok base
     → AreShown asked base s shown → k ≤ length shown → IsBegunAgain asked base shown k (begun_again asked shown k)
 is_begun_again asked base s shown k now sought these few =
@@ -86,7 +85,7 @@ is_begun_again asked base s shown k now sought these few =
     }
 
 -- if a prefix of the report can be continued as `Resumes` says, the request that `begun_again` returns shows exactly
--- the remaining elapse times
+-- the remaining elapses
 pub shows_others_again : (asked : Request) (base : ℤ) (s : Schedule) (read : Result (List ℕ) WholeFault) (front : List ℕ) → IsInstant asked.now → base_in asked ≡ Ok base
     → (r : Resumes asked base s read front) → (report (begun_again asked r.shown r.number) read).out ≡ showing asked s (drop r.number r.shown)
 shows_others_again asked base s read front now sought r =

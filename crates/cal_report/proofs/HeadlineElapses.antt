@@ -1,6 +1,5 @@
--- Lemmas for the law `headline`: that elapse times are instants, how a list of elapse times continues after one of its
--- elements, and what the clock of the zone shows at an elapse time. A law is the contract of a function that does
--- nothing.
+-- Lemmas for the law `headline`: that elapses are instants, how a list of elapses continues after one of its elements,
+-- and what the clock of the zone shows at an elapse. A law is the contract of a function that does nothing.
 use Rattle.std.proofs.Common.{◌≡◌, ◌<◌, ◌+◌, ◌++◌, ◌∙◌, ℕ, suc, ℤ, pos, ◌≤ℤ◌, ◌<ℤ◌, ◌-ℤ◌, true, List, Option, None, Some, Result, Ok, Err, map, take, drop, refl, sym, ap, subst, arith}
 use Rattle.std.proofs.Math.Seq.{take-add}
 use Rattle.std.proofs.lemmas.Int.{ints}
@@ -28,7 +27,7 @@ use Rattle.cal_report.specs.TimestampReport.{stamp_in}
 use Rattle.cal_request.specs.headline.Request.{Request}
 use Rattle.cal_report.proofs.HeadlineLemmas.{one_elapses}
 
--- Elapse times are instants
+-- Elapses are instants
 
 second_low : (stamp : Result ℤ StampFault) (base : ℤ) → second_or_fault stamp ≡ Ok base → pos 0 ≤ℤ base
 second_low (Ok micros) base h = grind (arith, ints, signed_arith)
@@ -48,7 +47,7 @@ elapses_are_instants asked base s xs now sought h i there =
     let elapse = ((AreElapses-elapses_except (map meaning s.expressions) (map meaning s.exceptions) base).members i).1 ((h.members i).0 there) in
     IsInstant-elapse (λ (e : Expression). e.fields) (λ (e : Expression). e.tz) s.expressions (map meaning s.exceptions) base i (base_low asked base now sought) elapse
 
--- Continuing after an elapse time
+-- Continuing after an elapse
 
 pub goes_on : (ts exceptions : List Timed) (base e : ℤ) (xs : List ℤ) (k : ℕ) → AreElapses ts exceptions base xs → slice_get xs k ≡ Some e → AreElapses ts exceptions e (drop (suc k) xs)
 goes_on ts exceptions base e xs k h at =

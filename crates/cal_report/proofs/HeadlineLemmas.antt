@@ -72,7 +72,7 @@ is_answered one asked base e h =
     ap (answer_with asked base e.text) (spelled_is_read one e.text e.fields h.spelled)
     ∙ ap (answer_in asked base e.text e.fields) (zone_is_found asked e.fields.zone e.tz h.zone)
 
--- if there are no exceptions, `elapses_after` computes exactly the elapse times of an expression
+-- if there are no exceptions, `elapses_after` computes exactly the elapses of an expression
 alone_elapses : (t : Timed) (base : ℤ) → AreElapses (t ∷ []) [] base (elapses_after (t ∷ []) base)
 alone_elapses t base = subst (AreElapses (t ∷ []) [] base) (elapses_except-none (t ∷ []) base) (AreElapses-elapses_except (t ∷ []) [] base)
 
@@ -308,7 +308,7 @@ timer_is_written one asked base bytes s old new failed status out_old out_new er
     = subst (λ (r : Result (List ℕ) WholeFault). IsReportOf asked base s (report asked r).out × IsFine (report asked r)) (sym read) (timer_report_is one asked bytes base s verb sought file all) in
     ((report asked run.read).out, printed.0, run.holds.out, subst (Appends err_old err_new) printed.1.err run.holds.err, run.holds.status ∙ printed.1.status)
 
--- Reports and lists of elapse times are unique
+-- Reports and lists of elapses are unique
 
 pub one_elapses : (ts exceptions : List Timed) (base : ℤ) (xs ys : List ℤ) → AreElapses ts exceptions base xs → AreElapses ts exceptions base ys → xs ≡ ys
 one_elapses ts exceptions base xs ys h k = AreElapses-only ts exceptions base xs h ∙ sym (AreElapses-only ts exceptions base ys k)

@@ -1,6 +1,6 @@
--- Lemmas for the law `cut_output_resumes`, about one report: how many elapse times have a complete first line in a
--- prefix of the report, and what a request that continues after these elapse times shows. A law is the contract of a
--- function that does nothing.
+-- Lemmas for the law `cut_output_resumes`, about one report: how many elapses have a complete first line in a prefix of
+-- the report, and what a request that continues after these elapses shows. A law is the contract of a function that
+-- does nothing.
 use Rattle.std.proofs.Common.{◌≡◌, ◌↔◌, ◌≤◌, ◌<◌, ◌+◌, ◌++◌, ◌∙◌, ℕ, zero, suc, ℤ, Bool, true, false, List, [], ◌∷◌, Option, None, Some, Result, Ok, Err, map, take, drop, length, codes, nat_le, refl, sym, ap, subst, arith, append-nil, append_assoc, length-append, slice_get, length-take}
 use Rattle.std.proofs.Math.Seq.{take-append_seam}
 use Rattle.std.proofs.lemmas.Bool.Decides.{nat_tests}
@@ -34,12 +34,12 @@ slice_get-taken n xs k e at =
     slice_get_read xs (length xs) k e refl (omega (arith, within, length-take n xs))
     (sym (get_or_from_slice_get (take n xs) k e e at) ∙ get_or-take n xs k e (omega (arith, within, length-take n xs)))
 
--- The first line of an elapse time
+-- The first line of an elapse
 
 abbrev first_line : Zone → ℕ → ℤ → List ℕ
 first_line local number elapse = label_text number ++ (instant_text local elapse ++ codes "\n")
 
--- the lines of an elapse time after the first one
+-- the lines of an elapse after the first one
 abbrev more_lines : Zone → ℤ → ℤ → List ℕ
 more_lines local now elapse =
     utc_line local elapse ++ (codes "       From now: " ++ (distance_text (micros_of now) (micros_of elapse) ++ (codes "\n" ++ [])))
@@ -68,8 +68,8 @@ texts_in_parts local now number (x ∷ xs) ys =
 
 -- Where the first lines end
 
--- the number of bytes up to the end of the first line of `elapse`; `before` are the elapse times shown before `elapse`,
--- and `start` bytes come before all elapse times
+-- the number of bytes up to the end of the first line of `elapse`; `before` are the elapses shown before `elapse`, and
+-- `start` bytes come before all elapses
 abbrev line_end : Zone → ℤ → ℕ → ℕ → List ℤ → ℤ → ℕ
 line_end local now number start before elapse =
     start + (length (elapse_texts local now number before) + length (first_line local (number + length before) elapse))
@@ -89,7 +89,7 @@ end_of_later local now number start x before elapse =
     = ap (λ (n : ℕ). length (first_line local n elapse)) (omega arith) in
     omega (arith, same, length-append (elapse_text local now number x) (elapse_texts local now (number + 1) before))
 
--- the first line of `x`, the first elapse time, doesn't end after the first line of any other elapse time
+-- the first line of `x`, the first elapse, doesn't end after the first line of any other elapse
 end_low : (local : Zone) (now : ℤ) (number start : ℕ) (x : ℤ) (xs before : List ℤ) (elapse : ℤ) (after : List ℤ)
     → x ∷ xs ≡ before ++ (elapse ∷ after) → start + length (first_line local number x) ≤ line_end local now number start before elapse
 end_low local now number start x xs [] elapse after split =
@@ -101,7 +101,7 @@ end_low local now number start x xs (y ∷ before) elapse after split =
     let line : length (first_line local number x) ≡ length (first_line local number y) = ap (λ (e : ℤ). length (first_line local number e)) same in
     omega (arith, line, line_within local now number y, end_of_later local now number start y before elapse)
 
--- exactly the first `k` elapse times have a first line that ends within `size` bytes
+-- exactly the first `k` elapses have a first line that ends within `size` bytes
 record End (local : Zone) (now : ℤ) (number start size : ℕ) (xs : List ℤ) (k : ℕ) : Type 0 where
   few : k ≤ length xs
   whole : (before : List ℤ) (elapse : ℤ) (after : List ℤ) → xs ≡ before ++ (elapse ∷ after)
@@ -162,7 +162,7 @@ ends local now number start size (x ∷ xs) =
     let later = ends local now (number + 1) (start + length (elapse_text local now number x)) size xs in
     ends_from local now number start size x xs later.0 later.1 (nat_le (start + length (first_line local number x)) size) refl
 
--- The elapse times whose first line is complete in a prefix
+-- The elapses whose first line is complete in a prefix
 
 -- if two texts are prefixes of the same text, the longer one begins with the shorter one
 longer_begins : (front rest lead more : List ℕ) → front ++ rest ≡ lead ++ more → length lead ≤ length front → Begins front lead
@@ -261,7 +261,7 @@ split_at (x ∷ xs) (suc k) within =
       number = ap suc later.number;
     }
 
--- the number of complete first lines can't be both `k` and a greater number `m`: the first line of the elapse time with
+-- the number of complete first lines can't be both `k` and a greater number `m`: the first line of the elapse with
 -- index `k` would be complete according to `m`, but not according to `k`
 not_fewer : (asked : Request) (s : Schedule) (shown : List ℤ) (front : List ℕ) (k m : ℕ)
     → Stand asked s shown front k → Stand asked s shown front m → k < m → ⊥
@@ -280,8 +280,8 @@ one_stands asked s shown front k m h g =
 
 -- The request that continues a report
 
--- if `from` is the base time of a request that continues after the first `k` elapse times of `xs`, then the elapse
--- times after `from` are those of `xs` without the first `k`
+-- if `from` is the base time of a request that continues after the first `k` elapses of `xs`, then the elapses after
+-- `from` are those of `xs` without the first `k`
 elapses_from : (ts exceptions : List Timed) (base from : ℤ) (n : ℕ) (xs : List ℤ) (k : ℕ) → AreElapses ts exceptions base xs → IsBaseAfter base (take n xs) k from
     → AreElapses ts exceptions from (drop k xs)
 elapses_from ts exceptions base from n xs zero h after = subst (λ (b : ℤ). AreElapses ts exceptions b xs) (sym after) h

@@ -31,7 +31,7 @@ pub headings-all : (label : List ℕ) (lines : List declared_line.TimerLine) →
 unfolding headings_text
 headings-all label lines = flat_map-map (λ e. heading_text label e.text e.expr) shown lines
 
--- if a timer file was parsed to `lists`, and `elapses` are the elapse times that the merge of `lists` yields, then the
+-- if a timer file was parsed to `lists`, and `elapses` are the elapses that the merge of `lists` yields, then the
 -- answer is the report that `plan_text` returns for `lists` and `elapses`
 pub plan_answers : (asked : Request) (base : ℤ) (read : Result (List ℕ) WholeFault) (lists : Timer Fields) (merge : Merge) (elapses : List ℤ) → timer_text expr_in read ≡ Ok lists
     → IsMergeOf (setting_of asked) base lists merge → elapses ≡ merged merge → (name : List ℕ) → timer_answer asked base name read ≡ Ok (plan_text asked (record { timer = lists; elapses = elapses }))

@@ -125,7 +125,7 @@ noon_thirty-matches_again : matches (sets_of noon_thirty) 1_704_198_600 ≡ true
 unfolding matches
 noon_thirty-matches_again = rw (inside 1_704_198_600 (omega arith), day_after-is, noon_thirty-on_again, noon_thirty-at) refl
 
--- if a local second matches `*-*-* 12:30:00`, the instant with the same number is an elapse time in UTC
+-- if a local second matches `*-*-* 12:30:00`, the instant with the same number is an elapse in UTC
 elapse_at : (local : ℕ) → local < 7_258_118_400 → matches (sets_of noon_thirty) local ≡ true → IsElapse (timed noon_thirty UTC ∷ []) (pos local)
 unfolding timed
 elapse_at local h is =
@@ -182,7 +182,7 @@ every_second-spelled = record {
   normal = record { weekdays = refl; year = refl; month = refl; day = refl; hour = refl; minute = refl; second = refl; from_end = refl; suffix = refl };
 }
 
--- a request for two elapse times of `*:*:*`, made at 12:30:00 UTC on Mon 2024-01-01
+-- a request for two elapses of `*:*:*`, made at 12:30:00 UTC on Mon 2024-01-01
 two_seconds : Request
 two_seconds = record { verb = Calendar; texts = codes "*:*:*" ∷ []; iterations = 2; base = None; now = pos 1_704_112_200; local = utc; zones = empty }
 
@@ -213,8 +213,8 @@ every-elapses =
 next_is_least : (j : ℤ) → pos 1_704_112_200 <ℤ j → pos 1_704_112_201 ≤ℤ j
 next_is_least j h = omega (arith, ints)
 
--- in every list that holds exactly the elapse times of `*:*:*` after the present, the first elapse time is one second
--- after the present
+-- in every list that holds exactly the elapses of `*:*:*` after the present, the first elapse is one second after the
+-- present
 every-first : (xs : List ℤ) → AreElapsesOf (alone every) (pos 1_704_112_200) xs → slice_get xs 0 ≡ Some (pos 1_704_112_201)
 every-first xs h =
     rw (AreElapses-only (map meaning (every ∷ [])) [] (pos 1_704_112_200) xs h, elapses_except-none (map meaning (every ∷ [])) (pos 1_704_112_200))
@@ -272,8 +272,8 @@ every_file-is = record {
   some = omega arith;
 }
 
--- A request that continues `two_seconds` after its first elapse time: this elapse time is the base time, and one elapse
--- time fewer is requested
+-- A request that continues `two_seconds` after its first elapse: this elapse is the base time, and one elapse fewer is
+-- requested
 
 one_second : Request
 one_second = record { verb = Calendar; texts = codes "*:*:*" ∷ []; iterations = 1; base = Some (codes "@1704112201"); now = pos 1_704_112_200; local = utc; zones = empty }

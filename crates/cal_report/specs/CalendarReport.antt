@@ -15,13 +15,12 @@ use Rattle.cal_report.specs.headline.ElapseLines.{elapses_text}
 use Rattle.cal_request.specs.headline.Request.{Request}
 use Rattle.cal_report.specs.headline.ReportLines.{heading_text, original_label}
 
--- the report of an expression with these elapse times: its heading, and the first `asked.iterations` of its elapse
--- times
+-- the report of an expression with these elapses: its heading, and the first `asked.iterations` of its elapses
 abbrev pub report_of_elapses : Request → List ℕ → Fields → List ℤ → List ℕ
 report_of_elapses asked text fields elapses =
     joined (heading_text original_label text fields ∷ elapses_text asked.local asked.now (take asked.iterations elapses) ∷ [])
 
--- the report of an expression in a zone, with its elapse times after the base time
+-- the report of an expression in a zone, with its elapses after the base time
 unfoldable pub calendar_report : Request → ℤ → List ℕ → Fields → TimeZone → List ℕ
 calendar_report asked base text fields tz = report_of_elapses asked text fields (elapses_after (timed fields tz ∷ []) base)
 

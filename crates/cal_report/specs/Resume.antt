@@ -1,6 +1,6 @@
--- How to continue a report that was cut off. The definitions say which elapse times have a complete first line in a
--- prefix of the report, and which request shows the remaining elapse times (systemd-analyze(1), calendar, --iterations=
--- and --base-time=; systemd.timer(5), OnCalendar=).
+-- How to continue a report that was cut off. The definitions say which elapses have a complete first line in a prefix
+-- of the report, and which request shows the remaining elapses (systemd-analyze(1), calendar, --iterations= and
+-- --base-time=; systemd.timer(5), OnCalendar=).
 use Rattle.std.specs.Prelude.{◌≡◌, ◌↔◌, ◌≤◌, ◌<◌, ◌+◌, ◌-◌, ◌++◌, ℕ, zero, suc, ℤ, List, [], ◌∷◌, Option, None, Some, Result, Ok, take, drop, length, slice_get, codes, option_map}
 use Rattle.std.specs.List.{AllZip, filter_map, flat_map}
 use Rattle.cal_streams.specs.declared.whole.WholeFault.{WholeFault}
@@ -10,18 +10,18 @@ use Rattle.cal_report.specs.headline.Headline.{AreElapsesOf, Expression, IsAccep
 use Rattle.cal_report.specs.RunReport.{base_in, report}
 use Rattle.cal_request.specs.headline.Request.{Request}
 
--- `shown` are the elapse times that a report shows: the first `asked.iterations` after the base time
+-- `shown` are the elapses that a report shows: the first `asked.iterations` after the base time
 pub record AreShown (asked : Request) (base : ℤ) (s : Schedule) (shown : List ℤ) : Type 0 where
   pub elapses : List ℤ
   pub these : AreElapsesOf s base elapses
   pub first : shown ≡ take asked.iterations elapses
 
--- the report that shows these elapse times: the headings, and then the elapse times with labels that count from 1, or
--- `never` if there are none
+-- the report that shows these elapses: the headings, and then the elapses with labels that count from 1, or `never` if
+-- there are none
 abbrev pub showing : Request → Schedule → List ℤ → List ℕ
 showing asked s shown = headings s ++ elapses_text asked.local asked.now shown
 
--- the report up to the end of the first line of `elapse`, including the line feed; `before` are the elapse times shown
+-- the report up to the end of the first line of `elapse`, including the line feed; `before` are the elapses shown
 -- before `elapse`
 abbrev pub up_to_line : Request → Schedule → List ℤ → ℤ → List ℕ
 up_to_line asked s before elapse =
@@ -32,19 +32,19 @@ pub record Begins (text lead : List ℕ) : Type 0 where
   pub rest : List ℕ
   pub is : text ≡ lead ++ rest
 
--- Exactly the first `k` of the elapse times shown have a complete first line in the prefix `front`.
+-- Exactly the first `k` of the elapses shown have a complete first line in the prefix `front`.
 pub record Stand (asked : Request) (s : Schedule) (shown : List ℤ) (front : List ℕ) (k : ℕ) : Type 0 where
   pub few : k ≤ length shown
   pub whole : (before : List ℤ) (elapse : ℤ) (after : List ℤ) → shown ≡ before ++ (elapse ∷ after)
       → Begins front (up_to_line asked s before elapse) ↔ (length before < k)
 
--- `from` is the base time of the next run: the `k`-th of the elapse times shown, or the old base time if `k` is 0
+-- `from` is the base time of the next run: the `k`-th of the elapses shown, or the old base time if `k` is 0
 abbrev pub IsBaseAfter : ℤ → List ℤ → ℕ → ℤ → Type 0
 IsBaseAfter base shown zero from = from ≡ base
 IsBaseAfter base shown (suc before) from = slice_get shown before ≡ Some from
 
--- `again` is a request that continues `asked` after the first `k` elapse times shown: its base time is the `k`-th of
--- the elapse times shown, or the old base time if `k` is 0, and it asks for `k` fewer elapse times.
+-- `again` is a request that continues `asked` after the first `k` elapses shown: its base time is the `k`-th of the
+-- elapses shown, or the old base time if `k` is 0, and it asks for `k` fewer elapses.
 pub record IsBegunAgain (asked : Request) (base : ℤ) (shown : List ℤ) (k : ℕ) (again : Request) : Type 0 where
   pub verb : again.verb ≡ asked.verb
   pub texts : again.texts ≡ asked.texts
@@ -56,18 +56,18 @@ pub record IsBegunAgain (asked : Request) (base : ℤ) (shown : List ℤ) (k : �
   pub sought : base_in again ≡ Ok from
   pub after : IsBaseAfter base shown k from
 
--- the base time of the next run as a user writes it: `@` and the seconds of the `k`-th of the elapse times shown, or
--- the old base time if `k` is 0
+-- the base time of the next run as a user writes it: `@` and the seconds of the `k`-th of the elapses shown, or the old
+-- base time if `k` is 0
 abbrev pub base_after : Option (List ℕ) → List ℤ → ℕ → Option (List ℕ)
 base_after base shown zero = base
 base_after base shown (suc before) = option_map base_text (slice_get shown before)
 
--- the request that continues `asked` after the first `k` elapse times shown, and asks for `k` fewer elapse times
+-- the request that continues `asked` after the first `k` elapses shown, and asks for `k` fewer elapses
 abbrev pub begun_again : Request → List ℤ → ℕ → Request
 begun_again asked shown k = record asked { iterations = asked.iterations - k; base = base_after asked.base shown k }
 
--- How to continue a prefix `front` of the report. Exactly the first `number` elapse times have a complete first line in
--- `front`; the prefix determines this number. Every request that continues after these elapse times shows exactly the
+-- How to continue a prefix `front` of the report. Exactly the first `number` elapses have a complete first line in
+-- `front`; the prefix determines this number. Every request that continues after these elapses shows exactly the
 -- remaining ones.
 pub record Resumes (asked : Request) (base : ℤ) (s : Schedule) (read : Result (List ℕ) WholeFault) (front : List ℕ) : Type 0 where
   pub shown : List ℤ

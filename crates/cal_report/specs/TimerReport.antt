@@ -28,11 +28,11 @@ unfoldable pub headings_text : List ℕ → List (TimerLine Fields) → List ℕ
 headings_text label = flat_map (λ e. heading_text label e.text e.expr)
 
 -- the headings of the expressions, followed by the headings of the exceptions; an exception is an expression at whose
--- elapse times a timer doesn't elapse
+-- elapses a timer doesn't elapse
 abbrev pub lists_text : Timer Fields → List ℕ
 lists_text lists = joined (headings_text original_label lists.expressions ∷ headings_text except_label lists.exceptions ∷ [])
 
--- the report of a timer file: its headings, and its first elapse times, at most `asked.iterations` of them
+-- the report of a timer file: its headings, and its first elapses, at most `asked.iterations` of them
 unfoldable pub timer_report : Request → ℤ → Timer Fields → List ℕ
 timer_report asked base lists =
     joined (lists_text lists ∷ elapses_text asked.local asked.now (take asked.iterations (elapses_of_lists (setting_of asked) base lists)) ∷ [])

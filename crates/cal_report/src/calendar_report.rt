@@ -1,5 +1,5 @@
 //! The report of one calendar expression (systemd-analyze(1), calendar): the expression as given, its normal form, and
-//! its next elapse times, each with its distance from the present.
+//! its next elapses, each with its distance from the present.
 
 ghost use Rattle.std.specs.Prelude.{◌≡◌, [], ◌∷◌, false};
 ghost use Rattle.cal_bytes.specs.Puts.{Puts};
@@ -15,8 +15,8 @@ use cal_elapse::Rising;
 use cal_plan::Instants;
 use cal_spec::{Expr, write_expr};
 
-/// Writes the report of an expression: `text` as the user gave it, its normal form, and its next elapse times, at most
-/// as many as the request's `iterations`.
+/// Writes the report of an expression: `text` as the user gave it, its normal form, and its next elapses, at most as
+/// many as the request's `iterations`.
 #[tactic(auto, using(cal_bytes::proofs::PutLemmas::puts))]
 pub fn write_calendar<W: Sink, S: Rising>(
     out: &mut W,

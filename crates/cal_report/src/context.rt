@@ -8,7 +8,7 @@ use cal_zone::{Instant, Setting};
 pub struct Context<'a> {
     /// The request that the run answers.
     pub request: &'a Request,
-    /// The base time: only elapse times after this instant are reported.
+    /// The base time: only elapses after this instant are reported.
     pub base: Instant,
     /// The present and the zones. Instants are printed in the local zone.
     pub setting: Setting<'a>,

@@ -1,5 +1,4 @@
-//! The part of a report that lists elapse times, each with its distance from the present (systemd-analyze(1),
-//! calendar).
+//! The part of a report that lists elapses, each with its distance from the present (systemd-analyze(1), calendar).
 
 ghost use Rattle.std.specs.Prelude.{◌≡◌, ◌+◌, ◌-◌, ◌≤◌, ◌++◌, length, false, take};
 ghost use Rattle.cal_bytes.specs.Puts.{Puts};
@@ -16,7 +15,7 @@ use cal_plan::Instants;
 use cal_zone::{Instant, Zone};
 use itoa::Buffer;
 
-/// Writes the next elapse times, at most `iterations` of them, or `never` if no elapse times remain.
+/// Writes the next elapses, at most `iterations` of them, or `never` if no elapses remain.
 pub fn put_elapses<W: Sink, S: Rising>(
     out: &mut W,
     elapses: &mut Instants<S>,
@@ -39,8 +38,8 @@ pub fn put_elapses<W: Sink, S: Rising>(
     }
 }
 
-/// Writes the elapse times after the first one, which is already written. Stops when `iterations` elapse times have
-/// been written in total, or when none remain. The labels count from 2.
+/// Writes the elapses after the first one, which is already written. Stops when `iterations` elapses have been written
+/// in total, or when none remain. The labels count from 2.
 fn put_more<W: Sink, S: Rising>(
     out: &mut W,
     elapses: &mut Instants<S>,
@@ -62,7 +61,7 @@ fn put_more<W: Sink, S: Rising>(
     Ok(())
 }
 
-/// Writes one elapse time in the local zone and in UTC, with its distance from the present.
+/// Writes one elapse in the local zone and in UTC, with its distance from the present.
 fn put_elapse<W: Sink>(
     out: &mut W,
     number: u32,
@@ -79,7 +78,7 @@ fn put_elapse<W: Sink>(
     put_all(out, text.as_slice())
 }
 
-/// Appends the lines of one elapse time, at most `SPAN_ROOM` + 240 bytes.
+/// Appends the lines of one elapse, at most `SPAN_ROOM` + 240 bytes.
 #[tactic(auto, unfolding(crate::specs::headline::ElapseLines::elapse_text))]
 fn push_elapse(
     text: &mut ShortText,
@@ -101,8 +100,8 @@ fn push_elapse(
     push(text, b"\n");
 }
 
-/// Appends the label of an elapse time: `Next elapse:` for number 1, and otherwise `Iter. #` and the number,
-/// right-aligned like the other labels.
+/// Appends the label of an elapse: `Next elapse:` for number 1, and otherwise `Iter. #` and the number, right-aligned
+/// like the other labels.
 #[tactic(auto, unfolding(crate::specs::headline::ElapseLines::label_text))]
 fn push_label(text: &mut ShortText, number: u32)
     requires room { length text.old.items + 30 ≤ SHORT_TEXT_ROOM }

@@ -38,8 +38,7 @@ use cal_spec::laws::one_normal_form_of_fields;
 /// zone first shows this local second. "Rising" means in increasing order. For a timer file, an elapse of an exception,
 /// which is an expression after `X-ExceptOnCalendar=`, is not a matching instant.
 pub fn headline()
-    // If every expression is accepted, the report shows each of them in order: its heading, and then its first elapse
-    // times.
+    // If every expression is accepted, the report shows each of them in order: its heading, and then its first elapses.
     ensures calendar { (asked : Request) (read : Result (List ℕ) WholeFault) (base : ℤ) (es : List Expression)
         → asked.verb ≡ Calendar → base_in asked ≡ Ok base
         → asked.texts ≡ map (λ (e : Expression). e.text) es → AllByRecursion (IsAccepted asked) es
@@ -47,8 +46,8 @@ pub fn headline()
     // In general, each accepted text has its report, and each rejected text has an error line on standard error.
     ensures each { (asked : Request) (read : Result (List ℕ) WholeFault) (base : ℤ) → asked.verb ≡ Calendar
         → base_in asked ≡ Ok base → AreAnswered asked base asked.texts (report asked read) }
-    // The report of an accepted timer file consists of its headings, followed by the first elapse times of its
-    // expressions, without the elapse times of its exceptions.
+    // The report of an accepted timer file consists of its headings, followed by the first elapses of its expressions,
+    // without the elapses of its exceptions.
     ensures timer { (asked : Request) (bytes : List ℕ) (base : ℤ) (s : Schedule)
         → asked.verb ≡ Timer → base_in asked ≡ Ok base → IsFileOf bytes s → AreAllAccepted asked s
         → IsReportOf asked base s (report asked (Ok bytes)).out × IsFine (report asked (Ok bytes)) }
@@ -81,7 +80,7 @@ pub fn headline()
         → base_in asked ≡ Ok base → (report asked (Ok bytes)).status ≡ Fine → IsAcceptedFile asked bytes }
 
     // The statements above leave no choice: a text is accepted as at most one expression, and reports and lists of
-    // elapse times are unique.
+    // elapses are unique.
     ensures one_meaning { (asked : Request) (e f : Expression) → IsAccepted asked e → IsAccepted asked f
         → e.text ≡ f.text → e ≡ f }
     ensures one_text { (asked : Request) (base : ℤ) (es : List Expression) (a b : List ℕ)
@@ -91,9 +90,9 @@ pub fn headline()
     ensures one_list { (ts exceptions : List Timed) (base : ℤ) (xs ys : List ℤ)
         → AreElapses ts exceptions base xs → AreElapses ts exceptions base ys → xs ≡ ys }
 
-    // Each elapse time is an instant. Each instant can be given as the base time, by `@` and its seconds. If an elapse
-    // time in a list becomes the base time, the elapse times after this base time are exactly those that follow it in
-    // the list. So a list can be printed in parts.
+    // Each elapse is an instant. Each instant can be given as the base time, by `@` and its seconds. If an elapse in a
+    // list becomes the base time, the elapses after this base time are exactly those that follow it in the list. So a
+    // list can be printed in parts.
     ensures instants { (asked : Request) (base : ℤ) (s : Schedule) (xs : List ℤ) → IsInstant asked.now
         → base_in asked ≡ Ok base → AreElapsesOf s base xs → AreInstants xs }
     ensures based { (asked : Request) (secs : ℤ) → IsInstant secs → base_in (started_at asked secs) ≡ Ok secs }
@@ -102,8 +101,8 @@ pub fn headline()
     ensures in_parts { (ts exceptions : List Timed) (base e : ℤ) (xs ys : List ℤ) (k m : ℕ) → AreElapses ts exceptions base xs
         → slice_get xs k ≡ Some e → AreElapses ts exceptions e ys → take (suc k) xs ++ take m ys ≡ take (suc k + m) xs }
 
-    // At each elapse time of an expression, the clock of its zone shows a local second that matches. At two different
-    // elapse times of the expression, the clock never shows the same local second.
+    // At each elapse of an expression, the clock of its zone shows a local second that matches. At two different
+    // elapses of the expression, the clock never shows the same local second.
     ensures shown { (fields : Fields) (tz : TimeZone) (i : ℤ) → IsPlace (timed fields tz) i
         → (local : ℕ) × (local < 7_258_118_400) × (matches (sets_of fields) local ≡ true)
         × (local_shown_at tz i ≡ pos local) }
@@ -122,10 +121,10 @@ pub fn headline()
     one_normal_form_of_fields();
 }
 
-/// States how to continue a report of which only a prefix was written. Count the elapse times whose first line is
-/// complete in the prefix. If there are any, run the same request with the last of them as its base time, and with
-/// `iterations` reduced by their number. This run prints exactly the remaining elapse times, or `never` if none remain;
-/// its labels count from 1 again. If no elapse time has a complete first line, run the original request again.
+/// States how to continue a report of which only a prefix was written. Count the elapses whose first line is complete
+/// in the prefix. If there are any, run the same request with the last of them as its base time, and with `iterations`
+/// reduced by their number. This run prints exactly the remaining elapses, or `never` if none remain; its labels count
+/// from 1 again. If no elapse has a complete first line, run the original request again.
 pub fn cut_output_resumes()
     // If the request is for one accepted calendar expression, its report can be continued after every prefix `front`.
     ensures calendar { (asked : Request) (read : Result (List ℕ) WholeFault) (base : ℤ) (e : Expression)
@@ -153,9 +152,8 @@ pub fn cut_output_resumes()
         → asked.verb ≡ Timer → base_in asked ≡ Ok base → IsFileOf bytes s → AreAllAccepted asked s
         → (report asked (Ok bytes)).out ≡ front ++ rest → Resumes asked base s (Ok bytes) front }
 
-    // The request `begun_again`, which continues a report, prints exactly the remaining elapse times. Its base time is
-    // `@` with the seconds of the last elapse time whose first line is complete, or the original base time if there is
-    // none.
+    // The request `begun_again`, which continues a report, prints exactly the remaining elapses. Its base time is `@`
+    // with the seconds of the last elapse whose first line is complete, or the original base time if there is none.
     ensures again { (asked : Request) (read : Result (List ℕ) WholeFault) (base : ℤ) (s : Schedule) (front : List ℕ)
         → IsInstant asked.now → base_in asked ≡ Ok base → (r : Resumes asked base s read front)
         → (report (begun_again asked r.shown r.number) read).out ≡ showing asked s (drop r.number r.shown) }

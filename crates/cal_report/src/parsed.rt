@@ -21,7 +21,7 @@ use std::alloc::{AllocError, Global};
 /// A parsed argument of one of the verbs `calendar`, `timestamp` and `timespan`.
 #[derive(Drop)]
 pub enum Parsed<'a> {
-    /// A calendar expression, and the iterator over its elapse times.
+    /// A calendar expression, and the source of its elapses.
     Calendar(Expr, Instants<Elapses<'a>>),
     /// The moment that a timestamp resolves to.
     Timestamp(Moment),
@@ -63,7 +63,7 @@ pub fn read_text<'a>(
     }
 }
 
-/// Parses a calendar expression and prepares the iterator over its elapse times.
+/// Parses a calendar expression and prepares the source of its elapses.
 ///
 /// Fails with [`TextError::Spec`] if the expression is invalid, with [`TextError::NoSuchZone`] if it names a zone that
 /// is neither `UTC` nor in the table, and with [`TextError::NoMemory`] if allocation fails.

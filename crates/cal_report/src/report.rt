@@ -35,11 +35,11 @@ use std::alloc::Global;
 /// on `err`. For the verb `timer`, the one argument is the name of the timer file, and `input` is its content: the file
 /// gets either a report or an error line. The other verbs don't read `input`.
 ///
-/// The elapse times shown are the first `iterations` after the base time. The request states the base time as a
-/// timestamp; if it doesn't state one, the base time is `now`. If the base time is invalid, one error line is written
-/// to `err`, and nothing else is done. An expression is evaluated in the zone of its zone suffix, or in the local zone
-/// if it has no zone suffix. A zone that an expression names has to be in `table`, unless its name is `UTC`. Instants
-/// are printed in the local zone, and also in UTC unless the local zone is [`Zone::utc`] itself.
+/// The elapses shown are the first `iterations` after the base time. The request states the base time as a timestamp;
+/// if it doesn't state one, the base time is `now`. If the base time is invalid, one error line is written to `err`,
+/// and nothing else is done. An expression is evaluated in the zone of its zone suffix, or in the local zone if it has
+/// no zone suffix. A zone that an expression names has to be in `table`, unless its name is `UTC`. Instants are printed
+/// in the local zone, and also in UTC unless the local zone is [`Zone::utc`] itself.
 ///
 /// Fails with [`RunFault::OutFailed`] if and only if `out` failed in this call, and with [`RunFault::ErrFailed`] if and
 /// only if `err` did; each writer then has a prefix of what it should have received. Fails with [`RunFault::NoMemory`]

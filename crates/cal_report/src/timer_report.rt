@@ -1,6 +1,6 @@
-//! The report of a timer file: its expressions, its exceptions, and the next elapse times of the timer, each with its
-//! distance from the present (systemd.timer(5), OnCalendar=). An exception is an expression at whose elapse times a
-//! timer doesn't elapse.
+//! The report of a timer file: its expressions, its exceptions, and the next elapses of the timer, each with its
+//! distance from the present (systemd.timer(5), OnCalendar=). An exception is an expression at whose elapses a timer
+//! doesn't elapse.
 
 ghost use Rattle.std.specs.Prelude.{◌≡◌, ◌≢◌, ℕ, List, Result, Ok, Err, MatchResult, false, map};
 ghost use Rattle.cal_bytes.specs.Puts.{Puts};
@@ -23,8 +23,8 @@ use cal_plan::{Instants, PlanFault, merge_of};
 use cal_timer::{Timer, TimerFault, TimerLine, read_timer};
 use std::alloc::Global;
 
-/// A parsed timer file, together with the iterator over the elapse times of its expressions, without the elapse times
-/// of its exceptions.
+/// A parsed timer file, together with the source of the elapses of its expressions, without the elapses of its
+/// exceptions.
 #[derive(Drop)]
 pub struct TimerPlan<'a> {
     timer: Timer,

@@ -1,5 +1,5 @@
 -- What is printed for accepted expressions and for an accepted timer file, defined without any function that computes
--- elapse times: systemd-analyze(1), calendar; systemd.time(7), Calendar Events; systemd.timer(5), OnCalendar=.
+-- elapses: systemd-analyze(1), calendar; systemd.time(7), Calendar Events; systemd.timer(5), OnCalendar=.
 use Rattle.std.specs.Prelude.{◌≡◌, ◌<◌, ◌++◌, ℕ, ℤ, true, false, List, [], ◌∷◌, Option, None, Some, Result, Ok, Err, is_err, if◌then◌else◌, map, take, length, codes, decimal, unsigned_abs}
 use Rattle.std.specs.List.{AllByRecursion, AllZip, filter_map, flat_map, join_by, list_any}
 use Rattle.std.specs.Result.{result_err, result_ok}
@@ -51,7 +51,7 @@ pub record IsAccepted (asked : Request) (e : Expression) : Type 0 where
   pub spelled : Spells e.text e.fields
   pub zone : IsZoneFor asked e.fields.zone e.tz
 
--- the expressions of a timer file, and its exceptions; at the elapse times of an exception, the timer doesn't elapse
+-- the expressions of a timer file, and its exceptions; at the elapses of an exception, the timer doesn't elapse
 pub record Schedule : Type 0 where
   pub expressions : List Expression
   pub exceptions : List Expression
@@ -65,8 +65,8 @@ pub record AreAllAccepted (asked : Request) (s : Schedule) : Type 0 where
   pub expressions : AllByRecursion (IsAccepted asked) s.expressions
   pub exceptions : AllByRecursion (IsAccepted asked) s.exceptions
 
--- `xs` is strictly increasing, and holds exactly the elapse times of the expressions after the base time, except those
--- that are also elapse times of an exception
+-- `xs` is strictly increasing, and holds exactly the elapses of the expressions after the base time, except those that
+-- are also elapses of an exception
 abbrev pub AreElapsesOf : Schedule → ℤ → List ℤ → Type 0
 AreElapsesOf s base xs = AreElapses (map meaning s.expressions) (map meaning s.exceptions) base xs
 
@@ -76,7 +76,7 @@ headings s =
     flat_map (λ e. heading_text original_label e.text e.fields) s.expressions
     ++ flat_map (λ e. heading_text except_label e.text e.fields) s.exceptions
 
--- `text` is the report of a schedule: its headings, followed by its first elapse times after the base time, at most
+-- `text` is the report of a schedule: its headings, followed by its first elapses after the base time, at most
 -- `asked.iterations` of them.
 pub record IsReportOf (asked : Request) (base : ℤ) (s : Schedule) (text : List ℕ) : Type 0 where
   pub elapses : List ℤ

@@ -1,4 +1,4 @@
--- The elapse times of the exceptions before the loop's index have been added to the merge, which suppresses them.
+-- The elapses of the exceptions before the loop's index have been added to the merge, which suppresses them.
 use Rattle.std.proofs.Common.{◌≡◌, ◌++◌, false, map, take}
 use Rattle.cal_rising.specs.Merge.{Merge}
 use Rattle.cal_timer.specs.TimerView.{shown}

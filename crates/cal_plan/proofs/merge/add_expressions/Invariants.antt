@@ -1,5 +1,5 @@
--- The elapse times of the lines before the loop's index have been added to the merge. Lines whose elapse times are all
--- suppressed by the timer's exceptions may be missing.
+-- The elapses of the lines before the loop's index have been added to the merge. Lines whose elapses are all suppressed
+-- by the timer's exceptions may be missing.
 use Rattle.std.proofs.Common.{map, take}
 use Rattle.cal_timer.specs.TimerView.{shown}
 use Rattle.cal_zone.specs.Setting.{setting_seen}

@@ -1,4 +1,4 @@
--- The elapse times that the source has yet to return are still to be written, with the numbers from `number` to
+-- The elapses that the source has yet to return are still to be written, with the numbers from `number` to
 -- `iterations`, or up to a smaller number if the source ends before that. The writer hasn't failed, and the local zone
 -- is the same as before the loop.
 use Rattle.std.proofs.Common.{◌≡◌, ◌+◌, ◌-◌, take}
