@@ -19,7 +19,7 @@ pub left_of : Bool → List (List ℕ) → List ℕ
 left_of true reports = flat_map (λ report. codes "\n" ++ report) reports
 left_of false reports = join_by (λ report. report) (codes "\n") reports
 
-left-next : (is_later : Bool) (a : Answer) (reports : List (List ℕ)) → left_of is_later (report_in a ++ reports) ≡ later_text is_later a ++ left_of (is_later || is_fine (status_in a)) reports
+left-next : (follows_report : Bool) (a : Answer) (reports : List (List ℕ)) → left_of follows_report (report_in a ++ reports) ≡ later_text follows_report a ++ left_of (follows_report || is_fine (status_in a)) reports
 unfolding left_of
 left-next true (Ok report) reports = rw (append-nil report) refl
 left-next false (Ok report) reports = rw (append-nil report) refl
@@ -28,22 +28,22 @@ left-next false (Err message) reports = refl
 
 -- the reports of the remaining texts, joined as in `left_of`
 pub reports_left : Bool → (List ℕ → Answer) → List (List ℕ) → List ℕ
-reports_left is_later answer texts = left_of is_later (flat_map (λ text. report_in (answer text)) texts)
+reports_left follows_report answer texts = left_of follows_report (flat_map (λ text. report_in (answer text)) texts)
 
 pub reports_left-all : (answer : List ℕ → Answer) (texts : List (List ℕ)) → reports_text answer texts ≡ reports_left false answer texts
 unfolding reports_left left_of reports_text
 reports_left-all answer texts = refl
 
-pub reports_left-none : (is_later : Bool) (answer : List ℕ → Answer) → reports_left is_later answer [] ≡ []
+pub reports_left-none : (follows_report : Bool) (answer : List ℕ → Answer) → reports_left follows_report answer [] ≡ []
 unfolding reports_left left_of
 reports_left-none true answer = refl
 reports_left-none false answer = refl
 
 -- the remaining reports consist of the report of the first remaining text, if it has one, and the reports of the later
 -- texts
-pub reports_left-next : (is_later : Bool) (answer : List ℕ → Answer) (text : List ℕ) (texts : List (List ℕ)) → reports_left is_later answer (text ∷ texts) ≡ later_text is_later (answer text) ++ reports_left (is_later || is_fine (status_in (answer text))) answer texts
+pub reports_left-next : (follows_report : Bool) (answer : List ℕ → Answer) (text : List ℕ) (texts : List (List ℕ)) → reports_left follows_report answer (text ∷ texts) ≡ later_text follows_report (answer text) ++ reports_left (follows_report || is_fine (status_in (answer text))) answer texts
 unfolding reports_left
-reports_left-next is_later answer text texts = left-next is_later (answer text) (flat_map (λ t. report_in (answer t)) texts)
+reports_left-next follows_report answer text texts = left-next follows_report (answer text) (flat_map (λ t. report_in (answer t)) texts)
 
 -- the remaining error lines consist of the error line of the first remaining text, if it has one, and the error lines
 -- of the later texts
@@ -85,13 +85,13 @@ status_left-none Fine answer = refl
 
 -- One iteration of the loop over the texts: what remains to be written
 
-pub out_next : (a b c : Option (List ℕ)) (answer : List ℕ → Answer) (is_later fine : Bool) (answered : Status) (text : List ℕ) (texts rest : List (List ℕ)) (all : List ℕ) → texts ≡ text ∷ rest → answered ≡ status_in (answer text) → fine ≡ is_fine answered → Leaves a b (reports_left is_later answer texts) all → Appends b c (later_text is_later (answer text)) → Leaves a c (reports_left (is_later || fine) answer rest) all
-out_next a b c answer is_later fine answered text texts rest all e s f l w =
-    rw (f, s) (step a b c (later_text is_later (answer text)) _ all (respell a b _ _ all l (ap (reports_left is_later answer) e ∙ reports_left-next is_later answer text rest)) w)
+pub out_next : (a b c : Option (List ℕ)) (answer : List ℕ → Answer) (follows_report fine : Bool) (answered : Status) (text : List ℕ) (texts rest : List (List ℕ)) (all : List ℕ) → texts ≡ text ∷ rest → answered ≡ status_in (answer text) → fine ≡ is_fine answered → Leaves a b (reports_left follows_report answer texts) all → Appends b c (later_text follows_report (answer text)) → Leaves a c (reports_left (follows_report || fine) answer rest) all
+out_next a b c answer follows_report fine answered text texts rest all e s f l w =
+    rw (f, s) (step a b c (later_text follows_report (answer text)) _ all (respell a b _ _ all l (ap (reports_left follows_report answer) e ∙ reports_left-next follows_report answer text rest)) w)
 
-pub out_stops : (a b c : Option (List ℕ)) (answer : List ℕ → Answer) (is_later : Bool) (text : List ℕ) (texts rest : List (List ℕ)) (all : List ℕ) → texts ≡ text ∷ rest → Leaves a b (reports_left is_later answer texts) all → AppendsFront b c (later_text is_later (answer text)) → AppendsFront a c all
-out_stops a b c answer is_later text texts rest all e l w =
-    stop a b c (later_text is_later (answer text)) _ all (respell a b _ _ all l (ap (reports_left is_later answer) e ∙ reports_left-next is_later answer text rest)) w
+pub out_stops : (a b c : Option (List ℕ)) (answer : List ℕ → Answer) (follows_report : Bool) (text : List ℕ) (texts rest : List (List ℕ)) (all : List ℕ) → texts ≡ text ∷ rest → Leaves a b (reports_left follows_report answer texts) all → AppendsFront b c (later_text follows_report (answer text)) → AppendsFront a c all
+out_stops a b c answer follows_report text texts rest all e l w =
+    stop a b c (later_text follows_report (answer text)) _ all (respell a b _ _ all l (ap (reports_left follows_report answer) e ∙ reports_left-next follows_report answer text rest)) w
 
 pub err_next : (a b c : Option (List ℕ)) (answer : List ℕ → Answer) (text : List ℕ) (texts rest : List (List ℕ)) (all : List ℕ) → texts ≡ text ∷ rest → Leaves a b (error_lines answer texts) all → Appends b c (error_line_in text (answer text)) → Leaves a c (error_lines answer rest) all
 err_next a b c answer text texts rest all e l w =
@@ -115,33 +115,33 @@ writes_nothing a (Err e) = record { front = []; rest = []; whole = refl; written
 -- whatever texts `rest` come after `done`, the reports of all these texts are the reports of `done`, followed by the
 -- reports of `rest` as `reports_left` joins them
 abbrev pub GoesOn : (List ℕ → Answer) → Bool → List (List ℕ) → Type 0
-GoesOn answer is_later done = (rest : List (List ℕ)) → reports_text answer (done ++ rest) ≡ reports_text answer done ++ reports_left is_later answer rest
+GoesOn answer follows_report done = (rest : List (List ℕ)) → reports_text answer (done ++ rest) ≡ reports_text answer done ++ reports_left follows_report answer rest
 
 pub goes_on-none : (answer : List ℕ → Answer) → GoesOn answer false []
 unfolding reports_text
 goes_on-none answer rest = reports_left-all answer rest
 
-pub reports_more : (answer : List ℕ → Answer) (is_later : Bool) (done : List (List ℕ)) (text : List ℕ) (rest : List (List ℕ)) → GoesOn answer is_later done
-    → reports_text answer (done ++ text ∷ rest) ≡ (reports_text answer done ++ later_text is_later (answer text)) ++ reports_left (is_later || is_fine (status_in (answer text))) answer rest
-reports_more answer is_later done text rest on = grind (arith, reports_left-next, append_assoc, reports_left)
+pub reports_more : (answer : List ℕ → Answer) (follows_report : Bool) (done : List (List ℕ)) (text : List ℕ) (rest : List (List ℕ)) → GoesOn answer follows_report done
+    → reports_text answer (done ++ text ∷ rest) ≡ (reports_text answer done ++ later_text follows_report (answer text)) ++ reports_left (follows_report || is_fine (status_in (answer text))) answer rest
+reports_more answer follows_report done text rest on = grind (arith, reports_left-next, append_assoc, reports_left)
 
-pub reports_one : (answer : List ℕ → Answer) (is_later : Bool) (done : List (List ℕ)) (text : List ℕ) → GoesOn answer is_later done
-    → reports_text answer (done ++ text ∷ []) ≡ reports_text answer done ++ later_text is_later (answer text)
-reports_one answer is_later done text on =
-    reports_more answer is_later done text [] on
-    ∙ (ap (λ (t : List ℕ). (reports_text answer done ++ later_text is_later (answer text)) ++ t) (reports_left-none (is_later || is_fine (status_in (answer text))) answer) ∙ append-nil _)
+pub reports_one : (answer : List ℕ → Answer) (follows_report : Bool) (done : List (List ℕ)) (text : List ℕ) → GoesOn answer follows_report done
+    → reports_text answer (done ++ text ∷ []) ≡ reports_text answer done ++ later_text follows_report (answer text)
+reports_one answer follows_report done text on =
+    reports_more answer follows_report done text [] on
+    ∙ (ap (λ (t : List ℕ). (reports_text answer done ++ later_text follows_report (answer text)) ++ t) (reports_left-none (follows_report || is_fine (status_in (answer text))) answer) ∙ append-nil _)
 
-pub goes_on-more : (answer : List ℕ → Answer) (is_later fine : Bool) (answered : Status) (done next : List (List ℕ)) (text : List ℕ) → next ≡ done ++ text ∷ [] → answered ≡ status_in (answer text)
-    → fine ≡ is_fine answered → GoesOn answer is_later done → GoesOn answer (is_later || fine) next
-goes_on-more answer is_later fine answered done next text is status works on rest =
+pub goes_on-more : (answer : List ℕ → Answer) (follows_report fine : Bool) (answered : Status) (done next : List (List ℕ)) (text : List ℕ) → next ≡ done ++ text ∷ [] → answered ≡ status_in (answer text)
+    → fine ≡ is_fine answered → GoesOn answer follows_report done → GoesOn answer (follows_report || fine) next
+goes_on-more answer follows_report fine answered done next text is status works on rest =
     let flag : fine ≡ is_fine (status_in (answer text)) = works ∙ ap is_fine status in
-    rw (is, flag) (ap (reports_text answer) (append_assoc done (text ∷ []) rest) ∙ (reports_more answer is_later done text rest on
-    ∙ ap (λ (t : List ℕ). t ++ reports_left (is_later || is_fine (status_in (answer text))) answer rest) (sym (reports_one answer is_later done text on))))
+    rw (is, flag) (ap (reports_text answer) (append_assoc done (text ∷ []) rest) ∙ (reports_more answer follows_report done text rest on
+    ∙ ap (λ (t : List ℕ). t ++ reports_left (follows_report || is_fine (status_in (answer text))) answer rest) (sym (reports_one answer follows_report done text on))))
 
-pub out_more : (a b c : Option (List ℕ)) (answer : List ℕ → Answer) (is_later : Bool) (done next : List (List ℕ)) (text : List ℕ) → next ≡ done ++ text ∷ [] → GoesOn answer is_later done
-    → Appends a b (reports_text answer done) → Appends b c (later_text is_later (answer text)) → Appends a c (reports_text answer next)
-out_more a b c answer is_later done next text is on before here =
-    subst (Appends a c) (sym (ap (reports_text answer) is ∙ reports_one answer is_later done text on)) (Appends-trans a b c _ _ before here)
+pub out_more : (a b c : Option (List ℕ)) (answer : List ℕ → Answer) (follows_report : Bool) (done next : List (List ℕ)) (text : List ℕ) → next ≡ done ++ text ∷ [] → GoesOn answer follows_report done
+    → Appends a b (reports_text answer done) → Appends b c (later_text follows_report (answer text)) → Appends a c (reports_text answer next)
+out_more a b c answer follows_report done next text is on before here =
+    subst (Appends a c) (sym (ap (reports_text answer) is ∙ reports_one answer follows_report done text on)) (Appends-trans a b c _ _ before here)
 
 refusals_one : (answer : List ℕ → Answer) (done : List (List ℕ)) (text : List ℕ) → error_lines answer (done ++ text ∷ []) ≡ error_lines answer done ++ error_line_in text (answer text)
 unfolding error_lines

@@ -34,7 +34,7 @@ use Rattle.cal_report.specs.headline.Headline.{AreAccepted, AreSpelled, Expressi
 use Rattle.cal_report.specs.RunReport.{answers_report, base_in, report, whole_report}
 use Rattle.cal_report.specs.headline.ReportLines.{Report}
 use Rattle.cal_report.specs.TimerReport.{answer_of_timer, answer_unless, timer_answer}
-use Rattle.cal_request.specs.RequestKind.{file_name}
+use Rattle.cal_request.specs.RequestKind.{timer_path}
 use Rattle.cal_request.specs.headline.Request.{Request}
 use Rattle.cal_request.specs.declared.request.Status.TheVariants.{Fine, Refused}
 use Rattle.cal_request.specs.declared.request.Verb.TheVariants as verb
@@ -248,5 +248,5 @@ pub fine_file_is_accepted : HaveOneNormalForm → AreNormalForms → (asked : Re
     → (report asked (Ok bytes)).status ≡ Fine → IsAcceptedFile asked bytes
 unfolding timer_answer
 fine_file_is_accepted one some asked bytes base verb sought h =
-    accepted_of one some asked bytes (file_name asked.texts) base (timer_in expr_in bytes) refl
+    accepted_of one some asked bytes (timer_path asked.texts) base (timer_in expr_in bytes) refl
     (sym (ap (λ (r : Report). r.status) (report_of_timer asked bytes base verb sought)) ∙ h)

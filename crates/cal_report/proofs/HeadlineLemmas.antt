@@ -34,7 +34,7 @@ use Rattle.cal_report.specs.headline.ElapseLines.{elapses_text}
 use Rattle.cal_report.specs.headline.Headline.{AreAllAccepted, AreReportsOf, AreSpelled, Expression, IsAccepted, IsFileOf, IsFine, IsReportOf, IsZoneFor, Schedule, Spells, alone, assigned_in, headings, meaning}
 use Rattle.cal_report.specs.RunReport.{ByReading, IsReported, answers_report, base_in, report, report_from, report_on, whole_report}
 use Rattle.cal_report.specs.TimerReport.{headings_text, timer_answer, timer_report}
-use Rattle.cal_request.specs.RequestKind.{file_name, kind_by}
+use Rattle.cal_request.specs.RequestKind.{timer_path, kind_by}
 use Rattle.cal_request.specs.headline.Request.{Request}
 use Rattle.cal_request.specs.declared.request.Status.{Status}
 use Rattle.cal_request.specs.declared.request.Status.TheVariants.{Fine, Refused}
@@ -249,11 +249,11 @@ all_there asked lists s h =
 
 -- if the base time is valid, the report of a request for a timer file is the answer to the file
 pub report_of_timer : (asked : Request) (bytes : List ℕ) (base : ℤ) → asked.verb ≡ verb.Timer → base_in asked ≡ Ok base
-    → report asked (Ok bytes) ≡ whole_report (timer_answer asked base (file_name asked.texts) (Ok bytes))
+    → report asked (Ok bytes) ≡ whole_report (timer_answer asked base (timer_path asked.texts) (Ok bytes))
 unfolding report
 report_of_timer asked bytes base verb sought =
     ap (λ v. report_on asked (Ok bytes) (kind_by v asked.texts)) verb
-    ∙ ap (report_from (λ b. whole_report (timer_answer asked b (file_name asked.texts) (Ok bytes)))) sought
+    ∙ ap (report_from (λ b. whole_report (timer_answer asked b (timer_path asked.texts) (Ok bytes)))) sought
 
 file_is_answered : HaveOneNormalForm → (asked : Request) (bytes name : List ℕ) (base : ℤ) (s : Schedule) → IsFileOf bytes s
     → AreAllAccepted asked s → timer_answer asked base name (Ok bytes) ≡ Ok (timer_report asked base (entries_in bytes))
@@ -286,7 +286,7 @@ pub timer_report_is : HaveOneNormalForm → (asked : Request) (bytes : List ℕ)
     → asked.verb ≡ verb.Timer → base_in asked ≡ Ok base → IsFileOf bytes s → AreAllAccepted asked s
     → IsReportOf asked base s (report asked (Ok bytes)).out × IsFine (report asked (Ok bytes))
 timer_report_is one asked bytes base s verb sought file all =
-    rw (report_of_timer asked bytes base verb sought, file_is_answered one asked bytes (file_name asked.texts) base s file all)
+    rw (report_of_timer asked bytes base verb sought, file_is_answered one asked bytes (timer_path asked.texts) base s file all)
     (timer_is_report asked base (entries_in bytes) s (file_entries one asked bytes s file all), record { err = refl; status = refl })
 
 -- What a run has written if it returns `Ok`

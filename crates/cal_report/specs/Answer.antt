@@ -27,12 +27,12 @@ error_line_in text (Err message) = error_line text message
 
 -- what comes before a report: an empty line, unless it is the first report
 abbrev pub lead_text : Bool → List ℕ
-lead_text is_later = if is_later then codes "\n" else []
+lead_text follows_report = if follows_report then codes "\n" else []
 
 -- the report, or nothing if the argument is invalid; an empty line comes before the report unless it is the first one
 abbrev pub later_text : Bool → Answer → List ℕ
-later_text is_later (Ok report) = joined (lead_text is_later ∷ report ∷ [])
-later_text is_later (Err message) = []
+later_text follows_report (Ok report) = joined (lead_text follows_report ∷ report ∷ [])
+later_text follows_report (Err message) = []
 
 -- `Refused` if the argument is invalid, and otherwise `Fine`
 abbrev pub status_in : Answer → Status

@@ -9,9 +9,9 @@ use Rattle.cal_report.specs.TimespanReport.{timespan_report}
 use Rattle.cal_report.specs.TimestampReport.{timestamp_report}
 use Rattle.cal_report.specs.declared.parsed.Parsed.{Parsed}
 use Rattle.cal_report.specs.declared.parsed.Parsed.TheVariants.{Calendar, Timestamp, Timespan}
-use Rattle.cal_report.specs.declared.text_error.TextError.{TextError}
+use Rattle.cal_report.specs.declared.text_fault.TextFault.{TextFault}
 use Rattle.cal_request.specs.declared.request_kind.TextVerb.{TextVerb}
-use Rattle.cal_report.specs.declared.text_error.TextError.TheVariants.{Spec, NoSuchZone, Stamp, Span, NoMemory}
+use Rattle.cal_report.specs.declared.text_fault.TextFault.TheVariants.{Spec, NoSuchZone, Stamp, Span, NoMemory}
 
 -- the verb that takes arguments of this kind
 abbrev pub verb_of : Parsed → TextVerb
@@ -26,9 +26,9 @@ report_text asked text (Timestamp moment) = timestamp_report asked text moment.m
 report_text asked text (Timespan span) = timespan_report text span.micros
 
 -- the message of an error, which is empty if memory ran out
-abbrev pub text_error_message : TextError → List ℕ
-text_error_message (Spec fault) = spec_message fault
-text_error_message NoSuchZone = codes "no such zone"
-text_error_message (Stamp fault) = stamp_message fault
-text_error_message (Span fault) = span_message fault
-text_error_message NoMemory = []
+abbrev pub text_fault_message : TextFault → List ℕ
+text_fault_message (Spec fault) = spec_message fault
+text_fault_message NoSuchZone = codes "no such zone"
+text_fault_message (Stamp fault) = stamp_message fault
+text_fault_message (Span fault) = span_message fault
+text_fault_message NoMemory = []

@@ -6,8 +6,8 @@ use Rattle.cal_report.specs.headline.ElapseLines.{elapses_text}
 use Rattle.cal_request.specs.headline.Request.{Request}
 use Rattle.cal_report.specs.TimerReport.{lists_text}
 use Rattle.cal_report.specs.declared.timer_report.TimerPlan.{TimerPlan}
-use Rattle.cal_report.specs.declared.timer_report.TimerError.{TimerError}
-use Rattle.cal_report.specs.declared.timer_report.TimerError.TheVariants as errors
+use Rattle.cal_report.specs.declared.timer_report.TimerPlanFault.{TimerPlanFault}
+use Rattle.cal_report.specs.declared.timer_report.TimerPlanFault.TheVariants as errors
 
 -- the report of a parsed timer file
 abbrev pub plan_text : Request → TimerPlan → List ℕ
@@ -15,13 +15,13 @@ plan_text asked plan =
     joined (lists_text plan.timer ∷ elapses_text asked.local asked.now (take asked.iterations plan.elapses) ∷ [])
 
 -- the message of an error, which is empty if memory ran out
-abbrev pub timer_error_message : TimerError → List ℕ
-timer_error_message (errors.Timer fault) = message_of fault
-timer_error_message (errors.NoSuchZone line) = codes "no such zone"
-timer_error_message errors.NoMemory = []
+abbrev pub plan_fault_message : TimerPlanFault → List ℕ
+plan_fault_message (errors.Timer fault) = message_of fault
+plan_fault_message (errors.NoSuchZone line) = codes "no such zone"
+plan_fault_message errors.NoMemory = []
 
 -- the number of the invalid line, if the error concerns one line
-abbrev pub timer_error_line : TimerError → Option ℕ
-timer_error_line (errors.Timer fault) = line_of fault
-timer_error_line (errors.NoSuchZone line) = Some line
-timer_error_line errors.NoMemory = None
+abbrev pub plan_fault_line : TimerPlanFault → Option ℕ
+plan_fault_line (errors.Timer fault) = line_of fault
+plan_fault_line (errors.NoSuchZone line) = Some line
+plan_fault_line errors.NoMemory = None

@@ -9,7 +9,7 @@ mod local_and_utc;
 mod parsed;
 mod report;
 mod report_lines;
-mod text_error;
+mod text_fault;
 mod text_report;
 mod timer_report;
 mod timespan_report;

@@ -1,14 +1,14 @@
 //! Parsing one argument of the verbs `calendar`, `timestamp` and `timespan`.
 
 ghost use Rattle.std.specs.Prelude.{◌≡◌, Ok, Err, IfOk, IfErr, IsErrOf};
-ghost use Rattle.cal_report.specs.Parsed.{report_text, text_error_message, verb_of};
+ghost use Rattle.cal_report.specs.Parsed.{report_text, text_fault_message, verb_of};
 ghost use Rattle.cal_report.specs.CalendarReport.{calendar_answer};
 ghost use Rattle.cal_report.specs.Context.{asked_by};
 ghost use Rattle.cal_report.specs.RunReport.{answer_by};
-ghost use Rattle.cal_report.specs.declared.text_error.TextError.TheVariants.{NoMemory};
+ghost use Rattle.cal_report.specs.declared.text_fault.TextFault.TheVariants.{NoMemory};
 
 use crate::context::Context;
-use crate::text_error::TextError;
+use crate::text_fault::TextFault;
 use cal_elapse::Elapses;
 use cal_plan::{Instants, zone_for};
 use cal_request::TextVerb;
@@ -39,11 +39,11 @@ pub fn read_text<'a>(
     context: Context<'a>,
     verb: TextVerb,
     text: &str,
-) -> Result<Parsed<'a>, TextError>
+) -> Result<Parsed<'a>, TextFault>
     ensures parsed { IfOk result (λ parsed. answer_by verb (asked_by context.entry) context.entry.base.secs text.now
         ≡ Ok (report_text (asked_by context.entry) text.now parsed)) }
-    ensures refused { IfErr result (λ error. (error ≡ NoMemory → ⊥)
-        → answer_by verb (asked_by context.entry) context.entry.base.secs text.now ≡ Err (text_error_message error)) }
+    ensures refused { IfErr result (λ fault. (fault ≡ NoMemory → ⊥)
+        → answer_by verb (asked_by context.entry) context.entry.base.secs text.now ≡ Err (text_fault_message fault)) }
     ensures verb { IfOk result (λ parsed. verb_of parsed ≡ verb) }
     ensures memory { IsErrOf result NoMemory → verb ≡ TextVerb.Calendar }
 {
@@ -53,42 +53,42 @@ pub fn read_text<'a>(
             let Setting { now, local, zones } = context.setting;
             match read_stamp(text, now, local, zones) {
                 Ok(moment) => Ok(Parsed::Timestamp(moment)),
-                Err(fault) => Err(TextError::Stamp(fault)),
+                Err(fault) => Err(TextFault::Stamp(fault)),
             }
         }
         TextVerb::Timespan => match read_span(text) {
             Ok(span) => Ok(Parsed::Timespan(span)),
-            Err(fault) => Err(TextError::Span(fault)),
+            Err(fault) => Err(TextFault::Span(fault)),
         },
     }
 }
 
 /// Parses a calendar expression and prepares the source of its elapses.
 ///
-/// Fails with [`TextError::Spec`] if the expression is invalid, with [`TextError::NoSuchZone`] if it names a zone that
-/// is neither `UTC` nor in the table, and with [`TextError::NoMemory`] if allocation fails.
+/// Fails with [`TextFault::Spec`] if the expression is invalid, with [`TextFault::NoSuchZone`] if it names a zone that
+/// is neither `UTC` nor in the table, and with [`TextFault::NoMemory`] if allocation fails.
 #[tactic(auto, using(cal_plan::proofs::ElapseInstants::elapses_are_instants), unfolding(crate::specs::CalendarReport::calendar_answer, crate::specs::CalendarReport::calendar_report))]
 fn read_calendar<'a>(
     alloc: Global,
     context: Context<'a>,
     text: &str,
-) -> Result<Parsed<'a>, TextError>
+) -> Result<Parsed<'a>, TextFault>
     ensures parsed { IfOk result (λ parsed. calendar_answer (asked_by context.entry) context.entry.base.secs text.now
         ≡ Ok (report_text (asked_by context.entry) text.now parsed)) }
-    ensures refused { IfErr result (λ error. (error ≡ NoMemory → ⊥)
-        → calendar_answer (asked_by context.entry) context.entry.base.secs text.now ≡ Err (text_error_message error)) }
+    ensures refused { IfErr result (λ fault. (fault ≡ NoMemory → ⊥)
+        → calendar_answer (asked_by context.entry) context.entry.base.secs text.now ≡ Err (text_fault_message fault)) }
     ensures verb { IfOk result (λ parsed. verb_of parsed ≡ TextVerb.Calendar) }
 {
     let expr = match read_expr(alloc, text) {
         Ok(expr) => expr,
-        Err(SpecFault::NoMemory) => return Err(TextError::NoMemory),
-        Err(fault) => return Err(TextError::Spec(fault)),
+        Err(SpecFault::NoMemory) => return Err(TextFault::NoMemory),
+        Err(fault) => return Err(TextFault::Spec(fault)),
     };
     let Some(zone) = zone_for(context.setting, &expr) else {
-        return Err(TextError::NoSuchZone);
+        return Err(TextFault::NoSuchZone);
     };
     match Elapses::new(alloc, &expr, zone, context.base) {
         Ok(elapses) => Ok(Parsed::Calendar(expr, Instants::new(elapses))),
-        Err(AllocError) => Err(TextError::NoMemory),
+        Err(AllocError) => Err(TextFault::NoMemory),
     }
 }

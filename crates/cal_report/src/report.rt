@@ -21,9 +21,9 @@ ghost use Rattle.cal_request.specs.declared.request.Status.TheVariants.{Refused}
 
 use crate::context::Context;
 use crate::parsed::read_text;
-use crate::text_error::TextError;
+use crate::text_fault::TextFault;
 use crate::text_report::put_report;
-use crate::timer_report::{TimerError, read_plan, write_timer};
+use crate::timer_report::{TimerPlanFault, read_plan, write_timer};
 use cal_bytes::{Sink, Source, WriteFault, put_pieces};
 use cal_request::{Request, RequestKind, RunFault, Status, TextVerb};
 use cal_stamp::{StampFault, read_stamp};
@@ -32,7 +32,7 @@ use itoa::Buffer;
 use std::alloc::Global;
 
 /// Runs a request (systemd-analyze(1)). Each valid argument gets a report on `out`, and each invalid one an error line
-/// on `err`. For the verb `timer`, the one argument is the name of the timer file, and `input` is its content: the file
+/// on `err`. For the verb `timer`, the one argument is the path of the timer file, and `input` is its content: the file
 /// gets either a report or an error line. The other verbs don't read `input`.
 ///
 /// The elapses shown are the first `iterations` after the base time. The request states the base time as a timestamp;
@@ -80,7 +80,7 @@ pub fn run<R: Source, O: Sink, E: Sink>(
         RequestKind::Texts { verb, texts } => {
             run_texts(alloc, request, verb, texts, setting, out, err)
         }
-        RequestKind::Timer { file } => run_timer(alloc, request, file, setting, input, out, err),
+        RequestKind::Timer { path } => run_timer(alloc, request, path, setting, input, out, err),
     }
 }
 
@@ -121,12 +121,12 @@ pub fn run_texts<O: Sink, E: Sink>(
     }
 }
 
-/// Answers the timer file with the path `file` and the content `input` as [`run`] does, with the base time and the
+/// Answers the timer file with the path `path` and the content `input` as [`run`] does, with the base time and the
 /// number of elapses that `request` states.
 pub fn run_timer<R: Source, O: Sink, E: Sink>(
     alloc: Global,
     request: &Request,
-    file: &str,
+    path: &str,
     setting: Setting<'_>,
     input: &mut R,
     out: &mut O,
@@ -139,7 +139,7 @@ pub fn run_timer<R: Source, O: Sink, E: Sink>(
         × ReadsFile (base_in (asked_in request.now setting.entry)) (R.remaining input.old) (R.remaining input.new) read
         × (R.is_failed input.new ≡ is_read_failed read)
         × IsReported result (O.written out.old) (O.written out.new) (E.written err.old) (E.written err.new) read
-        (file_report (asked_in request.now setting.entry) file.now read) }
+        (file_report (asked_in request.now setting.entry) path.now read) }
     ensures sure { R.may_fail input.old ≡ false → R.is_failed input.new ≡ false }
     ensures out_failed { O.is_failed out.new ≡ is_out_failed result }
     ensures err_failed { E.is_failed err.new ≡ is_err_failed result }
@@ -153,7 +153,7 @@ pub fn run_timer<R: Source, O: Sink, E: Sink>(
                 base,
                 setting,
             };
-            answer_timer(alloc, context, file, input, out, err)
+            answer_timer(alloc, context, path, input, out, err)
         }
         Err(fault) => report_error(err, "--base-time", None, fault.words()),
     }
@@ -198,26 +198,31 @@ fn answer_all<O: Sink, E: Sink>(
         (O.written out.old) (O.written out.new) (E.written err.old) (E.written err.new) }
 {
     let mut status = Status::Fine;
-    let mut is_later = false;
+    let mut follows_report = false;
     for text in texts {
-        let answered = match answer_one(alloc, context, verb, text.as_str(), is_later, out, err) {
-            Ok(answered) => answered,
-            Err(fault) => return Err(fault),
-        };
-        is_later |= answered.is_fine();
+        let answered = answer_one(
+            alloc,
+            context,
+            verb,
+            text.as_str(),
+            follows_report,
+            out,
+            err,
+        )?;
+        follows_report |= answered.is_fine();
         status = status.and(answered);
     }
     Ok(status)
 }
 
-/// Writes the report of one argument, or its error line if it is invalid. `is_later` says whether `out` already has a
-/// report; if so, an empty line is written before the new report.
+/// Writes the report of one argument, or its error line if it is invalid. `follows_report` says whether `out` already
+/// has a report; if so, an empty line is written before the new report.
 fn answer_one<O: Sink, E: Sink>(
     alloc: Global,
     context: Context<'_>,
     verb: TextVerb,
     text: &str,
-    is_later: bool,
+    follows_report: bool,
     out: &mut O,
     err: &mut E,
 ) -> Result<Status, RunFault>
@@ -225,7 +230,7 @@ fn answer_one<O: Sink, E: Sink>(
     requires err { E.is_failed err.old ≡ false }
     ensures status { IfOk result (λ status. status ≡ status_in (answer_by verb (asked_by context.entry) context.entry.base.secs text.now)) }
     ensures out { Writes (O.written out.old) (O.written out.new) result
-        (later_text is_later (answer_by verb (asked_by context.entry) context.entry.base.secs text.now)) }
+        (later_text follows_report (answer_by verb (asked_by context.entry) context.entry.base.secs text.now)) }
     ensures err { Writes (E.written err.old) (E.written err.new) result
         (error_line_in text.now (answer_by verb (asked_by context.entry) context.entry.base.secs text.now)) }
     ensures out_failed { O.is_failed out.new ≡ is_out_failed result }
@@ -235,12 +240,12 @@ fn answer_one<O: Sink, E: Sink>(
         → (O.written out.new ≡ O.written out.old) × (E.written err.new ≡ E.written err.old) }
 {
     match read_text(alloc, context, verb, text) {
-        Ok(parsed) => match put_report(out, is_later, context, text, parsed) {
+        Ok(parsed) => match put_report(out, follows_report, context, text, parsed) {
             Ok(()) => Ok(Status::Fine),
             Err(WriteFault::Failed) => Err(RunFault::OutFailed),
         },
-        Err(TextError::NoMemory) => Err(RunFault::NoMemory),
-        Err(error) => report_error(err, text, None, error.words()),
+        Err(TextFault::NoMemory) => Err(RunFault::NoMemory),
+        Err(fault) => report_error(err, text, None, fault.words()),
     }
 }
 
@@ -248,7 +253,7 @@ fn answer_one<O: Sink, E: Sink>(
 fn answer_timer<R: Source, O: Sink, E: Sink>(
     alloc: Global,
     context: Context<'_>,
-    file: &str,
+    path: &str,
     input: &mut R,
     out: &mut O,
     err: &mut E,
@@ -260,7 +265,7 @@ fn answer_timer<R: Source, O: Sink, E: Sink>(
         × ReadsWhole (R.remaining input.old) (R.remaining input.new) timer_file_limit read
         × (R.is_failed input.new ≡ is_read_failed read)
         × IsReported result (O.written out.old) (O.written out.new) (E.written err.old) (E.written err.new) read
-        (whole_report (timer_answer (asked_by context.entry) context.entry.base.secs file.now read)) }
+        (whole_report (timer_answer (asked_by context.entry) context.entry.base.secs path.now read)) }
     ensures sure { R.may_fail input.old ≡ false → R.is_failed input.new ≡ false }
     ensures out_failed { O.is_failed out.new ≡ is_out_failed result }
     ensures err_failed { E.is_failed err.new ≡ is_err_failed result }
@@ -272,12 +277,12 @@ fn answer_timer<R: Source, O: Sink, E: Sink>(
             Ok(()) => Ok(Status::Fine),
             Err(WriteFault::Failed) => Err(RunFault::OutFailed),
         },
-        Err(TimerError::NoMemory) => Err(RunFault::NoMemory),
-        Err(error) => report_error(err, file, error.line(), error.words()),
+        Err(TimerPlanFault::NoMemory) => Err(RunFault::NoMemory),
+        Err(fault) => report_error(err, path, fault.line(), fault.words()),
     }
 }
 
-/// Writes an error line that begins with `text`: an argument, the name of the timer file, or `--base-time`. `line` is
+/// Writes an error line that begins with `text`: an argument, the path of the timer file, or `--base-time`. `line` is
 /// the number of the invalid line of the file, if the error concerns one line. Returns [`Status::Refused`] if the
 /// error line could be written.
 fn report_error<E: Sink>(

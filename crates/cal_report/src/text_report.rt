@@ -14,21 +14,21 @@ use crate::timespan_report::write_timespan;
 use crate::timestamp_report::write_timestamp;
 use cal_bytes::{Sink, WriteFault, put_all};
 
-/// Writes the report of a parsed argument. `is_later` says whether another report precedes it; if so, an empty line is
-/// written first.
+/// Writes the report of a parsed argument. `follows_report` says whether another report precedes it; if so, an empty
+/// line is written first.
 #[tactic(auto, using(cal_bytes::proofs::PutLemmas::puts))]
 pub fn put_report<W: Sink>(
     out: &mut W,
-    is_later: bool,
+    follows_report: bool,
     context: Context<'_>,
     text: &str,
     parsed: Parsed<'_>,
 ) -> Result<(), WriteFault>
     requires { W.is_failed out.old ≡ false }
     ensures { Puts W.Sink out.old out.new result
-        (joined (lead_text is_later ∷ report_text (asked_by context.entry) text.now parsed.entry ∷ [])) }
+        (joined (lead_text follows_report ∷ report_text (asked_by context.entry) text.now parsed.entry ∷ [])) }
 {
-    put_lead(out, is_later)?;
+    put_lead(out, follows_report)?;
     match parsed {
         Parsed::Calendar(expr, mut elapses) => {
             write_calendar(out, context, text, &expr, &mut elapses)
@@ -39,11 +39,11 @@ pub fn put_report<W: Sink>(
 }
 
 /// Writes the empty line that separates a report from the previous one, if there is a previous one.
-fn put_lead<W: Sink>(out: &mut W, is_later: bool) -> Result<(), WriteFault>
+fn put_lead<W: Sink>(out: &mut W, follows_report: bool) -> Result<(), WriteFault>
     requires { W.is_failed out.old ≡ false }
-    ensures { Puts W.Sink out.old out.new result (lead_text is_later) }
+    ensures { Puts W.Sink out.old out.new result (lead_text follows_report) }
 {
-    if is_later {
+    if follows_report {
         put_all(out, b"\n")
     } else {
         Ok(())

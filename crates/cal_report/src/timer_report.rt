@@ -10,8 +10,8 @@ ghost use Rattle.cal_timer.specs.TimerEntries.{ReadsWhole, timer_file_limit};
 ghost use Rattle.cal_timer.specs.TimerView.{shown};
 ghost use Rattle.cal_report.specs.Context.{asked_by};
 ghost use Rattle.cal_report.specs.TimerReport.{HadMemory, headings_text, lists_text, error_line_at, timer_answer};
-ghost use Rattle.cal_report.specs.TimerPlan.{plan_text, timer_error_line, timer_error_message};
-ghost use Rattle.cal_report.specs.declared.timer_report.TimerError.TheVariants.{NoMemory};
+ghost use Rattle.cal_report.specs.TimerPlan.{plan_text, plan_fault_line, plan_fault_message};
+ghost use Rattle.cal_report.specs.declared.timer_report.TimerPlanFault.TheVariants.{NoMemory};
 
 use crate::calendar_report::put_heading;
 use crate::context::Context;
@@ -33,7 +33,7 @@ pub struct TimerPlan<'a> {
 
 /// Why a timer file is rejected.
 #[derive(Clone, Copy, PartialEq, Eq, Debug)]
-pub enum TimerError {
+pub enum TimerPlanFault {
     /// Reading the file failed, the file is too large, or it isn't a valid timer file.
     Timer(TimerFault),
     /// The expression or exception on the line with this number (counted from 1) names a zone that is neither `UTC` nor
@@ -43,26 +43,26 @@ pub enum TimerError {
     NoMemory,
 }
 
-impl TimerError {
-    /// Returns the message to report, which is empty for [`TimerError::NoMemory`]: the caller handles that case.
+impl TimerPlanFault {
+    /// Returns the message to report, which is empty for [`TimerPlanFault::NoMemory`]: the caller handles that case.
     pub fn words(&self) -> &str
-        ensures { result.now ≡ timer_error_message self.now }
+        ensures { result.now ≡ plan_fault_message self.now }
     {
         match self {
-            TimerError::Timer(fault) => fault.words(),
-            TimerError::NoSuchZone(_) => "no such zone",
-            TimerError::NoMemory => "",
+            TimerPlanFault::Timer(fault) => fault.words(),
+            TimerPlanFault::NoSuchZone(_) => "no such zone",
+            TimerPlanFault::NoMemory => "",
         }
     }
 
     /// Returns the number of the invalid line, if the error concerns one line.
     pub fn line(&self) -> Option<u32>
-        ensures { result ≡ timer_error_line self.now }
+        ensures { result ≡ plan_fault_line self.now }
     {
         match self {
-            TimerError::Timer(fault) => fault.line(),
-            TimerError::NoSuchZone(line) => Some(*line),
-            TimerError::NoMemory => None,
+            TimerPlanFault::Timer(fault) => fault.line(),
+            TimerPlanFault::NoSuchZone(line) => Some(*line),
+            TimerPlanFault::NoMemory => None,
         }
     }
 }
@@ -74,7 +74,7 @@ pub fn read_plan<'a, R: Source>(
     alloc: Global,
     context: Context<'a>,
     input: &mut R,
-) -> Result<TimerPlan<'a>, TimerError>
+) -> Result<TimerPlan<'a>, TimerPlanFault>
     requires { R.is_failed input.old ≡ false }
     ensures sure { R.may_fail input.old ≡ false → R.is_failed input.new ≡ false }
     ensures plan { (read : Result (List ℕ) WholeFault)
@@ -83,13 +83,13 @@ pub fn read_plan<'a, R: Source>(
         × MatchResult result
         (λ plan. HadMemory read × ((name : List ℕ)
         → timer_answer (asked_by context.entry) context.entry.base.secs name read ≡ Ok (plan_text (asked_by context.entry) plan)))
-        (λ error. error ≢ NoMemory → HadMemory read × ((name : List ℕ)
-        → timer_answer (asked_by context.entry) context.entry.base.secs name read ≡ Err (error_line_at name (timer_error_line error) (timer_error_message error)))) }
+        (λ fault. fault ≢ NoMemory → HadMemory read × ((name : List ℕ)
+        → timer_answer (asked_by context.entry) context.entry.base.secs name read ≡ Err (error_line_at name (plan_fault_line fault) (plan_fault_message fault)))) }
 {
     let timer = match read_timer(alloc, input) {
         Ok(timer) => timer,
-        Err(TimerFault::NoMemory) => return Err(TimerError::NoMemory),
-        Err(fault) => return Err(TimerError::Timer(fault)),
+        Err(TimerFault::NoMemory) => return Err(TimerPlanFault::NoMemory),
+        Err(fault) => return Err(TimerPlanFault::Timer(fault)),
     };
     let lines = timer.lines();
     let exceptions = timer.exceptions();
@@ -98,8 +98,8 @@ pub fn read_plan<'a, R: Source>(
             timer,
             elapses: Instants::new(merge),
         }),
-        Err(PlanFault::NoSuchZone(line)) => Err(TimerError::NoSuchZone(line)),
-        Err(PlanFault::NoMemory) => Err(TimerError::NoMemory),
+        Err(PlanFault::NoSuchZone(line)) => Err(TimerPlanFault::NoSuchZone(line)),
+        Err(PlanFault::NoMemory) => Err(TimerPlanFault::NoMemory),
     }
 }
 

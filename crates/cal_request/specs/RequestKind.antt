@@ -15,19 +15,19 @@ pub data RequestKind : Type 0 where
   for_file : List ℕ → RequestKind
 
 -- the path of the timer file, which is the only text of a request for the verb `timer`
-abbrev pub file_name : List (List ℕ) → List ℕ
-file_name texts = slice_index_or texts 0 []
+abbrev pub timer_path : List (List ℕ) → List ℕ
+timer_path texts = slice_index_or texts 0 []
 
 -- the kind of a request with this verb and these texts
 abbrev pub kind_by : Verb → List (List ℕ) → RequestKind
 kind_by Calendar texts = for_texts text_verbs.Calendar texts
 kind_by Timestamp texts = for_texts text_verbs.Timestamp texts
 kind_by Timespan texts = for_texts text_verbs.Timespan texts
-kind_by Timer texts = for_file (file_name texts)
+kind_by Timer texts = for_file (timer_path texts)
 
 abbrev pub kind_of : Request → RequestKind
 kind_of asked = kind_by asked.verb asked.texts
 
 abbrev pub shown_kind : declared_kind.RequestKind → RequestKind
 shown_kind (kinds.Texts verb texts) = for_texts verb (map string_bytes texts.now)
-shown_kind (kinds.Timer file) = for_file file.now
+shown_kind (kinds.Timer path) = for_file path.now

@@ -23,7 +23,7 @@ pub enum RequestKind<'a> {
     /// Texts, each of which is answered by itself, in order.
     Texts { verb: TextVerb, texts: &'a [String] },
     /// The timer file with this path.
-    Timer { file: &'a str },
+    Timer { path: &'a str },
 }
 
 impl Request {
@@ -42,7 +42,7 @@ impl Request {
             Verb::Timespan => TextVerb::Timespan,
             Verb::Timer => {
                 return RequestKind::Timer {
-                    file: texts[0].as_str(),
+                    path: texts[0].as_str(),
                 };
             }
         };

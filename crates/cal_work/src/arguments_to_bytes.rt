@@ -124,22 +124,10 @@ fn answer<S: System, O: Sink, E: Sink>(
     ensures out_failed { O.is_failed out.new ≡ is_out_cut result }
     ensures err_failed { E.is_failed err.new ≡ is_err_cut result }
 {
-    let table = match read_zones(alloc, system, ask.zones.as_slice()) {
-        Ok(table) => table,
-        Err(stop) => return Err(stop),
-    };
-    let rules = match read_rules(alloc, &ask.local) {
-        Ok(rules) => rules,
-        Err(stop) => return Err(stop),
-    };
-    let local = match local_zone(&ask.local, &rules, &table) {
-        Ok(local) => local,
-        Err(stop) => return Err(stop),
-    };
-    let now = match find_present(system, ask.now) {
-        Ok(now) => now,
-        Err(stop) => return Err(stop),
-    };
+    let table = read_zones(alloc, system, ask.zones.as_slice())?;
+    let rules = read_rules(alloc, &ask.local)?;
+    let local = local_zone(&ask.local, &rules, &table)?;
+    let now = find_present(system, ask.now)?;
     run_request(alloc, system, &ask.request, now, local, &table, out, err)
 }
 
@@ -288,9 +276,9 @@ fn run_request<S: System, O: Sink, E: Sink>(
         RequestKind::Texts { verb, texts } => {
             after_run(run_texts(alloc, request, verb, texts, setting, out, err))
         }
-        RequestKind::Timer { file } => match open_file(alloc, system, file) {
+        RequestKind::Timer { path } => match open_file(alloc, system, path) {
             Ok(mut input) => {
-                after_run(run_timer(alloc, request, file, setting, &mut input, out, err))
+                after_run(run_timer(alloc, request, path, setting, &mut input, out, err))
             }
             Err(stop) => Err(stop),
         },
@@ -327,10 +315,18 @@ fn open_file<S: System>(alloc: Global, system: &S, path: &str) -> Result<S::File
 
 // What is reported at the end
 
-/// If the work stopped early, reports why. Returns the exit status, and whether everything was written, including this
-/// report. A failed output and running out of memory are not reported here, but by `tell_fault` after the output is
-/// flushed.
-fn tell<O: Sink, E: Sink>(answered: &Result<Status, Stop>, out: &mut O, err: &mut E) -> Ended
+/// How the work ended before the output is flushed.
+#[derive(Clone, Copy)]
+struct Told {
+    /// The exit status if the output can be flushed.
+    status: u8,
+    /// Whether everything was written, including the report of a stop.
+    written: Result<(), RunFault>,
+}
+
+/// If the work stopped early, reports why. A failed output and running out of memory are not reported here, but by
+/// `tell_fault` after the output is flushed.
+fn tell<O: Sink, E: Sink>(answered: &Result<Status, Stop>, out: &mut O, err: &mut E) -> Told
     requires out { O.is_failed out.old ≡ is_out_cut answered.now }
     requires err { E.is_failed err.old ≡ is_err_cut answered.now }
     ensures reported { (expected : Result Report stops.Stop) (before_out before_err : Option (List ℕ))
@@ -340,11 +336,11 @@ fn tell<O: Sink, E: Sink>(answered: &Result<Status, Stop>, out: &mut O, err: &mu
     ensures err_failed { E.is_failed err.new ≡ is_err_failed result.written }
 {
     match answered {
-        Ok(status) => Ended {
+        Ok(status) => Told {
             status: exit_status(*status),
             written: Ok(()),
         },
-        Err(stop) => Ended {
+        Err(stop) => Told {
             status: stop.status(),
             written: tell_stop(stop, out, err),
         },

@@ -4,6 +4,7 @@ use Rattle.cal_bytes.proofs.Pieces.{start, done, respell}
 use Rattle.cal_report.proofs.AnswerLemmas.{answered_before, err_more, err_none, goes_on-more, goes_on-none, out_more, out_none, reports_left, reports_left-all, reports_left-none, refusals-none, status_left, status_left-all, status_left-none, out_next, out_stops, err_next, err_stops, status_next}
 use Rattle.cal_report.specs.Answer.{error_lines}
 use Rattle.cal_report.proofs.report.answer_all.Goals as goal
+use Rattle.std.proofs.lemmas.Result.{err_from_is_err_and}
 use Rattle.cal_text.proofs.General.{items_end, items_next}
 use Rattle.std.proofs.lemmas.List.{map-append, take_more}
 
@@ -32,29 +33,32 @@ loop-text-preserved g c =
     let done = items_taken string_bytes c.args.texts.now c.loop-text.text-index c.text-item.result c.as_str.result.now (omega arith) c.text-item.is c.as_str.ensures.value in
     let next = items_next string_bytes c.args.texts.now c.loop-text.text-index c.text-item.result c.as_str.result.now (omega arith) c.text-item.is c.as_str.ensures.value in
     record {
-      out_works = c.in-Ok.ensures.out_failed;
-      err_works = c.in-Ok.ensures.err_failed;
-      out = out_next _ _ _ _ _ _ c.in-Ok.answered _ _ _ _ next c.in-Ok.ensures.status c.is_fine-is_later.ensures c.loop-text.invariant.out c.in-Ok.ensures.out;
-      err = err_next _ _ _ _ _ _ _ _ next c.loop-text.invariant.err c.in-Ok.ensures.err;
-      status = rw c.and-status.ensures (status_next _ _ _ _ _ _ _ next c.in-Ok.ensures.status c.loop-text.invariant.status);
-      goes_on = goes_on-more _ _ _ c.in-Ok.answered _ _ _ done c.in-Ok.ensures.status c.is_fine-is_later.ensures c.loop-text.invariant.goes_on;
-      out_done = out_more _ _ _ _ _ _ _ _ done c.loop-text.invariant.goes_on c.loop-text.invariant.out_done c.in-Ok.ensures.out;
-      err_done = err_more _ _ _ _ _ _ _ done c.loop-text.invariant.err_done c.in-Ok.ensures.err;
+      out_works = c.in_ok-answered.ensures.out_failed;
+      err_works = c.in_ok-answered.ensures.err_failed;
+      out = out_next _ _ _ _ _ _ _ _ _ _ _ next c.in_ok-answered.ensures.status c.is_fine-follows_report.ensures c.loop-text.invariant.out c.in_ok-answered.ensures.out;
+      err = err_next _ _ _ _ _ _ _ _ next c.loop-text.invariant.err c.in_ok-answered.ensures.err;
+      status = rw c.and-status.ensures (status_next _ _ _ _ _ _ _ next c.in_ok-answered.ensures.status c.loop-text.invariant.status);
+      goes_on = goes_on-more _ _ _ _ _ _ _ done c.in_ok-answered.ensures.status c.is_fine-follows_report.ensures c.loop-text.invariant.goes_on;
+      out_done = out_more _ _ _ _ _ _ _ _ done c.loop-text.invariant.goes_on c.loop-text.invariant.out_done c.in_ok-answered.ensures.out;
+      err_done = err_more _ _ _ _ _ _ _ done c.loop-text.invariant.err_done c.in_ok-answered.ensures.err;
     }
 
-pub returns-in-Err-clause-out : goal.returns-in-Err-clause-out
-returns-in-Err-clause-out g c =
+pub returns-in_err-answered-clause-out : goal.returns-in_err-answered-clause-out
+returns-in_err-answered-clause-out g c =
     let next = items_next string_bytes c.args.texts.now c.loop-text.text-index c.text-item.result c.as_str.result.now (omega arith) c.text-item.is c.as_str.ensures.value in
-    out_stops _ _ _ _ _ _ _ _ _ next c.loop-text.invariant.out c.in-Err.ensures.out
+    let fault = err_from_is_err_and c.from_residual.result c.from_residual.ensures.1 in
+    rw fault.1 (out_stops _ _ _ _ _ _ _ _ _ next c.loop-text.invariant.out c.in_err-answered.ensures.out)
 
-pub returns-in-Err-clause-err : goal.returns-in-Err-clause-err
-returns-in-Err-clause-err g c =
+pub returns-in_err-answered-clause-err : goal.returns-in_err-answered-clause-err
+returns-in_err-answered-clause-err g c =
     let next = items_next string_bytes c.args.texts.now c.loop-text.text-index c.text-item.result c.as_str.result.now (omega arith) c.text-item.is c.as_str.ensures.value in
-    err_stops _ _ _ _ _ _ _ _ next c.loop-text.invariant.err c.in-Err.ensures.err
+    let fault = err_from_is_err_and c.from_residual.result c.from_residual.ensures.1 in
+    rw fault.1 (err_stops _ _ _ _ _ _ _ _ next c.loop-text.invariant.err c.in_err-answered.ensures.err)
 
-pub returns-in-Err-clause-cut : goal.returns-in-Err-clause-cut
-returns-in-Err-clause-cut g c = λ refused.
-    let same = c.in-Err.ensures.unwritten refused in
+pub returns-in_err-answered-clause-cut : goal.returns-in_err-answered-clause-cut
+returns-in_err-answered-clause-cut g c = λ refused.
+    let fault = err_from_is_err_and c.from_residual.result c.from_residual.ensures.1 in
+    let same = c.in_err-answered.ensures.unwritten (rw (fault.1, fault.2) at refused) in
     answered_before string_bytes c.args.texts.now c.loop-text.text-index _ _ _ _ _ _ _ (omega arith)
     c.loop-text.invariant.out_done c.loop-text.invariant.err_done same.0 same.1
 

@@ -19,10 +19,10 @@ invariant-loop-text g l =
     record {
       out_works : g.O.Sink.is_failed l.out ≡ false;
       err_works : g.E.Sink.is_failed l.err ≡ false;
-      out : Leaves (g.O.Sink.written l.fn.out) (g.O.Sink.written l.out) (reports_left l.is_later answer rest) (reports_text answer all);
+      out : Leaves (g.O.Sink.written l.fn.out) (g.O.Sink.written l.out) (reports_left l.follows_report answer rest) (reports_text answer all);
       err : Leaves (g.E.Sink.written l.fn.err) (g.E.Sink.written l.err) (error_lines answer rest) (error_lines answer all);
       status : status_left l.status answer rest ≡ texts_status answer all;
-      goes_on : GoesOn answer l.is_later done;
+      goes_on : GoesOn answer l.follows_report done;
       out_done : Appends (g.O.Sink.written l.fn.out) (g.O.Sink.written l.out) (reports_text answer done);
       err_done : Appends (g.E.Sink.written l.fn.err) (g.E.Sink.written l.err) (error_lines answer done);
     }

@@ -1,6 +1,6 @@
 use Rattle.std.proofs.Common.{◌≡◌, ◌∙◌, Err, sym, rules}
 use Rattle.std.proofs.KnownBytes.{Appends-nil}
-use Rattle.cal_report.specs.Parsed.{text_error_message}
+use Rattle.cal_report.specs.Parsed.{text_fault_message}
 use Rattle.cal_report.specs.Context.{asked_by}
 use Rattle.cal_report.specs.RunReport.{answer_by}
 use Rattle.cal_report.specs.TimerReport.{error_line_at}
@@ -13,7 +13,7 @@ returns-in-Ok-put_report-clause-err g c = rw c.in-Ok.ensures.parsed (Appends-nil
 pub returns-in-Err : goal.returns-in-Err
 unfolding error_line_at
 returns-in-Err g c =
-    let message : answer_by c.args.verb (asked_by c.args.context) c.args.context.base.secs c.args.text.now ≡ Err (text_error_message c.in-Err.error) = c.in-Err.ensures.refused (search rules) in
+    let message : answer_by c.args.verb (asked_by c.args.context) c.args.context.base.secs c.args.text.now ≡ Err (text_fault_message c.in-Err.fault) = c.in-Err.ensures.refused (search rules) in
     let line = rw c.words.ensures at c.report_error.ensures.err in
     rw message (record {
       status = c.report_error.ensures.status;

@@ -1,7 +1,7 @@
 //! Why an argument of the verbs `calendar`, `timestamp` and `timespan` is rejected.
 
 ghost use Rattle.std.specs.Prelude.{◌≡◌};
-ghost use Rattle.cal_report.specs.Parsed.{text_error_message};
+ghost use Rattle.cal_report.specs.Parsed.{text_fault_message};
 
 use cal_span::SpanFault;
 use cal_spec::SpecFault;
@@ -9,7 +9,7 @@ use cal_stamp::StampFault;
 
 /// Why an argument is rejected.
 #[derive(Clone, Copy, PartialEq, Eq, Debug)]
-pub enum TextError {
+pub enum TextFault {
     /// Not a valid calendar expression.
     Spec(SpecFault),
     /// A valid calendar expression that names a time zone which is neither `UTC` nor in the zone table.
@@ -22,17 +22,17 @@ pub enum TextError {
     NoMemory,
 }
 
-impl TextError {
-    /// Returns the message to report, which is empty for [`TextError::NoMemory`]: the caller handles that case.
+impl TextFault {
+    /// Returns the message to report, which is empty for [`TextFault::NoMemory`]: the caller handles that case.
     pub fn words(&self) -> &str
-        ensures { result.now ≡ text_error_message self.now }
+        ensures { result.now ≡ text_fault_message self.now }
     {
         match self {
-            TextError::Spec(fault) => fault.words(),
-            TextError::NoSuchZone => "no such zone",
-            TextError::Stamp(fault) => fault.words(),
-            TextError::Span(fault) => fault.words(),
-            TextError::NoMemory => "",
+            TextFault::Spec(fault) => fault.words(),
+            TextFault::NoSuchZone => "no such zone",
+            TextFault::Stamp(fault) => fault.words(),
+            TextFault::Span(fault) => fault.words(),
+            TextFault::NoMemory => "",
         }
     }
 }
