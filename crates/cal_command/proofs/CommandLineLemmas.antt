@@ -7,7 +7,7 @@ use Rattle.clap.specs.declared.error.kind.ErrorKind.{ErrorKind}
 use Rattle.clap.specs.declared.error.kind.ErrorKind.TheVariants.{OutOfMemory}
 use Rattle.clap.proofs.OnLiterals.{clap_on_literals}
 use Rattle.cal_command.specs.Ask.{CommandFault, usage, help, bad_iterations, bad_now, bad_zones, bad_local, no_memory, Ask}
-use Rattle.cal_command.specs.CommandLine.{parsed_in, read_options, IsAskOf, IsFaultOf, IsOrNoMemory, IsReportedOf, asked_in, command_app, faults_in, is_of_help, takes_arguments, with_rules}
+use Rattle.cal_command.specs.CommandLine.{parsed_in, read_options, IsAskOf, IsFaultOf, IsOrNoMemory, IsReportedOf, ask_in, command_app, faults_in, is_of_help, takes_arguments, with_rules}
 use Rattle.cal_command.specs.VerbMatches.{VerbMatches}
 
 pub with_three : (app : App) (a b d : Rule) → with_rule (with_rule (with_rule app a) b) d ≡ with_rules app (a ∷ b ∷ d ∷ [])
@@ -49,7 +49,7 @@ reported_fault arguments kind bad_local passes kinds reported = absurd reported
 -- allocation, is right for the arguments, as `IsAskOf` defines it
 pub read_answer : (arguments : List Text) (found : VerbMatches) (answer : Result Ask CommandFault) → faults_in arguments ≡ [] → Some found ≡ parsed_in arguments
     → IsOrNoMemory answer (read_options found) → IsAskOf arguments answer
-unfolding asked_in
+unfolding ask_in
 read_answer arguments found (Ok ask) none parsed is = (none, rw (← parsed) (sym is))
 read_answer arguments found (Err (usage text)) none parsed is = absurd is
 read_answer arguments found (Err (help text)) none parsed is = absurd is
@@ -59,10 +59,10 @@ read_answer arguments found (Err bad_zones) none parsed is = (none, rw (← pars
 read_answer arguments found (Err bad_local) none parsed is = (none, rw (← parsed) (sym is))
 read_answer arguments found (Err no_memory) none parsed is = tt
 
--- if `clap` accepts the arguments, only two results are right for them (`IsAskOf`): the one that `asked_in` returns,
+-- if `clap` accepts the arguments, only two results are right for them (`IsAskOf`): the one that `ask_in` returns,
 -- and the error for a failed allocation
 pub taken_arguments : (arguments : List Text) (answer : Result Ask CommandFault) → IsAskOf arguments answer → takes_arguments arguments ≡ true
-    → (answer ≡ Err no_memory) ⊎ (answer ≡ asked_in arguments)
+    → (answer ≡ Err no_memory) ⊎ (answer ≡ ask_in arguments)
 taken_arguments arguments (Ok ask) is takes = inr (sym is.1)
 taken_arguments arguments (Err (usage text)) is takes = let bad : true ≡ false = sym takes ∙ is.0 in absurd (cc)
 taken_arguments arguments (Err (help text)) is takes = let bad : true ≡ false = sym takes ∙ is.0 in absurd (cc)

@@ -2,7 +2,7 @@
 use Rattle.std.proofs.Common.{◌≡◌, ℕ, true, List, Some, Ok, Err, refl}
 use Rattle.clap.proofs.OnLiterals.{clap_on_literals}
 use Rattle.cal_command.specs.Ask.{bad_iterations, help, usage}
-use Rattle.cal_command.specs.CommandLine.{IsAskOf, asked_in, faults_in, parsed_in, read_options, takes_arguments}
+use Rattle.cal_command.specs.CommandLine.{IsAskOf, ask_in, faults_in, parsed_in, read_options, takes_arguments}
 use Rattle.cal_command.specs.VerbMatches.{verb_matches_in}
 use Rattle.cal_command.specs.OptionValues.{count_in, local_zone_in, number_between, present_in, zone_item_in, zone_items_in, zones_in}
 use Rattle.cal_civil.specs.headline.ZoneName.{is_zone_name}
@@ -17,7 +17,7 @@ unfolding parsed_in verb_matches_in clap_on_literals
 daily_found = refl
 
 pub daily_asked : IsAskOf daily_arguments (Ok daily_ask)
-unfolding faults_in asked_in parsed_in verb_matches_in read_options clap_on_literals
+unfolding faults_in ask_in parsed_in verb_matches_in read_options clap_on_literals
 daily_asked = (refl, refl)
 
 pub options_taken : takes_arguments options_arguments ≡ true
@@ -25,11 +25,11 @@ unfolding takes_arguments clap_on_literals
 options_taken = refl
 
 pub options_asked : IsAskOf options_arguments (Ok options_ask)
-unfolding faults_in asked_in parsed_in verb_matches_in read_options count_in number_between present_in zones_in zone_items_in zone_item_in local_zone_in is_zone_name clap_on_literals
+unfolding faults_in ask_in parsed_in verb_matches_in read_options count_in number_between present_in zones_in zone_items_in zone_item_in local_zone_in is_zone_name clap_on_literals
 options_asked = (refl, refl)
 
 pub none_asked : IsAskOf none_arguments (Err bad_iterations)
-unfolding faults_in asked_in parsed_in verb_matches_in read_options count_in number_between clap_on_literals
+unfolding faults_in ask_in parsed_in verb_matches_in read_options count_in number_between clap_on_literals
 none_asked = (refl, refl)
 
 pub help_asked : (text : List ℕ) → IsAskOf help_arguments (Err (help text))

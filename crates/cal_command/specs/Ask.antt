@@ -19,7 +19,7 @@ texts_of = map (λ argument. argument.now)
 -- the local zone as it is given: UTC itself, a UTC offset in seconds, a POSIX rule, or a name
 pub data LocalZone : Type 0 where
   in_utc : LocalZone
-  ahead : ℤ → LocalZone
+  at_offset : ℤ → LocalZone
   by_rule : List ℕ → LocalZone
   of_name : List ℕ → LocalZone
 
@@ -40,7 +40,7 @@ pub record Ask : Type 0 where
 
 abbrev pub shown_local : declared_local.LocalZone → LocalZone
 shown_local Utc = in_utc
-shown_local (Offset seconds) = ahead seconds
+shown_local (Offset seconds) = at_offset seconds
 shown_local (Posix rule) = by_rule (string_bytes rule)
 shown_local (Name name) = of_name (string_bytes name)
 

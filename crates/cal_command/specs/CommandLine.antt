@@ -88,8 +88,8 @@ read_options found =
 
 -- What the arguments ask for, or the error for the first invalid value. The function is meant for arguments that `clap`
 -- accepts. In these, `clap` finds a verb and its texts, so the default `usage []` is never the result.
-unfoldable pub asked_in : List Text → Result Ask CommandFault
-asked_in arguments = option_map_or read_options (parsed_in arguments) (Err (usage []))
+unfoldable pub ask_in : List Text → Result Ask CommandFault
+ask_in arguments = option_map_or read_options (parsed_in arguments) (Err (usage []))
 
 -- ---- which results are right
 
@@ -98,9 +98,9 @@ is_of_help DisplayHelp = true
 is_of_help DisplayVersion = true
 is_of_help _ = false
 
--- `clap` parses the arguments, and `answer` is what they ask for, or the error for the first invalid value (`asked_in`)
+-- `clap` parses the arguments, and `answer` is what they ask for, or the error for the first invalid value (`ask_in`)
 abbrev pub HasRead : List Text → Result Ask CommandFault → Type 0
-HasRead arguments answer = (faults_in arguments ≡ []) × (asked_in arguments ≡ answer)
+HasRead arguments answer = (faults_in arguments ≡ []) × (ask_in arguments ≡ answer)
 
 -- `clap` rejects the arguments, and one of the errors that it may report for them is of a kind that passes `is_kind`
 abbrev pub HasRefused : List Text → (ErrorKind → Bool) → Type 0
@@ -115,7 +115,7 @@ IsFaultOf arguments bad_zones = HasRead arguments (Err bad_zones)
 IsFaultOf arguments bad_local = HasRead arguments (Err bad_local)
 IsFaultOf arguments no_memory = ⊤
 
--- `answer` is right for the arguments. If `clap` parses them, the right answer is what `asked_in` returns for them.
+-- `answer` is right for the arguments. If `clap` parses them, the right answer is what `ask_in` returns for them.
 -- Otherwise the right answer is usage or help. The error for a failed allocation is right for all arguments.
 abbrev pub IsAskOf : List Text → Result Ask CommandFault → Type 0
 IsAskOf arguments (Ok ask) = HasRead arguments (Ok ask)

@@ -7,7 +7,7 @@ use Rattle.std.specs.Str.Parse.{digits_value}
 use Rattle.cal_zone.specs.Instant.{last_instant}
 use Rattle.cal_civil.specs.ReadOffset.{offset_in}
 use Rattle.cal_civil.specs.headline.ZoneName.{is_zone_name}
-use Rattle.cal_command.specs.Ask.{LocalZone, in_utc, ahead, by_rule, of_name, ZoneItem}
+use Rattle.cal_command.specs.Ask.{LocalZone, in_utc, at_offset, by_rule, of_name, ZoneItem}
 use Rattle.cal_request.specs.VerbOptions.{max_iterations}
 use Rattle.cal_text.specs.headline.Separators.{is_equals, is_comma}
 
@@ -63,4 +63,4 @@ local_zone_in text =
     if str_eq_ignore_ascii_case text (codes "UTC") then Some in_utc
     else if starts_with nat_eq text (codes "posix:") then Some (by_rule (drop 6 text))
     else if is_zone_name text then Some (of_name text)
-    else option_map ahead (offset_in text)
+    else option_map at_offset (offset_in text)

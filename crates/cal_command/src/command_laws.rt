@@ -4,7 +4,7 @@
 
 ghost use Rattle.std.specs.Prelude.{◌≡◌, ◌⊎◌, ℕ, true, List, Some, Result, Ok, Err};
 ghost use Rattle.cal_command.specs.Ask.{CommandFault, Ask, bad_iterations, help, no_memory, usage};
-ghost use Rattle.cal_command.specs.CommandLine.{IsAskOf, asked_in, parsed_in, takes_arguments};
+ghost use Rattle.cal_command.specs.CommandLine.{IsAskOf, ask_in, parsed_in, takes_arguments};
 ghost use Rattle.cal_command.specs.WorkedArguments.{daily_matches, daily_ask, daily_arguments, help_arguments};
 ghost use Rattle.cal_command.specs.WorkedArguments.{none_arguments, options_ask, options_arguments, stray_arguments};
 
@@ -13,7 +13,7 @@ ghost use Rattle.cal_command.specs.WorkedArguments.{none_arguments, options_ask,
 /// `Usage` nor `Help`.
 pub fn taken_arguments_are_answered()
     ensures { (arguments : List (List ℕ)) (answer : Result Ask CommandFault) → IsAskOf arguments answer → takes_arguments arguments ≡ true
-        → (answer ≡ Err no_memory) ⊎ (answer ≡ asked_in arguments) }
+        → (answer ≡ Err no_memory) ⊎ (answer ≡ ask_in arguments) }
 {}
 
 /// `clap` accepts `calendar daily`, and an example with every option. What they ask for is written out in the

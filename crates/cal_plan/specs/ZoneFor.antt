@@ -8,7 +8,7 @@ use Rattle.jiff.specs.Types.{TimeZone}
 use Rattle.cal_zone.specs.Setting.{Setting}
 use Rattle.cal_zone.specs.headline.FixedOffsetZone.{fixed_offset_zone}
 use Rattle.cal_spec.specs.headline.Fields.{Fields}
-use Rattle.cal_spec.specs.headline.ZoneSuffix.{ZoneSuffix, of_name, ahead}
+use Rattle.cal_spec.specs.headline.ZoneSuffix.{ZoneSuffix, of_name, at_offset}
 use Rattle.cal_timer.specs.TimerEntries.{TimerLine, Timer}
 use Rattle.cal_plan.specs.declared.plan_fault.PlanFault.{PlanFault}
 use Rattle.cal_plan.specs.declared.plan_fault.PlanFault.TheVariants.{NoSuchZone}
@@ -20,7 +20,7 @@ use Rattle.cal_plan.specs.declared.plan_fault.PlanFault.TheVariants.{NoSuchZone}
 unfoldable pub zone_for : Setting → Option ZoneSuffix → Option TimeZone
 zone_for at None = Some at.local
 zone_for at (Some (of_name name)) = at.find name
-zone_for at (Some (ahead seconds)) = Some (fixed_offset_zone seconds)
+zone_for at (Some (at_offset seconds)) = Some (fixed_offset_zone seconds)
 
 -- whether the expression on this line names a zone missing from the zone table
 abbrev pub lacks_zone : Setting → TimerLine Fields → Bool

@@ -6,7 +6,7 @@ ghost use Rattle.std.specs.List.{AllZip};
 ghost use Rattle.cal_zone.specs.Setting.{Setting};
 ghost use Rattle.cal_zone.specs.headline.FixedOffsetZone.{fixed_offset_zone};
 ghost use Rattle.cal_spec.specs.headline.Fields.{Fields};
-ghost use Rattle.cal_spec.specs.headline.ZoneSuffix.{of_name, ahead};
+ghost use Rattle.cal_spec.specs.headline.ZoneSuffix.{of_name, at_offset};
 ghost use Rattle.cal_elapse.specs.headline.Elapses.{AreElapses, Timed};
 ghost use Rattle.cal_timer.specs.TimerEntries.{Timer};
 ghost use Rattle.cal_plan.specs.TimerElapses.{IsTimed, elapses_of_lists};
@@ -19,7 +19,7 @@ ghost use Rattle.cal_plan.specs.ZoneFor.{zone_for};
 pub fn zones_are_those_of_suffixes()
     ensures local { (at : Setting) → zone_for at None ≡ Some at.local }
     ensures named { (at : Setting) (name : List ℕ) → zone_for at (Some (of_name name)) ≡ at.find name }
-    ensures offset { (at : Setting) (seconds : ℤ) → zone_for at (Some (ahead seconds)) ≡ Some (fixed_offset_zone seconds) }
+    ensures offset { (at : Setting) (seconds : ℤ) → zone_for at (Some (at_offset seconds)) ≡ Some (fixed_offset_zone seconds) }
 {}
 
 /// If the zones of all expressions and exceptions are known, the merged elapses are exactly the elapses of the

@@ -16,7 +16,7 @@ use Rattle.cal_spec.specs.NormalParts.{normal_fields}
 use Rattle.cal_spec.specs.headline.NormalForm.{IsNormalFieldsOf}
 use Rattle.cal_text.specs.AndThen.{◌>>=◌}
 use Rattle.cal_spec.specs.ValidFields.{IsValidFields}
-use Rattle.cal_spec.specs.headline.ZoneSuffix.{ZoneSuffix, of_name, ahead}
+use Rattle.cal_spec.specs.headline.ZoneSuffix.{ZoneSuffix, of_name, at_offset}
 use Rattle.cal_zone.specs.headline.FixedOffsetZone.{fixed_offset_zone}
 use Rattle.cal_spec.specs.declared.spec_fault.SpecFault.{SpecFault}
 use Rattle.cal_spec.proofs.FieldLemmas.{valid_fields}
@@ -69,7 +69,7 @@ found_is_zone : (asked : Request) (suffix : Option ZoneSuffix) (tz : TimeZone) �
 unfolding zone_for
 found_is_zone asked None tz h = let same : zone_of asked.local ≡ tz = cc in sym same
 found_is_zone asked (Some (of_name name)) tz h = h
-found_is_zone asked (Some (ahead seconds)) tz h = let same : fixed_offset_zone seconds ≡ tz = cc in sym same
+found_is_zone asked (Some (at_offset seconds)) tz h = let same : fixed_offset_zone seconds ≡ tz = cc in sym same
 
 -- the text is the text of an accepted expression
 pub record IsAcceptedText (asked : Request) (text : List ℕ) : Type 0 where

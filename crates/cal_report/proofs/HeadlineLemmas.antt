@@ -27,7 +27,7 @@ use Rattle.cal_plan.specs.TimerElapses.{elapses_of_lists, timed_entry}
 use Rattle.cal_plan.specs.ZoneFor.{lacks_zone, unzoned, zone_for}
 use Rattle.cal_report.specs.Context.{setting_of}
 use Rattle.cal_report.specs.Answer.{error_lines, report_in, reports_text, texts_status}
-use Rattle.cal_spec.specs.headline.ZoneSuffix.{ZoneSuffix, of_name, ahead}
+use Rattle.cal_spec.specs.headline.ZoneSuffix.{ZoneSuffix, of_name, at_offset}
 use Rattle.cal_report.specs.CalendarReport.{answer_in, answer_with, calendar_answer, calendar_report}
 use Rattle.cal_report.specs.headline.ReportLines.{heading_text, except_label, original_label}
 use Rattle.cal_report.specs.headline.ElapseLines.{elapses_text}
@@ -57,7 +57,7 @@ zone_is_found : (asked : Request) (suffix : Option ZoneSuffix) (tz : TimeZone) â
 unfolding zone_for
 zone_is_found asked None tz h = ap Some (sym h)
 zone_is_found asked (Some (of_name name)) tz h = h
-zone_is_found asked (Some (ahead seconds)) tz h = ap Some (sym h)
+zone_is_found asked (Some (at_offset seconds)) tz h = ap Some (sym h)
 
 -- Reports of expressions
 

@@ -14,7 +14,7 @@ use Rattle.cal_zone.specs.headline.InstantText.{instant_text}
 use Rattle.cal_zone.specs.declared.zone.Zone.{Zone}
 use Rattle.cal_elapse.specs.headline.Elapses.{AreElapses, Timed}
 use Rattle.cal_report.specs.headline.ElapseLines.{elapse_text, elapse_texts, elapses_text, label_text}
-use Rattle.cal_spec.specs.headline.ZoneSuffix.{ZoneSuffix, of_name, ahead}
+use Rattle.cal_spec.specs.headline.ZoneSuffix.{ZoneSuffix, of_name, at_offset}
 use Rattle.cal_report.specs.headline.Headline.{AreAllAccepted, AreReportsOf, Expression, IsAccepted, IsFileOf, IsReportOf, IsZoneFor, Schedule, alone, headings, meaning}
 use Rattle.cal_report.specs.RunReport.{ByReading, IsReported, base_in, report}
 use Rattle.cal_zone.specs.headline.Moment.{micros_of}
@@ -291,7 +291,7 @@ pub zone_again : (asked again : Request) (suffix : Option ZoneSuffix) (tz : Time
     → IsZoneFor asked suffix tz → IsZoneFor again suffix tz
 zone_again asked again None tz local zones h = rw local h
 zone_again asked again (Some (of_name name)) tz local zones h = rw zones h
-zone_again asked again (Some (ahead seconds)) tz local zones h = h
+zone_again asked again (Some (at_offset seconds)) tz local zones h = h
 
 module _ (asked : Request) (base : ℤ) (shown : List ℤ) (k : ℕ) (again : Request) (begun : IsBegunAgain asked base shown k again) where
   accepted_again : (e : Expression) → IsAccepted asked e → IsAccepted again e

@@ -30,7 +30,7 @@ use Rattle.cal_civil.specs.headline.ZoneName.{is_zone_name}
 use Rattle.cal_civil.specs.ReadOffset.{offset_in}
 use Rattle.cal_civil.proofs.OffsetWordLemmas.{offset-minutes}
 use Rattle.cal_spec.specs.ParsedSuffix.{IsSuffixOption, suffix_due, suffix_in, suffix_of}
-use Rattle.cal_spec.specs.headline.ZoneSuffix.{ZoneSuffix, ahead, kept_name, of_name}
+use Rattle.cal_spec.specs.headline.ZoneSuffix.{ZoneSuffix, at_offset, kept_name, of_name}
 use Rattle.cal_spec.specs.declared.part.Part.{Part}
 use Rattle.cal_spec.specs.declared.slot.Slot.{Slot}
 use Rattle.cal_spec.specs.declared.slot.Slot.TheVariants.{Year, Month, Hour, Minute, Second}
@@ -187,13 +187,13 @@ name_twice : (word : List ℕ) (utc : Bool) → str_eq_ignore_ascii_case word (c
 name_twice word true is = refl
 name_twice word false is = rw is refl
 
-suffix_by : (word : List ℕ) (o : Option ℤ) (suffix : Option ZoneSuffix) → offset_in word ≡ o → suffix_due (option_map ahead o) ≡ Ok suffix → IsSuffixOption suffix
+suffix_by : (word : List ℕ) (o : Option ℤ) (suffix : Option ZoneSuffix) → offset_in word ≡ o → suffix_due (option_map at_offset o) ≡ Ok suffix → IsSuffixOption suffix
 suffix_by word None suffix is at = cc
 suffix_by word (Some seconds) suffix is at =
-    let same : Some (ahead seconds) ≡ suffix = cc in
+    let same : Some (at_offset seconds) ≡ suffix = cc in
     subst (λ (s : Option ZoneSuffix). IsSuffixOption s) same (offset-minutes word seconds is)
 
-zone_by : (word : List ℕ) (test : Bool) (suffix : Option ZoneSuffix) → is_zone_name word ≡ test → suffix_due (cond test (Some (of_name (kept_name word))) (option_map ahead (offset_in word))) ≡ Ok suffix → IsSuffixOption suffix
+zone_by : (word : List ℕ) (test : Bool) (suffix : Option ZoneSuffix) → is_zone_name word ≡ test → suffix_due (cond test (Some (of_name (kept_name word))) (option_map at_offset (offset_in word))) ≡ Ok suffix → IsSuffixOption suffix
 zone_by word true suffix is at =
     let same : Some (of_name (kept_name word)) ≡ suffix = cc in
     let utc = str_eq_ignore_ascii_case word (codes "UTC") in

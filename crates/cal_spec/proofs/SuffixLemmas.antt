@@ -11,7 +11,7 @@ use Rattle.cal_civil.specs.headline.ZoneName.{begins_with_letter, is_zone_byte, 
 use Rattle.cal_civil.proofs.OffsetWordLemmas.{is_offset_byte, offset-bytes, offset-only, printed-word}
 use Rattle.cal_text.specs.headline.Separators.{is_blank}
 use Rattle.cal_spec.specs.ParsedSuffix.{IsSuffix, suffix_of}
-use Rattle.cal_spec.specs.headline.ZoneSuffix.{ZoneSuffix, ahead, of_name, suffix_text}
+use Rattle.cal_spec.specs.headline.ZoneSuffix.{ZoneSuffix, at_offset, of_name, suffix_text}
 use Rattle.cal_text.proofs.General.{clear_of}
 
 -- `+` and `-` are not letters
@@ -28,7 +28,7 @@ unfolding is_zone_name
 no_name word h = rw (no_letter word h) refl
 
 -- parsing the word of a UTC offset returns this offset
-pub offset_suffix : (word : List ℕ) (seconds : ℤ) → IsOffsetWord word seconds → suffix_of word ≡ Some (ahead seconds)
+pub offset_suffix : (word : List ℕ) (seconds : ℤ) → IsOffsetWord word seconds → suffix_of word ≡ Some (at_offset seconds)
 unfolding suffix_of
 offset_suffix word seconds h = rw (no_name word (offset-bytes word seconds h).2, offset-only word seconds h) refl
 
@@ -59,7 +59,7 @@ suffix_word (of_name name) h =
       short = leb-true (length name) 255 long.1;
       back = rw h.0 (ap (λ n. Some (of_name n)) h.1);
     }
-suffix_word (ahead seconds) h =
+suffix_word (at_offset seconds) h =
     let word = printed-word seconds h in
     let bytes = offset-bytes (offset_text seconds) seconds word in
     record {

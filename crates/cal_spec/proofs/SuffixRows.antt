@@ -3,7 +3,7 @@ use Rattle.std.proofs.Common.{◌≡◌, ℕ, pos, neg_ℤ, List, [], ◌∷◌,
 use Rattle.cal_civil.specs.ReadOffset.{hour_minute_in, offset_in, two_digits}
 use Rattle.cal_civil.specs.headline.ZoneName.{is_zone_name}
 use Rattle.cal_spec.specs.ParsedSuffix.{suffix_in, suffix_of}
-use Rattle.cal_spec.specs.headline.ZoneSuffix.{ZoneSuffix, of_name, ahead}
+use Rattle.cal_spec.specs.headline.ZoneSuffix.{ZoneSuffix, of_name, at_offset}
 use Rattle.cal_spec.specs.declared.spec_fault.SpecFault.{SpecFault}
 use Rattle.cal_spec.specs.declared.spec_fault.SpecFault.TheVariants.{StrayWord}
 
@@ -12,9 +12,9 @@ Row = List (List ℕ) × Result (Option ZoneSuffix) SpecFault
 
 abbrev rows : List Row
 rows =
-    (codes "+02:00" ∷ [], Ok (Some (ahead (pos 7_200))))
-    ∷ (codes "-25:59" ∷ [], Ok (Some (ahead (neg_ℤ (pos 93_540)))))
-    ∷ (codes "-00:00" ∷ [], Ok (Some (ahead (pos 0))))
+    (codes "+02:00" ∷ [], Ok (Some (at_offset (pos 7_200))))
+    ∷ (codes "-25:59" ∷ [], Ok (Some (at_offset (neg_ℤ (pos 93_540)))))
+    ∷ (codes "-00:00" ∷ [], Ok (Some (at_offset (pos 0))))
     ∷ (codes "utc" ∷ [], Ok (Some (of_name (codes "UTC"))))
     ∷ (codes "+26:00" ∷ [], Err StrayWord)
     ∷ (codes "+2:00" ∷ [], Err StrayWord)

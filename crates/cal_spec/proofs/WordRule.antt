@@ -19,7 +19,7 @@ use Rattle.cal_civil.specs.ReadOffset.{begins_zone, offset_in}
 use Rattle.cal_civil.specs.headline.OffsetWord.{begins_with_sign}
 use Rattle.cal_civil.proofs.OffsetWordLemmas.{offset-bytes, offset-found}
 use Rattle.cal_spec.specs.ParsedSuffix.{suffix_due, suffix_in, suffix_of}
-use Rattle.cal_spec.specs.headline.ZoneSuffix.{ZoneSuffix, ahead, kept_name, of_name}
+use Rattle.cal_spec.specs.headline.ZoneSuffix.{ZoneSuffix, at_offset, kept_name, of_name}
 use Rattle.cal_spec.proofs.SuffixLemmas.{no_letter, offset_suffix}
 use Rattle.cal_spec.specs.declared.shorthand.Shorthand.{Shorthand}
 use Rattle.cal_spec.proofs.FieldLemmas.{time_found}
@@ -33,13 +33,13 @@ pub record ZoneRead (rest : List (List ℕ)) (suffix : Option ZoneSuffix) : Type
   pub rest_is : rest ≡ given last
   pub is : IsZoneWord last suffix
 
-offset_by : (word : List ℕ) (o : Option ℤ) (suffix : Option ZoneSuffix) → offset_in word ≡ o → suffix_due (option_map ahead o) ≡ Ok suffix → ZoneRead (word ∷ []) suffix
+offset_by : (word : List ℕ) (o : Option ℤ) (suffix : Option ZoneSuffix) → offset_in word ≡ o → suffix_due (option_map at_offset o) ≡ Ok suffix → ZoneRead (word ∷ []) suffix
 offset_by word None suffix is at = cc
 offset_by word (Some seconds) suffix is at =
-    let same : Some (ahead seconds) ≡ suffix = cc in
+    let same : Some (at_offset seconds) ≡ suffix = cc in
     record { last = Some word; rest_is = refl; is = inr (seconds, offset-found word seconds is, sym same) }
 
-zone_by : (word : List ℕ) (test : Bool) (suffix : Option ZoneSuffix) → is_zone_name word ≡ test → suffix_due (cond test (Some (of_name (kept_name word))) (option_map ahead (offset_in word))) ≡ Ok suffix → ZoneRead (word ∷ []) suffix
+zone_by : (word : List ℕ) (test : Bool) (suffix : Option ZoneSuffix) → is_zone_name word ≡ test → suffix_due (cond test (Some (of_name (kept_name word))) (option_map at_offset (offset_in word))) ≡ Ok suffix → ZoneRead (word ∷ []) suffix
 zone_by word true suffix is at =
     let same : Some (of_name (kept_name word)) ≡ suffix = cc in
     record { last = Some word; rest_is = refl; is = inl (is, sym same) }

@@ -5,11 +5,11 @@ use Rattle.cal_civil.specs.ReadOffset.{AreWholeMinutes, offset_in}
 use Rattle.cal_civil.specs.headline.ZoneName.{is_zone_name}
 use Rattle.cal_spec.specs.declared.spec_fault.SpecFault.{SpecFault}
 use Rattle.cal_spec.specs.declared.spec_fault.SpecFault.TheVariants.{StrayWord}
-use Rattle.cal_spec.specs.headline.ZoneSuffix.{ZoneSuffix, ahead, kept_name, of_name}
+use Rattle.cal_spec.specs.headline.ZoneSuffix.{ZoneSuffix, at_offset, kept_name, of_name}
 
 -- parses a word as the name of a zone or as a UTC offset
 unfoldable pub suffix_of : List ℕ → Option ZoneSuffix
-suffix_of word = if is_zone_name word then Some (of_name (kept_name word)) else option_map ahead (offset_in word)
+suffix_of word = if is_zone_name word then Some (of_name (kept_name word)) else option_map at_offset (offset_in word)
 
 abbrev pub suffix_due : Option ZoneSuffix → Result (Option ZoneSuffix) SpecFault
 suffix_due None = Err StrayWord
@@ -24,7 +24,7 @@ suffix_in words = Err StrayWord
 -- there is a word that is parsed as this zone
 abbrev pub IsSuffix : ZoneSuffix → Type 0
 IsSuffix (of_name name) = (is_zone_name name ≡ true) × (kept_name name ≡ name)
-IsSuffix (ahead seconds) = AreWholeMinutes seconds
+IsSuffix (at_offset seconds) = AreWholeMinutes seconds
 
 abbrev pub IsSuffixOption : Option ZoneSuffix → Type 0
 IsSuffixOption None = Unit {0}
@@ -34,10 +34,10 @@ IsSuffixOption (Some suffix) = IsSuffix suffix
 abbrev pub name_in : Option ZoneSuffix → Option (List ℕ)
 name_in None = None
 name_in (Some (of_name name)) = Some name
-name_in (Some (ahead seconds)) = None
+name_in (Some (at_offset seconds)) = None
 
 -- the offset of the zone in seconds, if it is a UTC offset
 abbrev pub offset_said : Option ZoneSuffix → Option ℤ
 offset_said None = None
 offset_said (Some (of_name name)) = None
-offset_said (Some (ahead seconds)) = Some seconds
+offset_said (Some (at_offset seconds)) = Some seconds

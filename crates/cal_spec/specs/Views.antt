@@ -4,7 +4,7 @@ use Rattle.std.specs.Option.{option_copied, option_map}
 use Rattle.cal_spec.specs.headline.Shorthand.{ShorthandExpansion}
 use Rattle.cal_spec.specs.declared.shorthand.ShorthandExpansion as declared_expansion
 use Rattle.std.specs.Prelude.{string_bytes}
-use Rattle.cal_spec.specs.headline.ZoneSuffix.{ZoneSuffix, of_name, ahead}
+use Rattle.cal_spec.specs.headline.ZoneSuffix.{ZoneSuffix, of_name, at_offset}
 use Rattle.cal_spec.specs.declared.zone_suffix.ZoneSuffix as declared_suffix
 use Rattle.cal_spec.specs.declared.zone_suffix.ZoneSuffix.TheVariants.{Name, Offset}
 use Rattle.cal_spec.specs.Parts.{Symbol, digits, dots, slash, point, other}
@@ -26,7 +26,7 @@ shown_expansion m = record { weekdays = option_copied m.weekdays; date = m.date.
 
 abbrev pub shown_suffix : declared_suffix.ZoneSuffix → ZoneSuffix
 shown_suffix (Name name) = of_name (string_bytes name)
-shown_suffix (Offset seconds) = ahead seconds
+shown_suffix (Offset seconds) = at_offset seconds
 
 abbrev pub symbol_of : declared_symbol.Symbol → Symbol
 symbol_of (Digits bytes) = digits bytes.now

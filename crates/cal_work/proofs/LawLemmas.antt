@@ -12,7 +12,7 @@ use Rattle.cal_streams.specs.declared.whole.WholeFault.{WholeFault}
 use Rattle.cal_streams.specs.declared.whole.WholeFault.TheVariants as whole
 use Rattle.cal_timer.specs.TimerEntries.{timer_file_limit}
 use Rattle.cal_command.specs.Ask.{Ask, CommandFault, ZoneItem}
-use Rattle.cal_command.specs.CommandLine.{asked_in, takes_arguments}
+use Rattle.cal_command.specs.CommandLine.{ask_in, takes_arguments}
 use Rattle.cal_work.specs.Outcome.{World, ZoneFound, and_then, loaded, or_load_stop, table_by, local_by, present_by, run_by, run_on, asked_at, outcome, outcome_of}
 use Rattle.cal_request.specs.RequestKind.{RequestKind, for_file, for_texts, kind_by}
 use Rattle.cal_request.specs.headline.Request.{Request}
@@ -127,7 +127,7 @@ unfolding outcome outcome_of known_world
 parsed_known known world (Ok ask) all is fits = rw is (ask_known known ask world all fits)
 parsed_known known world (Err fault) all is fits = rw is (inl refl)
 
-pub known_decides : (known : Known) (arguments : List (List ℕ)) (world : World) → TellsAll known → takes_arguments arguments ≡ true → FitsArguments known arguments world → IsOr (outcome world) (known_outcome known (asked_in arguments) world)
+pub known_decides : (known : Known) (arguments : List (List ℕ)) (world : World) → TellsAll known → takes_arguments arguments ≡ true → FitsArguments known arguments world → IsOr (outcome world) (known_outcome known (ask_in arguments) world)
 unfolding outcome
 known_decides known arguments world all takes fits =
     elim (taken_arguments arguments world.parsed fits.parsed takes) [

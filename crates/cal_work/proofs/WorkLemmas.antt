@@ -21,7 +21,7 @@ use Rattle.cal_zone.specs.declared.zone.Zone.{Zone as ClockZone}
 use Rattle.cal_zone.specs.declared.zone_fault.ZoneFault.TheVariants as zone
 use Rattle.cal_timer.specs.TimerEntries.{timer_file_limit}
 use Rattle.cal_stamp.specs.declared.fault.StampFault.{StampFault}
-use Rattle.cal_command.specs.Ask.{Ask, LocalZone, in_utc, ahead, by_rule, of_name, ZoneItem, shown_fault, bad_iterations, bad_now, bad_zones, bad_local, no_memory}
+use Rattle.cal_command.specs.Ask.{Ask, LocalZone, in_utc, at_offset, by_rule, of_name, ZoneItem, shown_fault, bad_iterations, bad_now, bad_zones, bad_local, no_memory}
 use Rattle.cal_command.specs.CommandLine.{IsAskOf}
 use Rattle.cal_zone.specs.LoadZone.{IsLoaded, IsLoadFault, is_load_read_failed}
 use Rattle.cal_work.specs.Outcome.{ZoneFound, and_then, loaded, table_by, local_by, present_by, run_by, run_on, asked_at, outcome, outcome_of, out_text, err_text}
@@ -270,7 +270,7 @@ unread_rule rule table false is h = rw is refl
 -- if the local zone is given as a POSIX rule that `jiff` can't parse, then `local_by` returns `rule_stop`
 pub local_refused : (local : LocalZone) (table : ZoneMap) → IsBadRule local → local_by local table utc ≡ Err rule_stop
 local_refused in_utc table h = absurd h
-local_refused (ahead seconds) table h = absurd h
+local_refused (at_offset seconds) table h = absurd h
 local_refused (by_rule rule) table h = unread_rule rule table (is_some (rule_read rule)) refl h
 local_refused (of_name name) table h = absurd h
 

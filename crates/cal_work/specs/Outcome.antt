@@ -13,7 +13,7 @@ use Rattle.cal_streams.specs.declared.whole.WholeFault.{WholeFault}
 use Rattle.cal_streams.specs.declared.whole.WholeFault.TheVariants as whole
 use Rattle.cal_zone.specs.declared.zone.Zone.{Zone as ClockZone}
 use Rattle.cal_zone.specs.declared.zone_fault.ZoneFault.TheVariants.{BadName, BadFile, TooLarge, NoMemory, NameTaken}
-use Rattle.cal_command.specs.Ask.{Ask, LocalZone, in_utc, ahead, by_rule, of_name, ZoneItem, CommandFault}
+use Rattle.cal_command.specs.Ask.{Ask, LocalZone, in_utc, at_offset, by_rule, of_name, ZoneItem, CommandFault}
 use Rattle.cal_report.specs.RunReport.{file_report, texts_report}
 use Rattle.cal_report.specs.headline.ReportLines.{Report}
 use Rattle.cal_request.specs.RequestKind.{RequestKind, for_file, for_texts, kind_of}
@@ -82,7 +82,7 @@ table_by table (item ∷ items) (f ∷ found) =
 -- the local zone, or the stop if the arguments give an invalid rule or an unknown name for it
 unfoldable pub local_by : LocalZone → ZoneMap → ClockZone → Result ClockZone Stop
 local_by in_utc table zone = Ok utc
-local_by (ahead seconds) table zone = Ok zone
+local_by (at_offset seconds) table zone = Ok zone
 local_by (by_rule rule) table zone = if is_some (rule_read rule) then Ok zone else Err rule_stop
 local_by (of_name name) table zone = if is_some (zone_named table name) then Ok zone else Err name_stop
 

@@ -10,7 +10,7 @@ use Rattle.jiff.specs.Placed.{IsPosixZone}
 use Rattle.cal_bytes.specs.Writes.{AppendsFront, Writes}
 use Rattle.cal_zone.specs.headline.ZoneTable.{ZoneMap}
 use Rattle.cal_zone.specs.declared.zone.Zone.{Zone as ClockZone}
-use Rattle.cal_command.specs.Ask.{Ask, LocalZone, in_utc, ahead, by_rule, of_name, ZoneItem}
+use Rattle.cal_command.specs.Ask.{Ask, LocalZone, in_utc, at_offset, by_rule, of_name, ZoneItem}
 use Rattle.cal_work.specs.Outcome.{World, ZoneFound, loaded, table_by, local_by, clock_by, present_by, outcome, outcome_of, run_by, out_text, err_text, outcome_status, ended_status}
 use Rattle.cal_report.specs.headline.ReportLines.{Report}
 use Rattle.cal_request.specs.headline.Request.{Request}
@@ -73,7 +73,7 @@ pub record ReadsZones {T : Type 0} (view : T → ZoneMap) (known : Known) (items
 -- if the local zone is given as a POSIX rule, `jiff` can parse this rule, and `rules` is the zone that it stands for
 abbrev pub HasRules : LocalZone → Option TimeZone → Type 0
 HasRules in_utc rules = Unit {0}
-HasRules (ahead seconds) rules = Unit {0}
+HasRules (at_offset seconds) rules = Unit {0}
 HasRules (by_rule rule) None = ⊥
 HasRules (by_rule rule) (Some zone) = IsSome (rule_read rule) × IsPosixZone rule zone
 HasRules (of_name name) rules = Unit {0}
@@ -81,7 +81,7 @@ HasRules (of_name name) rules = Unit {0}
 -- the local zone is given as a POSIX rule that `jiff` can't parse
 abbrev pub IsBadRule : LocalZone → Type 0
 IsBadRule in_utc = ⊥
-IsBadRule (ahead seconds) = ⊥
+IsBadRule (at_offset seconds) = ⊥
 IsBadRule (by_rule rule) = IsSome (rule_read rule) → ⊥
 IsBadRule (of_name name) = ⊥
 

@@ -14,7 +14,7 @@ use Rattle.cal_civil.specs.headline.ZoneName.{is_utc_name, is_zone_name}
 use Rattle.cal_zone.specs.declared.zone.Zone.{Zone as ClockZone}
 use Rattle.cal_zone.specs.declared.zone_fault.ZoneFault.TheVariants.{BadFile}
 use Rattle.cal_timer.specs.TimerEntries.{timer_file_limit}
-use Rattle.cal_command.specs.Ask.{Ask, LocalZone, in_utc, ahead, by_rule, of_name, ZoneItem}
+use Rattle.cal_command.specs.Ask.{Ask, LocalZone, in_utc, at_offset, by_rule, of_name, ZoneItem}
 use Rattle.cal_command.specs.CommandLine.{IsAskOf}
 use Rattle.cal_work.specs.Outcome.{World, ZoneFound, loaded, table_by, local_by, present_by, asked_at, outcome, out_text, err_text, ended_status}
 use Rattle.cal_request.specs.RequestKind.{RequestKind, for_file, for_texts, kind_of}
@@ -52,7 +52,7 @@ SeesZones known table (item ∷ items) (f ∷ found) =
 -- `zone` is the local zone that the arguments ask for, as `jiff` represents it
 abbrev pub IsLocal : LocalZone → ZoneMap → ClockZone → Type 0
 IsLocal in_utc table zone = zone ≡ utc
-IsLocal (ahead seconds) table zone =
+IsLocal (at_offset seconds) table zone =
     (is_utc zone ≡ false) × ((offset : Offset) → offset.seconds ≡ seconds → zone_of zone ≡ fixed_zone offset)
 IsLocal (by_rule rule) table zone = (is_utc zone ≡ false) × IsPosixZone rule (zone_of zone)
 IsLocal (of_name name) table zone = (is_utc zone ≡ is_utc_name name) × (zone_named table name ≡ Some (zone_of zone))

@@ -1,7 +1,7 @@
 //! Laws about the program's whole work. Each is a function that does nothing and whose contract is the law.
 
 ghost use Rattle.std.specs.Prelude.{◌≡◌, true, List, ℕ};
-ghost use Rattle.cal_command.specs.CommandLine.{asked_in, takes_arguments};
+ghost use Rattle.cal_command.specs.CommandLine.{ask_in, takes_arguments};
 ghost use Rattle.cal_command.specs.WorkedArguments.{daily_arguments};
 ghost use Rattle.cal_work.specs.Outcome.{World, outcome};
 ghost use Rattle.cal_work.specs.System.{Known};
@@ -13,7 +13,7 @@ ghost use Rattle.cal_work.specs.Works.{FitsArguments};
 /// zones that `jiff` reads.
 pub fn known_systems_decide()
     ensures { (known : Known) (arguments : List (List ℕ)) (world : World) → TellsAll known → takes_arguments arguments ≡ true
-        → FitsArguments known arguments world → IsOr (outcome world) (known_outcome known (asked_in arguments) world) }
+        → FitsArguments known arguments world → IsOr (outcome world) (known_outcome known (ask_in arguments) world) }
 {}
 
 /// Shows that the conditions of `known_systems_decide` can be met. They are met by a system that has no files and whose

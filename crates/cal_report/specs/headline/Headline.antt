@@ -10,7 +10,7 @@ use Rattle.cal_zone.specs.headline.FixedOffsetZone.{fixed_offset_zone}
 use Rattle.cal_zone.specs.headline.ZoneTable.{zone_named}
 use Rattle.cal_lines.specs.headline.Lines.{logical_lines}
 use Rattle.cal_spec.specs.headline.Fields.{Fields}
-use Rattle.cal_spec.specs.headline.ZoneSuffix.{ZoneSuffix, of_name, ahead}
+use Rattle.cal_spec.specs.headline.ZoneSuffix.{ZoneSuffix, of_name, at_offset}
 use Rattle.cal_spec.specs.headline.GrammarRule.{IsValid}
 use Rattle.cal_spec.specs.headline.NormalForm.{IsNormalFieldsOf}
 use Rattle.cal_elapse.specs.headline.Elapses.{AreElapses, Timed, timed}
@@ -37,7 +37,7 @@ meaning e = timed e.fields e.tz
 abbrev pub IsZoneFor : Request → Option ZoneSuffix → TimeZone → Type 0
 IsZoneFor asked None tz = tz ≡ zone_of asked.local
 IsZoneFor asked (Some (of_name name)) tz = zone_named asked.zones name ≡ Some tz
-IsZoneFor asked (Some (ahead seconds)) tz = tz ≡ fixed_offset_zone seconds
+IsZoneFor asked (Some (at_offset seconds)) tz = tz ≡ fixed_offset_zone seconds
 
 -- the text is an expression according to the grammar, and `fields` is the normal form of the fields that the grammar
 -- assigns to the text

@@ -17,7 +17,7 @@ use Rattle.cal_spec.specs.headline.ValidParts.{IsValidPart}
 use Rattle.cal_spec.specs.headline.Weekdays.{set_of}
 use Rattle.cal_civil.specs.headline.OffsetWord.{IsOffsetWord, begins_with_sign}
 use Rattle.cal_civil.specs.headline.ZoneName.{begins_with_letter, is_zone_name}
-use Rattle.cal_spec.specs.headline.ZoneSuffix.{ZoneSuffix, of_name, ahead, kept_name}
+use Rattle.cal_spec.specs.headline.ZoneSuffix.{ZoneSuffix, of_name, at_offset, kept_name}
 use Rattle.cal_spec.specs.declared.part.Part.{Part}
 use Rattle.cal_spec.specs.declared.shorthand.Shorthand.{Shorthand}
 use Rattle.cal_spec.specs.declared.slot.Slot.{Slot}
@@ -164,7 +164,7 @@ pub record AreShort (ws : List (List ℕ)) (p : WordRoles) (last : Option (List 
 abbrev pub IsZoneWord : Option (List ℕ) → Option ZoneSuffix → Type 0
 IsZoneWord None suffix = suffix ≡ None
 IsZoneWord (Some word) suffix =
-    ((is_zone_name word ≡ true) × (suffix ≡ Some (of_name (kept_name word)))) ⊎ ((seconds : ℤ) × IsOffsetWord word seconds × (suffix ≡ Some (ahead seconds)))
+    ((is_zone_name word ≡ true) × (suffix ≡ Some (of_name (kept_name word)))) ⊎ ((seconds : ℤ) × IsOffsetWord word seconds × (suffix ≡ Some (at_offset seconds)))
 
 -- the text is an expression with these fields
 pub record IsExpression (text : List ℕ) (f : Fields) : Type 0 where

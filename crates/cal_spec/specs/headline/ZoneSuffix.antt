@@ -7,7 +7,7 @@ use Rattle.cal_civil.specs.headline.OffsetText.{offset_text}
 -- the name of a zone, or a UTC offset in seconds
 pub data ZoneSuffix : Type 0 where
   of_name : List ℕ → ZoneSuffix
-  ahead : ℤ → ZoneSuffix
+  at_offset : ℤ → ZoneSuffix
 
 -- the name that is stored: `UTC` if the word equals `UTC` ignoring case, and otherwise the word itself
 abbrev pub kept_name : List ℕ → List ℕ
@@ -16,4 +16,4 @@ kept_name word = if str_eq_ignore_ascii_case word (codes "UTC") then codes "UTC"
 -- the zone as it is printed
 abbrev pub suffix_text : ZoneSuffix → List ℕ
 suffix_text (of_name name) = name
-suffix_text (ahead seconds) = offset_text seconds
+suffix_text (at_offset seconds) = offset_text seconds
