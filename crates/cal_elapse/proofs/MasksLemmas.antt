@@ -8,7 +8,7 @@ use Rattle.std.proofs.lemmas.Bool.Decides.{nat_tests}
 use Rattle.cal_elapse.specs.Bits.{is_bit, is_bit_in}
 use Rattle.cal_elapse.specs.Masks.{day_place}
 use Rattle.cal_elapse.proofs.BitLemmas.{is_bit-none}
-use Rattle.cal_spec.specs.headline.Members.{component_has, in_field, part_has, values}
+use Rattle.cal_spec.specs.headline.Members.{component_has, star_has, part_has, part_matches}
 use Rattle.cal_spec.specs.headline.Slot.{least, greatest, day_slot}
 use Rattle.cal_spec.specs.ValidFields.{IsValidComponent}
 use Rattle.cal_spec.specs.headline.ValidParts.{EndsAfter, IsValidPart, IsEndWithin, IsStep, IsWithin}
@@ -22,13 +22,13 @@ abbrev pub last_of : Slot → ℕ
 last_of DayFromEnd = 31
 last_of slot = greatest slot
 
-values_both : (slot : Slot) (a : ℕ) (end step : Option ℕ) (v : ℕ) → IsWithin slot a → IsEndWithin slot end
-    → values slot a end step v ≡ true → (least slot ≤ v) × (v ≤ greatest slot)
-values_both slot a end step v w e h = grind (arith, eqb-true)
+matches_both : (slot : Slot) (a : ℕ) (end step : Option ℕ) (v : ℕ) → IsWithin slot a → IsEndWithin slot end
+    → part_matches slot a end step v ≡ true → (least slot ≤ v) × (v ≤ greatest slot)
+matches_both slot a end step v w e h = grind (arith, eqb-true)
 
 part_both : (slot : Slot) (p : Part) (v : ℕ) → IsValidPart slot p → part_has slot p v ≡ true → (least slot ≤ v) × (v ≤ greatest slot)
 unfolding part_has
-part_both slot p v sound h = values_both slot p.start p.end p.step v sound.start_in sound.end_in h
+part_both slot p v sound h = matches_both slot p.start p.end p.step v sound.start_in sound.end_in h
 
 parts_both : (slot : Slot) (ps : List Part) (v : ℕ) → AllByRecursion (IsValidPart slot) ps → list_any (λ p. part_has slot p v) ps ≡ true
     → (least slot ≤ v) × (v ≤ greatest slot)
@@ -114,14 +114,14 @@ pub years_end : (masks : List ℕ) (holds : ℕ → Bool) → ((i : ℕ) → is_
     → (i : ℕ) → 230 ≤ i → is_bit_in masks i ≡ false
 years_end masks holds filled i high = let out = le-ltb i 230 high in filled i ∙ rw out
 
-values_at : (slot : Slot) (a : ℕ) (end step : Option ℕ) → IsWithin slot a → EndsAfter a end → IsStep step → values slot a end step a ≡ true
-values_at slot a end step w e s = grind (arith, nat_tests)
+start_matches : (slot : Slot) (a : ℕ) (end step : Option ℕ) → IsWithin slot a → EndsAfter a end → IsStep step → part_matches slot a end step a ≡ true
+start_matches slot a end step w e s = grind (arith, nat_tests)
 
 start_has : (slot : Slot) (p : Part) → IsValidPart slot p → part_has slot p p.start ≡ true
 unfolding part_has
-start_has slot p sound = values_at slot p.start p.end p.step sound.start_in sound.forward sound.some_step
+start_has slot p sound = start_matches slot p.start p.end p.step sound.start_in sound.forward sound.some_step
 
-whole : (slot : Slot) → in_field slot (least slot) ≡ true
+whole : (slot : Slot) → star_has slot (least slot) ≡ true
 whole slot = grind (arith, nat_tests)
 
 -- each valid component matches at least one value

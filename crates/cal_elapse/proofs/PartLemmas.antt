@@ -8,7 +8,7 @@ use Rattle.std.proofs.lemmas.Bool.Decides.{nat_tests}
 use Rattle.cal_elapse.specs.Masks.{AreSlotValues, last_number, slot_of}
 use Rattle.cal_spec.specs.Expr.{component, members_of}
 use Rattle.cal_spec.specs.headline.Fields.{Fields}
-use Rattle.cal_spec.specs.headline.Members.{component_has, is_between, part_has, sets_of, values}
+use Rattle.cal_spec.specs.headline.Members.{component_has, is_between, part_has, part_matches, sets_of}
 use Rattle.cal_spec.specs.Parts.{is_from_end}
 use Rattle.cal_spec.specs.headline.Slot.{greatest}
 use Rattle.cal_spec.specs.declared.field.Field.{Field}
@@ -38,7 +38,7 @@ is_stepped (Some r) distance = distance % r == 0
 -- slot from the part's start to its `last_number`. A part with a repetition matches only the values among them that the
 -- repetition contains.
 values_up : (slot : Slot) (a : ℕ) (end step : Option ℕ) (v : ℕ) → is_from_end slot ≡ false → v ≤ greatest slot
-    → values slot a end step v ≡ (is_between a (last_number a end step) v && is_stepped step (v - a))
+    → part_matches slot a end step v ≡ (is_between a (last_number a end step) v && is_stepped step (v - a))
 values_up slot a end step v up small = grind (arith, and_true)
 
 -- Suppose that a slot doesn't count from the end of the month. Of the `count` values from `first` on, a part without a

@@ -11,7 +11,7 @@ use Rattle.cal_civil.specs.ReadOffset.{begins_zone}
 use Rattle.cal_civil.specs.headline.OffsetWord.{begins_with_sign}
 use Rattle.cal_civil.specs.headline.ZoneName.{begins_with_letter}
 use Rattle.cal_spec.specs.Parts.{is_slash}
-use Rattle.cal_spec.specs.headline.PartValues.{most}
+use Rattle.cal_spec.specs.headline.Slot.{max_number}
 use Rattle.cal_spec.specs.Expr.{expr_in}
 use Rattle.cal_spec.specs.headline.Fields.{Fields}
 use Rattle.cal_spec.specs.declared.part.Part.{Part}
@@ -70,10 +70,10 @@ leading_digits part = take (prefix_len is_ascii_digit part) part
 abbrev pub after_digits : List ℕ → List ℕ
 after_digits part = drop (prefix_len is_ascii_digit part) part
 
--- whether two texts of digits are the same number, and this number isn't above `most`, the greatest number that an
--- expression may contain
+-- whether two texts of digits are the same number, and this number isn't above `max_number`, the greatest number that
+-- may be written in an expression
 abbrev pub are_equal : List ℕ → List ℕ → Bool
-are_equal a b = (digits_value 10 a == digits_value 10 b) && nat_le (digits_value 10 a) most
+are_equal a b = (digits_value 10 a == digits_value 10 b) && nat_le (digits_value 10 a) max_number
 
 -- whether the text is `..` and then a number equal to `a`
 abbrev pub is_up_to : List ℕ → List ℕ → Bool

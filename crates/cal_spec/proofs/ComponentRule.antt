@@ -12,7 +12,7 @@ use Rattle.cal_text.specs.headline.Separators.{is_comma}
 use Rattle.cal_spec.specs.Components.{is_star, counted, room_in, part_due, parts_of, first_value_fault, parts_listed, component_of}
 use Rattle.cal_spec.specs.headline.GrammarRule.{IsNumber, IsNext, IsPartText, IsPartOf, AreListed, IsComponent}
 use Rattle.cal_spec.specs.Parts.{is_time, is_within, is_outside, is_backward, is_zero, reaches_no_further_value, fault_of}
-use Rattle.cal_spec.specs.headline.PartValues.{with_values}
+use Rattle.cal_spec.specs.headline.FullYears.{with_full_years}
 use Rattle.cal_spec.specs.headline.Slot.{least, greatest}
 use Rattle.cal_spec.specs.headline.ValidParts.{IsWithin, IsEndWithin, EndsAfter, IsStep, GoesOn, IsValidPart}
 use Rattle.cal_spec.specs.declared.part.Part.{Part}
@@ -63,7 +63,7 @@ parts_found slot room [] ps at = let none : [] ≡ ps = cc in rw (← none) tt
 parts_found slot room (t ∷ ts) ps at =
     let read = parts_of-cons slot room t ts ps at in
     let due = (part_due_is slot room t read.first read.first_is).1 in
-    let is : with_values slot due.value ≡ read.first = let e = due.next in cc in
+    let is : with_full_years slot due.value ≡ read.first = let e = due.next in cc in
     rw read.is ((due.value, part_found slot t due.value due.first, sym is), parts_found slot (room - 1) ts read.rest read.rest_is)
 
 listed_found : (slot : Slot) (room : ℕ) (text : List ℕ) (ps : List Part) → ListedRead slot room text ps → AreListed slot text ps

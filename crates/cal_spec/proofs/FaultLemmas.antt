@@ -10,7 +10,7 @@ use Rattle.cal_spec.specs.headline.UnparsedTexts.{DateTexts, TimeTexts, WordRole
 use Rattle.cal_spec.specs.Faults.{pieces_of, numbered, first_number, shape_fault, shape_faults, value_fault, component_faults, numbered_in, date_faults, time_faults, faults_at, judgements_of}
 use Rattle.cal_spec.specs.Grammar.{max_text_bytes, fields_at, fields_due, fields_in}
 use Rattle.cal_spec.specs.Parts.{is_time, part_of}
-use Rattle.cal_spec.specs.headline.PartValues.{with_values}
+use Rattle.cal_spec.specs.headline.FullYears.{with_full_years}
 use Rattle.cal_text.specs.AndThen.{◌>>=◌}
 use Rattle.cal_spec.specs.Reads.{unless, first_of}
 use Rattle.cal_spec.specs.headline.Slot.{day_slot}
@@ -48,9 +48,9 @@ first_of-append (Some e ∷ xs) ys = refl
 
 -- The error of parsing a component is the error of its first check that fails
 
-due_fault : (slot : Slot) (text : List ℕ) (r : Result Part SpecFault) (full : Bool) → result_err (cond full (Err TooManyParts) (r >>= λ p. Ok (with_values slot p))) ≡ cond full (Some TooManyParts) (result_err r)
+due_fault : (slot : Slot) (text : List ℕ) (r : Result Part SpecFault) (full : Bool) → result_err (cond full (Err TooManyParts) (r >>= λ p. Ok (with_full_years slot p))) ≡ cond full (Some TooManyParts) (result_err r)
 due_fault slot text r true = refl
-due_fault slot text r false = err_of_map r (with_values slot)
+due_fault slot text r false = err_of_map r (with_full_years slot)
 
 full_is : (room number : ℕ) → number + room ≡ 241 → eqb room 0 ≡ ltb max_counted_parts number
 full_is room number sum = grind (arith, nat_tests)
@@ -62,12 +62,12 @@ part_due_fault slot room number text sum =
 
 -- if `part_due` succeeds, then `room` isn't 0, and the result is the part that `part_of` returns, with two-digit years
 -- expanded
-pub part_due_is : (slot : Slot) (room : ℕ) (text : List ℕ) (p : Part) → part_due slot room text ≡ Ok p → (0 < room) × Follows (part_of slot text) (λ raw. Ok (with_values slot raw)) p
+pub part_due_is : (slot : Slot) (room : ℕ) (text : List ℕ) (p : Part) → part_due slot room text ≡ Ok p → (0 < room) × Follows (part_of slot text) (λ raw. Ok (with_full_years slot raw)) p
 unfolding part_due
 part_due_is slot room text p at =
-    let read = cond_ok (eqb room 0) TooManyParts (part_of slot text >>= λ raw. Ok (with_values slot raw)) p at in
+    let read = cond_ok (eqb room 0) TooManyParts (part_of slot text >>= λ raw. Ok (with_full_years slot raw)) p at in
     let some = eqb-false room 0 read.0 in
-    (grind (arith, some), bind_ok (part_of slot text) (λ raw. Ok (with_values slot raw)) p read.1)
+    (grind (arith, some), bind_ok (part_of slot text) (λ raw. Ok (with_full_years slot raw)) p read.1)
 
 shapes_fault : (slot : Slot) (room number : ℕ) (ts : List (List ℕ)) → number + room ≡ 241 → result_err (parts_of slot room ts) ≡ first_of (shape_faults slot number ts)
 shapes_fault slot room number [] sum = refl
@@ -81,7 +81,7 @@ values_fault slot room [] ps at = let none : [] ≡ ps = cc in rw (← none) ref
 values_fault slot room (t ∷ ts) ps at =
     let read = parts_of-cons slot room t ts ps at in
     let due = (part_due_is slot room t read.first read.first_is).1 in
-    let is : with_values slot due.value ≡ read.first = let e = due.next in cc in
+    let is : with_full_years slot due.value ≡ read.first = let e = due.next in cc in
     let rest = values_fault slot (room - 1) ts read.rest read.rest_is in
     rw (read.is, due.first, is, rest) refl
 

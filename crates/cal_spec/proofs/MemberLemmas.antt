@@ -9,7 +9,7 @@ use Rattle.jiff_core.proofs.CalendarLemmas.{days_in_month_bounds}
 use Rattle.cal_civil.specs.headline.Local.{civil_date}
 use Rattle.cal_spec.specs.headline.Fields.{Fields}
 use Rattle.cal_spec.specs.headline.Match.{date_in, day_value, matches, time_in}
-use Rattle.cal_spec.specs.headline.Members.{component_has, is_between, is_step_between, part_has, sets_of, values}
+use Rattle.cal_spec.specs.headline.Members.{component_has, is_between, is_step_between, part_has, part_matches, sets_of}
 use Rattle.cal_spec.specs.NormalParts.{AreParts, IsPart, normal_component, normal_fields, normal_parts, normal_second, part_eq, reduced, reduced_to, starred, in_order}
 use Rattle.cal_spec.specs.headline.NormalForm.{each, normal_from_end, part_cmp, point, range_step}
 use Rattle.cal_rising.specs.headline.Elements.{Has}
@@ -49,7 +49,7 @@ plain_range true slot a b e v is last = let same : b ≡ a = sym last ∙ eqb-tr
 plain_range false slot a b e v is last = ap (λ n. is_between a n v) last
 
 stepped_by : (u : Bool) (slot : Slot) (a e r v : ℕ) → nat_eq r 1 ≡ u
-    → values slot a (Some e) (cond u None (Some r)) v ≡ is_step_between a e r (v - a) v
+    → part_matches slot a (Some e) (cond u None (Some r)) v ≡ is_step_between a e r (v - a) v
 stepped_by true slot a e r v is = every_number a e v ∙ ap (λ k. is_step_between a e k (v - a) v) (sym (eqb-true r 1 is))
 stepped_by false slot a e r v is = refl
 
@@ -59,7 +59,7 @@ unfolding part_has
 stepped_range true slot a e r v is positive = rw (eqb-true e a is) (one_number_by a r v positive)
 stepped_range false slot a e r v is positive = stepped_by (nat_eq r 1) slot a e r v refl
 
-reduced_to_has : (slot : Slot) (a : ℕ) (end step : Option ℕ) (v : ℕ) → EndsAfter a end → IsStep step → part_has slot (reduced_to a end step) v ≡ values slot a end step v
+reduced_to_has : (slot : Slot) (a : ℕ) (end step : Option ℕ) (v : ℕ) → EndsAfter a end → IsStep step → part_has slot (reduced_to a end step) v ≡ part_matches slot a end step v
 unfolding part_has
 reduced_to_has slot a None step v forward steps = refl
 reduced_to_has slot a (Some b) None v forward steps =

@@ -8,7 +8,7 @@ use Rattle.std.proofs.lemmas.List.{append-nil}
 use Rattle.cal_spec.specs.headline.GrammarRule.{IsNumber, IsNext, IsPartText}
 use Rattle.cal_text.specs.headline.Separators.{is_point}
 use Rattle.cal_spec.specs.Parts.{Symbol, digits, dots, slash, point, other, is_slash, with_digit, with_byte, lone, symbols, starts_with_point, is_second, Counted, after_number, number_due, part_at_end, with_step, after_end, after_start, part_of}
-use Rattle.cal_spec.specs.headline.PartValues.{most}
+use Rattle.cal_spec.specs.headline.Slot.{max_number}
 use Rattle.cal_text.specs.AndThen.{◌>>=◌}
 use Rattle.cal_spec.specs.declared.part.Part.{Part}
 use Rattle.cal_spec.specs.declared.slot.Slot.{Slot}
@@ -66,7 +66,7 @@ counted_is n ss r is = (ap (λ (c : Counted). c.number) is, ap (λ (c : Counted)
 
 digits_read : (slot : Slot) (ds : List ℕ) (ss : List Symbol) (r : Counted) → IsSymbol (digits ds) → after_number slot (digits_value 10 ds) ss ≡ Ok r → NumberRead (digits ds ∷ ss) r
 digits_read slot ds ss r sound at =
-    let small = cond_ok (ltb most (digits_value 10 ds)) NumberTooLarge (cond (is_second slot && starts_with_point ss) (Err FractionalSecond) (Ok (record { number = digits_value 10 ds; after = ss }))) r at in
+    let small = cond_ok (ltb max_number (digits_value 10 ds)) NumberTooLarge (cond (is_second slot && starts_with_point ss) (Err FractionalSecond) (Ok (record { number = digits_value 10 ds; after = ss }))) r at in
     let whole = cond_ok (is_second slot && starts_with_point ss) FractionalSecond (Ok (record { number = digits_value 10 ds; after = ss })) r small.1 in
     let same : record { number = digits_value 10 ds; after = ss } ≡ r = let e = whole.1 in cc in
     let parts = counted_is (digits_value 10 ds) ss r same in
@@ -77,7 +77,7 @@ digits_read slot ds ss r sound at =
         some = sound.1;
         digits = sound.0;
         value = parts.0;
-        small = rw parts.0 at (ltb-false most (digits_value 10 ds) small.0);
+        small = rw parts.0 at (ltb-false max_number (digits_value 10 ds) small.0);
       };
     }
 
@@ -183,7 +183,7 @@ part_found slot text p at =
 
 number_due_is : (slot : Slot) (ds : List ℕ) (n : ℕ) (ss : List Symbol) → IsNumber ds n → starts_with_point ss ≡ false → number_due slot (digits ds ∷ ss) ≡ Ok (record { number = n; after = ss })
 number_due_is slot ds n ss number apart =
-    rw (number.value, le-ltb most n number.small, and_right (is_second slot) (starts_with_point ss) apart) refl
+    rw (number.value, le-ltb max_number n number.small, and_right (is_second slot) (starts_with_point ss) apart) refl
 
 -- if no digit follows a number, its digits are one symbol
 number_symbols : (ds : List ℕ) (n : ℕ) (rest : List ℕ) → IsNumber ds n → begins_with is_ascii_digit rest ≡ false → symbols (ds ++ rest) ≡ digits ds ∷ symbols rest

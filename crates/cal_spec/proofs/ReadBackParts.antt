@@ -9,7 +9,7 @@ use Rattle.std.proofs.lemmas.List.{append-nil}
 use Rattle.cal_civil.specs.headline.OffsetText.{zeros}
 use Rattle.cal_spec.specs.headline.ExprText.{component_text, number_text, optional_text, part_text, parts_text}
 use Rattle.cal_spec.specs.headline.GrammarRule.{IsNumber, IsNext, IsPartText, IsPartOf, IsComponent}
-use Rattle.cal_spec.specs.headline.PartValues.{with_century, with_values}
+use Rattle.cal_spec.specs.headline.FullYears.{with_century, with_full_years}
 use Rattle.cal_spec.specs.ValidFields.{IsValidComponent}
 use Rattle.cal_spec.specs.headline.ValidParts.{IsEndWithin, IsValidPart}
 use Rattle.cal_spec.specs.declared.part.Part.{Part}
@@ -85,14 +85,14 @@ centuries_stay : (end : Option ℕ) → IsEndWithin Year end → option_map with
 centuries_stay None h = refl
 centuries_stay (Some b) h = ap Some (century_stays b (omega (arith, h.0)))
 
-values_stay : (slot : Slot) (p : Part) → IsValidPart slot p → with_values slot p ≡ p
-values_stay Year p h = same_part _ p (century_stays p.start (omega (arith, h.start_in.0))) (centuries_stay p.end h.end_in) refl
-values_stay slot p h = refl
+full_years_stay : (slot : Slot) (p : Part) → IsValidPart slot p → with_full_years slot p ≡ p
+full_years_stay Year p h = same_part _ p (century_stays p.start (omega (arith, h.start_in.0))) (centuries_stay p.end h.end_in) refl
+full_years_stay slot p h = refl
 
 -- if all parts are valid and small, the printed text of each part spells this part by the grammar
 parts_printed : (slot : Slot) (width : ℕ) (ps : List Part) → AllByRecursion (IsValidPart slot) ps → AllByRecursion IsSmall ps → AllZip (IsPartOf slot) (map (part_text [] width) ps) ps
 parts_printed slot width [] sound small = tt
-parts_printed slot width (p ∷ ps) sound small = ((p, part_printed width p small.0, sym (values_stay slot p sound.0)), parts_printed slot width ps sound.1 small.1)
+parts_printed slot width (p ∷ ps) sound small = ((p, part_printed width p small.0, sym (full_years_stay slot p sound.0)), parts_printed slot width ps sound.1 small.1)
 
 parts_joined : (width : ℕ) (p : Part) (ps : List Part) → part_text [] width p ++ flat_map (λ q. codes "," ++ part_text [] width q) ps ≡ join_with_byte 44 (map (part_text [] width) (p ∷ ps))
 parts_joined width p [] = append-nil (part_text [] width p)

@@ -6,7 +6,7 @@ use Rattle.std.specs.Str.{bytes_eq}
 use Rattle.cal_text.specs.AndThen.{◌>>=◌}
 use Rattle.cal_spec.specs.Reads.{unless, first_of}
 use Rattle.cal_spec.specs.Parts.{is_time, part_of, fault_of}
-use Rattle.cal_spec.specs.headline.PartValues.{with_values}
+use Rattle.cal_spec.specs.headline.FullYears.{with_full_years}
 use Rattle.cal_spec.specs.declared.part.Part.{Part}
 use Rattle.cal_spec.specs.declared.slot.Slot.{Slot}
 use Rattle.cal_spec.specs.declared.spec_fault.SpecFault.{SpecFault}
@@ -30,7 +30,7 @@ room_in slot room = if is_time slot then room + 1 else room
 -- parses the next part of a component that may have `room` more parts, or fails with `TooManyParts` if `room` is 0
 unfoldable pub part_due : Slot → ℕ → List ℕ → Result Part SpecFault
 part_due slot room text =
-    if room == 0 then Err TooManyParts else (part_of slot text >>= λ p. Ok (with_values slot p))
+    if room == 0 then Err TooManyParts else (part_of slot text >>= λ p. Ok (with_full_years slot p))
 
 -- parses the parts of a component without checking their values, and fails with the first error; more than `room` parts
 -- are an error, too

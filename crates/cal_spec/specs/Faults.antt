@@ -10,7 +10,7 @@ use Rattle.cal_spec.specs.DateAndTime.{date_texts, time_texts}
 use Rattle.cal_spec.specs.headline.UnparsedTexts.{DateTexts, TimeTexts, WordRoles}
 use Rattle.cal_spec.specs.Grammar.{max_text_bytes}
 use Rattle.cal_spec.specs.Parts.{is_time, part_of, fault_of}
-use Rattle.cal_spec.specs.headline.PartValues.{with_values}
+use Rattle.cal_spec.specs.headline.FullYears.{with_full_years}
 use Rattle.cal_spec.specs.headline.Slot.{day_slot}
 use Rattle.cal_spec.specs.WeekdayNames.{weekdays_in}
 use Rattle.cal_spec.specs.Words.{roles_of}
@@ -48,7 +48,7 @@ shape_faults slot number (t ∷ ts) = shape_fault slot number t ∷ shape_faults
 
 -- the check of a part's values; if the syntax of the part is wrong, its values are not checked
 abbrev pub value_fault : Slot → Result Part SpecFault → Option SpecFault
-value_fault slot (Ok p) = fault_of slot (with_values slot p)
+value_fault slot (Ok p) = fault_of slot (with_full_years slot p)
 value_fault slot (Err e) = None
 
 -- all checks of a component: first the syntax of all parts, then their values

@@ -4,13 +4,12 @@ use Rattle.std.specs.Prelude.{ℕ, ◌+◌, ◌==◌, nat_lt, nat_le, Bool, true
 use Rattle.std.specs.Char.{is_ascii_digit}
 use Rattle.std.specs.Str.Parse.{digits_value}
 use Rattle.cal_text.specs.AndThen.{◌>>=◌}
-use Rattle.cal_spec.specs.headline.Slot.{least, greatest}
+use Rattle.cal_spec.specs.headline.Slot.{least, greatest, max_number}
 use Rattle.cal_spec.specs.declared.part.Part.{Part}
 use Rattle.cal_spec.specs.declared.slot.Slot.{Slot}
 use Rattle.cal_spec.specs.declared.slot.Slot.TheVariants.{DayFromEnd, Hour, Minute, Second}
 use Rattle.cal_spec.specs.declared.spec_fault.SpecFault.{SpecFault}
 use Rattle.cal_spec.specs.declared.spec_fault.SpecFault.TheVariants.{BadDate, BadTime, FractionalSecond, NumberTooLarge, OutOfField, BackwardRange, ZeroRepeat, NoRepeat}
-use Rattle.cal_spec.specs.headline.PartValues.{most}
 use Rattle.cal_text.specs.headline.Separators.{is_point}
 
 -- Kinds of slots
@@ -77,10 +76,10 @@ pub record Counted : Type 0 where
   pub number : ℕ
   pub after : List Symbol
 
--- checks that a number is at most 9999 and, for seconds, that no fraction follows
+-- checks that a number is at most `max_number` and, for seconds, that no fraction follows
 abbrev pub after_number : Slot → ℕ → List Symbol → Result Counted SpecFault
 after_number slot n ss =
-    if nat_lt most n then Err NumberTooLarge
+    if nat_lt max_number n then Err NumberTooLarge
     else (if is_second slot && starts_with_point ss then Err FractionalSecond
     else Ok (record { number = n; after = ss }))
 

@@ -2,11 +2,11 @@
 -- for all arguments.
 pub mod ExprText
 pub mod Fields
+pub mod FullYears
 pub mod GrammarRule
 pub mod Match
 pub mod Members
 pub mod NormalForm
-pub mod PartValues
 pub mod Shorthand
 pub mod Slot
 pub mod UnparsedTexts

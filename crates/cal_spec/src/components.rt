@@ -11,7 +11,7 @@ ghost use Rattle.cal_spec.specs.Components.{room_in, counted, part_due, parts_of
 ghost use Rattle.cal_spec.specs.Reads.{Gives, GivesUnlessNoMemory};
 ghost use Rattle.cal_spec.specs.headline.Fields.{max_counted_parts};
 
-use crate::parts::{fault_of, is_time, read_part, with_values};
+use crate::parts::{fault_of, is_time, read_part, with_full_years};
 use crate::pieces::first_piece;
 use crate::slot::Slot;
 use crate::{Part, SpecFault};
@@ -95,7 +95,7 @@ fn part_due(slot: Slot, room: usize, text: &[u8]) -> Result<Part, SpecFault>
         return Err(SpecFault::TooManyParts);
     }
     let part = read_part(slot, text)?;
-    Ok(with_values(slot, part))
+    Ok(with_full_years(slot, part))
 }
 
 /// Checks the values of the parts from left to right. Returns the first error, or `None` if all values are valid.

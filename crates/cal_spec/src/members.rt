@@ -2,7 +2,7 @@
 
 ghost use Rattle.std.specs.Prelude.{◌≡◌, option_map};
 ghost use Rattle.std.specs.List.{list_any};
-ghost use Rattle.cal_spec.specs.headline.Members.{component_has, in_field, is_between, is_step_between, part_has, repeats};
+ghost use Rattle.cal_spec.specs.headline.Members.{component_has, star_has, is_between, is_step_between, part_has, repeats};
 
 use crate::Part;
 use crate::slot::Slot;
@@ -13,7 +13,7 @@ pub fn component_has(slot: Slot, parts: &Option<Vec<Part>>, value: u16) -> bool
 {
     match parts {
         Some(parts) => parts_have(slot, parts, value),
-        None => in_field(slot, value),
+        None => star_has(slot, value),
     }
 }
 
@@ -60,8 +60,8 @@ fn repeats(slot: Slot, start: u16, step: u16, value: u16) -> bool
 
 /// Returns whether `*` matches `value` in this slot. A `*` matches all numbers that the slot allows. For days counted
 /// from the month's end it matches more: 1 to 31, although the slot allows only 1 to 28.
-fn in_field(slot: Slot, value: u16) -> bool
-    ensures { result ≡ in_field slot value }
+fn star_has(slot: Slot, value: u16) -> bool
+    ensures { result ≡ star_has slot value }
 {
     let slot = if slot == Slot::DayFromEnd {
         Slot::Day

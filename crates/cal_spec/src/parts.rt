@@ -3,7 +3,7 @@
 ghost use Rattle.std.specs.Prelude.{◌≡◌};
 ghost use Rattle.std.specs.Option.{option_map};
 ghost use Rattle.cal_spec.specs.Parts.{symbols, starts_with_point, bad, is_time, number_due, with_step, after_end, after_start, part_of, is_within, is_outside, is_backward, is_zero, reaches_no_further_value, fault_of};
-ghost use Rattle.cal_spec.specs.headline.PartValues.{with_century, with_values};
+ghost use Rattle.cal_spec.specs.headline.FullYears.{with_century, with_full_years};
 ghost use Rattle.cal_spec.specs.Reads.{Gives};
 
 use crate::numbers::{Symbol, first_symbol, value_of};
@@ -25,8 +25,8 @@ pub(crate) fn read_part(slot: Slot, text: &[u8]) -> Result<Part, SpecFault>
 }
 
 /// Expands two-digit years if the part belongs to the year. Other parts are unchanged.
-pub(crate) fn with_values(slot: Slot, part: Part) -> Part
-    ensures { result ≡ with_values slot part }
+pub(crate) fn with_full_years(slot: Slot, part: Part) -> Part
+    ensures { result ≡ with_full_years slot part }
 {
     if slot != Slot::Year {
         return part;

@@ -5,7 +5,7 @@ use Rattle.std.specs.List.{list_all, slice_split}
 use Rattle.std.specs.Str.Parse.{digits_value}
 use Rattle.jiff.specs.Words.{days_in_month}
 use Rattle.jiff_core.specs.Calendar.{days_from_civil}
-use Rattle.cal_spec.specs.headline.PartValues.{with_century}
+use Rattle.cal_spec.specs.headline.FullYears.{with_century}
 use Rattle.cal_stamp.specs.declared.date.DateNumbers.{DateNumbers}
 use Rattle.cal_stamp.specs.declared.fault.StampFault.{StampFault}
 use Rattle.cal_stamp.specs.declared.fault.StampFault.TheVariants.{BadDate, NoSuchDate}

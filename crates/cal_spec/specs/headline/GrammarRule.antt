@@ -10,9 +10,9 @@ use Rattle.cal_civil.specs.headline.Weekday.{week, name_of, short_name_of}
 use Rattle.cal_text.specs.headline.Separators.{is_colon, words}
 use Rattle.cal_spec.specs.headline.UnparsedTexts.{DateTexts, TimeTexts, WordRoles}
 use Rattle.cal_spec.specs.headline.Fields.{Fields, counted_parts, max_counted_parts}
-use Rattle.cal_spec.specs.headline.PartValues.{most, with_values}
+use Rattle.cal_spec.specs.headline.FullYears.{with_full_years}
 use Rattle.cal_spec.specs.headline.Shorthand.{any_date, midnight, shorthand_named, expansion_of}
-use Rattle.cal_spec.specs.headline.Slot.{day_slot}
+use Rattle.cal_spec.specs.headline.Slot.{day_slot, max_number}
 use Rattle.cal_spec.specs.headline.ValidParts.{IsValidPart}
 use Rattle.cal_spec.specs.headline.Weekdays.{set_of}
 use Rattle.cal_civil.specs.headline.OffsetWord.{IsOffsetWord, begins_with_sign}
@@ -24,12 +24,12 @@ use Rattle.cal_spec.specs.declared.slot.Slot.{Slot}
 use Rattle.cal_spec.specs.declared.slot.Slot.TheVariants.{Year, Month, Hour, Minute, Second}
 use Rattle.cal_spec.specs.declared.weekdays.WeekdayRange.{WeekdayRange}
 
--- the text is one or more digits with the value `n`, which is at most 9999
+-- the text is one or more digits with the value `n`, which is at most `max_number`
 pub record IsNumber (text : List ℕ) (n : ℕ) : Type 0 where
   pub some : 0 < length text
   pub digits : list_all is_ascii_digit text ≡ true
   pub value : digits_value 10 text ≡ n
-  pub small : n ≤ most
+  pub small : n ≤ max_number
 
 -- the text is `mark` followed by the number, or empty if there is no number
 abbrev pub IsNext : List ℕ → List ℕ → Option ℕ → Type 0
@@ -48,7 +48,7 @@ pub record IsPartText (text : List ℕ) (p : Part) : Type 0 where
 
 -- the text spells a part that becomes `p` when two-digit years are expanded
 abbrev pub IsPartOf : Slot → List ℕ → Part → Type 0
-IsPartOf slot text p = (raw : Part) × IsPartText text raw × (p ≡ with_values slot raw)
+IsPartOf slot text p = (raw : Part) × IsPartText text raw × (p ≡ with_full_years slot raw)
 
 -- one or more parts joined by commas, all with valid values
 pub record AreListed (slot : Slot) (text : List ℕ) (ps : List Part) : Type 0 where

@@ -8,45 +8,48 @@ use Rattle.cal_spec.specs.declared.part.Part.{Part}
 use Rattle.cal_spec.specs.declared.slot.Slot.{Slot}
 use Rattle.cal_spec.specs.declared.slot.Slot.TheVariants.{Year, Month, Day, DayFromEnd, Hour, Minute, Second}
 
--- v is one of the numbers from a to b
+-- `value` is one of the numbers from `start` to `end`
 abbrev pub is_between : ℕ → ℕ → ℕ → Bool
-is_between a b v = nat_le a v && nat_le v b
+is_between start end value = nat_le start value && nat_le value end
 
--- v is one of the numbers from a to b, and `distance` is a multiple of r
+-- `value` is one of the numbers from `start` to `end`, and `distance` is a multiple of `step`
 abbrev pub is_step_between : ℕ → ℕ → ℕ → ℕ → ℕ → Bool
-is_step_between a b r distance v = is_between a b v && (distance % r == 0)
+is_step_between start end step distance value = is_between start end value && (distance % step == 0)
 
--- whether `a/r` matches v: it matches a, a + r, .. up to the greatest number of the slot; for days counted from the
--- month's end, it matches a, a - r, .. down to 1
+-- Whether `start/step` matches `value`. It matches `start`, `start` + `step`, .. up to the greatest number of the slot.
+-- But if days are counted from the month's end, it matches `start`, `start` - `step`, .. down to 1.
 abbrev pub repeats : Slot → ℕ → ℕ → ℕ → Bool
-repeats DayFromEnd a r v = is_step_between 1 a r (a - v) v
-repeats slot a r v = is_step_between a (greatest slot) r (v - a) v
+repeats DayFromEnd start step value = is_step_between 1 start step (start - value) value
+repeats slot start step value = is_step_between start (greatest slot) step (value - start) value
 
--- whether a part, which is `a`, `a/r`, `a..b` or `a..b/r`, matches v
-abbrev pub values : Slot → ℕ → Option ℕ → Option ℕ → ℕ → Bool
-values slot a None None v = v == a
-values slot a None (Some r) v = repeats slot a r v
-values slot a (Some b) None v = is_between a b v
-values slot a (Some b) (Some r) v = is_step_between a b r (v - a) v
+-- Whether a part matches `value`. The part is `start`, `start/step`, `start..end` or `start..end/step`. A repetition
+-- with an end counts upwards from `start`, even if days are counted from the month's end: `~9/4` matches the counts 9,
+-- 5 and 1, but `~9..20/4` matches 9, 13 and 17.
+abbrev pub part_matches : Slot → ℕ → Option ℕ → Option ℕ → ℕ → Bool
+part_matches slot start None None value = value == start
+part_matches slot start None (Some step) value = repeats slot start step value
+part_matches slot start (Some end) None value = is_between start end value
+part_matches slot start (Some end) (Some step) value = is_step_between start end step (value - start) value
 
 unfoldable pub part_has : Slot → Part → ℕ → Bool
-part_has slot p v = values slot p.start p.end p.step v
+part_has slot part value = part_matches slot part.start part.end part.step value
 
--- Whether `*` matches v. It matches what the slot allows, with one exception: if days are counted from the month's end,
--- the slot allows only 1 to 28, but `*` matches 1 to 31.
-abbrev pub in_field : Slot → ℕ → Bool
-in_field DayFromEnd v = is_between (least Day) (greatest Day) v
-in_field slot v = is_between (least slot) (greatest slot) v
+-- Whether `*` matches `value`. It matches what the slot allows, with one exception: if days are counted from the
+-- month's end, the slot allows only 1 to 28, but `*` matches 1 to 31.
+abbrev pub star_has : Slot → ℕ → Bool
+star_has DayFromEnd value = is_between (least Day) (greatest Day) value
+star_has slot value = is_between (least slot) (greatest slot) value
 
--- whether a component matches v: `*` if `in_field` is true of v, and a list of parts if at least one of them matches v
+-- Whether a component matches `value`. `None` stands for `*`, and a list of parts matches what at least one of the
+-- parts matches.
 abbrev pub component_has : Slot → Option (List Part) → ℕ → Bool
-component_has slot None v = in_field slot v
-component_has slot (Some ps) v = list_any (λ p. part_has slot p v) ps
+component_has slot None value = star_has slot value
+component_has slot (Some parts) value = list_any (λ part. part_has slot part value) parts
 
 -- the values that each field matches
 unfoldable pub sets_of : Fields → Sets
 sets_of f = record {
-  weekday = λ v. slice_index_or f.weekdays v false;
+  weekday = λ value. slice_index_or f.weekdays value false;
   year = component_has Year f.year;
   month = component_has Month f.month;
   day = component_has (day_slot f.from_end) f.day;
