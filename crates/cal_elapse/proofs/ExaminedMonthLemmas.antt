@@ -122,8 +122,8 @@ pub examined_today : (sets : Sets) (t second : ℕ) → t / 86_400 < 84_006 → 
     → examined_months sets (t + 1) (Some (t / 86_400 * 86_400 + second)) ≡ 1
 examined_today sets t second within holds later small = grind (arith, one_examined)
 
--- if a search for a local second finds one on the day `found`, it examines as many months as a search for a day that
--- starts in the same month and finds the day `found`
+-- A search for a local second examines as many months as a search for a day, if both start in the same month (`n`) and
+-- the local second that the one finds lies on the day, `found`, that the other finds.
 pub examined_of_days : (sets : Sets) (n from found second : ℕ) → n ≡ month_of (civil_date (from / 86_400)) → second < 86_400
     → examined_from sets n (Some found) ≡ examined_months sets from (Some (found * 86_400 + second))
 examined_of_days sets n from found second start small = grind arith

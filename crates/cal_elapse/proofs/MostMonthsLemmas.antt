@@ -74,9 +74,11 @@ most_same sets start a b most same h = record {
   };
 }
 
--- Suppose that `most` is the largest number of months for the range that ends before `a`, and that the searches after
--- the matches from `a` up to but not including `b` change this number to `more`. Then `more` is the largest number of
--- months for the range that ends before `b`.
+-- Each search examines some months. `most` is the largest number of months that one search examined, among the search
+-- that begins at `start` and those after each match from `start` up to but not including `a`. If the searches after the
+-- matches from `a` up to but not including `b` are made too, this largest number becomes `more`. Then `more` is the
+-- largest number among the search that begins at `start` and those after each match from `start` up to but not
+-- including `b`.
 pub most_more : (sets : Sets) (start a b most more : ℕ) → start ≤ a → a ≤ b → IsMost sets start a most → IsMostAfter sets a b most more → IsMost sets start b more
 most_more sets start a b most more low high h later = record { first = h.first; begun = h.begun; later = most_on sets start a b h.first most more low high h.later later }
 

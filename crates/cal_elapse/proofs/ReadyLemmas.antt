@@ -69,7 +69,7 @@ put_at masks zone from bound last xs w holds near = windowed_put (timed_by masks
 -- instant. Once the instant of `local` is added to the pending instants, all matches up to and including `local` have
 -- been converted.
 pub placed_to : (v : Window) (local : ℤ) (ahead : Option ℤ) (pending : List ℤ) → IsReady v → v.ahead ≡ Some local → ((i : ℤ) → Has v.pending i → local ≤ℤ (i +ℤ pos 93_599))
-    → pending ≡ with_place (place_of (zone_of v.zone) local) v.last v.pending → IsPlacedTo (record v { ahead = ahead; pending = pending }) local
+    → pending ≡ with_place (place_of (zone_of v.place_cache) local) v.last v.pending → IsPlacedTo (record v { ahead = ahead; pending = pending }) local
 placed_to v (negsuc n) ahead pending h at near put =
     let match_here = subst (IsMatchAhead (timed_of v)) at h.found in
     absurd (omega (arith, ints, match_here.0.0))
@@ -81,7 +81,7 @@ placed_to v (pos local) ahead pending h at near put =
     let begun = subst (λ (o : Option ℤ). start ≤ bound_of o) at h.begun in
     let counted = subst (λ (o : Option ℤ). v.searcher.searches ≡ count_from e.matches start (bound_of o - start) + 1) at h.counted in
     record {
-      windowed = subst (Windowed e start (local + 1) v.last) (sym put) (put_at v.searcher.masks v.zone start local v.last v.pending here match_here.1 near);
+      windowed = subst (Windowed e start (local + 1) v.last) (sym put) (put_at v.searcher.masks v.place_cache start local v.last v.pending here match_here.1 near);
       found = match_here;
       low = h.low;
       above = h.above;
@@ -109,7 +109,7 @@ next_ready v (pos local) searcher found h masks more most search =
     let start = start_of v.base in
     let begun = h.begun in
     let counted = h.counted in
-    let next = is_next v.searcher.masks v.zone (local + 1) ahead (omega arith) first in
+    let next = is_next v.searcher.masks v.place_cache (local + 1) ahead (omega arith) first in
     let low = next.low in
     let on = windowed_on e start (local + 1) (bound_of ahead) v.last v.pending next.low next.none h.windowed in
     let count = count_from-on e.matches start (local + 1) (bound_of ahead) (omega arith) next.low next.none in
@@ -133,7 +133,7 @@ placed_before v (negsuc n) h at i m =
 placed_before v (pos local) h at i m =
     let bound : bound_of v.ahead ≡ local = ap bound_of at in
     let place = ((h.windowed.members i).0 m).1 in
-    let near = (timed_by-near v.searcher.masks v.zone place.local i place.placed).1 in
+    let near = (timed_by-near v.searcher.masks v.place_cache place.local i place.placed).1 in
     omega (arith, ints)
 
 pub start_inside : (secs : ℤ) → IsInstant secs → start_of secs ≤ seconds_in_all
@@ -144,11 +144,11 @@ start_inside (negsuc n) h = absurd (omega (arith, signed_arith, h.0))
 pub begun_ready : (searcher after : Searcher) (zone : Zone) (base : ℤ) (pending : List ℤ) (found : Found) → IsInstant base → searcher.searches ≡ 0
     → searcher.most_months ≡ 0 → after.masks ≡ searcher.masks → after.searches ≡ searcher.searches + 1 → after.most_months ≡ max searcher.most_months found.months
     → IsSearch (sets_in searcher.masks) (start_of base) found → pending ≡ []
-    → IsReady (record { searcher = after; zone = zone; base = base; ahead = found.local; last = base; pending = pending })
+    → IsReady (record { searcher = after; place_cache = zone; base = base; ahead = found.local; last = base; pending = pending })
 begun_ready searcher after zone base pending found instant zero unexamined masks more most search none =
     let ahead = found.local in
     let first = search.first in
-    let v : Window = record { searcher = searcher; zone = zone; base = base; ahead = ahead; last = base; pending = pending } in
+    let v : Window = record { searcher = searcher; place_cache = zone; base = base; ahead = ahead; last = base; pending = pending } in
     let e = timed_by searcher.masks zone in
     let start = start_of base in
     let next = is_next searcher.masks zone start ahead (start_inside base instant) first in

@@ -101,7 +101,7 @@ placed_last v last inside fits h = subst (IsPlacedTo v) (pos_unsigned_abs last _
 
 -- if the zone has the constant UTC offset `offset` from `local` to `end`, the place of each local second `t` in this
 -- range is `t` minus `offset`
-place_there : (v : Window) (local t end : ℕ) (offset : ℤ) → IsPlacedTo v (pos local) → AreAtOffset (zone_of v.zone) (pos local) (pos end) offset → local ≤ t → t ≤ end → end < seconds_in_all
+place_there : (v : Window) (local t end : ℕ) (offset : ℤ) → IsPlacedTo v (pos local) → AreAtOffset (zone_of v.place_cache) (pos local) (pos end) offset → local ≤ t → t ≤ end → end < seconds_in_all
     → (timed_of v).place t ≡ Some (pos t -ℤ offset)
 unfolding timed_by
 place_there v local t end offset h ahead low high inside =
@@ -114,7 +114,7 @@ place_there v local t end offset h ahead low high inside =
 -- of the minute is at most 93,599 seconds after every pending instant.
 pub record IsBehind (v : Window) (local bits last : ℕ) (offset least : ℤ) : Type 0 where
   pub rest : IsRestOfMinute (matches (sets_in v.searcher.masks)) local bits last
-  pub ahead : AreAtOffset (zone_of v.zone) (pos local) (pos (local / 60 * 60 + 59)) offset
+  pub ahead : AreAtOffset (zone_of v.place_cache) (pos local) (pos (local / 60 * 60 + 59)) offset
   pub least_is : Some least ≡ slice_get v.pending 0
   pub behind : least ≤ℤ (pos local -ℤ offset)
   pub near : (i : ℤ) → Has v.pending i → pos (local / 60 * 60 + 59) ≤ℤ (i +ℤ pos 93_599)
@@ -181,7 +181,7 @@ module _ (v : Window) (local bits last : ℕ) (offset least : ℤ) (h : IsPlaced
   rest_instants i one =
       let above = (one_above i one).1 in
       let p = one_placed i one in
-      let near = (timed_by-near v.searcher.masks v.zone p.local i p.placed).1 in
+      let near = (timed_by-near v.searcher.masks v.place_cache p.local i p.placed).1 in
       let below = p.below in
       let count = seconds_in_all-is in
       let inside = up in
@@ -191,9 +191,9 @@ module _ (v : Window) (local bits last : ℕ) (offset least : ℤ) (h : IsPlaced
   pub rest_near : (member i : ℤ) → Has v.pending member → IsOneOf ((pos local -ℤ offset) +ℤ pos 1) bits i → IsNear member i
   rest_near member i m one =
       let p = one_placed i one in
-      let near = timed_by-near v.searcher.masks v.zone p.local i p.placed in
+      let near = timed_by-near v.searcher.masks v.place_cache p.local i p.placed in
       let q = ((h.windowed.members member).0 m).1 in
-      let old = timed_by-near v.searcher.masks v.zone q.local member q.placed in
+      let old = timed_by-near v.searcher.masks v.place_cache q.local member q.placed in
       near_both local (local / 60 * 60 + 59) p.local q.local member i q.below p.from (omega (arith, p.below)) (b.near member m) old.1 near
 
   pub rest_begun : IsSomeAnd (slice_get v.pending 0) (λ i. i <ℤ ((pos local -ℤ offset) +ℤ pos 1))
@@ -218,7 +218,7 @@ module _ (v : Window) (local : ℕ) (searcher : Searcher) (last : ℕ) (h : IsPl
         → IsPlacedTo (record v { searcher = searcher; pending = pending }) (pos last)
     unfolding timed_by
     rest_placed pending windowed =
-        let same : timed_of v ≡ timed_by searcher.masks v.zone = ap (λ m. timed_by m v.zone) (sym masks) in
+        let same : timed_of v ≡ timed_by searcher.masks v.place_cache = ap (λ m. timed_by m v.place_cache) (sym masks) in
         let start = start_of v.base in
         let count = seconds_in_all-is in
         let inside : last < seconds_in_all = match_inside (sets_in v.searcher.masks) last holds in
@@ -238,7 +238,7 @@ module _ (v : Window) (local : ℕ) (searcher : Searcher) (last : ℕ) (h : IsPl
 
     -- if nothing is pending, and no local second from `local` to `end` resolves to an instant after the one returned
     -- last, then all matches up to `last` count as converted, and still nothing is pending
-    pub rest_passed : (end : ℕ) (offset : ℤ) → last ≤ end → end < seconds_in_all → None ≡ slice_get v.pending 0 → AreAtOffset (zone_of v.zone) (pos local) (pos end) offset
+    pub rest_passed : (end : ℕ) (offset : ℤ) → last ≤ end → end < seconds_in_all → None ≡ slice_get v.pending 0 → AreAtOffset (zone_of v.place_cache) (pos local) (pos end) offset
         → (pos end -ℤ offset) ≤ℤ v.last → IsPlacedTo (record v { searcher = searcher }) (pos last)
     rest_passed end offset high end_in none ahead early =
         let not_above = λ (i : ℤ) (above : v.last <ℤ i) (p : IsPlacedFrom (timed_of v) (local + 1) (last + 1) i).

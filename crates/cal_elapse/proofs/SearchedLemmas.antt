@@ -45,7 +45,7 @@ count_top v i top h m full is begun =
       | inl late ↦
           let all = late_bound v.ahead i top full is late in
           sym (count_from-on (timed_of v).matches (start_of v.base) (bound_of v.ahead) top h.begun (omega arith)
-          (λ t above below. none_past v.searcher.masks v.zone t (omega arith)))
+          (λ t above below. none_past v.searcher.masks v.place_cache t (omega arith)))
       | inr inside ↦ count_down v i top h m is begun inside
     ]
 

@@ -235,7 +235,7 @@ taken_ready v i last xs h at same rest =
 
 -- if a window is ready and nothing has to be converted first, its smallest pending instant is the next elapse
 pub first_given : (v : Window) → IsReady v → to_place v.ahead (slice_get v.pending 0) ≡ None → slice_get (elapses_after (timed_of v ∷ []) v.last) 0 ≡ slice_get v.pending 0
-first_given v h full = full_first (timed_of v) (start_of v.base) v.ahead v.last v.pending (timed_by-near v.searcher.masks v.zone) h.windowed h.found full
+first_given v h full = full_first (timed_of v) (start_of v.base) v.ahead v.last v.pending (timed_by-near v.searcher.masks v.place_cache) h.windowed h.found full
 
 pub later_given : (v : Window) (i last : ℤ) → IsReady v → to_place v.ahead (slice_get v.pending 0) ≡ None → slice_get v.pending 0 ≡ Some i → last ≡ i
     → elapses_after (timed_of v ∷ []) last ≡ drop 1 (elapses_after (timed_of v ∷ []) v.last)

@@ -1,5 +1,6 @@
--- How the four words of years and the mask of month numbers, which have one bit for each matching value, tell whether a
--- month matches.
+-- Which months match, by the masks of an expression. The mask of years has a bit for each of the 230 years, and is
+-- stored in four machine words of 64 bits. The mask of month numbers is one such word. A month matches if the bits of
+-- its year and of its month number are set.
 use Rattle.std.proofs.Common.{◌≡◌, ℕ, ◌+◌, ◌-◌, ◌*◌, ◌/◌, ◌%◌, ◌<◌, ◌≤◌, ◌&&◌, nat_le, List, get_or, Some, subst, refl, ◌∙◌, arith}
 use Rattle.std.proofs.lemmas.Bool.Decides.{nat_tests}
 use Rattle.std.proofs.lemmas.Bool.{and_right}

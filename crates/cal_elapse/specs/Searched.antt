@@ -1,6 +1,6 @@
 -- How many searches have been made for an expression, and the largest number of months that one of them examined.
 use Rattle.std.specs.Prelude.{◌≡◌, ◌+◌, ◌-◌, ℕ, Option, None, Some, ℤ, unsigned_abs}
-use Rattle.cal_civil.specs.headline.Local.{seconds_in_all}
+use Rattle.cal_civil.specs.headline.Local.{max_offset, seconds_in_all}
 use Rattle.cal_elapse.specs.headline.Elapses.{Timed}
 use Rattle.cal_elapse.specs.MostMonths.{IsMost}
 use Rattle.cal_elapse.specs.Window.{count_from, start_of}
@@ -14,7 +14,7 @@ matches_up_to e base bound = count_from e.matches (start_of base) (bound - start
 -- in a range. This range begins where the first search starts. If `next` returns `Some elapse`, the range ends with the
 -- local second `elapse` + `max_offset`. If `next` returns `None`, the range ends with the last local second.
 abbrev pub IsSearched : Timed → ℤ → Option ℤ → ℕ → Type 0
-IsSearched e base (Some elapse) searches = searches ≡ matches_up_to e base (unsigned_abs elapse + 93_600) + 1
+IsSearched e base (Some elapse) searches = searches ≡ matches_up_to e base (unsigned_abs elapse + (max_offset + 1)) + 1
 IsSearched e base None searches = searches ≡ matches_up_to e base seconds_in_all + 1
 
 -- When `next` returns, `most` is the largest number of months that a single search has examined. Besides the first
@@ -22,5 +22,5 @@ IsSearched e base None searches = searches ≡ matches_up_to e base seconds_in_a
 -- search starts. If `next` returns `Some elapse`, the range ends with the local second `elapse` + `max_offset`. If
 -- `next` returns `None`, the range ends with the last local second.
 abbrev pub IsMostSearched : Sets → ℤ → Option ℤ → ℕ → Type 0
-IsMostSearched sets base (Some elapse) most = IsMost sets (start_of base) (unsigned_abs elapse + 93_600) most
+IsMostSearched sets base (Some elapse) most = IsMost sets (start_of base) (unsigned_abs elapse + (max_offset + 1)) most
 IsMostSearched sets base None most = IsMost sets (start_of base) seconds_in_all most

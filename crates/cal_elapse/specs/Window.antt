@@ -66,7 +66,7 @@ unfoldable pub timed_by : Masks → Zone → Timed
 timed_by masks zone = record { matches = matches (sets_in masks); place = λ local. place_of (zone_of zone) (pos local) }
 
 abbrev pub timed_of : Window → Timed
-timed_of w = timed_by w.searcher.masks w.zone
+timed_of w = timed_by w.searcher.masks w.place_cache
 
 -- All matches before `w.ahead` have been converted; if `w.ahead` is `None`, all matches have. Besides the first search,
 -- one search has been made after each converted match that is at or after the start of the first search.

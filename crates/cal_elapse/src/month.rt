@@ -7,6 +7,7 @@ ghost use Rattle.jiff_core.specs.Date.{epoch_day};
 ghost use Rattle.cal_civil.specs.headline.Local.{civil_date, days_in_all, first_year, last_year};
 ghost use Rattle.cal_elapse.specs.Months.{first_day, length_of, month_of, year_of, months_in_all};
 
+use cal_civil::date_of_day;
 use jiff_core::civil::{Date, days_in_month};
 
 /// The number of months in the years 1970 to 2199.
@@ -44,7 +45,7 @@ pub(crate) fn month_of_day(day: u32) -> Month
     ensures low { result.first ≤ day }
     ensures high { day < result.first + result.length }
 {
-    let date = date_of(day);
+    let date = date_of_day(day);
     Month {
         index: years_since(date.year) * 12 + u32::from(date.month - 1),
         first: day + 1 - u32::from(date.day),
@@ -82,15 +83,4 @@ fn epoch_day(date: Date) -> u32
     ensures { pos result ≡ epoch_day date }
 {
     date.to_unix_epoch_day().unsigned_abs()
-}
-
-/// Returns the date with this day number.
-fn date_of(day: u32) -> Date
-    requires { day < days_in_all }
-    ensures { result ≡ civil_date day }
-{
-    let Ok(date) = Date::from_unix_epoch_day(i64::from(day)) else {
-        unreachable!()
-    };
-    date
 }

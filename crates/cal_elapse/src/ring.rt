@@ -9,13 +9,14 @@ ghost use Rattle.cal_elapse.specs.Search.{IsFirstPassing};
 
 use crate::bits::{lowest_bit, next_bit, with_bit, without_bit};
 use crate::scan::first_set;
-
-/// The number of words of 64 bits that hold the cells.
-pub const CELL_WORDS: usize = 2_925;
+use cal_civil::MAX_OFFSET;
 
 /// The number of cells. It is more than twice `MAX_OFFSET`, the largest distance in seconds between a local second and
-/// its instant.
-pub const CELLS: u64 = 187_200;
+/// its instant, and a multiple of 64.
+pub const CELLS: u64 = 2 * (MAX_OFFSET as u64 + 1);
+
+/// The number of words of 64 bits that hold the cells.
+pub const CELL_WORDS: usize = CELLS as usize / 64;
 
 /// Returns the first second at or after `low` whose cell is set, or `None` if no cell is set. Searches only the
 /// [`CELLS`] seconds from `low` on, so that each cell stands for one second.

@@ -22,8 +22,8 @@ use std::alloc::Global;
 #[derive(Drop)]
 pub struct Window<'z> {
     pub searcher: Searcher,
-    zone: PlaceCache<'z>,
-    /// The base: all elapses are later than this instant.
+    place_cache: PlaceCache<'z>,
+    /// The base: all elapses are later than this instant. No code reads it, only contracts do.
     base: i64,
     /// The match that was found last, which has not been converted to an instant yet. `None` if no match is left.
     ahead: Option<i64>,
@@ -64,11 +64,11 @@ impl<'z> Window<'z> {
     {
         let pending = Pending::new(alloc)?;
         let mut searcher = Searcher::of(expr);
-        let ahead = searcher.search(SearchStart::At(first_local(base))).local;
+        let ahead = searcher.search(SearchStart::At(start_of(base))).local;
         let base = base.secs();
         Ok(Window {
             searcher,
-            zone: PlaceCache::new(zone),
+            place_cache: PlaceCache::new(zone),
             base,
             ahead,
             last: base,
@@ -94,19 +94,35 @@ impl<'z> Window<'z> {
             if !is_to_place(local, self.pending.least()) {
                 break;
             }
-            put_place(&mut self.pending, &mut self.zone, local, self.last);
-            let placed = self.convert_minute(local);
+            put_place(&mut self.pending, &mut self.place_cache, local, self.last);
+            let placed = self.convert_following(local);
             ahead = self.searcher.search(SearchStart::After(placed)).local;
         }
         self.ahead = ahead;
     }
 
-    /// Searches for all remaining matches in the minute of `local` and converts them together. If no later match in
-    /// this minute is known, calls `convert_hour` instead. `local` is a match that has already been converted. Returns
-    /// the last match that has been converted, which can be `local`.
+    /// Converts matches that follow `local` in its minute if some are known there, and otherwise in its hour. `local` is
+    /// a match that has already been converted. Returns the last match that has been converted, which can be `local`.
+    fn convert_following(&mut self, local: i64) -> i64
+        requires { IsPlacedTo self.old local }
+        ensures placed { IsPlacedTo self.new result }
+        ensures on { local ≤ℤ result }
+        ensures masks { self.new.searcher.masks ≡ self.old.searcher.masks }
+        ensures timed { timed_of self.new ≡ timed_of self.old }
+        ensures base { self.new.base ≡ self.old.base }
+        ensures last { self.new.last ≡ self.old.last }
+    {
+        if self.searcher.has_more_in_minute(local) {
+            self.convert_minute(local)
+        } else {
+            self.convert_hour(local)
+        }
+    }
+
+    /// Searches for all remaining matches in the minute of `local` and converts them together. `local` is a match that
+    /// has already been converted. Returns the last match that has been converted, which can be `local`.
     ///
-    /// Neither searches nor converts anything if later matches in this minute are known, but not all of these
-    /// conditions are met:
+    /// Does nothing unless all of these conditions are met:
     ///
     /// - All matches in the minute have to be converted before the smallest pending instant can be returned.
     /// - The UTC offset is known to be constant from `local` to the end of the minute.
@@ -122,15 +138,12 @@ impl<'z> Window<'z> {
         ensures base { self.new.base ≡ self.old.base }
         ensures last { self.new.last ≡ self.old.last }
     {
-        if !self.searcher.has_more_in_minute(local) {
-            return self.convert_hour(local);
-        }
         let end = minute_end(local);
         let least = self.pending.least();
         if !is_to_place(end, least) {
             return local;
         }
-        let Some(offset) = self.zone.offset_over(local, end) else {
+        let Some(offset) = self.place_cache.offset_over(local, end) else {
             return local;
         };
         let place = local - offset;
@@ -173,7 +186,7 @@ impl<'z> Window<'z> {
         if end - MAX_OFFSET > self.last || !self.searcher.has_more_in_hour(local) {
             return local;
         }
-        let Some(offset) = self.zone.offset_over(local, end) else {
+        let Some(offset) = self.place_cache.offset_over(local, end) else {
             return local;
         };
         let mut last = local;
@@ -181,7 +194,7 @@ impl<'z> Window<'z> {
             let Some(next) = self.searcher.search(SearchStart::After(last)).local else {
                 unreachable!()
             };
-            put_later(&mut self.pending, next - offset, self.last);
+            put_if_after(&mut self.pending, next - offset, self.last);
             last = next;
         }
         last
@@ -216,7 +229,7 @@ impl<'z> Window<'z> {
         ensures has { (result ≡ true) ↔ IsPlace (timed_of self.old) instant.secs }
         ensures same { self.new ≡ self.old }
     {
-        match self.zone.local_at(instant) {
+        match self.place_cache.local_at(instant) {
             Some(local) => self.searcher.is_match(local),
             None => false,
         }
@@ -226,7 +239,7 @@ impl<'z> Window<'z> {
 /// Returns the local second at which the first search starts. No earlier local second resolves to an instant after the
 /// base.
 #[tactic(auto, using(cal_civil::proofs::LocalLemmas::local_arith))]
-fn first_local(base: Instant) -> i64
+fn start_of(base: Instant) -> i64
     ensures start { result ≡ pos (start_of base.secs) }
     ensures inside { result ≤ℤ pos seconds_in_all }
 {
@@ -264,12 +277,12 @@ fn put_place(pending: &mut Pending, place_cache: &mut PlaceCache<'_>, local: i64
     ensures zone { place_cache.new ≡ place_cache.old }
 {
     if let Some(instant) = place_cache.place(local) {
-        put_later(pending, instant, last);
+        put_if_after(pending, instant, last);
     }
 }
 
 /// Adds an instant to the pending instants, if it is after `last`, the instant returned last.
-fn put_later(pending: &mut Pending, instant: i64, last: i64)
+fn put_if_after(pending: &mut Pending, instant: i64, last: i64)
     requires instant { last <ℤ instant → IsInstant instant }
     requires near { (i : ℤ) → Has pending.old i → last <ℤ instant → IsNear i instant }
     ensures { pending.new ≡ with_place (Some instant) last pending.old }

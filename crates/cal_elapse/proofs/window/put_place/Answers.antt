@@ -13,15 +13,15 @@ use Rattle.cal_elapse.proofs.window.put_place.Goals as goal
 place_found : (tz : TimeZone) (local : ℤ) (found : Option ℤ) → FitsSigned w64 local → found ≡ place_of tz (to_z w64 (of_z w64 local)) → place_of tz local ≡ found
 place_found tz local found fits at = sym (at ∙ ap (place_of tz) (to_z-of_z w64 local fits))
 
-pub put_later-requires-clause-instant : goal.put_later-requires-clause-instant
-put_later-requires-clause-instant c = λ later.
+pub put_if_after-requires-clause-instant : goal.put_if_after-requires-clause-instant
+put_if_after-requires-clause-instant c = λ later.
     let fits : FitsSigned w64 c.in-Some.instant = search rules in
     subst IsInstant (sym (to_z-of_z w64 c.in-Some.instant fits))
     (put_instant (zone_of c.args.place_cache.now) c.args.local c.in-Some.instant c.args.last (place_found (zone_of c.args.place_cache.now) c.args.local c.place.result c.ranges.local c.place.ensures.value ∙ c.in-Some.is)
     c.requires.local_in c.requires.last_in (search rules))
 
-pub put_later-requires-clause-near : goal.put_later-requires-clause-near
-put_later-requires-clause-near c = λ member has later.
+pub put_if_after-requires-clause-near : goal.put_if_after-requires-clause-near
+put_if_after-requires-clause-near c = λ member has later.
     let fits : FitsSigned w64 c.in-Some.instant = search rules in
     subst (IsNear member) (sym (to_z-of_z w64 c.in-Some.instant fits))
     (put_near (zone_of c.args.place_cache.now) c.args.local c.in-Some.instant member (place_found (zone_of c.args.place_cache.now) c.args.local c.place.result c.ranges.local c.place.ensures.value ∙ c.in-Some.is)

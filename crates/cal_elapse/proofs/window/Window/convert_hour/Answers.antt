@@ -27,7 +27,7 @@ use Rattle.cal_elapse.proofs.window.Window.convert_hour.Goals as goal
 -- integers.
 record IsStep (v : Window) (searcher : Searcher) (next offset : ℤ) : Type 0 where
   ready : IsReady (record v { searcher = searcher; ahead = Some next })
-  place : place_of (zone_of v.zone) next ≡ Some (next -ℤ offset)
+  place : place_of (zone_of v.place_cache) next ≡ Some (next -ℤ offset)
   late : next ≤ℤ (v.last +ℤ pos 93_599)
   fits : FitsSigned w64 (next -ℤ offset)
   next_is : to_z w64 (of_z w64 next) ≡ next
@@ -38,13 +38,13 @@ module _ (v : Window) (searcher : Searcher) (next offset : ℤ) (s : IsStep v se
   -- if `next` resolves to a second of Unix time after the instant returned last, this second is an instant, so it may
   -- be added to the pending ones
   step_instant : v.last <ℤ (next -ℤ offset) → IsInstant (next -ℤ offset)
-  step_instant later = put_instant (zone_of v.zone) next (next -ℤ offset) v.last s.place s.ready.found.0 (omega (arith, ints, s.ready.low, s.ready.above)) later
+  step_instant later = put_instant (zone_of v.place_cache) next (next -ℤ offset) v.last s.place s.ready.found.0 (omega (arith, ints, s.ready.low, s.ready.above)) later
 
   step_reach : (i : ℤ) → Has v.pending i → next ≤ℤ (i +ℤ pos 93_599)
   step_reach i has = let above = ((s.ready.windowed.members i).0 has).0 in omega (arith, ints, s.late)
 
   step_near : (i : ℤ) → Has v.pending i → IsNear i (next -ℤ offset)
-  step_near i has = put_near (zone_of v.zone) next (next -ℤ offset) i s.place (step_reach i has) (placed_before (record v { searcher = searcher; ahead = Some next }) next s.ready refl i has)
+  step_near i has = put_near (zone_of v.place_cache) next (next -ℤ offset) i s.place (step_reach i has) (placed_before (record v { searcher = searcher; ahead = Some next }) next s.ready refl i has)
 
   -- once the instant of `next` is added, all matches up to and including `next` have been converted
   step_placed : (pending : List ℤ) → pending ≡ with_place (Some (next -ℤ offset)) v.last v.pending → IsPlacedTo (record v { searcher = searcher; pending = pending }) next
@@ -89,7 +89,7 @@ step c next is =
     let near = in_hour c.args.local next inside.0 ready.found.0.0 (found.0 ∙ hour) on in
     let from : to_z w64 (of_z w64 c.args.local) ≤ℤ next = rw local near.0 in
     let to : next ≤ℤ to_z w64 (of_z w64 (to_z w64 (of_z w64 c.args.local) +ℤ pos 3_599)) = rw end near.1 in
-    let place : place_of (zone_of c.loop-self.self.zone) next ≡ Some (next -ℤ c.in-Some.offset) = rw kept.zone (c.in-Some.ensures next ready.found.0 from to) in
+    let place : place_of (zone_of c.loop-self.self.place_cache) next ≡ Some (next -ℤ c.in-Some.offset) = rw kept.zone (c.in-Some.ensures next ready.found.0 from to) in
     let args_last : FitsSigned w64 c.args.self.now.last = search rules in
     let reach : to_z w64 (of_z w64 (to_z w64 (of_z w64 (to_z w64 (of_z w64 c.args.local) +ℤ pos 3_599)) -ℤ pos 93_599)) ≡ ((c.args.local +ℤ pos 3_599) -ℤ pos 93_599)
     = rw end (to_z-of_z w64 ((c.args.local +ℤ pos 3_599) -ℤ pos 93_599) (omega (arith, signed_arith, inside))) in
@@ -100,7 +100,7 @@ step c next is =
       ready = ready;
       place = place;
       late = rw kept.last (not_late _ c.args.local next (rw (to_z-of_z w64 c.args.self.now.last args_last, reach) at c.if-end-self.false) near.1);
-      fits = fits_instant (zone_of c.loop-self.self.zone) next _ ready.found.0 place;
+      fits = fits_instant (zone_of c.loop-self.self.place_cache) next _ ready.found.0 place;
       next_is = to_z-of_z w64 next (omega (arith, signed_arith, next_inside));
       offset_is = to_z-of_z w64 c.in-Some.offset offset_fits;
       last_is = to_z-of_z w64 c.loop-self.self.last last_fits;
@@ -119,14 +119,14 @@ overflow_sub-next c =
     let s = step (goal.at.overflow_sub-next c).After-search c.in-Some-local.next c.in-Some-local.is in
     rw (s.next_is, s.offset_is) s.fits
 
-pub put_later-requires-clause-instant : goal.put_later-requires-clause-instant
-put_later-requires-clause-instant c =
-    let s = step (goal.at.put_later-requires-clause-instant c).After-search c.in-Some-local.next c.in-Some-local.is in
+pub put_if_after-requires-clause-instant : goal.put_if_after-requires-clause-instant
+put_if_after-requires-clause-instant c =
+    let s = step (goal.at.put_if_after-requires-clause-instant c).After-search c.in-Some-local.next c.in-Some-local.is in
     rw (s.next_is, s.offset_is, s.last_is, to_z-of_z w64 (c.in-Some-local.next -ℤ c.in-Some.offset) s.fits) (step_instant _ _ _ _ s)
 
-pub put_later-requires-clause-near : goal.put_later-requires-clause-near
-put_later-requires-clause-near c = λ member has later.
-    let s = step (goal.at.put_later-requires-clause-near c).After-search c.in-Some-local.next c.in-Some-local.is in
+pub put_if_after-requires-clause-near : goal.put_if_after-requires-clause-near
+put_if_after-requires-clause-near c = λ member has later.
+    let s = step (goal.at.put_if_after-requires-clause-near c).After-search c.in-Some-local.next c.in-Some-local.is in
     rw (s.next_is, s.offset_is, to_z-of_z w64 (c.in-Some-local.next -ℤ c.in-Some.offset) s.fits) (step_near _ _ _ _ s member has)
 
 pub loop-self-smaller : goal.loop-self-smaller
@@ -144,7 +144,7 @@ loop-self-preserved c =
     let found = rw c.in-Some-local.is at (next_in at).0 in
     let begun = kept.on in
     rw s.next_is (record {
-      placed = step_placed _ _ _ _ s c.put_later.new.pending (rw (s.next_is, s.offset_is, s.last_is, to_z-of_z w64 (c.in-Some-local.next -ℤ c.in-Some.offset) s.fits) at c.put_later.ensures);
+      placed = step_placed _ _ _ _ s c.put_if_after.new.pending (rw (s.next_is, s.offset_is, s.last_is, to_z-of_z w64 (c.in-Some-local.next -ℤ c.in-Some.offset) s.fits) at c.put_if_after.ensures);
       hour = found.0 ∙ kept.hour;
       on = omega (arith, found, begun);
       masks = c.search.ensures.masks ∙ kept.masks;

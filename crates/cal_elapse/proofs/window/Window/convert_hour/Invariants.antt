@@ -9,7 +9,7 @@ invariant-loop-self l = record {
   hour : unsigned_abs l.last / 3_600 ≡ unsigned_abs l.fn.local / 3_600;
   on : unsigned_abs l.fn.local ≤ unsigned_abs l.last;
   masks : l.self.searcher.masks ≡ l.fn.self.searcher.masks;
-  zone : l.self.zone ≡ l.fn.self.zone;
+  zone : l.self.place_cache ≡ l.fn.self.place_cache;
   base : l.self.base ≡ l.fn.self.base;
   last : l.self.last ≡ l.fn.self.last;
 }

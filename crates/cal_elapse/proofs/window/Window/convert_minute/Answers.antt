@@ -11,14 +11,14 @@ use Rattle.cal_elapse.proofs.window.Window.convert_minute.Goals.{After-search_mi
 use Rattle.cal_elapse.proofs.window.Window.convert_minute.Goals as goal
 
 -- the UTC offset is constant from `local` to the end of its minute
-run_at : (c : In-Some) → IsRun (zone_of c.args.self.now.zone) (unsigned_abs c.args.local) (unsigned_abs c.args.local / 60 * 60 + 59) c.args.local c.minute_end-end.result c.in-Some.offset
+run_at : (c : In-Some) → IsRun (zone_of c.args.self.now.place_cache) (unsigned_abs c.args.local) (unsigned_abs c.args.local / 60 * 60 + 59) c.args.local c.minute_end-end.result c.in-Some.offset
 run_at c =
     let fits : FitsSigned w64 c.args.local = c.ranges.local in
     run_of _ (unsigned_abs c.args.local) _ _ _ c.in-Some.offset (omega arith) (minute_end _ (local_inside c.args.local c.requires.found.0)) (search rules) (sym (pos_unsigned_abs c.args.local _ c.requires.found.0.0 refl))
     (simp to_z-of_z at c.minute_end-end.ensures) c.in-Some.ensures
 
 -- the remaining matches of the minute may be added to the pending instants, as `IsBehind` says
-behind : (c : After-search_minute-rest) → IsRun (zone_of c.args.self.now.zone) (unsigned_abs c.args.local) (unsigned_abs c.args.local / 60 * 60 + 59) c.args.local c.minute_end-end.result c.in-Some.offset
+behind : (c : After-search_minute-rest) → IsRun (zone_of c.args.self.now.place_cache) (unsigned_abs c.args.local) (unsigned_abs c.args.local / 60 * 60 + 59) c.args.local c.minute_end-end.result c.in-Some.offset
     → IsBehind c.args.self.now (unsigned_abs c.args.local) c.search_minute-rest.result.bits (unsigned_abs c.search_minute-rest.result.last) c.in-Some.offset c.in-Some-least.least
 behind c run =
     let fits : FitsSigned w64 c.args.local = c.ranges.local in

@@ -14,10 +14,10 @@ returns-in-Some-clause-has c =
     let window = c.args.self.now in
     let at = c.in-Some.ensures.value in
     let fits : FitsSigned w64 c.in-Some.local = search rules in
-    has-local window.searcher.masks window.zone c.args.instant.secs c.in-Some.local c.is_match.result at.0 at.1 (simp to_z-of_z at c.is_match.ensures)
+    has-local window.searcher.masks window.place_cache c.args.instant.secs c.in-Some.local c.is_match.result at.0 at.1 (simp to_z-of_z at c.is_match.ensures)
 
 pub returns-in-None-clause-has : goal.returns-in-None-clause-has
 returns-in-None-clause-has c =
     let window = c.args.self.now in
-    let none : IsLocalAt (zone_of window.zone) c.args.instant.secs None = search rules in
-    has-none window.searcher.masks window.zone c.args.instant.secs none
+    let none : IsLocalAt (zone_of window.place_cache) c.args.instant.secs None = search rules in
+    has-none window.searcher.masks window.place_cache c.args.instant.secs none

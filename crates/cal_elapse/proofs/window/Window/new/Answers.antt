@@ -17,8 +17,8 @@ pub returns-clause-ready : goal.returns-clause-ready
 returns-clause-ready c =
     let fits : FitsSigned w64 c.secs-base.result = search rules in
     let base : c.args.base.secs ≡ to_z w64 (of_z w64 c.secs-base.result) = sym (to_z-of_z w64 c.secs-base.result fits ∙ c.secs-base.ensures.value) in
-    let first_fits : FitsSigned w64 c.first_local.result = search rules in
-    let begin = begin_is c.first_local.result c.args.base.secs first_fits c.first_local.ensures.start ∙ ap start_of base in
+    let first_fits : FitsSigned w64 c.start_of.result = search rules in
+    let begin = begin_is c.start_of.result c.args.base.secs first_fits c.start_of.ensures.start ∙ ap start_of base in
     begun_ready c.of-searcher.result c.search-ahead.new.self c.new-2.result _ c.in_ok-pending.pending c.search-ahead.result (subst IsInstant base c.args.base.in_range) c.of-searcher.ensures.none
     c.of-searcher.ensures.examined c.search-ahead.ensures.masks c.search-ahead.ensures.counted c.search-ahead.ensures.most
     (subst (λ (from : ℕ). IsSearch (sets_in c.of-searcher.result.masks) from c.search-ahead.result) begin c.search-ahead.ensures.found) c.in_ok-pending.ensures
@@ -30,7 +30,7 @@ returns-clause-timed c =
 
 pub returns-clause-examined : goal.returns-clause-examined
 returns-clause-examined c =
-    let first_fits : FitsSigned w64 c.first_local.result = search rules in
-    let begin = begin_is c.first_local.result c.args.base.secs first_fits c.first_local.ensures.start in
+    let first_fits : FitsSigned w64 c.start_of.result = search rules in
+    let begin = begin_is c.start_of.result c.args.base.secs first_fits c.start_of.ensures.start in
     let most = max_from_zero c.of-searcher.result.most_months c.search-ahead.result.months _ c.of-searcher.ensures.examined c.search-ahead.ensures.most in
     rw (most, ← c.of-searcher.ensures.masks, ← begin) (search_examined (sets_in c.of-searcher.result.masks) _ c.search-ahead.result c.search-ahead.ensures.found)

@@ -12,7 +12,8 @@ use Rattle.cal_elapse.proofs.search.searcher.Searcher.find_in_hour.Goals as goal
 inside : (c : After-lowest_bit) → c.args.self.now.minute + c.lowest_bit.result < 120_968_640
 inside c = minutes_inside c.args.self.now.masks (unsigned_abs c.args.self.now.found) _ _ _ c.args.self.now.are_left c.lowest_bit.ensures
 
--- no bits of the minute are left
+-- The word of bits for the later matches in the minute of `found` is 0, as the caller guarantees. So no local second
+-- after `found` in this minute matches.
 none : (c : After-lowest_bit) → AreRemaining (matches (sets_in c.args.self.now.masks)) (unsigned_abs c.args.self.now.found) (unsigned_abs c.args.self.now.from) 0
 none c = rw c.requires.none at c.args.self.now.is_left
 
