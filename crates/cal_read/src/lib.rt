@@ -7,7 +7,7 @@ pub mod laws;
 mod settings;
 mod texts;
 
-pub use cal_stamp::{StampFault, laws as stamp_laws, read_stamp};
+pub use cal_stamp::{StampFault, laws as stamp_laws, read_stamp, read_stamp_in};
 pub use cal_timer::{
     Assignment, MAX_EXPRESSIONS, Timer, TimerFault, TimerLine, TimerLists, laws as timer_laws,
     read_assignment, read_timer, section, without_mark,

@@ -14,8 +14,8 @@ use cal_plan::{Instants, zone_for};
 use cal_request::TextVerb;
 use cal_span::{Span, read_span};
 use cal_spec::{Expr, SpecFault, read_expr};
-use cal_stamp::read_stamp;
-use cal_zone::{Moment, Setting};
+use cal_stamp::read_stamp_in;
+use cal_zone::Moment;
 use std::alloc::{AllocError, Global};
 
 /// A parsed argument of one of the verbs `calendar`, `timestamp` and `timespan`.
@@ -49,13 +49,10 @@ pub fn read_text<'a>(
 {
     match verb {
         TextVerb::Calendar => read_calendar(alloc, context, text),
-        TextVerb::Timestamp => {
-            let Setting { now, local, zones } = context.setting;
-            match read_stamp(text, now, local, zones) {
-                Ok(moment) => Ok(Parsed::Timestamp(moment)),
-                Err(fault) => Err(TextFault::Stamp(fault)),
-            }
-        }
+        TextVerb::Timestamp => match read_stamp_in(text, context.setting) {
+            Ok(moment) => Ok(Parsed::Timestamp(moment)),
+            Err(fault) => Err(TextFault::Stamp(fault)),
+        },
         TextVerb::Timespan => match read_span(text) {
             Ok(span) => Ok(Parsed::Timespan(span)),
             Err(fault) => Err(TextFault::Span(fault)),

@@ -26,7 +26,7 @@ use crate::text_report::put_report;
 use crate::timer_report::{TimerPlanFault, read_plan, write_timer};
 use cal_bytes::{Sink, Source, WriteFault, put_pieces};
 use cal_request::{Request, RequestKind, RunFault, Status, TextVerb};
-use cal_stamp::{StampFault, read_stamp};
+use cal_stamp::{StampFault, read_stamp_in};
 use cal_zone::{Instant, Setting, Zone, ZoneTable};
 use itoa::Buffer;
 use std::alloc::Global;
@@ -167,8 +167,7 @@ fn read_base(request: &Request, setting: Setting<'_>) -> Result<Instant, StampFa
     let Some(text) = &request.base else {
         return Ok(setting.now);
     };
-    let Setting { now, local, zones } = setting;
-    let moment = read_stamp(text.as_str(), now, local, zones)?;
+    let moment = read_stamp_in(text.as_str(), setting)?;
     Ok(moment.instant())
 }
 

@@ -14,4 +14,4 @@ mod time;
 mod zone;
 
 pub use fault::StampFault;
-pub use stamp::read_stamp;
+pub use stamp::{read_stamp, read_stamp_in};

@@ -1,6 +1,7 @@
 //! Parsing timestamps.
 
 ghost use Rattle.std.specs.Prelude.{◌≡◌};
+ghost use Rattle.cal_zone.specs.Setting.{setting_seen};
 ghost use Rattle.cal_zone.specs.headline.Zone.{zone_of};
 ghost use Rattle.cal_zone.specs.headline.ZoneTable.{zone_named};
 ghost use Rattle.cal_stamp.specs.Stamp.{moment_in};
@@ -31,7 +32,6 @@ use cal_zone::{Instant, Moment, Setting, Zone, ZoneTable};
 ///
 /// If several words are invalid, the leftmost error is reported. `WrongWeekday` is reported only if all words are
 /// valid, and `OutOfRange` only if there is no other error.
-#[tactic(auto, unfolding(crate::specs::Stamp::moment_in))]
 pub fn read_stamp(
     text: &str,
     now: Instant,
@@ -41,11 +41,20 @@ pub fn read_stamp(
     ensures { micros_or_fault result
         ≡ moment_in now.secs (setting (zone_of local.entry) (zone_named table.now)) text.now }
 {
-    let at = Setting {
+    let setting = Setting {
         now,
         local,
         zones: table,
     };
+    read_stamp_in(text, setting)
+}
+
+/// Parses a timestamp as [`read_stamp`] does, with the present and the zones of a setting.
+#[tactic(auto, unfolding(crate::specs::Stamp::moment_in))]
+pub fn read_stamp_in(text: &str, setting: Setting<'_>) -> Result<Moment, StampFault>
+    ensures { micros_or_fault result ≡ moment_in setting.entry.now.secs (setting_seen setting.entry) text.now }
+{
+    let now = setting.now;
     match form_of(text) {
         Form::Nothing => Err(StampFault::Empty),
         Form::Present => moment_of(micros_of(now.secs())),
@@ -53,11 +62,11 @@ pub fn read_stamp(
         Form::Earlier(span) => before_second(now.secs(), read_span(span)?),
         Form::Counted(span) => after_second(0, read_span(span)?),
         Form::Midnight(day, after) => {
-            let zone = read_zone(after, at)?;
+            let zone = read_zone(after, setting)?;
             settle_on(zone, relative_day_number(now, zone, day), 0)
         }
         Form::Civil(text) => {
-            let stamp = read_civil(text, at)?;
+            let stamp = read_civil(text, setting)?;
             moment_of_civil_stamp(now, stamp)
         }
     }
