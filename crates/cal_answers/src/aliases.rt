@@ -47,8 +47,8 @@ fn timers_of<'t>(verb: Verb, targets: &'t [&'t str]) -> &'t [&'t str] {
 }
 
 /// Adds to an answer the errors about folders of the search path, for example that a folder can't be listed. If the
-/// question names no timer, the answer isn't changed, because it has these errors already. Errors about single files
-/// and links are left out, because they are reported if their unit is loaded.
+/// question names no timer, the answer isn't changed, because these errors are in the answer already. Errors about
+/// single files and links are left out, because they are reported if their unit is loaded.
 pub(crate) fn with_folder_faults(
     alloc: Global,
     verb: Verb,

@@ -72,8 +72,8 @@ fn compared(
     })
 }
 
-/// Returns the answer for two timers that couldn't both be loaded: the error lines, and a line for each masked unit,
-/// since a masked unit isn't loaded and has no error line.
+/// Returns the answer if at least one of two timers couldn't be loaded: the error lines, and a line for each masked
+/// unit, since a masked unit isn't loaded and has no error line.
 fn unloaded(alloc: Global, first: &Loaded, second: &Loaded) -> Result<Answer, PlanFault>
     ensures { IfOk result (λ answer. answer.status ≤ 2) }
 {

@@ -83,7 +83,7 @@ fn add_files<T: Tree>(
     Ok(loaded.faults)
 }
 
-/// Adds the problems of a file. Adds nothing if its text is longer than [`MAX_TEXT`], which no text of a file is.
+/// Adds the problems of a file. No file has a text longer than [`MAX_TEXT`]. For a longer `text`, adds nothing.
 fn add_findings(
     alloc: Global,
     path: &str,

@@ -8,8 +8,8 @@ use Rattle.cal_civil.specs.headline.Local.{last_local_second}
 abbrev pub IsLocalSecond : ℤ → Type 0
 IsLocalSecond local = IsBetween (pos 0) (pos last_local_second) local
 
--- a local second in the range that cal_zone converts to Unix time: the years 1970 to 2199, and about four days before
--- and after them
+-- a local second in the range that cal_zone converts to Unix time, -300,000 to 7,258,500,000: the years 1970 to 2199,
+-- and more than three days before and after them
 abbrev pub CanSettle : ℤ → Type 0
 CanSettle local = IsBetween (neg_ℤ (pos 300_000)) (pos 7_258_500_000) local
 

@@ -32,7 +32,7 @@ pub fn weekday_name(weekday: Weekday) -> &'static [u8]
     }
 }
 
-/// Returns the short form of a weekday's name, its first three letters. This form is the one that is printed.
+/// Returns the short form of a weekday's name: its first three letters. The programs print this form.
 #[tactic(auto, unfolding(crate::specs::headline::Weekday::name_of))]
 pub fn short_weekday_name(weekday: Weekday) -> &'static [u8]
     ensures name { result.now ≡ short_name_of weekday }

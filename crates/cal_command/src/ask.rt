@@ -9,12 +9,12 @@ use cal_zone::Instant;
 
 /// A parsed command line: a request, with the present and the zones that were given.
 ///
-/// If the verb doesn't have an option, the field of this option has its default.
+/// If the verb doesn't have an option, the field for this option has its default value.
 #[derive(Debug, Drop)]
 pub struct Ask {
     /// The verb with its texts and options. There is at least one text.
     pub request: Request,
-    /// The present instant of `--now`, or `None` to read the system's clock.
+    /// The instant that `--now` gives as the present, or `None` if the system's clock is to be read.
     pub now: Option<Instant>,
     /// The local zone of `--local`, UTC by default.
     pub local: LocalZone,

@@ -53,8 +53,8 @@ impl Ask {
         ensures exact { IsAskOf (map S.text arguments.now) (shown_answer result) }
     {
         let matches = parse(alloc, arguments)?;
-        // What `clap` accepts always has a verb with texts, but its contract doesn't say so. `NoMemory` is the one
-        // error that our contract allows for all arguments.
+        // Arguments that `clap` accepts always have a verb with texts, but the contract of `clap` doesn't say so.
+        // `NoMemory` is the one error that our contract allows for all arguments.
         let Some(found) = VerbMatches::of(&matches) else {
             return Err(CommandFault::NoMemory);
         };

@@ -15,9 +15,9 @@ pub record IsDifference (xs ys : List ℤ) (difference : Difference) : Type 0 wh
   pub one : difference.only_one ≡ first_only_in xs ys
   pub other : difference.only_other ≡ first_only_in ys xs
 
--- Whether this is the error for two timers, given the first line of each timer that names an unknown zone, or None for
--- a timer without such a line. The error names the first timer's line or, if the first timer has none, the second
--- timer's line. If neither timer has such a line, no error fits.
+-- Whether this is the error for two timers. The first two arguments are, for each timer, the number of the first line
+-- that names an unknown zone, or `None` if the timer has no such line. The error names the first timer's line or, if
+-- the first timer has none, the second timer's line. If neither timer has such a line, no error fits.
 abbrev pub IsUnzonedInEither : Option ℕ → Option ℕ → CompareFault → Type 0
 IsUnzonedInEither (Some line) other fault = fault ≡ NoSuchZoneInOne line
 IsUnzonedInEither None (Some line) fault = fault ≡ NoSuchZoneInOther line

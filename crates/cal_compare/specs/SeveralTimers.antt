@@ -19,11 +19,12 @@ of_each f first timers = flat_map (λ t. f t.0 t.1) (enumerate_from first timers
 abbrev pub in_range : ℤ → ℤ → ℤ → Bool
 in_range from before secs = int_le from secs && int_lt secs before
 
--- the elapses of one timer in this range
+-- the elapses of one timer in a range; the first two arguments bound the range, as in `in_range`, and the third is the
+-- index of the timer
 abbrev pub range_of_one : ℤ → ℤ → ℕ → List ℤ → List TimerElapse
 range_of_one from before timer xs = map (λ secs. record { secs = secs; timer = timer }) (filter (in_range from before) xs)
 
--- the elapses of all timers in this range, in the order of the timers
+-- the elapses of all timers in a range, in the order of the timers; the first two arguments bound the range
 abbrev pub range_of_each : ℤ → ℤ → List (List ℤ) → List TimerElapse
 range_of_each from before timers = of_each (range_of_one from before) 0 timers
 

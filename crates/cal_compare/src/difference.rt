@@ -106,7 +106,7 @@ fn first_only_of(
     Ok(first_only(alloc, these, those)?)
 }
 
-/// Creates the iterator over the elapses of a timer after `base`.
+/// Creates the source of a timer's elapses after `base`.
 fn elapses_of<'a>(
     alloc: Global,
     setting: Setting<'a>,

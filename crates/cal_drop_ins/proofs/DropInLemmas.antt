@@ -37,7 +37,7 @@ pub shown_insert : (es : List (String Global × String Global)) (k : String Glob
 shown_insert [] k v = refl
 shown_insert (e ∷ es) k v = put_by (string_cmp k e.0) e es (insert_entry string_cmp es k v) k v _ (shown_insert es k v)
 
--- adding a file at the end of a list enters this file into the list's `by_name`
+-- if a file is appended to `found`, then `by_name` of the longer list is `by_name found` with this file entered
 pub by_name_more : (found : List Found) (file : Found) → by_name (found ++ file ∷ []) ≡ put (by_name found) file
 unfolding by_name
 by_name_more found file = fold-append put [] found (file ∷ [])
@@ -121,7 +121,7 @@ pub paths_are : (entries : List (String Global × String Global)) (paths : List 
 unfolding chosen
 paths_are entries paths files h e = ap (map string_bytes) e ∙ shown_paths entries ∙ ap (map (λ entry. entry.1)) h
 
--- the candidates of a list with one more name are those of the list, followed by those of the name
+-- if `name` is appended to `names`, then the file called `name` is appended to the candidates if it is a drop-in
 pub candidates_more : (folder : List ℕ) (names : List (List ℕ)) (name : List ℕ)
     → candidates folder (names ++ name ∷ []) ≡ candidates folder names ++ candidates folder (name ∷ [])
 unfolding candidates

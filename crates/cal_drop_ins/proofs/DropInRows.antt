@@ -39,7 +39,7 @@ in_etc folder name = (codes "/etc/" ++ folder, name)
 
 abbrev rows : List Row
 rows =
-    -- In the first row, drop-ins are sorted by the bytes of their names. Files whose names begin with a dot or don't
+    -- In the next row, drop-ins are sorted by the bytes of their names. Files whose names begin with a dot or don't
     -- end in `.conf` are skipped.
     (
       in_lib (codes "foo.timer.d") (codes "a.conf") ∷ in_lib (codes "foo.timer.d") (codes "B.conf")
@@ -47,9 +47,9 @@ rows =
           ∷ in_lib (codes "foo.timer.d") (codes ".5.conf") ∷ in_lib (codes "foo.timer.d") (codes "README") ∷ [],
       ([], (codes "foo" ∷ [], codes "/lib/foo.timer.d/10.conf" ∷ codes "/etc/timer.d/9.conf" ∷ codes "/lib/foo.timer.d/B.conf" ∷ codes "/lib/foo.timer.d/a.conf" ∷ [])),
     )
-    -- In the second row, a file in `timer.d`, the folder for all timers, loses to a file in the folder for a prefix,
-    -- although `timer.d` is below the more important root. In the third row, both folders are called `timer.d`, and the
-    -- one below the more important root wins.
+    -- In the next row, a file in `timer.d`, the folder for all timers, loses to a file in the folder for a prefix,
+    -- although `timer.d` is below the more important root. In the row after it, both folders are called `timer.d`, and
+    -- the one below the more important root wins.
     ∷ (
       in_etc (codes "timer.d") (codes "x.conf") ∷ in_lib (codes "foo-.timer.d") (codes "x.conf") ∷ [],
       ([], (codes "foo-bar" ∷ [], codes "/lib/foo-.timer.d/x.conf" ∷ [])),
@@ -84,7 +84,7 @@ rows =
       in_lib (codes "foo.timer.d") (codes "x.conf") ∷ in_etc (codes "foo.timer.d") (codes "x.conf") ∷ in_lib (codes "foo.timer.d") (codes "y.conf") ∷ [],
       (codes "/etc/foo.timer.d/x.conf" ∷ [], (codes "foo" ∷ [], codes "/lib/foo.timer.d/y.conf" ∷ [])),
     )
-    -- In the last row, the drop-ins of an alias are read too, and those of the unit's own name win over them.
+    -- In the next row, the drop-ins of an alias are read too, but the drop-ins of the unit's own name win over them.
     ∷ (
       in_etc (codes "also.timer.d") (codes "x.conf") ∷ in_lib (codes "foo.timer.d") (codes "x.conf") ∷ in_lib (codes "also.timer.d") (codes "y.conf") ∷ [],
       ([], (codes "also" ∷ codes "foo" ∷ [], codes "/lib/foo.timer.d/x.conf" ∷ codes "/lib/also.timer.d/y.conf" ∷ [])),

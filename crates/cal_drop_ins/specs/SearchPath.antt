@@ -11,7 +11,7 @@ system_folders =
 abbrev pub system_path : List ℕ → List (List ℕ)
 system_path root = map (λ folder. root ++ folder) system_folders
 
--- the folders of a user's manager: the first and the fifth are in the user's home
+-- the folders of a user's manager; two of them are in `home`, the user's home
 abbrev pub user_folders : List ℕ → List (List ℕ)
 user_folders home =
     (home ++ codes "/.config/systemd/user") ∷ codes "/etc/xdg/systemd/user" ∷ codes "/etc/systemd/user"

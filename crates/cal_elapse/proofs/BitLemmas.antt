@@ -1,5 +1,5 @@
--- Which bits of a word are set, also after shifts, after the bitwise operations, and after its lowest set bit is
--- removed.
+-- Which bits are set in a word, in a shifted word, in the result of a bitwise operation, and in a word without its
+-- lowest set bit.
 use Rattle.std.proofs.Common.{◌≡◌, ◌==◌, ℕ, ◌+◌, ◌&&◌, ◌||◌, bit_and, bit_or, ◌*◌, ◌-◌, ◌/◌, ◌%◌, ◌^◌, ◌<◌, ◌≤◌, true, false, Some, w64, ap, pow_pos, subst, inl, inr, sym, ◌∙◌, arith, nat_le, nat_lt, ◌≢◌, min, max, suc}
 use Rattle.std.specs.Int.{bit_at, trailing_zeros}
 use Rattle.std.proofs.lemmas.Bool.{cases_lt, le-ltb, lt-ltb}

@@ -1,6 +1,7 @@
 -- Searching for the first number that passes a test. Every number has a high part and a low part, and passes if and
--- only if each part passes a test of its own. The search first tries the remaining low parts of its starting point, and
--- then takes the next passing high part with the first passing low part.
+-- only if each part passes a test of its own. The search first keeps the high part of its starting point and tries the
+-- low parts from the starting point on. If none of these numbers passes, it combines the next passing high part with
+-- the first passing low part.
 use Rattle.std.proofs.Common.{◌≡◌, ℕ, ◌+◌, ◌*◌, ◌/◌, ◌%◌, ◌<◌, ◌≤◌, Bool, true, false, ◌&&◌, Option, Some, ap, subst, inl, inr, ◌∙◌, refl, arith, add-mul, one-mul, mul-le-mul_right}
 use Rattle.std.proofs.lemmas.Bool.{cases_lt, and_from, and_left, and_right}
 use Rattle.std.proofs.lemmas.Nat.{div-add-mod', div_below, le-div, mod_below}

@@ -27,7 +27,7 @@ count_from-none passes a k (suc n) none =
     let before = count_from-none passes a k n (λ t low high. none t low (omega arith)) in
     rw (next, fails) (omega arith)
 
--- if `local` passes, the number of passing numbers from `start` up to and including `local` is one more than the number
+-- if `local` passes, the range from `start` up to and including `local` contains one more passing number than the range
 -- from `start` up to but not including `local`
 pub count_from-with : (passes : ℕ → Bool) (start local : ℕ) → start ≤ local → passes local ≡ true → count_from passes start (local + 1 - start) ≡ count_from passes start (local - start) + 1
 count_from-with passes start local low holds =
@@ -47,8 +47,8 @@ count_from-on passes start middle bound low high none =
     let nothing = λ (t : ℕ) (above : start + k ≤ t) (below : t < start + k + n). none t (omega arith) (omega arith) in
     ap (count_from passes start) ends ∙ count_from-none passes start k n nothing
 
--- if `next` is the first number after `local` that passes, the number of passing numbers after `start` up to and
--- including `next` is one more than the number after `start` up to and including `local`
+-- if `next` is the first number after `local` that passes, the range after `start` up to and including `next` contains
+-- one more passing number than the range after `start` up to and including `local`
 pub count_from-to : (passes : ℕ → Bool) (start local next : ℕ) → start ≤ local → local + 1 ≤ next → passes next ≡ true → NonePasses passes (local + 1) next
     → count_from passes (start + 1) (next - start) ≡ count_from passes (start + 1) (local - start) + 1
 count_from-to passes start local next low high holds none =

@@ -55,9 +55,9 @@ count_front passes a (suc k) =
     let here : a + suc k ≡ suc a + k = omega arith in
     rw here (omega (arith, before))
 
--- Suppose that one search starts in month `n`, another one in month `n + 1`, and that both have the same result. Then
--- the first one examines as many months as the second, plus 1 if the expression matches the year and the month number
--- of month `n`.
+-- Suppose that a search that starts in month `n` has the same result as a search that starts in month `n + 1`. Then the
+-- search from month `n` examines as many months as the search from month `n + 1`, plus 1 if the expression matches the
+-- year and the month number of month `n`.
 pub examined_on : (sets : Sets) (n : ℕ) (r : Option ℕ) → n < 2_760 → IsFirstPassing (day_in sets) (first_day (n + 1)) 84_006 r
     → cond (month_in sets n) 1 0 + examined_from sets (n + 1) r ≡ examined_from sets n r
 examined_on sets n None within none =
@@ -122,8 +122,9 @@ pub examined_today : (sets : Sets) (t second : ℕ) → t / 86_400 < 84_006 → 
     → examined_months sets (t + 1) (Some (t / 86_400 * 86_400 + second)) ≡ 1
 examined_today sets t second within holds later small = grind (arith, one_examined)
 
--- A search for a local second examines as many months as a search for a day, if both start in the same month (`n`) and
--- the local second that the one finds lies on the day, `found`, that the other finds.
+-- Suppose that a search for a local second and a search for a day start in the same month, `n`, and that the local
+-- second found is on `found`, the day that the other search finds. Then both searches examine the same number of
+-- months.
 pub examined_of_days : (sets : Sets) (n from found second : ℕ) → n ≡ month_of (civil_date (from / 86_400)) → second < 86_400
     → examined_from sets n (Some found) ≡ examined_months sets from (Some (found * 86_400 + second))
 examined_of_days sets n from found second start small = grind arith

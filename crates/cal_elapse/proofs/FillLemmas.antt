@@ -54,8 +54,8 @@ far_behind : (cell i next : ℕ) → cell < 187_200 → i < 187_200 → (next �
     → i / 64 ≢ cell / 64 → i / 64 ≢ next → 64 ≤ cells_behind cell i
 far_behind cell i next inside there turn next_in other apart = elim turn [ inl on ↦ omega arith | inr round ↦ omega (arith, round.0, round.1) ]
 
--- after `set_cells` has changed both words, a cell is set if and only if it was set before or the bit of `bits` that
--- stands for it is set
+-- after `set_cells` has changed the word of the first cell and the next word, a cell is set if and only if it was set
+-- before or the bit of `bits` that stands for this cell is set
 pub filled : (cells : List ℕ) (cell bits next i : ℕ) → length cells ≡ 2_925 → cell < 187_200 → bits < 2 ^ 64 → (next ≡ cell / 64 + 1) ⊎ ((next ≡ 0) × (cell / 64 ≡ 2_924))
     → next < 2_925 → i < 187_200
     → let one = set cells (cell / 64) (bit_or (get_or cells (cell / 64) 0) (bits * 2 ^ (cell % 64) % 2 ^ 64)) in

@@ -66,14 +66,15 @@ minutes_of_all m = record {
       split_at (locals_split (sets_in m)) (a / 1_440) (a * 60 + b) (omega arith) day ∙ rw (lt-ltb a 120_968_640 low, time, here) (sym (and_regrouped (day_in (sets_in m) (a / 1_440)) (minute_in (sets_in m) (a % 1_440)) (is_bit m.seconds b)));
 }
 
--- if `found` passes, another number in its unit of 60 passes if and only if the number modulo 60 passes the test `low`
+-- if `found` passes, a number `t` in the same unit of 60 passes if and only if `t` modulo 60 passes the test `low`
 by_low : (passes high low : ℕ → Bool) (limit found t : ℕ) → Splits passes high low 60 limit → found / 60 < limit → passes found ≡ true → t / 60 ≡ found / 60 → passes t ≡ low (t % 60)
 by_low passes high low limit found t s within holds same =
     let both = and_parts _ _ (sym (split_at s (found / 60) found within refl) ∙ holds) in
     let here : high (found / 60) ≡ true = both.0 in
     split_at s (found / 60) t within same ∙ rw here refl
 
--- if `found` passes, the bits of `mask` above bit `found` % 60 stand for the later passing numbers in its unit of 60
+-- if `found` passes, the bits of `mask` above bit `found` % 60 stand for the numbers after `found` that pass and are in
+-- the same unit of 60
 left_after : (passes high : ℕ → Bool) (mask limit found : ℕ) → Splits passes high (is_bit mask) 60 limit → ((i : ℕ) → 60 ≤ i → is_bit mask i ≡ false) → found / 60 < limit
     → passes found ≡ true → AreRemaining passes found (found + 1) (mask / 2 ^ (found % 60 + 1))
 left_after passes high mask limit found s last within holds = record {

@@ -67,8 +67,8 @@ first_is (suc n) =
 pub first_day-end : first_day 2_760 ≡ 84_006
 first_day-end = let last = first_is 2_760 in omega (arith, signed_arith, last, first_of_2200)
 
--- the year of month `n` is a valid year; this lemma and the next two are needed to define `month_date`, the date of the
--- day with the zero-based index `k` in month `n`
+-- the year of month `n` is a valid year; this lemma, `number_within` and `day_within` are needed to define
+-- `month_date`, the date of the day with the zero-based index `k` in month `n`
 year_within : (n : ℕ) → n ≤ 2_760 → IsYear (pos (year_of n))
 year_within n h = (omega (arith, signed_arith), omega (arith, signed_arith))
 

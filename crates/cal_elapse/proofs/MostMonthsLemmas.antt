@@ -1,5 +1,5 @@
--- The largest number of months that a single one of several searches examines, and how it changes when more searches
--- are made.
+-- The largest number of months that a single search examines, among several searches, and how this number changes when
+-- more searches are made.
 use Rattle.std.proofs.Common.{◌≡◌, ◌∙◌, ℕ, ◌+◌, ◌<◌, ◌≤◌, Bool, true, Option, max, unwrap_or, IsSome, ◌-◌, arith, inl, inr, option_map, refl, subst, sym, unsigned_abs, ℤ, ◌⊎◌}
 use Rattle.std.proofs.lemmas.Bool.{cases_lt}
 use Rattle.cal_spec.specs.headline.Match.{Sets, matches}
@@ -15,7 +15,7 @@ use Rattle.cal_text.proofs.General.{max_from_zero}
 max_is : (a b : ℕ) → ((max a b ≡ a) × (b ≤ a)) ⊎ ((max a b ≡ b) × (a ≤ b))
 max_is a b = grind arith
 
--- the number of months in the result of a search is how many months the search examined
+-- if `found` is the result of a search that starts at `from`, this search examines `found.months` months
 pub search_examined : (sets : Sets) (from : ℕ) (found : Found) → IsSearch sets from found → IsExamined sets from found.months
 search_examined sets from found search =
     record { answer = option_map unsigned_abs found.local; first = first_passing (matches sets) from found.local search.first; examined = search.counted }
@@ -88,8 +88,8 @@ pub most_start : (sets : Sets) (start bound old most months : ℕ) → IsExamine
     → most ≡ max old months → IsMost sets start bound most
 most_start sets start bound old most months examined low none zero is = grind (arith, max_from_zero, most_same)
 
--- The effect of a search after a match, if it finds the next match: one more match is counted, and the largest number
--- of months may rise.
+-- What changes when a search after a match finds the next match: one more match is counted, and the largest number of
+-- months may rise.
 
 pub next_counted : (passes : ℕ → Bool) (local : ℤ) (next : Option ℤ) → IsFirstPassing passes (unsigned_abs local + 1) seconds_in_all (option_map unsigned_abs next) → IsSome next
     → count_from passes (unsigned_abs local + 1) (unsigned_abs (unwrap_or next local) - unsigned_abs local) ≡ 1

@@ -51,10 +51,10 @@ ahead_near tz from to offset ahead order inside =
 signed_word : (local : ℕ) (signed : ℤ) → local < seconds_in_all → signed ≡ pos local → to_z w64 (of_z w64 signed) ≡ pos local
 signed_word local signed inside is = ap (λ z. to_z w64 (of_z w64 z)) is ∙ to_z_pos w64 local (omega (arith, seconds_in_all-is))
 
--- The UTC offset is `offset` from `local` to `end`, and at most 93,599 seconds in either direction. `from` and `to` are
--- `local` and `end` as signed integers. All of the following fit into 64-bit integers: `from`, `to`, the offset, the
--- instants of `local` and `end`, and the second after the instant of `local`. (In the program, `end` is the end of the
--- minute of `local`.)
+-- In the program, `local` is a local second, and `end` is the last second of its minute. `from` and `to` are the same
+-- two numbers as signed integers. From `local` to `end`, the UTC offset is `offset`, at most 93,599 seconds in either
+-- direction. All of the following fit into 64-bit integers: `from`, `to`, the offset, the instants of `local` and
+-- `end`, and the second after the instant of `local`.
 pub record IsRun (tz : TimeZone) (local end : ℕ) (from to offset : ℤ) : Type 0 where
   pub ahead : AreAtOffset tz (pos local) (pos end) offset
   pub low : offset ≤ℤ pos 93_599
@@ -91,8 +91,8 @@ run_of tz local end from to offset order inside fits from_is to_is ahead =
       start = rw place (to_z-of_z w64 ((pos local -ℤ offset) +ℤ pos 1) (omega (arith, signed_arith)));
     }
 
--- `IsPlacedTo` still holds for the match converted last if this local second is converted to a natural number and back,
--- and also if it is then stored as a 64-bit integer (`placed_last`)
+-- Suppose that `IsPlacedTo` holds for the match converted last. It still holds after this local second is converted to
+-- a natural number and back, and also after it is then stored as a 64-bit integer (`placed_last`).
 pub placed_at : (v : Window) (local : ℤ) → IsPlacedTo v local → IsPlacedTo v (pos (unsigned_abs local))
 placed_at v local h = subst (IsPlacedTo v) (sym (pos_unsigned_abs local _ h.found.0.0 refl)) h
 

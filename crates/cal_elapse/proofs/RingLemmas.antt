@@ -267,8 +267,8 @@ put_round old new low at from more round near high whole was =
       members = λ i m. elim (put_there old new low at from i more round near ((Has-instants new from i).0 m)) [ inl e ↦ last_at at i e high | inr n ↦ was.members i n ];
     }
 
--- Suppose that `at` isn't 187,200 seconds or more after `least`. Once `at` is added to a ring that starts at `least`,
--- the ring can start at the smaller of `least` and `at`, as `IsRoundWith` says.
+-- Suppose that `at` is before `least`, or at most 187,199 seconds after it. Once `at` is added to a ring that starts at
+-- `least`, the ring can start at the smaller of `least` and `at`, as `IsRoundWith` says.
 with_least : (least at : ℕ) → (least ≤ at → at ≤ least + 187_199) → IsRoundWith least at (min least at)
 with_least least at near = grind (arith, min)
 

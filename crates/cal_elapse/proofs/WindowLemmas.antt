@@ -47,8 +47,8 @@ placed_on e a b i h p = record { local = p.local; below = omega arith; is_match 
 placed_split : (e : Timed) (bound : ℕ) (i : ℤ) → IsPlacedBelow e (bound + 1) i → (e.place bound ≡ Some i) ⊎ IsPlacedBelow e bound i
 placed_split e bound i p = grind arith
 
--- if all matches from `from` up to but not including `bound`, and `bound` itself, are at most 93,599 seconds after `i`,
--- then all matches from `from` up to and including `bound` are at most 93,599 seconds after `i`
+-- if all matches from `from` up to but not including `bound` are at most 93,599 seconds after `i`, and `bound` is too,
+-- then so are all matches from `from` up to and including `bound`
 reach_on : (e : Timed) (from bound : ℕ) (i : ℤ) → ((t : ℕ) → from ≤ t → t < bound → e.matches t ≡ true → pos t ≤ℤ (i +ℤ pos 93_599))
     → pos bound ≤ℤ (i +ℤ pos 93_599) → (t : ℕ) → from ≤ t → t < bound + 1 → e.matches t ≡ true → pos t ≤ℤ (i +ℤ pos 93_599)
 reach_on e from bound i before here t low high m = grind arith

@@ -1,4 +1,4 @@
--- Which months match, by the masks of an expression. The mask of years has a bit for each of the 230 years, and is
+-- How the masks of an expression tell which months match. The mask of years has a bit for each of the 230 years, and is
 -- stored in four machine words of 64 bits. The mask of month numbers is one such word. A month matches if the bits of
 -- its year and of its month number are set.
 use Rattle.std.proofs.Common.{◌≡◌, ℕ, ◌+◌, ◌-◌, ◌*◌, ◌/◌, ◌%◌, ◌<◌, ◌≤◌, ◌&&◌, nat_le, List, get_or, Some, subst, refl, ◌∙◌, arith}

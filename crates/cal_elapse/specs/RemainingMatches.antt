@@ -11,9 +11,9 @@ use Rattle.cal_spec.specs.headline.Match.{Sets}
 unfoldable pub minute_matches : Sets → ℕ → Bool
 minute_matches sets minute = nat_lt minute minutes_in_all && (day_in sets (minute / minutes_per_day) && minute_in sets (minute % minutes_per_day))
 
--- Bit i of `left` stands for the number `from` + i, and `from` is at most `found` + 1. The bit is set if and only if
--- this number passes the test, is greater than `found`, and is in the same unit of 60 as `found`. Either the numbers
--- are local seconds and the unit is a minute, or the numbers are minutes and the unit is an hour.
+-- `found` is a local second, whose unit of 60 is its minute, or a minute, whose unit of 60 is its hour. Bit i of `left`
+-- stands for the number `from` + i, and `from` is at most `found` + 1. The bit is set if and only if this number passes
+-- the test, is greater than `found`, and is in the same unit of 60 as `found`.
 pub record AreRemaining (passes : ℕ → Bool) (found from left : ℕ) : Type 0 where
   pub begun : from ≤ found + 1
   pub behind : (i : ℕ) → is_bit left i ≡ true → found < from + i

@@ -14,7 +14,7 @@ pub cells_in_all-is : cells_in_all ≡ 187_200
 unfolding cells_in_all
 cells_in_all-is = refl
 
--- the number of cells again, under a name that proofs may unfold; no list gets its length from this name
+-- the number of cells again, under a name that proofs may unfold, because no list gets its length from this name
 abbrev pub cell_count : ℕ
 cell_count = 187_200
 

@@ -48,8 +48,9 @@ bound_of ahead = unwrap_or (option_map unsigned_abs ahead) seconds_in_all
 abbrev pub IsMatchAhead : Timed → Option ℤ → Type 0
 IsMatchAhead e ahead = IfSome ahead (λ local. IsLocalSecond local × (e.matches (unsigned_abs local) ≡ true))
 
--- The next match, `ahead`, if it has to be converted before `least`, the smallest pending instant, can be returned.
--- Otherwise `None`. If nothing is pending, the next match always has to be converted.
+-- The arguments are the next match, if any is left, and the smallest pending instant, if anything is pending. The
+-- result is the next match if it has to be converted before the smallest pending instant can be returned, and otherwise
+-- `None`. If nothing is pending, the next match always has to be converted.
 abbrev pub to_place : Option ℤ → Option ℤ → Option ℤ
 to_place None least = None
 to_place (Some local) None = Some local

@@ -10,8 +10,8 @@ use cal_zone::{Instant, Zone};
 use std::alloc::Global;
 use std::marker::Model;
 
-/// A source of the elapses of an expression in a zone after a base. These are the instants after the base to which the
-/// matching local seconds of the years 1970 to 2199 resolve, each once, in increasing order.
+/// A source that returns the elapses after a base, for one expression in one zone. These are the instants after the
+/// base to which the matching local seconds of the years 1970 to 2199 resolve, each once, in increasing order.
 ///
 /// Matches are found in the order of local time. If the clock is turned back, a later match can resolve to an earlier
 /// instant. An instant is therefore returned only when no later match can resolve to the same instant or an earlier
@@ -43,7 +43,7 @@ impl<'z> Elapses<'z> {
     ghost use Rattle.cal_elapse.specs.Window.{start_of, timed_of};
     ghost use Rattle.cal_spec.specs.headline.Members.{sets_of};
 
-    /// Creates the source of the elapses of an expression in a zone after `base`, and searches for the first match.
+    /// Creates the source of the elapses after `base`, for an expression in a zone, and searches for the first match.
     ///
     /// Only this call allocates. Fails with `NoMemory` if allocation fails.
     pub fn new(

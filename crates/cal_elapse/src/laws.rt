@@ -12,10 +12,10 @@ ghost use Rattle.cal_elapse.specs.Covered.{AreAmong, AreKept, IsCovered};
 ghost use Rattle.cal_rising.specs.RisingList.{union, without};
 ghost use Rattle.cal_rising.specs.headline.Elements.{Has};
 
-/// The elapses of expressions after a base, without those of exceptions, form exactly one list. The list is strictly
-/// increasing. It contains an instant if and only if the instant is after the base, a matching local second of an
-/// expression resolves to it, and it is not an elapse of an exception. No other list has both properties. If there are
-/// no exceptions, this list is the list of all elapses of the expressions after the base.
+/// There is exactly one list of the elapses of expressions after a base, without those of exceptions. The list is
+/// strictly increasing. It contains exactly the instants after the base to which a matching local second of an
+/// expression resolves and which are not elapses of an exception. No other list has both properties. If there are no
+/// exceptions, this list is the list of all elapses of the expressions after the base.
 pub fn elapses_are_one_list()
     ensures these { (es exceptions : List Timed) (base : ℤ) → AreElapses es exceptions base (elapses_except es exceptions base) }
     ensures only { (es exceptions : List Timed) (base : ℤ) (xs : List ℤ) → AreElapses es exceptions base xs
@@ -23,9 +23,9 @@ pub fn elapses_are_one_list()
     ensures none { (es : List Timed) (base : ℤ) → elapses_except es [] base ≡ elapses_after es base }
 {}
 
-/// The elapses of several expressions are the union of the elapses of each expression, and the elapses of several
-/// exceptions are the union of the elapses of each exception. Removing the second union from the first yields the
-/// elapses without those of the exceptions.
+/// The elapses after a base can be listed for each expression and each exception separately. Removing the union of the
+/// exceptions' lists from the union of the expressions' lists yields the elapses of the expressions without those of
+/// the exceptions.
 pub fn elapses_of_each()
     ensures { (es exceptions : List Timed) (base : ℤ) → without (union (each_after es base)) (union (each_after exceptions base))
         ≡ elapses_except es exceptions base }
@@ -54,9 +54,9 @@ pub fn elapses_go_on()
         → elapses_except es exceptions e ≡ drop (suc k) (elapses_except es exceptions base) }
 {}
 
-/// The first elapses after a base can be listed in two parts: the first k + 1 elapses after the base, if there are that
-/// many, and then the first m elapses after the last of these. Together they are the first k + 1 + m elapses after the
-/// base.
+/// The elapses after a base can be listed in two parts. Suppose that there are at least k + 1 of them, and that e is
+/// the last of the first k + 1. These k + 1 elapses, followed by the first m elapses after e, are the first k + 1 + m
+/// elapses after the base.
 pub fn elapses_in_parts()
     ensures { (es exceptions : List Timed) (base e : ℤ) (k m : ℕ) → slice_get (elapses_except es exceptions base) k ≡ Some e
         → take (suc k) (elapses_except es exceptions base) ++ take m (elapses_except es exceptions e)

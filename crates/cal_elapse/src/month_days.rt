@@ -1,5 +1,5 @@
-//! The matching days of a month (systemd.time(7), Calendar Events). Only this file finds them, so that it can count the
-//! months examined.
+//! The matching days of a month (systemd.time(7), Calendar Events). No other module finds them, so that this one can
+//! count the months examined.
 
 ghost use Rattle.std.specs.Prelude.{◌≡◌, ◌+◌, ◌-◌, ◌<◌, ◌≤◌, ℕ, true, nat_lt, if◌then◌else◌};
 ghost use Rattle.cal_elapse.specs.Bits.{is_bit};

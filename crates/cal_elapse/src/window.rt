@@ -101,8 +101,9 @@ impl<'z> Window<'z> {
         self.ahead = ahead;
     }
 
-    /// Converts matches that follow `local` in its minute if some are known there, and otherwise in its hour. `local` is
-    /// a match that has already been converted. Returns the last match that has been converted, which can be `local`.
+    /// Converts matches that follow `local`: in the same minute if later matches are known there, and otherwise in the
+    /// same hour. `local` is a match that has already been converted. Returns the last match that has been converted,
+    /// which can be `local`.
     fn convert_following(&mut self, local: i64) -> i64
         requires { IsPlacedTo self.old local }
         ensures placed { IsPlacedTo self.new result }
@@ -162,9 +163,9 @@ impl<'z> Window<'z> {
         }
     }
 
-    /// Searches for later matches in the hour of `local`, one after another, and converts them. The last one is the
-    /// first match in the last minute of this hour that has matches. `local` is a match that has already been
-    /// converted. Returns the last match that has been converted, which can be `local`.
+    /// Searches for later matches in the hour of `local`, one after another, and converts them. Stops at the first
+    /// match after which no later minute of this hour has matches. `local` is a match that has already been converted.
+    /// Returns the last match that has been converted, which can be `local`.
     ///
     /// Does nothing unless all of these conditions are met:
     ///

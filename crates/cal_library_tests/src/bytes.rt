@@ -65,8 +65,8 @@ fn reads_whole(rt: HostRuntime) -> Result<(), Fail> {
     Ok(())
 }
 
-/// Expects the next call of `fetch` to return `count` bytes, or to fail if `count` is `None`. Expects `into` to hold
-/// `held` afterwards.
+/// Expects the next call of `fetch` to return `count` bytes, or to fail if `count` is `None`. Expects the buffer `into`
+/// to hold the bytes of `held` afterwards.
 fn expect_fetch(
     reader: &mut Port<Faulty>,
     into: &mut [u8],
@@ -148,8 +148,8 @@ fn writes_until_it_fails(rt: HostRuntime) -> Result<(), Fail> {
     Ok(())
 }
 
-/// Offers `abc` to a buffer in front of a sink that takes `limit` bytes, and flushes the buffer. Returns the results of
-/// both calls and whether one of them failed, and also the sink.
+/// Offers `abc` to a buffer in front of a sink that takes `limit` bytes, and flushes the buffer. Returns the result of
+/// `offer`, the result of `flush`, whether one of the two calls failed, and the sink.
 fn hold_back(alloc: Global, limit: usize) -> Result<((Option<usize>, bool, bool), Faulty), Fail> {
     let writer = Faulty::new(Vec::new(alloc), 2, limit, Then::Error);
     let mut port = Port::new(BufWriter::new(alloc, writer)?);

@@ -117,9 +117,10 @@ fn at_offsets(rt: HostRuntime) -> Result<(), Fail> {
     Ok(())
 }
 
-/// Counts the searches for an expression that matches every second. `new` makes the first search. In any zone, one more
-/// search follows each of the 187,202 local seconds from 93,599 seconds before the base to 93,599 seconds after the
-/// third elapse. Each search examines only the month in which it starts.
+/// Counts the searches for an expression that matches every second. `new` makes the first search, and every later
+/// search follows a local second that was found. When the third elapse has been returned, these local seconds are, in
+/// any zone, the 187,202 from 93,599 seconds before the base to 93,599 seconds after this elapse. Each search examines
+/// only the month in which it starts.
 #[test]
 fn searches_of_every_second(rt: HostRuntime) -> Result<(), Fail> {
     let mut elapses = elapses_of(rt.alloc(), "*:*:*", Zone::utc(), NEW_YEAR)?;

@@ -13,7 +13,7 @@ fn is_printed(alloc: Global, zone: Zone, instant: Instant, text: &str) -> bool {
 }
 
 /// Expects each instant to be printed as the text next to it, both by `write_instant` and by one `InstantFormatter`
-/// that prints all of them in order. Also expects the formatter to return the same civil time as `civil`.
+/// that prints all of them in order. Also expects the formatter to return the same civil time as the function `civil`.
 fn expect_texts(alloc: Global, zone: Zone, rows: &[(i64, &str)]) -> Result<(), Fail> {
     let mut formatter = InstantFormatter::new(zone);
     for (secs, text) in rows {

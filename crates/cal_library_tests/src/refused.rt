@@ -43,7 +43,7 @@ fn rules_of_file(alloc: Global) -> Result<Rules, Fail> {
     Ok(Rules::file(alloc, "Test/Fixed", &bytes)?)
 }
 
-/// Checks that the table is unchanged and the rules are returned to the caller if `add` fails.
+/// Checks that, if `add` fails, the table is unchanged and the rules are returned to the caller.
 #[test]
 fn a_zone_file_and_a_table(rt: HostRuntime) -> Result<(), Fail> {
     let mut table = ZoneTable::new(rt.alloc());

@@ -24,8 +24,8 @@ fn found_from(expr: &Expr, from: i64) -> Option<Found> {
 type Search = (&'static str, i64, Option<i64>, u32);
 
 static SEARCHES: [Search; 8] = [
-    // The first four rows are about leap days: the first one in the range, the one after it, the first one after 2096,
-    // which is in 2104 because 2100 is not a leap year, and none at the end of the range.
+    // The first four rows are about leap days: the first one in the range; the one after it; the first one after 2096,
+    // which is in 2104, because 2100 is not a leap year; and the end of the range, from where no leap day is found.
     ("*-2-29 0:0:0", 0, Some(68_169_600), 3),
     ("*-2-29 0:0:0", 68_169_601, Some(194_400_000), 5),
     ("*-2-29 0:0:0", 3_981_398_400, Some(4_233_686_400), 8),

@@ -1,6 +1,6 @@
 -- Examples of what systemd 252 rejects, checked by computation. The script tests/systemd_252 compares such expressions
--- with systemd-analyze. In all rows but the last two, the fields are those of `daily`, whatever the text is: the fields
--- of an expression matter only if days are counted from the month's end, as in the last two rows.
+-- with systemd-analyze. The fields of an expression matter only if days are counted from the month's end, as in the
+-- rows `days_from_end` and `days_within`. All other rows use the fields of `daily`, whatever their text is.
 use Rattle.std.proofs.Common.{◌≡◌, ℕ, List, true, false, ◌++◌, ◌∷◌, [], codes, refl, Option, None, Some}
 use Rattle.cal_text.specs.headline.Separators.{words}
 use Rattle.cal_civil.specs.headline.Weekday.{name_of}

@@ -134,9 +134,9 @@ fn mistake_in(text: &str) -> Option<Mistake>
     }
 }
 
-/// Returns a hint with this mistake. For a setting, the hint suggests only its value, and for an expression with a
-/// comment, only the text before the comment; in both cases, mistakes in single words are corrected. For any other
-/// mistake, the hint has no suggestion.
+/// Returns a hint with this mistake. If the mistake is a setting in place of its value, the hint suggests the value. If
+/// it is a comment after the expression, the hint suggests the text before the comment. In both cases, mistakes in
+/// single words of the suggestion are corrected, too. If the mistake is neither of these two, there is no suggestion.
 fn hint_with(alloc: Global, mistake: Mistake, text: &str) -> Result<Option<Hint>, AllocError>
     ensures { IfOk result (λ found. option_map (λ hint. hint.mistake) found ≡ Some mistake) }
 {

@@ -47,7 +47,7 @@ static WORDS: [Row; 19] = [
     ("Mo 9am", Mistake::Weekday, "Mon 09:00"),
 ];
 
-/// Texts for which there is no hint. The first two are valid.
+/// Texts for which there is no hint. `daily` and `Mon 12:00` are valid.
 static NONE: [&str; 9] = [
     "daily",
     " Mon 12:00 ",

@@ -16,7 +16,7 @@ static ROWS: [(&str, Option<Rejection>); 13] = [
     ("*:*:5..5", Some(Rejection::OneSecond)),
     ("*:*:0..59/2148", Some(Rejection::SecondStep)),
     ("*~1,26", Some(Rejection::DaysFromEnd)),
-    // The normal form of the next row has the parts 1 and 26, in this order, and the bound of the second part is 25.
+    // The next expression is rejected, too: in its normal form, 26 is the second part, which may be at most 25.
     ("*~26,1", Some(Rejection::DaysFromEnd)),
     ("*~1,25", None),
     ("daily +02:00", Some(Rejection::Offset)),

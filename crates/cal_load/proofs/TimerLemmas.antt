@@ -10,8 +10,8 @@ use Rattle.cal_targets.specs.declared.fault.LoadFault.{LoadFault}
 use Rattle.cal_load.specs.declared.loaded.Found as founds
 use Rattle.cal_load.specs.declared.loaded.LoadedTimer.{LoadedTimer}
 
--- if all timers in `before` are on the machine, and so is the timer that was found, if any, then all timers in `after`
--- are on the machine
+-- Suppose that `after` is `before`, followed by the timer that was found, if any. If all timers in `before` are on the
+-- machine, and so is the timer that was found, then all timers in `after` are on the machine.
 pub timers_more : (Shows : Machine → Type 0) (path : List (List ℕ)) (aliases : List Alias) (found : Result founds.Found LoadFault) (before after : List LoadedTimer)
     → IfOk found (λ found. (machine : Machine) → Shows machine → IsFound machine path aliases found) → after ≡ before ++ timers_in found
     → (machine : Machine) → Shows machine → All (IsTimerOn machine path aliases) before → All (IsTimerOn machine path aliases) after

@@ -1,4 +1,4 @@
--- What was found for a target.
+-- What was found for a target: for the name of a unit, or for the path of a file.
 use Rattle.std.specs.Prelude.{◌≡◌, ℕ, List, [], ◌∷◌, Result, Ok, Err}
 use Rattle.cal_units.specs.Aliases.{Alias}
 use Rattle.cal_units.specs.Machine.{Machine}

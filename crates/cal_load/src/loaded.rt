@@ -19,7 +19,7 @@ pub struct LoadedTimer {
     /// The name of the unit's file, such as `backup.timer`; or the path of a file that was read by itself; or the
     /// expressions, separated by commas.
     pub name: String,
-    /// The files that were read, in this order: its own and its drop-ins.
+    /// The files that were read: first the timer's own file, and then its drop-ins.
     pub files: Vec<UnitText>,
     /// The number of each file's first line. Line numbers continue from file to file.
     pub first_lines: Vec<u32>,

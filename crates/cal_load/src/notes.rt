@@ -6,7 +6,7 @@ use cal_read::{Setting, Settings, UnitText, without_mark};
 use cal_span::read_span;
 use std::alloc::{AllocError, Global};
 
-/// What a setting does to the list of notes.
+/// What a setting does to the notes, the list of the settings so far that start or delay the unit.
 #[derive(Clone, Copy, PartialEq, Eq, Debug)]
 enum Effect {
     Nothing,

@@ -190,7 +190,8 @@ fn line_fault(
     Ok(TargetReason::Line(path, line, with_line(fault, line)))
 }
 
-/// Returns the error with the line number `line` in place of its own, if it has one.
+/// Replaces the line number in an error about an invalid line, or about too many expressions, by `line`. Returns any
+/// other error unchanged.
 fn with_line(fault: TimerFault, line: u32) -> TimerFault {
     match fault {
         TimerFault::BadLine(_, reason) => TimerFault::BadLine(line, reason),

@@ -27,8 +27,8 @@ all_stored machine (file ∷ files) h =
     All-cons (IsStoredOn machine) file files (All-head (IsShownOn machine) (shown_text file) (map shown_text files) h)
     (all_stored machine files (All-tail (IsShownOn machine) (shown_text file) (map shown_text files) h))
 
--- if all files in `before` are files of the machine, and `more` is `before` followed by the files that the machine has
--- at `paths`, then all files in `more` are files of the machine
+-- Suppose that `more` is `before`, followed by the files that the machine has at `paths`. If all files in `before` are
+-- files of the machine, so are all files in `more`.
 pub stored_more : (machine : Machine) (paths : List (List ℕ)) (before more files : List texts.UnitText) → more ≡ before ++ files
     → map shown_text files ≡ files_at machine paths → All (IsStoredOn machine) before → All (IsStoredOn machine) more
 stored_more machine paths before more files pushed read held =

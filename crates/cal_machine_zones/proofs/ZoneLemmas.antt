@@ -51,7 +51,8 @@ known_on : (file new : Option (List ℕ)) (xs : List ℕ) (before after : ZoneMa
 known_on None new xs before after name l e = absurd (none-some xs e)
 known_on (Some ys) new xs before after name l e = rw (sym (ap (λ o. unwrap_or o ys) e)) (loaded_is ys new before after name l)
 
--- the zone loaded from a file of the machine is the zone in this file
+-- `contents` is what the machine has at the path of the file. If a zone was loaded from the file, there are contents,
+-- and the zone is the one that they describe.
 pub loaded_on : (file new contents : Option (List ℕ)) (before after : ZoneMap) (name : List ℕ) (l : IsLoaded file new before after name)
     → Some file ≡ option_map Some contents → MatchOption contents ⊥ (λ bytes. IsFileZone name bytes l.zone)
 loaded_on file new None before after name l e = absurd (none-some file (sym e))

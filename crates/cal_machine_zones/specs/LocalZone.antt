@@ -1,7 +1,7 @@
 -- The local zone of a machine. If the option for the local zone is given, it decides. Otherwise, if the variable TZ is
 -- set, the variable decides (tzset(3)). Otherwise, the link /etc/localtime decides (localtime(5)). Without any of
--- these, the local zone is UTC. Names in the option are as in systemd.time(7), Calendar Events; its other forms are
--- this project's own.
+-- these, the local zone is UTC. If the option's value is the name of a zone, the name is as in systemd.time(7),
+-- Calendar Events. The other forms of the option's value are this project's own.
 use Rattle.std.specs.Prelude.{◌≡◌, ⊤, ℕ, ℤ, List, [], Option, None, Some, Result, Ok, Err, codes, if◌then◌else◌, is_some, string_bytes}
 use Rattle.std.specs.Option.{option_or, unwrap_or}
 use Rattle.std.specs.Str.{bytes_eq}
@@ -48,8 +48,8 @@ rule_or_other text (Some rule) = ByRule rule
 abbrev pub argument_zone : List ℕ → LocalZone
 argument_zone text = if is_utc_name text then InUtc else rule_or_other text (after_prefix (codes "posix:") text)
 
--- the zone with this name, which comes from the variable or the link; `UnclearIn` if it doesn't have the form of a
--- zone's name
+-- the zone with the name `name`, which comes from the variable or the link; `UnclearIn` if `name` doesn't have the form
+-- of a zone's name
 abbrev pub name_zone : Origin → List ℕ → LocalZone
 name_zone origin name = if is_utc_name name then InUtc else if is_zone_name name then OfName name else UnclearIn origin
 
@@ -75,9 +75,9 @@ abbrev pub value_zone : List ℕ → Option (List ℕ) → Option LocalZone
 value_zone text None = if is_some (read_whole text) then Some (ByRule text) else file_zone text
 value_zone text (Some file) = file_zone file
 
--- The zone that the variable's value names (tzset(3)). After a colon, the value has the path of a file. Without a
--- colon, it is a POSIX rule or, if it isn't a valid one, the path of a file. The result is None for the path
--- /etc/localtime.
+-- The zone that the variable's value names (tzset(3)). If the value begins with a colon, the path of a file follows the
+-- colon. Otherwise, the value is a POSIX rule or, if it isn't a valid rule, the path of a file. The result is None for
+-- the path /etc/localtime.
 abbrev pub variable_zone : List ℕ → Option LocalZone
 variable_zone text = value_zone text (after_prefix (codes ":") text)
 
@@ -140,8 +140,8 @@ HasZoneOffset (zones.TheVariants.Offset seconds) = IsOffsetSeconds seconds
 HasZoneOffset (zones.TheVariants.Rule rule) = ⊤
 HasZoneOffset (zones.TheVariants.Named name) = ⊤
 
--- whether finding this zone can fail with this error: with `Unclear` only if the origin in the error doesn't say which
--- zone is the local zone, and never with `At`
+-- whether finding the local zone can fail with this error if the local zone is `zone`: with `Unclear` only if `zone` is
+-- `UnclearIn` for the same origin, and never with `At`
 abbrev pub IsMissedBy : LocalZone → ZonesFault → Type 0
 IsMissedBy zone (faults.Unclear origin) = zone ≡ UnclearIn origin
 IsMissedBy zone (faults.Unread origin) = ⊤
@@ -159,13 +159,14 @@ IsUnread (faults.Unread origin) = ⊤
 IsUnread (faults.At path reason) = ⊥
 IsUnread faults.NoMemory = ⊤
 
--- the error with which an origin's error of a `Tree` is reported
+-- the error that is reported if the `Tree` returns this error when this origin is read
 abbrev pub unread_fault : Origin → TreeFault → ZonesFault
 unread_fault origin trees.ReadFailed = faults.Unread origin
 unread_fault origin trees.NotUtf8 = faults.Unread origin
 unread_fault origin trees.NoMemory = faults.NoMemory
 
--- whether the error is that this origin doesn't say which zone is the local zone, or that memory ran out
+-- whether the error is that memory ran out, or that an origin doesn't say which zone is the local zone, where `zone` is
+-- `UnclearIn` for this origin
 abbrev pub IsUnclearFault : LocalZone → ZonesFault → Type 0
 IsUnclearFault zone (faults.Unclear origin) = zone ≡ UnclearIn origin
 IsUnclearFault zone (faults.Unread origin) = ⊥
@@ -175,13 +176,15 @@ IsUnclearFault zone faults.NoMemory = ⊤
 abbrev pub variable_name : List ℕ
 variable_name = codes "TZ"
 
--- whether the origin can be unreadable: the variable or the link, if reading it may fail
+-- Whether the origin can be unreadable. The option can't be. The variable can be if `MayFail` is true of its name, and
+-- the link can be if `MayFail` is true of its path.
 abbrev pub IsUnreadable : (List ℕ → Type 0) → Origin → Type 0
 IsUnreadable MayFail origins.Argument = ⊥
 IsUnreadable MayFail origins.Variable = MayFail variable_name
 IsUnreadable MayFail origins.Link = MayFail localtime
 
--- whether finding the local zone without an option can end with this error; `IsMissedBy` says when an origin is unclear
+-- whether finding the local zone without an option can end with this error; every `Unclear` is allowed here, because
+-- `IsMissedBy` says when an origin is unclear
 abbrev pub IsMachineFault : (List ℕ → Type 0) → ZonesFault → Type 0
 IsMachineFault MayFail (faults.Unclear origin) = ⊤
 IsMachineFault MayFail (faults.Unread origin) = IsUnreadable MayFail origin

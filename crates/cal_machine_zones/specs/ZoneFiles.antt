@@ -64,8 +64,9 @@ abbrev pub IsRejected : (Machine → Type 0) → List ℕ → ZoneFault → Type
 IsRejected Shows name fault =
     (machine : Machine) → Shows machine → MatchOption (machine.file (zone_path name)) ⊥ (λ bytes. IsFileFault name bytes fault)
 
--- Whether the zone of this name can't be loaded because of this error of `load_zone`. If memory runs out, another error
--- is reported, and a zone that the table already has is not loaded again.
+-- Whether this error of `load_zone` can be the reason why the zone of this name can't be loaded. `NoMemory` can't be,
+-- because another error is reported then. `NameTaken` can't be, because a zone that the table already has is not loaded
+-- again.
 abbrev pub IsNotLoaded : (Machine → Type 0) → List ℕ → ZoneFault → Type 0
 IsNotLoaded Shows name zones.BadName = is_zone_name name ≡ false
 IsNotLoaded Shows name zones.BadRule = ⊥

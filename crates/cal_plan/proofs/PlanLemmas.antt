@@ -22,7 +22,8 @@ pub none_mapped : (o : Option (TimerLine Fields)) → option_map (λ (e : TimerL
 none_mapped None h = refl
 none_mapped (Some e) h = cc
 
--- the first `i + 1` lines are the first `i` lines and the line at index `i`
+-- what contracts see of the first `i + 1` lines is what they see of the first `i` lines, followed by what they see of
+-- the line at index `i`
 pub shown_more : (lines : List declared_line.TimerLine) (i : ℕ) (d : declared_line.TimerLine) → i < length lines → map shown (take (i + 1) lines) ≡ map shown (take i lines) ++ shown (get_or lines i d) ∷ []
 shown_more lines i d h = rw (take_more lines i d h) (map-append shown (take i lines) (get_or lines i d ∷ []))
 

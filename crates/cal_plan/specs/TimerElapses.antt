@@ -50,8 +50,8 @@ entry_sets e = sets_of e.expr
 abbrev pub IsCoveredEntry : TimerLine Fields → List (TimerLine Fields) → Type 0
 IsCoveredEntry e exceptions = (at : Setting) → IsCovered (timed_entry at e) (map (timed_entry at) exceptions)
 
--- `new` is the merge `old` with the elapses of the expressions in `list` added; elapses at which an exception elapses,
--- too, may be left out
+-- `new` is the merge `old` with the elapses of the expressions in `list` added; an elapse that is also an elapse of an
+-- exception may be left out
 pub record IsAdded (at : Setting) (base : ℤ) (list exceptions : List (TimerLine Fields)) (old new : Merge) : Type 0 where
   pub kept : List Timed
   pub are_kept : AreKept (map (timed_entry at) list) (map (timed_entry at) exceptions) kept

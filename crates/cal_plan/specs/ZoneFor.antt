@@ -13,10 +13,10 @@ use Rattle.cal_timer.specs.TimerEntries.{TimerLine, Timer}
 use Rattle.cal_plan.specs.declared.plan_fault.PlanFault.{PlanFault}
 use Rattle.cal_plan.specs.declared.plan_fault.PlanFault.TheVariants.{NoSuchZone}
 
--- The zone in which an expression with this zone suffix is evaluated: the local zone if there is no suffix, the fixed
--- zone at this offset if the suffix is a UTC offset, and the zone that `at.find` finds if the suffix is a name. If it
--- finds no zone with this name, the result is `None`. In every setting of the program, `at.find` returns UTC for the
--- name `UTC`.
+-- The zone in which an expression with this zone suffix is evaluated. Without a suffix, this is the local zone. If the
+-- suffix is a UTC offset, it is the fixed zone at this offset. If the suffix is a name, it is the zone that `at.find`
+-- finds, or `None` if `at.find` finds no zone with this name. In every setting of the program, `at.find` returns UTC
+-- for the name `UTC`.
 unfoldable pub zone_for : Setting → Option ZoneSuffix → Option TimeZone
 zone_for at None = Some at.local
 zone_for at (Some (of_name name)) = at.find name

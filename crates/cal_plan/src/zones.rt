@@ -8,9 +8,9 @@ ghost use Rattle.cal_plan.specs.ZoneFor.{zone_for};
 use cal_spec::Expr;
 use cal_zone::{Setting, Zone};
 
-/// Returns the zone in which an expression is evaluated: the local zone if the expression has no zone suffix, the fixed
-/// zone at this offset if the suffix is a UTC offset, UTC if the suffix is the name `UTC`, ignoring case, and the zone
-/// of this name in the table if the suffix is any other name. Returns `None` if the table has no zone of this name.
+/// Returns the zone in which an expression is evaluated. Without a zone suffix, this is the local zone. If the suffix
+/// is a UTC offset, it is the fixed zone at this offset. If the suffix is the name `UTC`, ignoring case, it is UTC. If
+/// the suffix is any other name, it is the zone of this name in the table, or `None` if the table has no such zone.
 #[tactic(auto, unfolding(crate::specs::ZoneFor::zone_for))]
 pub fn zone_for<'a>(setting: Setting<'a>, expr: &Expr) -> Option<Zone<'a>>
     ensures { option_map zone_of result ≡ zone_for (setting_seen setting.entry) expr.now.zone }

@@ -96,8 +96,8 @@ fn fault_beside(
     }
 }
 
-/// Appends the error `fault`, if there is one, to `found`, together with `place`, the index of the text that has the
-/// error.
+/// Appends the error `fault`, if there is one, to the list `found`. `place` is the index of the text that has the
+/// error, and is stored with it.
 fn push_fault(
     found: &mut Vec<FileFault>,
     place: usize,

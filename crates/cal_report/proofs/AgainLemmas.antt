@@ -1,5 +1,5 @@
--- Lemmas on the request that continues after some elapses of a report: its base time resolves to the last of these
--- elapses.
+-- Lemmas on the request that continues a report after some of its elapses: the base time of this request resolves to
+-- the last of these elapses.
 use Rattle.std.proofs.Common.{◌≡◌, ◌≤◌, ◌*◌, ◌/◌, ◌∙◌, inl, inr, ℕ, zero, suc, ℤ, pos, negsuc, List, [], ◌∷◌, Option, None, Some, Result, Ok, take, drop, length, length-take, refl, sym, ap, subst, arith, get_or}
 use Rattle.std.proofs.lemmas.Option.{slice_get-get_or}
 use Rattle.std.specs.List.{slice_get}
@@ -41,8 +41,8 @@ unfolding stamp_in
 same_base asked shown k None = refl
 same_base asked shown k (Some text) = refl
 
--- the base time of the request that `begun_again` returns resolves to the last of the first `k` elapses shown, or to
--- the old base time if `k` is 0
+-- the base time of the request that `begun_again` returns resolves to the `k`-th of the elapses shown, or to the old
+-- base time if `k` is 0
 record IsSought (asked : Request) (base : ℤ) (shown : List ℤ) (k : ℕ) : Type 0 where
   from : ℤ
   sought : base_in (begun_again asked shown k) ≡ Ok from

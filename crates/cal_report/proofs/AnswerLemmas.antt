@@ -112,8 +112,8 @@ writes_nothing a (Err e) = record { front = []; rest = []; whole = refl; written
 
 -- One iteration of the loop over the texts: what is written so far
 
--- whatever texts `rest` come after `done`, the reports of all these texts are the reports of `done`, followed by the
--- reports of `rest` as `reports_left` joins them
+-- any texts `rest` may come after the texts in `done`: the reports of all these texts are the reports of `done`,
+-- followed by the reports of `rest`, which `reports_left` joins
 abbrev pub GoesOn : (List ℕ → Answer) → Bool → List (List ℕ) → Type 0
 GoesOn answer follows_report done = (rest : List (List ℕ)) → reports_text answer (done ++ rest) ≡ reports_text answer done ++ reports_left follows_report answer rest
 

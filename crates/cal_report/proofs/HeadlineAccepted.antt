@@ -49,8 +49,8 @@ some_found (Some x) h = (x, refl)
 
 -- If the status is `Fine`, every text was accepted
 
--- the clause `some` of the law `one_normal_form_of_fields`, which the lemmas below take as a premise: `normal_fields`
--- returns a normal form of valid fields (`HaveOneNormalForm` is the clause `only`)
+-- The clause `some` of the law `one_normal_form_of_fields`: `normal_fields` returns a normal form of valid fields. The
+-- lemmas below take this clause as a premise. `HaveOneNormalForm` is the clause `only` of the same law.
 abbrev pub AreNormalForms : Type 0
 AreNormalForms = (f : Fields) → IsValidFields f → IsNormalFieldsOf f (normal_fields f)
 

@@ -42,8 +42,8 @@ use Rattle.cal_request.specs.declared.request.Verb.TheVariants as verb
 
 -- Accepted expressions are parsed as the definitions say
 
--- the clause `only` of the law `one_normal_form_of_fields` of `cal_spec`, which the lemmas below take as a premise:
--- valid fields have no normal form other than the one that `normal_fields` returns
+-- The clause `only` of the law `one_normal_form_of_fields` of `cal_spec`: valid fields have no normal form other than
+-- the one that `normal_fields` returns. The lemmas below take this clause as a premise.
 abbrev pub HaveOneNormalForm : Type 0
 HaveOneNormalForm = (f g : Fields) → IsValidFields f → IsNormalFieldsOf f g → g ≡ normal_fields f
 

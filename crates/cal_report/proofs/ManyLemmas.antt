@@ -102,8 +102,8 @@ one_cut c (v ∷ lists) (z ∷ b) (w ∷ d) x y a e last rest more others p q cu
     let later = one_cut c lists b d x y a e last rest more others left right cut cut_again parts in
     (ap (λ zs. z ∷ zs) later.0 ∙ ap (λ front. front ∷ d) heads, later.1)
 
--- `xs` is the list `first`, which `f` maps to `before`, followed by the element `x`, which `f` maps to `y`, and the
--- list `others`
+-- `xs` consists of the list `first`, the element `x` and the list `others`, in this order. `f` maps `first` to
+-- `before`, and `x` to `y`.
 record MapAmong {A B : Type 0} (f : A → B) (xs : List A) (before : List B) (y : B) (after : List B) : Type 0 where
   first : List A
   x : A

@@ -89,7 +89,7 @@ end_of_later local now number start x before elapse =
     = ap (λ (n : ℕ). length (first_line local n elapse)) (omega arith) in
     omega (arith, same, length-append (elapse_text local now number x) (elapse_texts local now (number + 1) before))
 
--- the first line of `x`, the first elapse, doesn't end after the first line of any other elapse
+-- if `x` is the first of the elapses, then no elapse has a first line that ends before the first line of `x` does
 end_low : (local : Zone) (now : ℤ) (number start : ℕ) (x : ℤ) (xs before : List ℤ) (elapse : ℤ) (after : List ℤ)
     → x ∷ xs ≡ before ++ (elapse ∷ after) → start + length (first_line local number x) ≤ line_end local now number start before elapse
 end_low local now number start x xs [] elapse after split =
@@ -261,8 +261,8 @@ split_at (x ∷ xs) (suc k) within =
       number = ap suc later.number;
     }
 
--- the number of complete first lines can't be both `k` and a greater number `m`: the first line of the elapse with
--- index `k` would be complete according to `m`, but not according to `k`
+-- the number of complete first lines can't be both `k` and a greater number `m`: if it is `m`, the first line of the
+-- elapse with index `k` is complete, and if it is `k`, this line isn't
 not_fewer : (asked : Request) (s : Schedule) (shown : List ℤ) (front : List ℕ) (k m : ℕ)
     → Stand asked s shown front k → Stand asked s shown front m → k < m → ⊥
 not_fewer asked s shown front k m h g less =

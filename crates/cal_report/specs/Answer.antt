@@ -25,7 +25,7 @@ abbrev pub error_line_in : List ℕ → Answer → List ℕ
 error_line_in text (Ok report) = []
 error_line_in text (Err message) = error_line text message
 
--- what comes before a report: an empty line, unless it is the first report
+-- what comes before a report: an empty line, or nothing if no report precedes it
 abbrev pub lead_text : Bool → List ℕ
 lead_text follows_report = if follows_report then codes "\n" else []
 

@@ -81,7 +81,7 @@ unfoldable pub report : Request → Result (List ℕ) WholeFault → Report
 report asked read = report_on asked read (kind_of asked)
 
 -- `read` is what reading a timer file returned: all of its bytes, or why reading them failed. The file is read only if
--- the base time is valid. If it isn't, the file stays unchanged, and `read` is an empty list of bytes.
+-- the base time is valid. If the base time is invalid, the file stays unchanged, and `read` is an empty list of bytes.
 abbrev pub ReadsFile : Result ℤ StampFault → Option (List ℕ) → Option (List ℕ) → Result (List ℕ) WholeFault → Type 0
 ReadsFile (Ok base) old new read = ReadsWhole old new timer_file_limit read
 ReadsFile (Err fault) old new read = (new ≡ old) × (read ≡ Ok [])
@@ -102,9 +102,9 @@ pub record IsReported (result : Result Status RunFault) (out_old out_new err_old
   pub err : Writes err_old err_new result report.err
   pub unread : read ≡ Err NoMemory → (out_new ≡ out_old) × (err_new ≡ err_old)
 
--- There is a possible result of reading the input, `read`, and `holds_of` is true of `read` and of the report that the
--- request has for it. `failed` says whether the source of the input has failed: it is true if and only if `read` says
--- that a read failed.
+-- There is a `read`, a possible result of reading the input, with two properties. First, `holds_of` is true of `read`
+-- and of the report that the request has if reading returns `read`. Second, `failed`, which says whether the source of
+-- the input has failed, is true if and only if `read` says that a read failed.
 pub record ByReading (asked : Request) (old new : Option (List ℕ)) (failed : Bool) (holds_of : Result (List ℕ) WholeFault → Report → Type 0) : Type 0 where
   pub read : Result (List ℕ) WholeFault
   pub input : ReadsFor (kind_of asked) (base_in asked) old new read

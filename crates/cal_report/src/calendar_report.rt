@@ -15,8 +15,8 @@ use cal_elapse::Rising;
 use cal_plan::Instants;
 use cal_spec::{Expr, write_expr};
 
-/// Writes the report of an expression: `text` as the user gave it, its normal form, and its next elapses, at most as
-/// many as the request's `iterations`.
+/// Writes the report of an expression: `text` as the user gave it, its normal form, and its next elapses, at most
+/// `context.request.iterations` of them.
 #[tactic(auto, using(cal_bytes::proofs::PutLemmas::puts))]
 pub fn write_calendar<W: Sink, S: Rising>(
     out: &mut W,

@@ -46,15 +46,15 @@ pub fn headline()
     // In general, each accepted text has its report, and each rejected text has an error line on standard error.
     ensures each { (asked : Request) (read : Result (List ℕ) WholeFault) (base : ℤ) → asked.verb ≡ Calendar
         → base_in asked ≡ Ok base → AreAnswered asked base asked.texts (report asked read) }
-    // The report of an accepted timer file consists of its headings, followed by the first elapses of its expressions,
-    // without the elapses of its exceptions.
+    // The report of an accepted timer file consists of its headings, followed by the first elapses of the timer. The
+    // timer's elapses are those of the file's expressions, except those that are also elapses of an exception.
     ensures timer { (asked : Request) (bytes : List ℕ) (base : ℤ) (s : Schedule)
         → asked.verb ≡ Timer → base_in asked ≡ Ok base → IsFileOf bytes s → AreAllAccepted asked s
         → IsReportOf asked base s (report asked (Ok bytes)).out × IsFine (report asked (Ok bytes)) }
 
-    // The three statements above again, now about the bytes that a run appends to its writers. They apply if the run
-    // returns `Ok`, that is, if no allocation and no write failed. The premise `ByReading` is what the contract of
-    // `run` promises.
+    // The statements `calendar`, `each` and `timer` again, now about the bytes that a run appends to its writers. Here
+    // they apply if the run returns `Ok`, that is, if no allocation and no write failed. The premise `ByReading` is
+    // what the contract of `run` promises.
     ensures written { (asked : Request) (base : ℤ) (es : List Expression) (old new : Option (List ℕ)) (failed : Bool)
         (status : Status) (out_old out_new err_old err_new : Option (List ℕ)) → asked.verb ≡ Calendar
         → base_in asked ≡ Ok base → asked.texts ≡ map (λ (e : Expression). e.text) es → AllByRecursion (IsAccepted asked) es
@@ -110,8 +110,8 @@ pub fn headline()
         → IsPlace (timed fields tz) j → local_shown_at tz i ≡ local_shown_at tz j → i ≡ j }
     // A local second that the clock never shows (in a gap) has no instant. If `jiff` finds that the clock shows a local
     // second twice (in a fold), and the local second has an instant, then this instant is the local second minus the
-    // UTC offset before the transition. If this offset is larger than the one after the transition, the instant is
-    // earlier than the local second minus the offset after the transition, which would be the second occurrence.
+    // UTC offset before the transition. The second occurrence would be the local second minus the UTC offset after the
+    // transition. If the offset before the transition is the larger one, the instant is earlier than that.
     ensures gap { (tz : TimeZone) (local : ℤ) → ((second : ℤ) → local_shown_at tz second ≡ local → ⊥)
         → place_of tz local ≡ None }
     ensures fold { (tz : TimeZone) (local i : ℤ) (before after : Offset)

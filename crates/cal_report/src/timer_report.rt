@@ -23,8 +23,8 @@ use cal_plan::{Instants, PlanFault, merge_of};
 use cal_timer::{Timer, TimerFault, TimerLine, read_timer};
 use std::alloc::Global;
 
-/// A parsed timer file, together with the source of the elapses of its expressions, without the elapses of its
-/// exceptions.
+/// A parsed timer file, together with the source of the timer's elapses. These are the elapses of the file's
+/// expressions, except those that are also elapses of an exception.
 #[derive(Drop)]
 pub struct TimerPlan<'a> {
     timer: Timer,

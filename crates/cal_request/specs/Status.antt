@@ -1,4 +1,5 @@
--- How a run ends: its status if its output could be written in full, and otherwise which of its two writers failed.
+-- How a run ends: with a status if its output could be written in full, and otherwise with an error. Two definitions
+-- say which of the run's two writers failed, if one of them did.
 use Rattle.std.specs.Prelude.{Bool, true, false, Result, Ok, Err}
 use Rattle.cal_request.specs.declared.request.Status.{Status}
 use Rattle.cal_request.specs.declared.request.Status.TheVariants.{Fine, Refused}

@@ -102,9 +102,10 @@ union-advanced m ss h e =
     same_rising (union (map (advanced m) lists)) (drop 1 (union lists)) (rises-union (map (advanced m) lists)) (rises-drop (union lists) 1 rises)
     (λ i. grind (arith, HasAny-advanced m ss h low i, later_by_first m (union lists) rises e i, Has-union (map (advanced m) lists) i, Has-union lists i))
 
--- Suppose that each of the first i sources in `xs` has the numbers that `f` returns for the numbers of the source in
--- `ys` with the same index, and that `y` has those that `f` returns for the source in `ys` at index i. Once `y`
--- replaces the source in `xs` at index i, the first statement is true of the first i + 1 sources.
+-- Suppose that `f` maps the numbers of each of the first i sources in `ys` to the numbers of the source in `xs` with
+-- the same index, and the numbers of the source in `ys` at index i to those of `y`. Once `y` replaces the source in
+-- `xs` at index i, `f` maps the numbers of each of the first i + 1 sources in `ys` to those of the source in `xs` with
+-- the same index.
 changed_next : (f : List ℤ → List ℤ) (xs ys : List Peeked) (i : ℕ) (y d : Peeked) → i < length xs → i < length ys
     → map numbers (take i xs) ≡ map f (map numbers (take i ys)) → numbers y ≡ f (numbers (get_or ys i d))
     → map numbers (take (suc i) (set xs i y)) ≡ map f (map numbers (take (suc i) ys))
@@ -123,8 +124,8 @@ pub changed_more : (f : List ℤ → List ℤ) (xs ys : List Peeked) (i : ℕ) (
     → map numbers (take (i + 1) (set xs i y)) ≡ map f (map numbers (take (i + 1) ys))
 changed_more f xs ys i y d lt lu so_far same now = grind (arith, ints, add-one, changed_next)
 
--- if `HasHead` holds for the first i sources, and the source at index i is replaced by one for which it holds, then it
--- holds for the first i + 1 sources
+-- if `HasHead` holds for the first i sources and for `s`, and `s` replaces the source at index i, then `HasHead` holds
+-- for the first i + 1 sources
 pub has_head_more : (ss : List Peeked) (i : ℕ) (s : Peeked) → i < length ss → HasHead s → ((k : ℕ) (d : Peeked) → k < i → HasHead (get_or ss k d))
     → (k : ℕ) (d : Peeked) → k < suc i → HasHead (get_or (set ss i s) k d)
 has_head_more [] i s lt h below k d le = absurd (omega arith)

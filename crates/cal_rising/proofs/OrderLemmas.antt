@@ -58,7 +58,8 @@ module _ {A : Type 0} (cmp : A → A → Ordering) (total : IsTotalOrder cmp) wh
   same_first x y xs ys sx sy hx hy =
       grind (arith, all_at (λ z. cmp x z ≡ Less) xs y sx.0, all_at (λ z. cmp y z ≡ Less) ys x sy.0, total.trans x y x, tied_itself total x)
 
-  -- if `z` is in the tail of a strictly sorted list `x ∷ xs`, it isn't `x`; so if `z` is in `x ∷ ys`, it is in `ys`
+  -- if `z` is in the tail of a strictly sorted list `x ∷ xs`, then `z` isn't `x`; so if `z` is also in `x ∷ ys`, it is
+  -- in `ys`
   has_tail : (x z : A) (xs ys : List A) → IsStrictlySortedBy cmp (x ∷ xs) → Has xs z → Has (x ∷ ys) z → Has ys z
   unfolding IsStrictlySortedBy
   has_tail x z xs ys sorted h k = grind (arith, all_at (λ w. cmp x w ≡ Less) xs z sorted.0 h, tied_itself total x)

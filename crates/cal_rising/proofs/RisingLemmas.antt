@@ -16,11 +16,11 @@ use Rattle.cal_rising.specs.headline.Elements.{Has}
 use Rattle.cal_rising.proofs.OrderLemmas.{all_at, has-insert_key, same_sorted}
 use Rattle.cal_text.proofs.General.{lt_from_less}
 
--- every number after the first of a strictly increasing list is greater than the first
+-- in a strictly increasing list, every number after the first is greater than the first
 pub above_first : (x i : ℤ) (xs : List ℤ) → IsStrictlySortedBy int_cmp (x ∷ xs) → Has xs i → x <ℤ i
 above_first x i xs h m = lt_from_less x i (all_at (λ y. int_cmp x y ≡ Less) xs i (sorted_head int_cmp x xs h) m)
 
--- the numbers after the first of a strictly increasing list are those greater than the first
+-- in a strictly increasing list, the numbers after the first are exactly the numbers greater than the first
 pub later_members : (x : ℤ) (xs : List ℤ) → IsStrictlySortedBy int_cmp (x ∷ xs) → (i : ℤ) → Has xs i ↔ ((x <ℤ i) × Has (x ∷ xs) i)
 later_members x xs h i = grind (arith, ints, above_first x i xs h)
 

@@ -1,6 +1,6 @@
--- Lemmas on merges with exceptions: lists whose numbers a merge leaves out. The lemmas concern leaving numbers out of a
--- list, one round of the loop in `Merge::next`, and the loop in `has_onward_in_any`, which tests whether at least one
--- exception has a number.
+-- Lemmas on merges with exceptions. An exception is a list whose numbers a merge leaves out. The lemmas are about
+-- leaving numbers out of a list, about one round of the loop in `Merge::next`, and about the loop in
+-- `has_onward_in_any`, which tests whether at least one exception has a number.
 use Rattle.std.proofs.Common.{None, IfSome, ◌≡◌, ◌≢◌, ◌↔◌, ◌||◌, ◌&&◌, ◌<◌, ◌≤◌, ◌+◌, ℕ, suc, cond, Bool, true, false, not, List, [], ◌∷◌, length, drop, slice_get, get_or, get_or-set_other, set, map, zero, Option, Some, ℤ, ◌≤ℤ◌, int_eq, refl, sym, ap, ◌∙◌, arith}
 use Rattle.std.specs.List.{AllByRecursion, list_any}
 use Rattle.std.specs.List.Sorted.{IsStrictlySortedBy}
@@ -124,8 +124,8 @@ pub record AreBehind (n : ℤ) (at : ℕ) (given now : List Peeked) : Type 0 whe
   pub none : (k : ℕ) → k < at → (d : Peeked) → is_member int_eq (numbers (get_or given k d)) n ≡ false
   pub untouched : (k : ℕ) (d : Peeked) → at ≤ k → get_or now k d ≡ get_or given k d
 
--- if `AreBehind` holds for the index `at`, and the source there doesn't have the number, then it holds for `at + 1`,
--- even if that source was read further
+-- if `AreBehind` holds for the index `at`, and the source at this index doesn't have the number, then `AreBehind` also
+-- holds for `at + 1`, even if this source was read further
 pub behind_more : (n : ℤ) (at : ℕ) (given now : List Peeked) (s t : Peeked) → AreBehind n at given now → at < length given
     → is_member int_eq (numbers (get_or now at s)) n ≡ false → AreBehind n (at + 1) given (set now at t)
 behind_more n at given now s t h lt lacks = record {
@@ -141,14 +141,14 @@ pub behind_all : (n number : ℤ) (at : ℕ) (given now ss : List Peeked) → Ar
     → false ≡ list_any (λ xs. is_member int_eq xs number) (map numbers ss)
 behind_all n number at given now ss h same whole all = grind (arith, ints, any-none)
 
--- if `AreBehind` holds for the index `at`, and the source there has the number, then at least one source had the number
--- before the loop read from the sources
+-- if `AreBehind` holds for the index `at`, and the source at this index has the number, then at least one source had
+-- the number before the loop read from the sources
 pub behind_here : (n number : ℤ) (at : ℕ) (given now ss : List Peeked) (s : Peeked) → AreBehind n at given now → n ≡ number → given ≡ ss → at < length given
     → is_member int_eq (numbers (get_or now at s)) n ≡ true → true ≡ list_any (λ xs. is_member int_eq xs number) (map numbers ss)
 behind_here n number at given now ss s h same whole lt has = grind (arith, ints, any-here)
 
--- if a source is replaced, and the old and the new source both have `n` or both lack it, then whether at least one
--- source has `n` stays the same
+-- if a source is replaced by one that has `n` if and only if the replaced source has it, testing whether at least one
+-- source has `n` returns the same as before
 pub any_replaced : (n : ℤ) (ss : List Peeked) (i : ℕ) (s d : Peeked) → i < length ss → is_member int_eq (numbers s) n ≡ is_member int_eq (numbers (get_or ss i d)) n
     → list_any (λ xs. is_member int_eq xs n) (map numbers (set ss i s)) ≡ list_any (λ xs. is_member int_eq xs n) (map numbers ss)
 any_replaced n [] i s d lt h = absurd (omega arith)

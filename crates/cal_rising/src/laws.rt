@@ -12,8 +12,8 @@ pub fn union_is_one_list()
 {}
 
 /// If the numbers of some lists, the exceptions, are left out of the union of other lists, the result is strictly
-/// increasing. It contains a number if and only if at least one of the other lists has it and no exception has it. Only
-/// this list has both properties. Without exceptions, it is the union of the lists.
+/// increasing. The result contains a number if and only if at least one of the other lists has it and no exception has
+/// it. No other list has both properties. If there are no exceptions, the result is the union of the other lists.
 pub fn union_without_is_one_list()
     ensures this { (lists exceptions : List (List ℤ)) → IsUnionWithout lists exceptions (without (union lists) (union exceptions)) }
     ensures only { (lists exceptions : List (List ℤ)) (list : List ℤ) → IsUnionWithout lists exceptions list

@@ -10,9 +10,9 @@ ghost use Rattle.cal_rising.specs.RisingList.{IsSameFrom};
 use crate::Rising;
 use std::marker::Model;
 
-/// How many misses [`Peeked::has_onward`] only counts; at the next miss, it reads a number from the source. A miss is
-/// an answer of the source that it does not have the number asked for. Reading is put off because, in a source with few
-/// numbers, finding the next number costs far more than asking whether the source has a certain number.
+/// How many misses [`Peeked::has_onward`] counts without reading from the source. At the next miss, it reads a number.
+/// In a miss, the source answers that it does not have the number asked for. Reading is put off because, in a source
+/// with few numbers, finding the next number costs far more than asking whether the source has a certain number.
 const MISSES_BEFORE_STEP: u8 = 128;
 
 /// A source whose next number may have been read ahead ("peeked"). A contract can see the number read ahead, if any,

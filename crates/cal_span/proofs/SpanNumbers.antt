@@ -104,9 +104,9 @@ divisor_more i divisor so_far = rw (add-one, pow-suc) (omega arith)
 pub term_is : (digits : List ℕ) (i divisor size : ℕ) → i < length digits → list_all is_ascii_digit digits ≡ true → size ≤ 31557600000000 → divisor ≡ min (10 ^ (i + 1)) top → (get_or digits i 0 - 48) * size / divisor ≡ digit_value (get_or digits i 0) * size / 10 ^ (i + 1)
 term_is digits i divisor size within all small at_power = grind (arith, nat_tests, digit_value_at, mul-le-mul, one-le-pow, quotient_at_top)
 
--- Suppose that the sum so far plus the value of the digits from index `i` on equals the value of all digits. After the
--- value of digit `i` has been added to the sum, the new sum plus the value of the digits from index `i + 1` on equals
--- it, too. All sums saturate at `top`.
+-- Suppose that the sum so far plus the value of the digits from index `i` on equals the value of all digits. If the
+-- value of digit `i` is added to the sum, then the new sum plus the value of the digits from index `i + 1` on also
+-- equals the value of all digits. All sums saturate at `top`.
 pub fraction_more : (digits : List ℕ) (i sum size : ℕ) → i < length digits → min (sum + fraction_worth size (i + 1) (drop i digits)) top ≡ min (fraction_worth size 1 digits) top → min (min (sum + digit_value (get_or digits i 0) * size / 10 ^ (i + 1)) top + fraction_worth size (i + 1 + 1) (drop (i + 1) digits)) top ≡ min (fraction_worth size 1 digits) top
 fraction_more digits i sum size within so_far =
     let step = at_drop_more (fraction_worth size (i + 1)) digits i 0 within in omega (arith, step)

@@ -85,7 +85,8 @@ count_words [] = []
 count_words (c ∷ cs) =
     record { kind = Numeric; text = decimal c.number } ∷ record { kind = Letter; text = unit_name c.unit } ∷ count_words cs
 
--- if no letter follows, and its number is below 2 ^ 64, a printed count is two runs: its digits and its unit
+-- if the number of a count is below 2 ^ 64, and no letter follows the printed count, then the printed count is two
+-- runs: the digits of the number, and the unit
 runs-count : (c : Count) (rest : List ℕ) → c.number < 2 ^ 64 → BeginsApart Letter (runs (characters rest)) → runs (characters (count_text c ++ rest)) ≡ record { kind = Numeric; text = decimal c.number } ∷ record { kind = Letter; text = unit_name c.unit } ∷ runs (characters rest)
 runs-count c rest small apart =
     let unit = runs-of_kind_front Letter (unit_name c.unit) rest (name_of_nonempty c.unit) (letters-unit_name c.unit) apart in

@@ -37,8 +37,8 @@ are_runs (s ∷ ss) = runs_first s ss (runs ss) (are_runs ss)
 pub runs_cut : (text : List ℕ) → AreRuns (characters text) (runs (characters text))
 runs_cut text = are_runs (characters text)
 
--- if neighboring runs are of different kinds, they still are after a character of the first run's kind is joined to the
--- first run
+-- Suppose that neighboring runs are of different kinds, and that a character of the first run's kind is joined to the
+-- first run. Then neighboring runs are still of different kinds.
 apart_joined : (s w : Piece) (ws : List Piece) → is_kind s.kind w.kind ≡ true → AreApart (w ∷ ws) → AreApart (record { kind = s.kind; text = s.text ++ w.text } ∷ ws)
 apart_joined s w [] same apart = tt
 apart_joined s w (v ∷ ws) same (first, rest) = grind (arith, nat_tests, same_from_is_kind)

@@ -34,8 +34,8 @@ same_from_is_kind Other Other e = refl
 abbrev pub without_blanks : List Piece → List Piece
 without_blanks ws = filter (λ (w : Piece). not (is_kind Blank w.kind)) ws
 
--- if `runs_first` holds for the characters from `t` on, it also holds for the characters from `s` on, whether `s` and
--- `t` are of the same kind or not
+-- Let `s` and `t` be the first two characters. If `runs_first` holds for the characters from `t` on, then it also holds
+-- for the characters from `s` on, whether `s` and `t` are of the same kind or not.
 runs_second : (s t : Piece) (ss : List Piece) (same : Bool) → is_kind s.kind t.kind ≡ same → runs (t ∷ ss) ≡ record { kind = t.kind; text = t.text ++ front_of t.kind ss } ∷ runs (after_front t.kind ss) → cond same (record { kind = s.kind; text = s.text ++ (t.text ++ front_of t.kind ss) } ∷ runs (after_front t.kind ss)) (s ∷ record { kind = t.kind; text = t.text ++ front_of t.kind ss } ∷ runs (after_front t.kind ss)) ≡ record { kind = s.kind; text = s.text ++ cond same (t.text ++ front_of s.kind ss) [] } ∷ runs (cond same (after_front s.kind ss) (t ∷ ss))
 runs_second s t ss true test by_rest = grind (arith, nat_tests, same_from_is_kind)
 runs_second s t ss false test by_rest = rw append-nil (ap (λ ws. s ∷ ws) (sym by_rest))

@@ -119,8 +119,8 @@ counted_in : (time : Bool) (n room : ℕ) → n ≤ cond time (room + 1) room �
 counted_in true n room h = omega arith
 counted_in false n room h = h
 
--- the properties of a component that was parsed with at most `room` counted parts: its values are valid, and it has at
--- most `room` counted parts
+-- what is true of each component that `component_of` returns when `room` more counted parts are allowed: its values are
+-- valid, and it has at most `room` counted parts
 pub record IsRead (slot : Slot) (room : ℕ) (c : Option (List Part)) : Type 0 where
   pub sound : IsValidComponent slot c
   pub few : counted slot c ≤ room

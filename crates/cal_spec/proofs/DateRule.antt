@@ -183,7 +183,7 @@ is_time room word weekdays d h name at =
 
 -- If the grammar allows a date or a time, parsing it succeeds
 
--- no component has more counted parts than the components before it leave of the 240 that are allowed in all
+-- 240 counted parts are allowed in all; no component has more of them than are left after the components before it
 pub record AreFew (f : Fields) : Type 0 where
   pub year : counted Year f.year ≤ 240
   pub month : counted Month f.month ≤ 240 - counted Year f.year

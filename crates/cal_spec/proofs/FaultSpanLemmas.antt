@@ -9,7 +9,8 @@ use Rattle.cal_text.specs.headline.Trim.{trim_end_matches}
 use Rattle.cal_text.specs.headline.Separators.{is_blank}
 use Rattle.cal_spec.specs.WordsOfText.{IsWordAt}
 
--- `&text[from..]` is the text without its first `from` bytes
+-- contracts give `&text[from..]` as `take (length text - from) (drop from text)`, which is the text without its first
+-- `from` bytes
 pub rest_from : (text : List ℕ) (from : ℕ) → take (length text - from) (drop from text) ≡ drop from text
 rest_from text from = take_all (length text - from) (drop from text) (omega (arith, length-drop from text))
 

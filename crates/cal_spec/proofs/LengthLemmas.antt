@@ -33,7 +33,8 @@ abbrev pub IsBelow : ℕ → Option ℕ → Type 0
 IsBelow bound None = Unit {0}
 IsBelow bound (Some n) = n < bound
 
--- a small part: its numbers have so few digits that the length of its text can be bounded
+-- a small part: its start and its end are below 10,000 and its step is below 1,000, so the length of its text can be
+-- bounded
 pub record IsSmall (p : Part) : Type 0 where
   pub start : p.start < 10_000
   pub end : IsBelow 10_000 p.end

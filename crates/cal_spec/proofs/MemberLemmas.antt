@@ -32,7 +32,7 @@ list_any-same : {A : Type 0} (f g : A → Bool) (P : A → Type 0) (xs : List A)
 list_any-same f g P [] all same = refl
 list_any-same f g P (x ∷ xs) all same = rw (same x all.0, list_any-same f g P xs all.1 same) refl
 
--- a range from a to a contains only a
+-- the range from `a` to `a` contains only the number `a`
 one_number : (a v : ℕ) → nat_eq v a ≡ is_between a a v
 one_number a v = grind (arith, nat_tests)
 

@@ -1,4 +1,5 @@
--- Valid fields have exactly one normal form. It is valid, and it is its own normal form.
+-- Valid fields have exactly one normal form. This normal form is valid, and bringing it into normal form again changes
+-- nothing.
 use Rattle.std.proofs.Common.{◌≡◌, ◌↔◌, ◌+◌, ◌<◌, ◌≤◌, cond, Bool, true, false, List, [], ◌∷◌, length, map, Option, None, Some, refl, sym, ap, ◌∙◌, subst, inl, inr, arith}
 use Rattle.std.specs.List.{AllByRecursion}
 use Rattle.std.specs.List.Sorted.{IsStrictlySortedBy}

@@ -118,8 +118,8 @@ end_read slot a b [] p sound at = record { step = None; back = refl; is = cc }
 end_read slot a b (slash ∷ ss) p sound at = step_read slot a (Some b) ss p sound.1 at
 end_read slot a b ss p sound at = cc
 
--- `p` is a part with the start `a`; `text` is what is written of the part after its start: `..` and the end if it has
--- an end, then a slash and the step if it has a step
+-- `p` is a part with the start `a`. `text` is the rest of the part's text: `..` and the end, if `p` has an end, and
+-- then a slash and the step, if `p` has a step.
 pub record IsRest (text : List ℕ) (a : ℕ) (p : Part) : Type 0 where
   pub middle : List ℕ
   pub back : List ℕ
@@ -185,7 +185,7 @@ number_due_is : (slot : Slot) (ds : List ℕ) (n : ℕ) (ss : List Symbol) → I
 number_due_is slot ds n ss number apart =
     rw (number.value, le-ltb max_number n number.small, and_right (is_second slot) (starts_with_point ss) apart) refl
 
--- if no digit follows a number, its digits are one symbol
+-- if no digit follows a number in a text, the digits of the number are one symbol
 number_symbols : (ds : List ℕ) (n : ℕ) (rest : List ℕ) → IsNumber ds n → begins_with is_ascii_digit rest ≡ false → symbols (ds ++ rest) ≡ digits ds ∷ symbols rest
 number_symbols [] n rest number apart = absurd (omega (arith, number.some))
 number_symbols (d ∷ ds) n rest number apart =

@@ -13,7 +13,7 @@ use Rattle.cal_spec.specs.declared.slot.Slot.{Slot}
 use Rattle.cal_spec.proofs.NormalLemmas.{same_part}
 use Rattle.std.specs.Cmp.{both_ways}
 
--- the last of the numbers a, a + r, .. that are at most b
+-- the last of the numbers `a`, `a` + `r`, .. that are at most `b`
 abbrev pub last_of : ℕ → ℕ → ℕ → ℕ
 last_of a b r = a + (b - a) / r * r
 

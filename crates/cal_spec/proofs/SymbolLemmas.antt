@@ -64,7 +64,7 @@ digits_first b bs digit =
     let front = front_digits bs in
     rw (digit, e) (ap (λ cs. symbols (b ∷ cs)) (sym (take-append-drop n bs)) ∙ symbols_number b (take n bs) (drop n bs) digit front.0 front.1)
 
--- if the symbol is a number, it consists of one or more digits
+-- if the symbol is `digits ds`, then `ds` has one or more bytes, and each of them is a digit
 abbrev pub IsSymbol : Symbol → Type 0
 IsSymbol (digits ds) = (list_all is_ascii_digit ds ≡ true) × (0 < length ds)
 IsSymbol s = ⊤
@@ -87,7 +87,7 @@ pair_of_symbols : (b : ℕ) (ss ts : List Symbol) (pair : Bool) → AllByRecursi
 pair_of_symbols b ss ts true all more = (tt, all)
 pair_of_symbols b ss ts false all more = byte_of_symbols b ts (is_ascii_digit b) refl more
 
--- all numbers among the symbols of a text consist of one or more digits
+-- `IsSymbol` holds for all symbols of a text
 pub symbols_sound : (text : List ℕ) → AllByRecursion IsSymbol (symbols text)
 symbols_sound [] = tt
 symbols_sound (b ∷ []) = byte_of_symbols b [] (is_ascii_digit b) refl tt
@@ -96,11 +96,12 @@ symbols_sound (b ∷ c ∷ bs) = pair_of_symbols b (symbols bs) (symbols (c ∷ 
 pub sound_at : (text : List ℕ) (ss : List Symbol) → symbols text ≡ ss → AllByRecursion IsSymbol ss
 sound_at text ss at = rw at at (symbols_sound text)
 
--- like `digits_first`, but the first byte is known to be a digit by its value, from 48 to 57
+-- like `digits_first`, but instead of the test for digits, it is known that the value of the first byte is from 48 to
+-- 57
 pub digits_at_front : (text : List ℕ) → 0 < length text → 48 ≤ get_or text 0 0 → get_or text 0 0 ≤ 57 → symbols text ≡ digits (take (prefix_len is_ascii_digit text) text) ∷ symbols (drop (prefix_len is_ascii_digit text) text)
 digits_at_front [] some low high = absurd (omega arith)
 digits_at_front (b ∷ bs) some low high = digits_first b bs (and_from _ _ (le-leb 48 b low) (le-leb b 57 high))
 
--- if the first symbol of a text is a number, the number consists of digits
+-- if the first symbol of a text is `digits ds`, all bytes of `ds` are digits
 pub first_has_digits : (text : List ℕ) (ds : List ℕ) (ss : List Symbol) → symbols text ≡ digits ds ∷ ss → list_all is_ascii_digit ds ≡ true
 first_has_digits text ds ss at = (sound_at text (digits ds ∷ ss) at).0.0

@@ -195,8 +195,8 @@ run_past r rs day past =
 contradiction : {A : Type 0} (x y : Bool) → x ≡ true → y ≡ false → x ≡ y → A
 contradiction x y holds fails same = absurd (cc)
 
--- if two lists of runs contain the same days, the first run `q` of the second list doesn't begin after the first run
--- `r` of the first list
+-- Let `r` be the first run of one list of runs, and let `q` be the first run of another. If both lists contain the same
+-- days, `q` doesn't begin later than `r`.
 first_le : (r q : Run) (rs qs : List Run) → r.first ≤ r.last → AreApartFrom q.first (q ∷ qs) → ((day : ℕ) → is_in day (r ∷ rs) ≡ is_in day (q ∷ qs))
     → q.first ≤ r.first
 first_le r q rs qs forward apart same = elim (cases_lt r.first q.first) [

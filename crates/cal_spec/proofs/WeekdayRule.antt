@@ -179,7 +179,7 @@ items_found (t ∷ ts) items at =
     let read = items_of-cons t ts items at in
     rw read.is (item_found t read.first read.first_is, items_found ts read.rest read.rest_is)
 
--- a nonempty text consists of all its bytes but the last, followed by the last byte
+-- joining the bytes of a nonempty text before its last byte (`take`) and the last byte (`get_or`) gives the text again
 last_taken : (b : ℕ) (bs : List ℕ) → take (length bs) (b ∷ bs) ++ (get_or (b ∷ bs) (length bs) 0 ∷ []) ≡ b ∷ bs
 last_taken b [] = refl
 last_taken b (c ∷ bs) = ap (λ more. b ∷ more) (last_taken c bs)

@@ -185,7 +185,8 @@ after_weekdays_is weekdays None (Some time) last date_kind kind signless begins 
 after_weekdays_is weekdays (Some date) time last date_kind kind signless begins =
     rw (date_kind.0, signless.0, date_kind.1) (after_date_is weekdays date time last kind signless.1 begins)
 
--- if the byte `b` isn't a letter, it doesn't become a lower-case letter `c` when it is converted to lower case
+-- converting a byte `b` that isn't a letter to lower case doesn't give a lower-case letter; `c` is any byte from `a` to
+-- `z`
 other_letter : (b c : ℕ) → is_ascii_alphabetic b ≡ false → 97 ≤ c → c ≤ 122 → eqb (to_ascii_lowercase b) c ≡ false
 other_letter b c none low high = grind (arith, nat_tests)
 

@@ -1,5 +1,5 @@
--- Valid expressions in normal form, how a text is parsed into one, and which values each of its components matches:
--- systemd.time(7), Calendar Events. A `Field` names a component.
+-- Valid expressions in normal form: how a text is parsed into such an expression, and which values each component of
+-- the expression matches (systemd.time(7), Calendar Events). A `Field` names a component.
 use Rattle.std.specs.Prelude.{◌≡◌, ℕ, List, Option, Result, Ok, Bool}
 use Rattle.cal_spec.specs.headline.Fields.{Fields}
 use Rattle.cal_spec.specs.Grammar.{fields_in}

@@ -10,7 +10,7 @@ use Rattle.cal_spec.specs.headline.ValidParts.{EndsAfter, IsStep}
 use Rattle.cal_spec.specs.declared.part.Part.{Part}
 use Rattle.cal_spec.specs.headline.NormalForm.{each, normal_from_end, part_cmp, range_to, step_of}
 
--- sorts the elements by `cmp`; of elements that compare as equal, one is kept
+-- sorts the elements by `cmp`, and keeps only one of several elements that compare as equal
 abbrev pub in_order : {A : Type 0} → (A → A → Ordering) → List A → List A
 in_order cmp [] = []
 in_order cmp (x ∷ xs) = insert_key cmp (in_order cmp xs) x

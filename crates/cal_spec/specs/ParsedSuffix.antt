@@ -30,7 +30,7 @@ abbrev pub IsSuffixOption : Option ZoneSuffix → Type 0
 IsSuffixOption None = Unit {0}
 IsSuffixOption (Some suffix) = IsSuffix suffix
 
--- the name of the zone, if it is a name
+-- the name of the zone, if there is a zone suffix and this suffix is a name
 abbrev pub name_in : Option ZoneSuffix → Option (List ℕ)
 name_in None = None
 name_in (Some (of_name name)) = Some name

@@ -14,8 +14,8 @@ abbrev pub first_of : List (Option SpecFault) → Option SpecFault
 first_of [] = None
 first_of (o ∷ os) = option_or o (first_of os)
 
--- the result of a call agrees with `read`: either both are the same error, or both are values, and applying `view` to
--- the value from the call gives the value of `read`
+-- The result of a call agrees with `read`, the result that a definition gives. Either both results are the same error,
+-- or both are values. In the second case, applying `view` to the value of the call gives the value of `read`.
 abbrev pub Gives : {T V : Type 0} → (T → V) → Result T SpecFault → Result V SpecFault → Type 0
 Gives view (Ok x) read = read ≡ Ok (view x)
 Gives view (Err e) read = read ≡ Err e

@@ -121,7 +121,7 @@ fn put_parts<W: Sink>(out: &mut W, width: usize, parts: &[Part]) -> Result<(), W
     Ok(())
 }
 
-/// Writes `lead` and then a part. Its start and end are padded with zeros to at least `width` digits.
+/// Writes `lead` and then a part. The part's start and end are padded with zeros to at least `width` digits.
 #[tactic(auto, using(cal_bytes::proofs::PutLemmas::puts), unfolding(crate::specs::headline::ExprText::part_text))]
 fn put_part<W: Sink>(out: &mut W, lead: &[u8], width: usize, part: Part) -> Result<(), WriteFault>
     requires works { W.is_failed out.old ≡ false }

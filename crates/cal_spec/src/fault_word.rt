@@ -17,9 +17,8 @@ use std::ops::Range;
 /// The word at fault is the first word for which the text up to the word's end is not a valid expression. So the text
 /// up to the end of each earlier word is valid.
 ///
-/// Returns `None` if the text is empty or has only blanks, or if it is valid without its trailing blanks. Trailing
-/// blanks can make a text invalid only by making it longer than 4,096 bytes, and then no word is at fault. Fails only
-/// if allocation fails.
+/// Returns `None` if the text without its trailing blanks is empty or valid. Trailing blanks can make a text invalid
+/// only by making it longer than 4,096 bytes, and then no word is at fault. Fails only if allocation fails.
 pub fn fault_span(alloc: Global, text: &str) -> Result<Option<Range<usize>>, AllocError>
     ensures word { IfOk result (λ found. IfSome found (λ word. IsWordAt text.now word.start word.end)) }
     ensures rejected { IfOk result (λ found. IfSome found (λ word.

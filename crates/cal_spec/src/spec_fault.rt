@@ -24,10 +24,10 @@ pub enum SpecFault {
     /// The time doesn't have two or three components, or one of them is malformed.
     #[error("bad time")]
     BadTime = 5,
-    /// A number in the seconds is followed by a single point, as if by a fraction.
+    /// In the seconds, a number is followed by a single point, as if a fraction came next.
     #[error("fractions of a second are not supported")]
     FractionalSecond = 6,
-    /// A number, which can also be a step, is above 9,999.
+    /// A number is above 9,999. This is checked for steps, too.
     #[error("number above 9999")]
     NumberTooLarge = 7,
     /// The start or the end of a part is out of range for its component. Steps have no range of their own.

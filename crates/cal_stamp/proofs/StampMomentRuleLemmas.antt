@@ -283,8 +283,9 @@ midnight_error now at shift ws fault h =
           )
     ]
 
--- In this module, `of` adds a time span to a second, or subtracts it from the second. `time n` is the result for a span
--- of `n` microseconds. The lemma says that `of` fails only if the span is invalid or the result is out of range.
+-- In this module, `of` adds a time span to a Unix second, or subtracts the span from the Unix second. `time n` is the
+-- sum or the difference for a span of `n` microseconds. The lemma says that `of` fails only if the span is invalid or
+-- the result is out of range.
 module _ (span : List ℕ) (time : ℕ → ℤ) (of : Result ℕ SpanFault → Result ℤ StampFault) (good : (n : ℕ) → of (Ok n) ≡ in_moments (time n)) (bad : (why : SpanFault) → of (Err why) ≡ Err (BadSpan why)) where
   span_error : (value : Result ℕ SpanFault) (fault : StampFault) → span_of span ≡ value → of value ≡ Err fault → IsBadSpan span fault ⊎ (((n : ℕ) × (span_of span ≡ Ok n) × (IsMoment (time n) → ⊥)) × (fault ≡ OutOfRange))
   span_error (Ok n) fault e h = let out = is_outside (time n) fault (sym (good n) ∙ h) in inr ((n, e, out.1), out.0)

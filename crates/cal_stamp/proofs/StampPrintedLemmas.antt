@@ -81,7 +81,8 @@ solid_at (b ∷ bs) h = h
 no_sign : (core : List ℕ) (sign : ℕ) (means : List ℕ → Form) → 65 ≤ get_or core 0 0 → sign < 65 → (other : Form) → IsBehindSign (sign ∷ []) means core other → ⊥
 no_sign core sign means capital below other p = absurd (omega (arith, capital, below, ap (λ t. get_or t 0 0) p.1))
 
--- a text whose last byte is at most 90 (`Z`) doesn't end with a blank and `word` if the last byte of `word` is above 90
+-- if the last byte of `word` is above 90 (`Z`), and the last byte of a text is at most 90, the text doesn't end with a
+-- blank and `word`
 no_word : (core word : List ℕ) (means : List ℕ → Form) → last_byte core ≤ 90 → ((blank : ℕ) → last_byte (blank ∷ word) ≤ 90 → ⊥) → (other : Form) → IsBeforeWord word means core other → ⊥
 no_word core word means last apart other p =
     let same : last_byte core ≡ last_byte (p.1 ∷ word) = ap last_byte p.3 ∙ last_of p.0 (p.1 ∷ word) (omega arith) in

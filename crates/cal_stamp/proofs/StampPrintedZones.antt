@@ -34,8 +34,8 @@ use Rattle.cal_stamp.specs.declared.fault.StampFault.TheVariants.{StrayWord}
 abbrev pub last_byte : List ℕ → ℕ
 last_byte text = get_or text (length text - 1) 0
 
--- `word` can be the last word of a printed instant: its last byte is from `+` to `Z`, so neither a blank nor a
--- lowercase letter
+-- `word` can be the last word of a printed instant: its last byte is from `+` to `Z`, so this byte is neither a blank
+-- nor a lowercase letter
 pub record IsLastWord (word : List ℕ) : Type 0 where
   pub is_word : IsWord word
   pub from : 43 ≤ last_byte word

@@ -51,9 +51,9 @@ before_second second (Err fault) = Err (BadSpan fault)
 unfoldable pub today : ℤ → TimeZone → ℤ
 today now zone = day_of (local_shown_at zone now)
 
--- the moment at which the zone's clock shows a time of day on this day, or `OutOfRange`; `micros` is the time of day,
--- in microseconds since midnight on the clock; a local time in a gap is moved forward by the length of the gap, and for
--- a local time in a fold the first occurrence is used
+-- The moment at which the zone's clock shows a time of day on this day, or `OutOfRange`. `micros` is the time of day,
+-- in microseconds since midnight on the clock. A local time in a gap is moved forward by the length of the gap, and for
+-- a local time in a fold the first occurrence is used.
 unfoldable pub settle_on : TimeZone → ℤ → ℕ → Result ℤ StampFault
 settle_on zone day micros =
     in_moments (micros_of (settle_of zone (day *ℤ pos seconds_per_day +ℤ pos (micros / micros_per_second))) +ℤ pos (micros % micros_per_second))
@@ -75,13 +75,14 @@ offset_found (Some seconds) = Ok (fixed_offset_zone seconds)
 abbrev pub zone_of_word : (List ℕ → Option TimeZone) → List ℕ → Result TimeZone StampFault
 zone_of_word find w = if begins_with_letter w then name_found (find w) else offset_found (offset_in w)
 
--- the zone `zone` of the previous word if no other word follows, and otherwise `StrayWord`
+-- `zone` is the zone that the previous word stands for; it is returned if no other word follows, and otherwise the
+-- error is `StrayWord`
 abbrev pub zone_alone : TimeZone → List (List ℕ) → Result TimeZone StampFault
 zone_alone zone [] = Ok zone
 zone_alone zone (w ∷ ws) = Err StrayWord
 
--- the zone that the remaining words stand for, or the error: without any words it is the local zone, a single word is
--- parsed as a zone, and more than one word is an error
+-- the zone that the remaining words stand for, or the error: if there are no words, the zone is the local zone; a
+-- single word is parsed as a zone; and more than one word is an error
 abbrev pub zone_by_words : Setting → List (List ℕ) → Result TimeZone StampFault
 zone_by_words at [] = Ok at.local
 zone_by_words at (w ∷ ws) = zone_of_word at.find w >>= λ zone. zone_alone zone ws

@@ -17,11 +17,11 @@ use Rattle.cal_civil.specs.headline.Local.{seconds_per_day}
 
 -- Time spans
 
--- the time in microseconds is the second plus the time span in the text `span`
+-- `time`, in microseconds of Unix time, is the Unix second `second` plus the time span that the text `span` stands for
 abbrev pub LiesAfter : ℤ → List ℕ → ℤ → Type 0
 LiesAfter second span time = (micros : ℕ) × (span_of span ≡ Ok micros) × (time -ℤ micros_of second ≡ pos micros)
 
--- the time in microseconds is the second minus the time span in the text `span`
+-- `time`, in microseconds of Unix time, is the Unix second `second` minus the time span that the text `span` stands for
 abbrev pub LiesBefore : ℤ → List ℕ → ℤ → Type 0
 LiesBefore second span time = (micros : ℕ) × (span_of span ≡ Ok micros) × (micros_of second -ℤ time ≡ pos micros)
 
@@ -43,9 +43,9 @@ abbrev pub FallsOn : Option Weekday → ℤ → Type 0
 FallsOn None day = Unit
 FallsOn (Some weekday) day = (week : ℤ) × (day +ℤ pos 3 ≡ week *ℤ pos 7 +ℤ pos (monday_zero weekday))
 
--- at this time, the zone's clock shows a time of day on this day; `micros` is the time of day, in microseconds since
--- midnight on the clock; a local time in a gap is moved forward by the length of the gap, and for a local time in a
--- fold the first occurrence is used
+-- At the time `time`, the zone's clock shows a time of day on the day `day`. `micros` is the time of day, in
+-- microseconds since midnight on the clock. A local time in a gap is moved forward by the length of the gap, and for a
+-- local time in a fold the first occurrence is used.
 pub record IsTimeOfDay (zone : TimeZone) (day : ℤ) (micros : ℕ) (time : ℤ) : Type 0 where
   pub second : ℕ
   pub rest : ℕ
@@ -64,7 +64,8 @@ pub record IsMidnight (now : ℤ) (at : Setting) (shift : ℤ) (words : List (Li
   pub has_today : IsPresentDay now zone today
   pub is_midnight : IsTimeOfDay zone (today +ℤ shift) 0 time
 
--- the words are a civil time that resolves to this time; if a weekday is named, the day is this weekday
+-- the words are a civil time that resolves to this time; if a weekday is named, the day of the civil time is this
+-- weekday
 pub record IsCivilMoment (now : ℤ) (at : Setting) (words : List (List ℕ)) (time : ℤ) : Type 0 where
   pub stamp : CivilStamp
   pub day : ℤ

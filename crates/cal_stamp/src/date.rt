@@ -10,7 +10,8 @@ use cal_spec::{first_piece, with_century};
 use cal_text::{are_digits, decimal_value};
 use jiff_core::civil::Date;
 
-/// A year, a month and a day as they are written. The year may lack its century, and there may be no such date.
+/// A year, a month and a day as they are written. The year may be written without its century, and the date may not
+/// exist.
 #[derive(Clone, Copy)]
 struct DateNumbers {
     year: u16,
@@ -21,8 +22,8 @@ struct DateNumbers {
 /// Parses a date, `year-month-day`, and returns its day number, counted from 1970-01-01.
 ///
 /// The year has one to four digits, the month and the day one or two (systemd.time(7), Parsing Timestamps). Fails with
-/// `BadDate` if `word` doesn't have this form, and with `NoSuchDate` if the date isn't a day from 1970-01-01 to
-/// 2199-12-31.
+/// `BadDate` if `word` doesn't have this form. Years from 0 to 69 stand for 2000 to 2069, and years from 70 to 99 for
+/// 1970 to 1999. Fails with `NoSuchDate` if the date isn't a day from 1970-01-01 to 2199-12-31.
 #[tactic(auto, unfolding(crate::specs::StampDate::day_written))]
 pub(crate) fn read_date(word: &[u8]) -> Result<i64, StampFault>
     ensures value { result ≡ day_written word.now }

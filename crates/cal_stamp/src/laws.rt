@@ -66,10 +66,10 @@ pub fn relative_days_begin_at_midnight()
         → ((moment_in now at text ≡ Ok time) ↔ (IsMidnight now at shift words time × IsMoment time)) }
 {}
 
-/// A civil time resolves to the moment at which the clock of its zone shows its time of day on its day
-/// (systemd.time(7), Parsing Timestamps). A local time in a gap is moved forward by the length of the gap, and for a
-/// local time in a fold the first occurrence is used. If a weekday is named and the day isn't this weekday, the error
-/// is `WrongWeekday`, even if the time is also out of range.
+/// A civil time has a day, a time of day and a zone. It resolves to the moment at which the zone's clock shows this
+/// time of day on this day (systemd.time(7), Parsing Timestamps). A local time in a gap is moved forward by the length
+/// of the gap, and for a local time in a fold the first occurrence is used. If a weekday is named and the day isn't
+/// this weekday, the error is `WrongWeekday`, even if the time is also out of range.
 pub fn weekdays_are_checked()
     ensures right { (now : ℤ) (at : Setting) (text : List ℕ) (words : List (List ℕ)) (time : ℤ)
         → HasForm text (civil words)
@@ -97,10 +97,10 @@ pub fn moments_are_in_range()
         → MeansTime now at form time → (IsMoment time → ⊥) → moment_in now at text ≡ Err OutOfRange }
 {}
 
-/// Parsing a printed instant (systemd.time(7), Parsing Timestamps) gives the same instant if, at this instant, the
-/// clock of the zone in which it is printed shows a year from 1970 to 2199, and its UTC offset is a whole number of
-/// minutes. This holds whatever the present, the local zone and the table of zones are. In UTC, it holds for every
-/// instant of the years 1970 to 2199.
+/// Parsing a printed instant (systemd.time(7), Parsing Timestamps) gives the same instant under two conditions on the
+/// zone in which the instant is printed: at this instant, the zone's clock shows a year from 1970 to 2199, and the
+/// zone's UTC offset is a whole number of minutes. This holds whatever the present, the local zone and the table of
+/// zones are. In UTC, it holds for every instant of the years 1970 to 2199.
 ///
 /// An offset that isn't a whole number of minutes is printed with seconds, and the parser rejects offsets with seconds
 /// (`StrayWord`). At the first instants, clocks west of UTC show 1969, and at the last instants most clocks show 2200;

@@ -7,8 +7,8 @@ use cal_units::{Names, Tree};
 use std::alloc::{AllocError, Global};
 use std::collections::BTreeSet;
 
-/// Returns the names in the folders of the search path that can be those of timers' files, sorted by their bytes.
-/// Templates are left out, and so are hidden files and names that no unit can have, but not the names of folders.
+/// Returns those names in the folders of the search path that can be the names of timers' files, sorted by their bytes.
+/// Templates are left out, and so are hidden files and names that no unit can have. Names of folders are not left out.
 ///
 /// A folder that can't be listed is added to `faults`, and the others are still listed.
 pub fn names_in_path<T: Tree>(

@@ -28,8 +28,8 @@ static ROWS: [Row; 5] = [
         "[Timer]\nOnCalendar=daily\nX-ExceptOnCalendar=23:00 UTC\nX-ExceptOnCalendar=daily UTC",
         &[(4, NOTHING)],
     ),
-    // Only the next 10,000 elapses are examined. The exception of the next row suppresses elapse number 10,000, and
-    // that of the last row elapse number 10,001.
+    // Only the next 10,000 elapses are examined. The exception of the next row suppresses elapse number 10,000. The
+    // exception of the row after it suppresses elapse number 10,001.
     (
         "[Timer]\nOnCalendar=*:*:*\nX-ExceptOnCalendar=2026-11-26 15:46:40",
         &[],

@@ -7,8 +7,8 @@ use cal_tasks::{Clocked, Difference, TimerElapse, difference_of, elapses_between
 use std::alloc::Global;
 use std::test::Fail;
 
-/// In all tests, it is Thu 2026-11-26 13:00:00 in Berlin. Then these timers next elapse at 18:00, never, at 13:30 and
-/// at 18:00.
+/// In all tests, the present is Thu 2026-11-26 13:00:00 in Berlin. The next elapse of each of these timers is, in the
+/// order of the timers: 18:00, none, 13:30 and 18:00.
 static TIMERS: [&str; 4] = [
     "[Timer]\nOnCalendar=18:00",
     "[Timer]\nOnCalendar=2020-01-01",

@@ -42,8 +42,8 @@ abbrev pub fields_without_date : Result Fields SpecFault → Option Fields
 fields_without_date (Err fault) = None
 fields_without_date (Ok fields) = fields_unless_dated fields
 
--- the fields of a weekday with a time, which is a calendar expression that begins with the name of a weekday and whose
--- year, month and day are `*`, as they are if no date is written; None for any other text
+-- The fields of a weekday with a time, or None for any other text. A weekday with a time is a calendar expression that
+-- begins with the name of a weekday and whose year, month and day are `*`, as they are if no date is written.
 abbrev pub weekday_time_in : List ℕ → Option Fields
 weekday_time_in text = if begin_with_weekday (words text) then fields_without_date (expr_in text) else None
 

@@ -29,8 +29,8 @@ fn push_answer(alloc: Global, shown: &mut String, line: &str) -> Result<(), Fail
     }
 }
 
-/// Appends the verb, the iterations, the base time and the present if they were given, the local zone unless it is UTC,
-/// the zone files, and the texts.
+/// Appends the verb, the iterations, the base time if it was given, the present if it was given, the local zone unless
+/// it is UTC, the zone files, and the texts.
 fn push_ask(alloc: Global, line: &mut String, ask: &Ask) -> Result<(), Fail> {
     line.push_str(match ask.request.verb {
         Verb::Calendar => "calendar",

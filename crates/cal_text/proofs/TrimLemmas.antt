@@ -9,7 +9,7 @@ use Rattle.cal_text.specs.headline.Trim.{trim_matches, trim_end_matches, trim_st
 use Rattle.cal_text.proofs.General.{all_append, all_reverse}
 use Rattle.std.proofs.Math.Seq.{take-append_seam}
 
--- a list without its last `n` items is the reversed list without its first `n` items, reversed again
+-- reversing a list, dropping the first `n` items, and reversing the result drops the last `n` items of the list
 take_front : (text : List ℕ) (n : ℕ) → n ≤ length text → take (length text - n) text ≡ reverse (drop n (reverse text))
 take_front text n h =
     let back = reverse text in

@@ -243,10 +243,10 @@ resumes_from read before (a ∷ after) all =
     (changes read is_exception is_exception_reset before a (is_exception a) (is_exception_reset a) refl refl (exception_is_no_exception_reset a) all.1)
     (either_fault read before a (is_expression a) refl) (resumes_from read (before ++ a ∷ []) after)
 
--- In the next four lemmas, `o` is the first error of a file, or `None` if it has no error, and `all` are its lists. The
--- premise says what `entries_or_fault` returns, which unfolds to `unless_fault o (Ok all)`. The first two lemmas
--- conclude what `lists_of` returns, which unfolds to `unless_fault o (some_entries all)`. The last two conclude what
--- `o` is.
+-- In the lemmas from `lists_by` to `some_by`, `o` is the first error of a file, or `None` if the file has no error, and
+-- `all` are the lists of the file. The premise says what `entries_or_fault` returns, which unfolds to
+-- `unless_fault o (Ok all)`. `lists_by` and `fault_by` conclude what `lists_of` returns, which unfolds to
+-- `unless_fault o (some_entries all)`. `none_by` and `some_by` conclude what `o` is.
 lists_by : {E : Type 0} (o : Option TimerFault) (all lists : Timer E) → unless_fault o (Ok all) ≡ Ok lists → unless_fault o (some_entries all) ≡ some_entries lists
 lists_by None all lists h = let same : all ≡ lists = cc in ap some_entries same
 lists_by (Some fault) all lists h = cc

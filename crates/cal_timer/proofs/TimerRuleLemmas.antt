@@ -46,7 +46,8 @@ unfolding timer_lines
 last_header inside [] rest header e none = rw e (no_header (bytes_eq (section_of header.text) (codes "Timer")) rest none)
 last_header inside (line ∷ front) rest header e none = header_passed (is_header line.text) inside line front rest header refl (λ inside. last_header inside front rest header e none)
 
--- if no element of `ys` passes the test `p`, then appending `ys` to `xs` also appends `ys` to `after_last p xs`
+-- if no element of `ys` passes the test `p`, then `after_last p` of `xs ++ ys` is `after_last p` of `xs`, followed by
+-- `ys`
 after_last_after : {X : Type 0} (p : X → Bool) (xs ys : List X) → list_any p ys ≡ false → after_last p (xs ++ ys) ≡ after_last p xs ++ ys
 after_last_after p xs [] none = ap (after_last p) (append-nil xs) ∙ sym (append-nil (after_last p xs))
 after_last_after p xs (y ∷ ys) none =

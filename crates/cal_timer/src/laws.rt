@@ -60,9 +60,9 @@ pub fn one_judgement()
         (result : Result (Timer Fields) TimerFault) → JudgesTimer read all result → result ≡ lists_of read all }
 {}
 
-/// Suppose that two lists have the entries of some assignments, and that further assignments are applied to the lists,
-/// as [`crate::TimerLists::take_text`] does. If none of the further assignments has an error, the lists then have the
-/// entries of all assignments. Otherwise the result is the first error.
+/// Suppose that the lists of expressions and exceptions have the entries of some assignments, and that further
+/// assignments are applied to these lists, as [`crate::TimerLists::take_text`] does. If none of the further assignments
+/// has an error, the lists then have the entries of all assignments. Otherwise the result is the first error.
 pub fn assignments_add_up()
     ensures { (read : List ℕ → Result Fields SpecFault) (before after : List Assignment) (lists : Timer Fields)
         → entries_or_fault read before ≡ Ok lists → resumed read lists after ≡ entries_or_fault read (before ++ after) }

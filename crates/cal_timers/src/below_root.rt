@@ -8,8 +8,8 @@ use std::fs;
 use std::io::ErrorKind;
 use std::rt::Files;
 
-/// A path can't be followed if it has this many parts or more. The parts of the targets of its links are counted, too,
-/// so a loop of links always reaches this number.
+/// A path can't be followed if it has this many parts or more. If it leads through links, the parts of their targets
+/// are counted, too, so a loop of links always reaches this number.
 const MAX_PARTS: usize = 1_000;
 
 /// Returns the path on the system to which `path` leads. Absolute paths and absolute targets of links are relative to
@@ -81,8 +81,8 @@ fn folder_of(path: &str) -> &str {
     path.rsplit_once('/').map_or("", |parts| parts.0)
 }
 
-/// Returns the path of the `plain` folder into which `path` leads, and the rest of `path`. If it leads into none of
-/// them, returns an empty text and all of `path`.
+/// If `path` begins with the path of a folder in `plain`, followed by a slash, returns the path of the first such
+/// folder and the rest of `path`. Otherwise, returns an empty text and all of `path`.
 fn plain_part<'p>(plain: &'p [String], path: &'p str) -> (&'p str, &'p str) {
     for folder in plain {
         if let Some(rest) = path.strip_prefix(folder.as_str()) {
@@ -107,8 +107,8 @@ fn first_part(alloc: Global, path: &str) -> Result<Option<(String, String)>, All
     )))
 }
 
-/// Returns the path to which `part` leads from `done`. The links in `done` have been followed before, so `..` can
-/// remove its last part. `..` doesn't lead out of the root.
+/// Returns the path to which `part` leads from `done`. The links in `done` have been followed before, so if `part` is
+/// `..`, the last part of `done` can be removed. `..` doesn't lead out of the root.
 fn next_path(alloc: Global, root: &str, done: &str, part: &str) -> Result<String, AllocError> {
     match part {
         "." if done.is_empty() => String::from_str(alloc, "."),

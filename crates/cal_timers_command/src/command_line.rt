@@ -64,9 +64,9 @@ fn error_text(alloc: Global, error: &Error) -> Option<String>
     Some(text)
 }
 
-/// Builds the command of the program. It has the options that most verbs share: its help lists them, and they may come
-/// before `--help`. If the arguments don't ask for the help or the version of the program, the verb comes first, so
-/// `clap` parses all options as those of the verb.
+/// Builds the command of the program. The command has the options that most verbs share, so the help of the program
+/// lists these options, and they may come before `--help`. If the arguments don't ask for the help or the version of
+/// the program, the verb comes first, so `clap` parses all options as those of the verb.
 fn build_program<'a>(alloc: Global) -> Result<Command<'a>, AllocError> {
     let command = Command::new(alloc, "calendar-timers")
         .version("0.1.0")

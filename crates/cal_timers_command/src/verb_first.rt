@@ -23,9 +23,9 @@ enum Kind {
 
 /// Returns the arguments with the verb at the front.
 ///
-/// Options and their values are skipped, except for `--help`, `--version` and the short forms of these two. The first
-/// argument that remains before `--` is moved to the front if it is one of these requests, the name of a verb, or
-/// `help`. Otherwise, and if no argument remains, `list` is inserted there.
+/// Options and their values are skipped, except for requests for help or the version: `--help`, `--version` and the
+/// short forms of these two. If the first argument that remains before `--` is such a request, the name of a verb, or
+/// `help`, this argument is moved to the front. Otherwise, and if no argument remains, `list` is inserted at the front.
 pub(crate) fn with_verb_first<'a, S: AsStr>(
     alloc: Global,
     arguments: &'a [S],

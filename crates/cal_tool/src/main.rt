@@ -1,5 +1,5 @@
-//! The program `calendar-analyze`: reports when calendar expressions and timer files elapse, what timestamps resolve
-//! to, and how long time spans are (systemd-analyze(1), systemd.time(7), systemd.timer(5)).
+//! The program `calendar-analyze`: reports when calendar expressions and the timers of timer files elapse, what
+//! timestamps resolve to, and how long time spans are (systemd-analyze(1), systemd.time(7), systemd.timer(5)).
 #![tactic(auto)]
 
 ghost use Rattle.std.specs.Prelude.{◌≡◌, false};

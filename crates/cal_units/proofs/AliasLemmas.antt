@@ -12,9 +12,9 @@ one_alias : (f : List ℕ → Option Alias) (name : List ℕ) (o : Option Alias)
 one_alias f name None e = rw e refl
 one_alias f name (Some alias) e = rw e refl
 
--- One step of the loop: if `before` is `start` followed by the aliases that `f` returns for `names`, and the alias for
--- `name`, if there is one, is appended to `before`, then the result, `after`, is `start` followed by the aliases for
--- `names` and `name`.
+-- One step of the loop. Suppose that `before` is `start`, followed by the aliases that `f` returns for `names`. Suppose
+-- also that `after` is `before`, followed by the alias for `name`, if there is one. Then `after` is `start`, followed
+-- by the aliases for `names` and `name`.
 pub name_more : (f : List ℕ → Option Alias) (found : Result (Option links.Alias) UnitFault) (start before after : List Alias) (names : List (List ℕ)) (name : List ℕ)
     → IfOk found (λ alias. option_map shown_alias alias ≡ f name)
     → MatchResult found (λ alias. after ≡ before ++ option_to_list (option_map shown_alias alias)) (λ _. ⊥)

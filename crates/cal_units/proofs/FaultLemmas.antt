@@ -18,7 +18,8 @@ link_reason_weaker : (MayFail : List ℕ → Type 0) (P Q : Type 0) → (P → Q
 link_reason_weaker MayFail P Q f path reasons.TooManyLinks h = f h
 link_reason_weaker MayFail P Q f path reason h = h
 
--- if `Q` follows from `P`, an error of too many links is allowed under `Q` where it is under `P`
+-- `P` and `Q` are two conditions under which there can be too many links. If `Q` follows from `P`, and following links
+-- can end with this error under the condition `P`, then it can also end with this error under the condition `Q`.
 pub link_weaker : (MayFail : List ℕ → Type 0) (P Q : Type 0) → (P → Q) → (fault : UnitFault) → IsLinkFault MayFail P fault → IsLinkFault MayFail Q fault
 link_weaker MayFail P Q f (faults.At path reason) h = link_reason_weaker MayFail P Q f (string_bytes path) reason h
 link_weaker MayFail P Q f faults.NoMemory h = tt
@@ -27,13 +28,14 @@ drop_in_reason_weaker : (MayFail P Q : List ℕ → Type 0) → ((folder : List 
 drop_in_reason_weaker MayFail P Q f path reasons.TooMany h = f path h
 drop_in_reason_weaker MayFail P Q f path reason h = h
 
--- the same for an error of too many drop-ins in a folder
+-- the same for listing drop-ins; here, `P` and `Q` are conditions on the folder at which there can be too many drop-ins
 pub drop_in_weaker : (MayFail P Q : List ℕ → Type 0) → ((folder : List ℕ) → P folder → Q folder) → (fault : UnitFault) → IfAt (IsDropInReason MayFail P) fault → IfAt (IsDropInReason MayFail Q) fault
 drop_in_weaker MayFail P Q f (faults.At path reason) h = drop_in_reason_weaker MayFail P Q f (string_bytes path) reason h
 drop_in_weaker MayFail P Q f faults.NoMemory h = tt
 
--- If `found` are the drop-ins in the folders before the index `place`, and there are too many with those in the folder
--- at this index, this is the folder at which there are too many.
+-- `folder` is the folder at the index `place`, and `found` are the drop-ins in the folders before it. If these are not
+-- too many, but there are too many together with the drop-ins in `folder`, then `folder` is the first folder at which
+-- there are too many.
 pub overfull : (machine : Machine) (folders : List (String Global)) (place : ℕ) (folder : List ℕ) (after : List (List ℕ)) (found : List Found)
     → map string_bytes (drop place folders) ≡ folder ∷ after
     → found ≡ drop_ins_in machine (map string_bytes (take place folders))
@@ -55,7 +57,8 @@ alias_is_listed : (MayFail : List ℕ → Type 0) (Shows : Machine → Type 0) (
 alias_is_listed MayFail Shows path (faults.At other reason) some h = h
 alias_is_listed MayFail Shows path faults.NoMemory some h = absurd (some refl)
 
--- if the error of looking for an alias is appended, all errors are still errors of looking for aliases
+-- Suppose that `after` is `before`, followed by the error if looking for one more alias failed. If each error in
+-- `before` can occur when aliases are looked for, so can each error in `after`.
 pub listed_more : (MayFail : List ℕ → Type 0) (Shows : Machine → Type 0) (path : List (List ℕ)) (found : Result (Option links.Alias) UnitFault) (before after : List UnitFault)
     → after ≡ before ++ fault_of found
     → IfErr found (λ fault. fault ≢ faults.NoMemory)

@@ -15,7 +15,8 @@ use Rattle.cal_units.specs.declared.fault.UnitFault.TheVariants as faults
 use Rattle.cal_units.specs.declared.tree.TreeFault.{TreeFault}
 use Rattle.cal_units.specs.declared.tree.TreeFault.TheVariants as trees
 
--- whether `Holds` is true of the path and the reason of the error; if memory ran out, there is neither
+-- whether `Holds` is true of the path and the reason of the error; always true if the error is that memory ran out,
+-- because then there is neither a path nor a reason
 abbrev pub IfAt : (List ℕ → Reason → Type 0) → UnitFault → Type 0
 IfAt Holds (faults.At path reason) = Holds (string_bytes path) reason
 IfAt Holds faults.NoMemory = ⊤
@@ -51,7 +52,7 @@ IsLinkReason MayFail TooMany path reason = IsReadReason MayFail path reason
 abbrev pub IsLinkFault : (List ℕ → Type 0) → Type 0 → UnitFault → Type 0
 IsLinkFault MayFail TooMany fault = IfAt (IsLinkReason MayFail TooMany) fault
 
--- whether on the machine, too many links lead from the unit with this stem
+-- whether too many links lead from the unit with this stem on every machine of which `Shows` is true
 abbrev pub IsEndless : (Machine → Type 0) → List (List ℕ) → List ℕ → Type 0
 IsEndless Shows path stem = (machine : Machine) → Shows machine → unit_in machine path stem ≡ Endless
 
@@ -59,11 +60,13 @@ IsEndless Shows path stem = (machine : Machine) → Shows machine → unit_in ma
 abbrev pub IsUnitFault : (List ℕ → Type 0) → (Machine → Type 0) → List (List ℕ) → List ℕ → UnitFault → Type 0
 IsUnitFault MayFail Shows path stem fault = IsLinkFault MayFail (IsEndless Shows path stem) fault
 
--- whether looking for aliases can end with this error; too many links can lead from the unit with any stem
+-- whether looking for aliases can end with this error; there can be too many links if too many lead from the unit with
+-- some stem
 abbrev pub IsAliasFault : (List ℕ → Type 0) → (Machine → Type 0) → List (List ℕ) → UnitFault → Type 0
 IsAliasFault MayFail Shows path fault = IsLinkFault MayFail ((stem : List ℕ) × IsEndless Shows path stem) fault
 
--- whether this error can be in the list of those that were found in looking for aliases; memory didn't run out then
+-- whether this error can be in the list of the errors that occurred while aliases were looked for; the list never says
+-- that memory ran out
 abbrev pub IsListedFault : (List ℕ → Type 0) → (Machine → Type 0) → List (List ℕ) → UnitFault → Type 0
 IsListedFault MayFail Shows path (faults.At other reason) =
     IsLinkReason MayFail ((stem : List ℕ) × IsEndless Shows path stem) (string_bytes other) reason
@@ -85,7 +88,8 @@ pub record IsOverfull (machine : Machine) (folders : List (List ℕ)) (folder : 
   pub fits : length (drop_ins_in machine (take place folders)) ≤ max_drop_ins
   pub is_more : max_drop_ins < length (drop_ins_in machine (take place folders) ++ candidates folder (machine.names folder))
 
--- whether listing drop-ins can fail for this reason; there can be too many at a folder if `TooMany` is true of it
+-- whether listing drop-ins can fail at this path for this reason; there can be too many drop-ins at a folder if
+-- `TooMany` is true of this folder
 abbrev pub IsDropInReason : (List ℕ → Type 0) → (List ℕ → Type 0) → List ℕ → Reason → Type 0
 IsDropInReason MayFail TooMany folder reasons.TooMany = TooMany folder
 IsDropInReason MayFail TooMany path reason = IsReadReason MayFail path reason
@@ -107,7 +111,7 @@ IsNoLink File = ⊤
 IsNoLink Folder = ⊥
 IsNoLink (Link target) = ⊥
 
--- whether a path leads to no file, and has neither a link to nothing nor a folder
+-- whether a path leads to no file, and neither a link nor a folder is at this path
 pub record IsVanished (machine : Machine) (path : List ℕ) : Type 0 where
   pub no_file : machine.file path ≡ None
   pub no_link : IsNoLink (machine.entry path)

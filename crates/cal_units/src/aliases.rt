@@ -39,12 +39,12 @@ pub struct Aliases {
 
 /// Finds the aliases of all units in the search path, which has the most important folder first.
 ///
-/// The name of a link in one of the folders is an alias if [`find_unit`] finds a unit with another name for it. If a
-/// folder can't be listed, or looking at a file or following a link fails, the error is in [`Aliases::faults`], and the
-/// other aliases are still found. The errors are [`UnitFault::At`] with the path of the folder and the reason why it
-/// can't be listed, and the errors of [`find_unit`]. This reason is [`crate::Reason::ReadFailed`], or
-/// [`crate::Reason::NotUtf8`] if the target of a link is not UTF-8 and `tree` can't follow the link. Fails only if
-/// allocation fails.
+/// The name of a link in one of the folders is an alias if [`find_unit`], given the stem of this name, finds a unit
+/// with another name. If a folder can't be listed, or looking at a file or following a link fails, the error is in
+/// [`Aliases::faults`], and the other aliases are still found. If a folder can't be listed, the error is
+/// [`UnitFault::At`] with the path of the folder and the reason [`crate::Reason::ReadFailed`], or
+/// [`crate::Reason::NotUtf8`] if the target of a link is not UTF-8 and `tree` can't follow the link. All other errors
+/// are those of [`find_unit`]. Fails only if allocation fails.
 pub fn find_aliases<T: Tree>(
     alloc: Global,
     tree: &T,

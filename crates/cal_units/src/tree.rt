@@ -65,7 +65,8 @@ impl<T: Drop> From<AllocFailed<T>> for TreeFault {
 /// `shows`.
 ///
 /// Through `may_fail`, the contracts limit errors: a method fails with another error than [`TreeFault::NoMemory`] only
-/// if `may_fail` is true of the path or the name that it is given. By default, as for a real machine, it always is.
+/// if `may_fail` is true of the path or the name that it is given. By default, `may_fail` is true of every path and
+/// every name. This is so for a real machine.
 pub trait Tree {
     /// An open file.
     type File: Source + Drop;

@@ -71,10 +71,10 @@ after_load : (known : Known) (items : List ZoneItem) (found : List ZoneFound) (n
 after_load known items found name later (Ok more) h = later more h
 after_load known items found name later (Err fault) h = inl refl
 
--- Suppose that `f.seen` says that memory ran out while a zone file was read, and that `seen` says instead that reading
--- it returned `c`. If the name of the zone is valid, the outcome with `f.seen` is the stop for running out of memory.
--- If the name is invalid, the outcome is the same with `f.seen` and with `seen`, since the name is checked before the
--- result of reading is used.
+-- Compares two results of reading a zone file: `f.seen` says that memory ran out, and `seen` says that reading returned
+-- `c`. If the name of the zone is valid, the outcome with `f.seen` is the stop for running out of memory. If the name
+-- is invalid, the outcome is the same with `f.seen` and with `seen`, since the name is checked before the result of
+-- reading is used.
 zone_unread : {A : Type 0} (next other : ZoneMap → Result A Stop) (table : ZoneMap) (item : ZoneItem) (f : ZoneFound) (c : Result (List ℕ) WholeFault) (seen : Seen) (b : Bool) → is_zone_name item.name ≡ b → f.seen ≡ Some (Err whole.NoMemory) → seen ≡ Some c
     → IsOr (and_then next (or_load_stop item.name (loaded table item f))) (and_then other (or_load_stop item.name (loaded table item (record { seen = seen; zone = f.zone }))))
 unfolding loaded

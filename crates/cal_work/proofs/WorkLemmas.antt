@@ -54,7 +54,7 @@ no_ok (Err e) P h = tt
 
 -- How a stop agrees with the definitions
 
--- a stop that doesn't stand for a failed output agrees with its own report, `shown`
+-- a stop that isn't due to a failed output agrees with `shown`, the report of this stop
 pub is_stop : {X : Type 0} (stop : declared_stop.Stop) (shown : Stop) → is_out_stop stop ≡ false → is_err_stop stop ≡ false → shown_stop stop ≡ shown → StopsAs {X = X} stop (Err shown)
 is_stop stop shown out err is = record { before_out = out; before_err = err; stopped = refl; same = λ h. ap (λ s. Err s) (sym is) }
 

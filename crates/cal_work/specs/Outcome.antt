@@ -115,7 +115,8 @@ input_by path (Some (Err whole.ReadFailed)) = Ok (Err whole.ReadFailed)
 input_by path (Some (Err whole.TooLarge)) = Ok (Err whole.TooLarge)
 input_by path (Some (Err whole.NoMemory)) = Err memory_stop
 
--- the report of texts, for which no file is read, or of what reading the timer file returned, or the stop for the file
+-- if the request is for texts, their report, for which no file is read; if it is for a timer file, the report for the
+-- result of reading this file, or the stop that `input_by` returns
 abbrev pub run_on : Request → Seen → RequestKind → Result Report Stop
 run_on asked seen (for_texts verb texts) = Ok (texts_report asked verb texts)
 run_on asked seen (for_file path) = and_then (λ read. Ok (file_report asked path read)) (input_by path seen)

@@ -84,7 +84,7 @@ fault_stop run.OutFailed = with_line (own_line (codes "output failed")) 1
 fault_stop run.ErrFailed = with_line [] 1
 fault_stop run.NoMemory = memory_stop
 
--- the outputs and the status for each value of the Rust type `Stop`
+-- the stop that a value of the Rust type `Stop` stands for: what is written to each output, and the exit status
 abbrev pub shown_stop : declared_stop.Stop → Stop
 shown_stop (Command fault) = command_stop (shown_fault fault)
 shown_stop (Zones name fault) = load_stop (string_bytes name) fault

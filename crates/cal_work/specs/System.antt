@@ -4,10 +4,10 @@ use Rattle.cal_streams.specs.Whole.{is_read_failed}
 use Rattle.cal_streams.specs.declared.whole.WholeFault.{WholeFault}
 use Rattle.cal_streams.specs.declared.whole.WholeFault.TheVariants.{ReadFailed, TooLarge, NoMemory}
 
--- What is known about a system. `file` maps a path to `Some (Some bytes)` if the file has these bytes, to `Some None`
--- if it can't be opened, and to `None` if nothing is known about it. `may_fail` says whether reading the file may fail.
--- `time` is `Some (Some seconds)` if the clock shows this Unix time, `Some None` if the clock has no time, and `None`
--- if nothing is known about it.
+-- What is known about a system. `file` maps a path to `Some (Some bytes)` if the file at this path has these bytes, to
+-- `Some None` if it can't be opened, and to `None` if nothing is known about it. `may_fail` says for each path whether
+-- reading the file at this path may fail. `time` is `Some (Some seconds)` if the clock shows this Unix time,
+-- `Some None` if the clock has no time, and `None` if nothing is known about the clock.
 pub record Known : Type 0 where
   pub file : List ℕ → Option (Option (List ℕ))
   pub may_fail : List ℕ → Bool

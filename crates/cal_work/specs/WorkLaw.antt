@@ -1,6 +1,7 @@
 -- If everything about a system's files and clock is known, and `clap` accepts the arguments, there is only one possible
 -- outcome, unless memory runs out. The outcome depends on the system, on what `clap` finds in the arguments, and on the
--- zones that `jiff` reads from the files. The last two definitions are an example of such a system.
+-- zones that `jiff` reads from the files. `bare_system` is an example of such a system, and `daily_world` is the world
+-- that the program finds in it.
 use Rattle.std.specs.Prelude.{◌≡◌, ◌⊎◌, ℕ, ℤ, Bool, true, false, List, [], ◌∷◌, length, nat_le, Option, None, Some, IsSome, Result, Ok, Err, pos}
 use Rattle.cal_zone.specs.ZoneFile.{file_limit}
 use Rattle.cal_streams.specs.declared.whole.WholeFault.{WholeFault}
@@ -73,6 +74,6 @@ IsOr expected known = (expected ≡ known) ⊎ (expected ≡ Err memory_stop)
 abbrev pub bare_system : Known
 bare_system = record { file = λ path. Some None; may_fail = λ path. false; time = Some (Some (pos 0)) }
 
--- the world that the program finds in this system
+-- the world that the program finds in `bare_system` if the arguments are `calendar daily`
 abbrev pub daily_world : World
 daily_world = record { parsed = Ok daily_ask; zones = []; local = utc; clock = Some (pos 0); file = None }

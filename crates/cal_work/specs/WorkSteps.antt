@@ -112,8 +112,8 @@ ran (Ok status) = Ok status
 ran (Err fault) = Err (Run fault)
 
 -- The work ended with this stop, and this agrees with the outcome `expected`. If the stop is `Run`, a prefix of each
--- text of the outcome was written, and the exit status is 1. For every other stop, nothing was written, and `StopsAs`
--- holds.
+-- text of the outcome was written, and 1 is the exit status that `ended_status` returns for the failure. For every
+-- other stop, nothing was written, and `StopsAs` holds.
 abbrev pub StopEnds : declared_stop.Stop → Result Report Stop → Option (List ℕ) → Option (List ℕ) → Option (List ℕ) → Option (List ℕ) → Type 0
 StopEnds (Run fault) expected out out' err err' =
     (ended_status {T = Unit} (Err fault) expected ≡ 1) × AppendsFront out out' (out_text expected) × AppendsFront err err' (err_text expected)

@@ -33,7 +33,7 @@ use std::convert::AsStr;
 pub struct Ended {
     /// The exit status.
     pub status: u8,
-    /// Whether everything was written. If not, the reason was reported on standard error, unless standard error is what
+    /// Whether everything was written. If not, the reason was reported on standard error, unless standard error has
     /// failed.
     pub written: Result<(), RunFault>,
 }
@@ -49,7 +49,8 @@ pub struct Ended {
 /// `out` can't be flushed after that, the status is 1, and [`Ended::written`] says that `out` failed.
 ///
 /// If an output or an allocation fails, each output has a prefix of its whole text. On `err`, the line that reports the
-/// failure follows, unless `err` is what failed.
+/// failure follows, unless `err` is what failed. If `err` fails while this line is written, only a prefix of the line
+/// follows.
 pub fn work<S: System, T: AsStr, O: Output, E: Sink>(
     alloc: Global,
     system: &S,

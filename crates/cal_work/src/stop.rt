@@ -64,8 +64,8 @@ pub(crate) enum Outlet {
     OnOut,
     /// Standard error.
     OnErr,
-    /// Standard error, but only after the output is flushed. Failed outputs and running out of memory are reported only
-    /// then.
+    /// Standard error, but only after the output is flushed. This is for failed outputs and for running out of memory.
+    /// If standard error itself has failed, nothing is reported.
     Later(RunFault),
 }
 

@@ -7,8 +7,8 @@ use cal_bytes::Source;
 
 /// Access to files and to the present time.
 ///
-/// A contract can use what `tells` says about a system. `tells` says nothing about the real system, and can say
-/// everything about a system that exists only in memory.
+/// What contracts know about a system is what its `tells` says: nothing about the real system, and possibly everything
+/// about a system that exists only in memory.
 pub trait System {
     /// An open file.
     type File: Source + Drop;

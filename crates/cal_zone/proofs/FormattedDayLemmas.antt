@@ -21,8 +21,9 @@ use Rattle.cal_zone.specs.declared.zone.Zone.{Zone}
 abbrev pub seconds_shown : Civil → ℕ
 seconds_shown c = c.hour * 3_600 + c.minute * 60 + c.second
 
--- `midnight` is the start of the day of `here`. If `second` is in `midnight..midnight + 86_400` and has the same UTC
--- offset as `here`, then the clock at `second` shows the date of `here`, and the time that has passed since `midnight`.
+-- `here` is a second of Unix time, and `midnight` is `here` minus the time of day that the clock shows at `here`. If
+-- `second` is in `midnight..midnight + 86_400` and has the same UTC offset as `here`, then the clock at `second` shows
+-- the date of `here`, and the time that has passed since `midnight`.
 pub day_goes_on : (tz : TimeZone) (here second midnight : ℤ) → offset_at tz (nanos_of_seconds second) ≡ offset_at tz (nanos_of_seconds here)
     → midnight ≡ here -ℤ pos (seconds_shown (civil_of tz here)) → midnight ≤ℤ second → second <ℤ (midnight +ℤ pos 86_400)
     → civil_of tz second ≡ at_second (civil_of tz here) (unsigned_abs (second -ℤ midnight))

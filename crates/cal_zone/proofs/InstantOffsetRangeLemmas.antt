@@ -38,8 +38,9 @@ beside_within : (low high moment at other : ℤ) → IsApart low high (pos 0) mo
 beside_within low high moment at other (inl h) a b c d = grind (arith, signed_arith, le_yes, not_lt_test)
 beside_within low high moment at other (inr h) a b c d = grind (arith, signed_arith, le_no, lt_test)
 
--- `moment` is at or after `low` and at or before `high`, which are the first and the last nanosecond of a year. The
--- lemmas below show this for the times at which a rule starts and ends daylight saving time in that year.
+-- `moment` is at or after `low` and at or before `high`, which are the first and the last nanosecond of a year. By
+-- `moment_in` and `rule_in`, this is true of the times at which a rule starts and ends daylight saving time in that
+-- year.
 abbrev pub IsIn : ℤ → ℤ → ℤ → Type 0
 IsIn low high moment = (low ≤ℤ moment) × (moment ≤ℤ high)
 
@@ -79,7 +80,7 @@ transition_some : (rule : Posix) (d : Dst) (w : ℤ × ℤ) (low high moment : �
 transition_some rule d w low high moment from to p e = grind (arith, signed_arith, no_none, int_le, and_from, le_yes)
 
 -- `o` is the start and the end of daylight saving time in the year `y`, in ascending order. If the rule has no
--- transition after `low`, then neither of the two is after `low` and before `high`.
+-- transition after `low`, neither of these two times is inside the range from `low` to `high`.
 passed_ends : (rule : Posix) (d : Dst) (y first last low high : ℤ) (o : ℤ × ℤ) → o.0 ≤ℤ o.1 → (a b : Bool) → int_lt low o.0 ≡ a → int_lt low o.1 ≡ b
     → neg_ℤ (pos 377_705_023_201_000_000_000) ≤ℤ first → last ≤ℤ pos 253_402_207_200_999_999_999 → IsIn first last o.0 → IsIn first last o.1
     → (if a then transition_of rule d (utc_window d y rule.std_offset) o.0 else (if b then transition_of rule d (utc_window d y rule.std_offset) o.1 else next_year rule d y)) ≡ None

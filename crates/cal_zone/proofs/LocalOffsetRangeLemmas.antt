@@ -126,8 +126,9 @@ place_of-between z from local within_years some begun within =
     (let in_range = offset.in_range in omega (arith, signed_arith))
     (let in_range = offset.in_range in omega (arith, signed_arith))))
 
--- In the four lemmas below, `rows` is a copy of the transitions of a table, with the same contents. The function
--- `transitions` of a table returns such a copy. By the first lemma, the copy has as many transitions as the table.
+-- In the lemmas whose names end in `_of_copy`, and in `ordered_copy`, `rows` is a copy of the transitions of a table,
+-- with the same contents. The function `transitions` of a table returns such a copy. By `length_of_copy`, the copy has
+-- as many transitions as the table.
 pub length_of_copy : (z : Table) (rows : List Transition) → map transition_text rows ≡ map transition_text z.transitions.items → length rows ≡ vec_len z.transitions
 length_of_copy z rows copy = grind (arith, signed_arith, length-map)
 

@@ -117,9 +117,10 @@ apart_kept : (low high by more moment moved : ℤ) → civil_min ≤ℤ low → 
 apart_kept low high by more moment moved from to some also a b (inl h) = grind (arith, signed_arith, kept_low, clamped, civil_order)
 apart_kept low high by more moment moved from to some also a b (inr h) = grind (arith, signed_arith, kept_high, clamped, civil_order)
 
--- The nanosecond at which daylight saving time starts or ends in the year from `low` to `high`, or `high` if there is
--- no `day`. The nanosecond is counted in UTC if `seconds` is the UTC offset before the change, and in local time if
--- `seconds` is 0. By the lemma below, the two counts differ by at most 93,599 seconds, the largest UTC offset.
+-- The nanosecond at which daylight saving time starts or ends in a year. `low` and `high` are the first and the last
+-- nanosecond of the year. If the year has no `day` for the change, the result is `high`. The nanosecond is counted in
+-- UTC if `seconds` is the UTC offset before the change, and in local time if `seconds` is 0. By `moment_near`, the two
+-- counts differ by at most 93,599 seconds, the largest UTC offset.
 abbrev pub moment_on : Option ℤ → ℤ → ℤ → ℤ → ℤ → ℤ
 moment_on day low high time seconds = match_some day high (λ d. clamp_to low high (d *ℤ nanos_per_day +ℤ nanos_of_seconds (time -ℤ seconds)))
 
@@ -142,8 +143,9 @@ apart_wall low high by y d seconds order offset apart =
     apart_near low high by (pos 93_599_000_000_000) _ _ apart near.0 near.1
 
 -- `w` is the start and the end of daylight saving time, here in local time. At these two times there are a gap and a
--- fold, which have four ends in all. `at` and `other` are on the same side of each of these ends. By the lemma below,
--- `jiff` then reports the same for both: unambiguous, in the gap or in the fold, with the same offsets.
+-- fold, which have four ends in all. `at` and `other` are on the same side of each of these ends. By
+-- `ambiguous_beside`, `jiff` then reports the same for `at` and `other`: unambiguous, in the gap or in the fold, with
+-- the same offsets.
 pub record AreBeside (std dst : Offset) (w : ℤ × ℤ) (at other : ℤ) : Type 0 where
   pub start : IsBeside w.0 at other
   pub end : IsBeside w.1 at other
@@ -194,8 +196,8 @@ window_apart rule d y low high next e h =
 -- Suppose that daylight saving time starts with the year, and that its end, converted to standard time, is outside the
 -- year. Then `utc_window` has the last nanosecond of the year in place of the end. If the range from `low` to `high` is
 -- in the year, daylight saving time ends outside this range, or at most 93,599 seconds (the largest UTC offset) away
--- from `low` or `high`. The two lemmas below show this: the first for an end before the year, the second for an end
--- after it.
+-- from `low` or `high`. The lemma `end_passed` shows this for an end before the year, and `end_to_come` for an end
+-- after the year.
 end_passed : (low high first last end std : ℤ) → first ≤ℤ low → low ≤ℤ civil_max → IsOffsetSeconds std → clamp_to civil_min civil_max (end +ℤ nanos_of_seconds std) <ℤ first
     → ((end +ℤ nanos_of_seconds std) ≤ℤ clamp_to civil_min civil_max (end +ℤ nanos_of_seconds std)) ⊎ (civil_max ≤ℤ clamp_to civil_min civil_max (end +ℤ nanos_of_seconds std))
     → IsApart low high (pos 93_599_000_000_000) end
@@ -300,8 +302,8 @@ pub offset_in : (rule : Posix) (d : Dst) (y n : ℤ) → rule.dst ≡ Some d →
     → ByPosix.offset_at rule n ≡ match_some (if in_window (utc_window d y rule.std_offset) n then Some d else None) rule.std_offset (λ dst. dst.offset)
 offset_in rule d y n e f = rw (e, f) refl
 
--- In the lemma below, the local times `at` and `other` are at least this many nanoseconds away from both ends of the
--- range from `low` to `high`: four times the largest UTC offset, plus one second.
+-- The smallest distance in nanoseconds, in the lemma `walls_beside`, of the local times `at` and `other` from either
+-- end of the range from `low` to `high`: four times the largest UTC offset, plus one second.
 abbrev pub far : ℤ
 far = pos 374_397_000_000_000
 

@@ -30,6 +30,6 @@ IsAddFault table name TooLarge = ⊥
 IsAddFault table name NoMemory = IsAddable table name
 IsAddFault table name NameTaken = (is_zone_name name ≡ true) × (is_taken table name ≡ true)
 
--- the map with the entries of the `BTreeMap`, whose keys are the bytes of the names
+-- the finite map with the entries of the `BTreeMap`; its keys are the names, as lists of bytes
 abbrev pub zone_map_in : BTreeMap (String Global) TimeZone → ZoneMap
 zone_map_in zones = from_entries (map (λ entry. (string_bytes entry.0, entry.1)) zones.entries)

@@ -71,9 +71,10 @@ fn instant_range_by_rules(rules: &Rules, instant: Instant) -> InstantOffsetRange
 /// Returns the end of a range of instants that starts at `from` and has a constant UTC offset.
 ///
 /// A range that [`instant_range_by_rules`] returns ends with the year at the latest, even if the offset doesn't change
-/// then. So this function also examines the range that follows. If that range has the same offset and ends at a
-/// supported instant, its end is returned. Otherwise, the end of the first range is returned. If the first range ends
-/// after the last supported instant, the result is `from`, which makes the range empty.
+/// then. So this function examines two ranges: the one that starts at `from`, and the one that follows it. If the
+/// following range has the same offset and ends at a supported instant, this end is returned. Otherwise, the end of the
+/// range that starts at `from` is returned. If that end is after the last supported instant, the result is `from`,
+/// which makes the range empty.
 pub(crate) fn constant_offset_until(rules: &Rules, from: Instant) -> Instant
     ensures { HasConstantOffset rules.now from.secs result.secs }
 {

@@ -144,12 +144,11 @@ fn range_end_by_rule(rule: posix::TimeZone, local: i64, constant_until: Instant)
 }
 
 /// Returns the end of a range of local seconds without a gap or a fold. `next` is the first transition of a POSIX rule
-/// after `past`.
+/// after `past`, if there is one.
 ///
-/// The range starts [`TRANSITION_MARGIN`] seconds after `past`, and ends [`TRANSITION_MARGIN`] seconds before the
-/// transition. If the range starts in the year of `past`, it ends with this year at the latest, since a POSIX rule is
-/// evaluated year by year. Returns `past`, which makes the range empty, if there is no transition or if `past` is
-/// before 1970.
+/// The range starts [`TRANSITION_MARGIN`] seconds after `past`, and ends [`TRANSITION_MARGIN`] seconds before `next`.
+/// But if it starts in the year of `past`, it ends with this year at the latest, since a POSIX rule is evaluated year
+/// by year. Returns `past`, which makes the range empty, if `next` is `None` or if `past` is before 1970.
 fn range_end_before_transition(next: Option<Transition>, past: i64) -> i64
     requires { past ≤ℤ pos 7_258_500_000 }
     ensures { IsClearOfTransitionUntil (option_map transition_view next) past result }

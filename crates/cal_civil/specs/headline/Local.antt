@@ -31,7 +31,7 @@ last_year = 2_199
 abbrev pub days_in_all : ℕ
 days_in_all = 84_006
 
--- the day number of the last of these days
+-- the day number of 2199-12-31, the last day of the years 1970 to 2199
 abbrev pub last_day : ℕ
 last_day = 84_005
 

@@ -105,8 +105,9 @@ impl Searcher {
         self.most_months
     }
 
-    /// Returns the first match at or after a local second, or the first one after a match, as `start` says, with the
-    /// number of months examined. Each call counts as one search. The result is the same as that of `next_local`.
+    /// Returns the first match at or after a local second, or the first one after a given match; `start` says which of
+    /// the two. Also returns the number of months examined. Each call counts as one search. The result is the same as
+    /// that of `next_local`.
     #[inline(always)]
     pub fn search(&mut self, start: SearchStart) -> Found
         requires start { CanStart (matches (sets_in self.old.masks)) start }

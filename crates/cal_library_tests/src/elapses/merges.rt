@@ -78,7 +78,7 @@ fn silent_exceptions(rt: HostRuntime) -> Result<(), Fail> {
     expect_numbers(&mut merge, &[1, 7, 9])
 }
 
-/// Adds the elapses of an expression to a merge that hasn't been started.
+/// Adds the elapses of an expression to a merge that has not returned a number yet.
 fn add_elapses<'z>(
     alloc: Global,
     merge: &mut Merge<Elapses<'z>>,
@@ -118,8 +118,8 @@ static IN_GAP_AND_FOLD: [(i64, &[i64]); 2] = [
     (1_729_987_200, &[1_729_992_600]),
 ];
 
-/// Adds the elapses of `0,1:30` in UTC after `base`, and as an exception the elapses of `02:30` in the local zone, to a
-/// merge that hasn't been started.
+/// Adds to a merge that has not returned a number yet: the elapses of `0,1:30` in UTC after `base`, and as an exception
+/// the elapses of `02:30` in the local zone after `base`.
 fn add_without_half_past_two<'z>(
     alloc: Global,
     merge: &mut Merge<Elapses<'z>>,

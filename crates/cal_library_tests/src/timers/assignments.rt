@@ -52,7 +52,7 @@ static KEYS_AND_VALUES: [Row; 8] = [
         "[Timer]\n\rOnCalendar\r=\rdaily\r \r\n",
         Ok(&[(2, "daily")]),
     ),
-    // In the next two rows: keys that only look similar, lines without `=`, and other keys.
+    // In the next two rows: keys that only look like `OnCalendar`, lines without `=`, and other keys.
     (
         "[Timer]\noncalendar=x\nONCALENDAR=x\nOnCalendars=x\nX-OnCalendar=x\nOn Calendar=x\nOnCalendar=daily",
         Ok(&[(7, "daily")]),

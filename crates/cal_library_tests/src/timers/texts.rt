@@ -46,7 +46,7 @@ static READ: [Row; 9] = [
         &[(4, "daily")],
         &[],
     ),
-    // In the next row, a section ends at the end of its text.
+    // In the next row, a section ends with the text that it is in: it doesn't go on in the next text.
     (
         &["[Timer]\nOnCalendar=daily", "OnCalendar=x!\nOnCalendar="],
         &[(2, "daily")],

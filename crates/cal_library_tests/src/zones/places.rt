@@ -16,7 +16,7 @@ fn expect_places(zone: Zone, rows: &[(i64, Option<i64>)]) -> Result<(), Fail> {
         }
         let found = place(zone, *local);
         let by_the_cache = place_cache.place(*local);
-        // The second conversion may use a constant-offset range that the cache has kept from the first one.
+        // For the second conversion, the cache may use a range with a constant UTC offset that it kept from the first.
         let once_more = place_cache.place(*local);
         if found != *instant || by_the_cache != *instant || once_more != *instant {
             return Err((*local).into());

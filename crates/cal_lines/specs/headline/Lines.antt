@@ -48,13 +48,13 @@ pub record Group : Type 0 where
   pub first : Line
   pub more : List Line
 
--- adds a continued line to the front of the first group; if there are no groups, because the line is the last one, it
--- forms a group of its own
+-- adds a continued line to the front of the first group; if there are no groups, the line is the last one, and it forms
+-- a group of its own
 abbrev pub continued_by : Line → List Group → List Group
 continued_by line [] = record { first = line; more = [] } ∷ []
 continued_by line (group ∷ groups) = record { first = line; more = group.first ∷ group.more } ∷ groups
 
--- the lines in groups, each of which ends at the first line that isn't continued, or at the end of the file
+-- the lines, divided into groups; each group ends at the first line that isn't continued, or at the end of the file
 unfoldable pub groups : List Line → List Group
 groups [] = []
 groups (line ∷ lines) =

@@ -20,7 +20,8 @@ pub enum SpanFault {
     /// The word of letters after the number is not a unit.
     #[error("unknown unit")]
     UnknownUnit = 3,
-    /// The values of the pairs up to this one add up to more than 9,223,372,036,854,775,807 microseconds.
+    /// The value of this pair and the values of all pairs before it add up to more than 9,223,372,036,854,775,807
+    /// microseconds.
     #[error("time span too large")]
     TooLarge = 4,
 }

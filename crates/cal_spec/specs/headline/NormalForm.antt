@@ -9,7 +9,7 @@ use Rattle.cal_spec.specs.headline.Fields.{Fields}
 use Rattle.cal_rising.specs.headline.Elements.{Has}
 use Rattle.cal_spec.specs.declared.part.Part.{Part}
 
--- e is the last of the numbers a, a + r, .. that are at most b
+-- `e` is the last of the numbers `a`, `a` + `r`, .. that are at most `b`
 pub record IsLastReached (a b r e : ℕ) : Type 0 where
   pub from : a ≤ e
   pub reached : (e - a) % r ≡ 0
@@ -25,15 +25,15 @@ abbrev pub range_step : Option ℕ → Option ℕ
 range_step None = None
 range_step (Some r) = if r == 1 then None else Some r
 
--- the part that is the single number a
+-- the part that is the single number `a`
 abbrev pub point : ℕ → Part
 point a = record { start = a; end = None; step = None }
 
--- the range from a to e with its step in normal form, or the single number a if e is a
+-- the range from `a` to `e` with its step in normal form, or the single number `a` if `e` equals `a`
 abbrev pub range_to : ℕ → ℕ → Option ℕ → Part
 range_to a e step = if e == a then point a else record { start = a; end = Some e; step = range_step step }
 
--- q is the normal form of the part with this start, end and step; only ranges change
+-- `q` is the normal form of the part with this start, end and step; a part that isn't a range is its own normal form
 abbrev pub IsReducedTo : ℕ → Option ℕ → Option ℕ → Part → Type 0
 IsReducedTo a None step q = q ≡ record { start = a; end = None; step = step }
 IsReducedTo a (Some b) step q = (e : ℕ) × IsLastReached a b (step_of step) e × (q ≡ range_to a e step)
@@ -77,7 +77,7 @@ abbrev pub normal_from_end : Bool → Option (List Part) → Bool
 normal_from_end from_end None = false
 normal_from_end from_end (Some ps) = from_end
 
--- `normal` are the fields `raw` in normal form
+-- `normal` is the normal form of the fields `raw`
 pub record IsNormalFieldsOf (raw normal : Fields) : Type 0 where
   pub weekdays : normal.weekdays ≡ raw.weekdays
   pub year : IsNormalOf raw.year normal.year

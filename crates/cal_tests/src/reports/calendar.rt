@@ -3,7 +3,7 @@
 use super::{CALENDAR, NOON_THIRTY, Row, check};
 use std::test::Fail;
 
-/// A report made one second before the last supported local second, which is the only elapse left.
+/// A report made one second before the last supported local second. The only elapse left is at that local second.
 const LAST_SECOND: Row<'static> = Row {
     about: "last second",
     texts: &["*-*-* 23:59:59"],

@@ -205,9 +205,9 @@ Normalized form: *-*-* *:00:00
 
 const TOMORROW: &str = "    Next elapse: Tue 2024-01-02 00:00:00 UTC\n       From now: 1d left\n";
 
-/// Files, each with the number of its lines `OnCalendar=daily`, the lines after them, the number of headings in its
-/// report, the text after the headings, and its error line. A file may have up to 256 expressions, and an empty
-/// `OnCalendar=` starts the count again.
+/// Files, each with the number of its lines `OnCalendar=daily`, the lines after them, the number of headings for
+/// `daily` in its report, the text after these headings, and its error line. A file may have up to 256 expressions, and
+/// an empty `OnCalendar=` starts the count again.
 static MANY: [(usize, &str, usize, &str, &str); 3] = [
     (256, "", 256, TOMORROW, ""),
     (256, RESET, 0, HOURLY, ""),

@@ -106,7 +106,8 @@ Normalized form: *-*-* *:*:*
     ..CALENDAR
 };
 
-/// A report made before the last supported local second, in a zone ten hours behind UTC.
+/// A report made in a zone ten hours behind UTC, 10 hours and 1 second before the clock shows the last supported local
+/// second.
 const BEFORE_THE_LAST_SECOND: Row<'static> = Row {
     about: "last second west",
     texts: &["*-*-* 23:59:59"],
@@ -215,7 +216,7 @@ Normalized form: *-*-* *:*:*
        From now: 3s left
 ";
 
-/// Every second, with a base at the second elapse of [`EVERY_SECOND`].
+/// The elapses of an expression that matches every second. The base is the second elapse of [`EVERY_SECOND`].
 const FROM_THE_SECOND: Row<'static> = Row {
     about: "every second, from the second elapse on",
     iterations: 2,
@@ -224,7 +225,7 @@ const FROM_THE_SECOND: Row<'static> = Row {
     ..EVERY_SECOND
 };
 
-/// Every second, with a base at the first elapse of [`EVERY_SECOND`].
+/// The elapses of an expression that matches every second. The base is the first elapse of [`EVERY_SECOND`].
 pub(super) const FROM_THE_FIRST: Row<'static> = Row {
     about: "every second, from the first elapse on",
     base: Some("@1704067201"),

@@ -38,7 +38,7 @@ impl<'a> System for Memory<'a> {
     }
 }
 
-/// Returns a system with the file `f`, at the start of 2024.
+/// Returns a system with the file `f`, whose clock always shows the start of 2024.
 fn with_file(bytes: &[u8]) -> Memory<'_> {
     Memory {
         path: "f",

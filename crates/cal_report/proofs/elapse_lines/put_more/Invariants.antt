@@ -1,6 +1,6 @@
--- The elapses that the source has yet to return are still to be written, with the numbers from `number` to
--- `iterations`, or up to a smaller number if the source ends before that. The writer hasn't failed, and the local zone
--- is the same as before the loop.
+-- What remains to be written are the elapses that the source has yet to return. They are numbered from `number` to
+-- `iterations`, or to a smaller number if the source ends before that. The writer hasn't failed, and the local zone is
+-- the same as before the loop.
 use Rattle.std.proofs.Common.{◌≡◌, ◌+◌, ◌-◌, take}
 use Rattle.cal_bytes.proofs.PutLemmas.{PutsUpTo}
 use Rattle.cal_report.specs.headline.ElapseLines.{elapse_texts}

@@ -8,8 +8,8 @@ use Rattle.std.proofs.lemmas.Bool.{ltb-true, ltb-false}
 use Rattle.std.proofs.lemmas.Option.{cond_some}
 use Rattle.cal_text.proofs.General.{split_some, not_found, split_none}
 
--- the induction step of `filter_some`: if a text has a separator, its separators are the first one and then those of
--- the bytes after it
+-- the induction step of `filter_some`: if a text has a separator, the separators of the text are its first separator
+-- and then those of the bytes after the first separator
 filter_some_step : (p : ℕ → Bool) (x : ℕ) (xs : List ℕ) (test : Bool) → (position_or_len p xs < length xs → filter p xs ≡ get_or xs (position_or_len p xs) 0 ∷ filter p (drop (position_or_len p xs + 1) xs)) → cond (not test) (1 + position_or_len p xs) 0 < suc (length xs) → cond test (x ∷ filter p xs) (filter p xs) ≡ get_or (x ∷ xs) (cond (not test) (1 + position_or_len p xs) 0) 0 ∷ filter p (drop (cond (not test) (1 + position_or_len p xs) 0 + 1) (x ∷ xs))
 filter_some_step p x xs true rest within = refl
 filter_some_step p x xs false rest within =
@@ -26,9 +26,9 @@ filter_none : (p : ℕ → Bool) (xs : List ℕ) → length xs ≤ position_or_l
 filter_none p [] past = refl
 filter_none p (x ∷ xs) past = grind (arith, filter_none p xs)
 
--- If the first separator is at index `n`, the first piece is the bytes before this separator, and the other pieces are
--- those of the bytes after it. In the same way, the first separator is followed by the separators of the bytes after
--- it.
+-- Suppose that the first separator of a text is at index `n`. Then the first piece of the text is the first `n` bytes,
+-- and the other pieces are those of the bytes after the separator. The separators of the text are this separator and
+-- those of the bytes after it.
 cut_some : (p : ℕ → Bool) (xs : List ℕ) (n : ℕ) → position p xs ≡ Some n → (slice_split p xs ≡ take n xs ∷ slice_split p (drop (n + 1) xs)) × (filter p xs ≡ get_or xs n 0 ∷ filter p (drop (n + 1) xs))
 cut_some p xs n at =
     let found = cond_some (nat_lt (position_or_len p xs) (length xs)) (position_or_len p xs) n at in (

@@ -1,5 +1,5 @@
--- The writer hasn't failed, and what is still to be written is, for each part of `rest` from the index on, a comma and
--- the text of the part.
+-- `rest` are the parts after the first part. The writer hasn't failed. What is still to be written is a comma and the
+-- text of the part for each part of `rest` from the loop's index on.
 use Rattle.std.proofs.Common.{[], ◌++◌, drop, codes}
 use Rattle.std.specs.List.{flat_map}
 use Rattle.cal_bytes.proofs.PutLemmas.{PutsUpTo}

@@ -1,4 +1,5 @@
--- The writer hasn't failed, and what is still to be written is the text of the components in `rows` from the index on.
+-- The writer hasn't failed, and what is still to be written is the text of the components in `rows` from the loop's
+-- index on.
 use Rattle.std.proofs.Common.{drop}
 use Rattle.std.specs.List.{flat_map}
 use Rattle.std.specs.Option.{option_copied}

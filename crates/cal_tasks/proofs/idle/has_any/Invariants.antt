@@ -1,5 +1,5 @@
--- Whether at least one of the numbers is an elapse depends only on the numbers at the loop's index and after it. The
--- source of the elapses is unchanged.
+-- At least one of the numbers is an elapse if and only if this is true of the numbers at the loop's index and after it.
+-- The source of the elapses is unchanged.
 use Rattle.std.proofs.Common.{◌≡◌, drop}
 use Rattle.std.specs.List.{list_any}
 use Rattle.std.specs.Ordering.{int_eq}

@@ -6,7 +6,7 @@ use Rattle.cal_units.specs.Machine.{Machine}
 use Rattle.cal_units.proofs.aliases.find_aliases.Given as goal
 
 -- if there is no error so far, the aliases found are those in the folders before the loop's index; each error so far is
--- one of looking for aliases
+-- one that can occur when aliases are looked for
 abbrev pub invariant-loop-folder : goal.invariant-loop-folder
 invariant-loop-folder g l =
     ((machine : Machine) → g.T.Tree.shows l.tree machine → l.found.faults.items ≡ []

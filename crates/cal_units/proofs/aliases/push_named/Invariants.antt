@@ -6,7 +6,7 @@ use Rattle.cal_units.specs.Machine.{Machine}
 use Rattle.cal_units.proofs.aliases.push_named.Given as goal
 
 -- if there is no error so far, there was none before the loop, and the aliases with the names that the loop has visited
--- have been appended; each new error is one of looking for aliases
+-- have been appended; each new error is one that can occur when aliases are looked for
 abbrev pub invariant-loop-name : goal.invariant-loop-name
 invariant-loop-name g l =
     ((machine : Machine) → g.T.Tree.shows l.tree machine → l.found.faults.items ≡ []

@@ -24,8 +24,8 @@ pub overflow_add-midnight : goal.overflow_add-midnight
 overflow_add-midnight c =
     grind (arith, signed_arith, c.args.instant.in_range, c.secs.ensures.value, c.since_midnight.ensures, c.civil_at-shown.ensures.ranges.hour, c.civil_at-shown.ensures.ranges.minute, c.civil_at-shown.ensures.ranges.second)
 
--- the midnight at which the day of `second` began, if `time_of_day` is the number of seconds since then: `second` minus
--- `time_of_day`, as the code computes it with 64-bit numbers
+-- `second` minus `time_of_day`, as the code computes it with 64-bit numbers; if `time_of_day` is the number of seconds
+-- since midnight, this is the midnight at which the day of `second` began
 abbrev midnight_of : ℤ → ℤ → ℤ
 midnight_of second time_of_day = to_z w64 (of_z w64 (to_z w64 (of_z w64 second) -ℤ to_z w64 (of_z w64 time_of_day)))
 
