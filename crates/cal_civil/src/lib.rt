@@ -11,4 +11,4 @@ pub use days::{DAY, LOCAL_END, MAX_OFFSET, date_of_day, day_of, second_of_day};
 pub use offset_text::push_offset;
 pub use offset_word::{begins_zone, read_offset};
 pub use weekday::{WEEK, short_weekday_name, weekday_name};
-pub use zone_name::{begins_with_letter, is_zone_name};
+pub use zone_name::{begins_with_letter, is_utc_name, is_zone_name};

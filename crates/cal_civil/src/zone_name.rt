@@ -2,7 +2,7 @@
 
 ghost use Rattle.std.specs.Prelude.{◌≡◌};
 ghost use Rattle.std.specs.List.{list_all};
-ghost use Rattle.cal_civil.specs.headline.ZoneName.{begins_with_letter, is_zone_byte, is_zone_name};
+ghost use Rattle.cal_civil.specs.headline.ZoneName.{begins_with_letter, is_utc_name, is_zone_byte, is_zone_name};
 
 /// The maximum length of a zone's name, in bytes.
 const MAX_NAME_BYTES: usize = 255;
@@ -15,6 +15,13 @@ pub fn is_zone_name(text: &[u8]) -> bool
     ensures { result ≡ is_zone_name text.now }
 {
     begins_with_letter(text) && are_zone_bytes(text) && text.len() <= MAX_NAME_BYTES
+}
+
+/// Returns whether `text` is `UTC`, ignoring case.
+pub fn is_utc_name(text: &str) -> bool
+    ensures { result ≡ is_utc_name text.now }
+{
+    text.eq_ignore_ascii_case("utc")
 }
 
 /// Returns whether `text` begins with an ASCII letter.

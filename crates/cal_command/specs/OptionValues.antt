@@ -2,11 +2,11 @@
 -- and `--local`. The value of `--base-time` is a timestamp, which isn't parsed here.
 use Rattle.std.specs.Prelude.{ℕ, ℤ, ◌&&◌, ◌==◌, Bool, pos, List, [], ◌∷◌, length, drop, Option, None, Some, codes, nat_eq, nat_lt, nat_le, if◌then◌else◌, unsigned_abs, option_and_then, option_map}
 use Rattle.std.specs.List.{after_first, before_first, list_any, slice_split, starts_with}
-use Rattle.std.specs.Str.{all_ascii_digits, str_eq_ignore_ascii_case}
+use Rattle.std.specs.Str.{all_ascii_digits}
 use Rattle.std.specs.Str.Parse.{digits_value}
 use Rattle.cal_zone.specs.Instant.{last_instant}
 use Rattle.cal_civil.specs.ReadOffset.{offset_in}
-use Rattle.cal_civil.specs.headline.ZoneName.{is_zone_name}
+use Rattle.cal_civil.specs.headline.ZoneName.{is_utc_name, is_zone_name}
 use Rattle.cal_command.specs.Ask.{LocalZone, in_utc, at_offset, by_rule, of_name, ZoneItem}
 use Rattle.cal_request.specs.VerbOptions.{max_iterations}
 use Rattle.cal_text.specs.headline.Separators.{is_equals, is_comma}
@@ -60,7 +60,7 @@ zones_in text =
 -- `--local`: `UTC` (ignoring case), `posix:` and a rule, a name that has the form of a zone's name, or an offset
 unfoldable pub local_zone_in : List ℕ → Option LocalZone
 local_zone_in text =
-    if str_eq_ignore_ascii_case text (codes "UTC") then Some in_utc
+    if is_utc_name text then Some in_utc
     else if starts_with nat_eq text (codes "posix:") then Some (by_rule (drop 6 text))
     else if is_zone_name text then Some (of_name text)
     else option_map at_offset (offset_in text)

@@ -16,7 +16,7 @@ ghost use Rattle.cal_command.specs.OptionValues.{count_in, local_zone_in, number
 ghost use Rattle.cal_request.specs.VerbOptions.{IsCount};
 
 use crate::ask::{LocalZone, ZoneItem};
-use cal_civil::{is_zone_name, read_offset};
+use cal_civil::{is_utc_name, is_zone_name, read_offset};
 use cal_zone::{Instant, ZoneName};
 use std::alloc::{AllocError, Global};
 
@@ -190,7 +190,7 @@ fn local_zone_in(alloc: Global, text: &str) -> Result<Option<LocalZone>, AllocEr
     ensures value { IfOk result (λ local. option_map shown_local local ≡ local_zone_in text.now) }
     ensures offset { IfOk result (λ local. IfSome local IsLocalOffset) }
 {
-    if text.eq_ignore_ascii_case("UTC") {
+    if is_utc_name(text) {
         return Ok(Some(LocalZone::Utc));
     }
     if let Some(rule) = text.strip_prefix("posix:") {

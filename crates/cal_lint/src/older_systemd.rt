@@ -2,17 +2,17 @@
 
 ghost use Rattle.std.specs.Prelude.{◌≡◌, ◌≤◌, ◌==◌, IsTrue, length};
 ghost use Rattle.std.specs.Option.{option_and_then, option_copied};
-ghost use Rattle.std.specs.List.{after_first, find, list_all, list_any, prefix_len, position_or_len, slice_split};
+ghost use Rattle.std.specs.List.{after_first, find, list_all, list_any, prefix_len, slice_split};
 ghost use Rattle.std.specs.Char.{is_ascii_digit};
 ghost use Rattle.cal_bytes.specs.SplitPieces.{pieces_after};
 ghost use Rattle.cal_text.specs.headline.Separators.{is_colon, is_comma, words};
 ghost use Rattle.cal_spec.specs.Parts.{is_slash};
 ghost use Rattle.cal_spec.specs.Reads.{GivesUnlessNoMemory};
-ghost use Rattle.cal_spec.specs.WeekdayNames.{after_joint, day_named, is_no_letter};
+ghost use Rattle.cal_spec.specs.WeekdayNames.{after_joint, day_named};
 ghost use Rattle.cal_lint.specs.Systemd252.{are_equal, rejection_in, has_empty_part, has_extra, has_extra_after, has_large_step, has_late_days, has_late_part, has_weekday_wrap, is_date, is_one_second, is_rejected_for, is_space, is_weekday_list, piece_is_rejected_for, runs_past_sunday, seconds_in, step_in, word_is_rejected_for};
 
 use cal_civil::{begins_with_letter, begins_zone};
-use cal_spec::{Expr, Field, Part, SpecFault, find_day, first_piece, read_expr};
+use cal_spec::{Expr, Field, Part, SpecFault, find_day, first_piece, letters_len, read_expr};
 use cal_text::{are_digits, decimal_value, first_word};
 use jiff_core::civil::Weekday;
 use std::alloc::Global;
@@ -233,15 +233,6 @@ fn day_after_joint(text: &[u8]) -> Option<Weekday>
         [b'-', name @ ..] | [b'.', b'.', name @ ..] => find_day(name),
         _ => None,
     }
-}
-
-fn letters_len(word: &[u8]) -> usize
-    ensures value { result ≡ position_or_len is_no_letter word.now }
-    ensures within { result ≤ length word.now }
-{
-    word.iter()
-        .take_while(|byte| byte.is_ascii_alphabetic())
-        .count()
 }
 
 // Seconds

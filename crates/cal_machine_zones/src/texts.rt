@@ -2,13 +2,12 @@
 
 ghost use Rattle.std.specs.Prelude.{◌≡◌, IfSome, is_some, option_map};
 ghost use Rattle.jiff.specs.Words.{read_whole};
-ghost use Rattle.cal_civil.specs.headline.ZoneName.{is_utc_name};
 ghost use Rattle.cal_units.specs.Machine.{shown_entry};
 ghost use Rattle.cal_units.specs.Units.{after_prefix};
 ghost use Rattle.cal_machine_zones.specs.LocalZone.{HasOffset, argument_zone, file_zone, link_name, link_zone, name_or_offset, name_zone, offset_zone, shown_told, target_zone, variable_zone, without_folder};
 
 use crate::fault::Origin;
-use cal_civil::read_offset;
+use cal_civil::{is_utc_name, read_offset};
 use cal_units::Entry;
 use cal_zone::{Rules, ZoneName};
 use std::alloc::Global;
@@ -159,11 +158,4 @@ fn after_prefix<'t>(prefix: &str, text: &'t str) -> Option<&'t str>
     ensures { option_map (λ rest. rest.now) result ≡ after_prefix prefix.now text.now }
 {
     text.strip_prefix(prefix)
-}
-
-/// Returns whether a name is `UTC`, ignoring case.
-fn is_utc_name(text: &str) -> bool
-    ensures { result ≡ is_utc_name text.now }
-{
-    text.eq_ignore_ascii_case("utc")
 }

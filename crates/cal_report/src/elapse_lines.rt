@@ -8,11 +8,11 @@ ghost use Rattle.cal_report.specs.headline.ElapseLines.{label_text, elapse_text,
 ghost use Rattle.cal_request.specs.VerbOptions.{IsCount};
 
 use crate::local_and_utc::LocalAndUtc;
-use crate::report_lines::{first_moment, push_distance};
+use crate::report_lines::push_distance;
 use cal_bytes::{Fill, ShortText, Sink, WriteFault, padding, push, push_all, put_all};
 use cal_elapse::Rising;
 use cal_plan::Instants;
-use cal_zone::{Instant, Zone};
+use cal_zone::{Instant, Moment, Zone};
 use itoa::Buffer;
 
 /// Writes the next elapses, at most `iterations` of them, or `never` if no elapses remain.
@@ -96,7 +96,7 @@ fn push_elapse(
     push(text, b"\n");
     formatter.push_utc_line(text, elapse);
     push(text, b"       From now: ");
-    push_distance(text, now, first_moment(elapse));
+    push_distance(text, now, Moment::first_of(elapse));
     push(text, b"\n");
 }
 

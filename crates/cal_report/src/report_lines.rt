@@ -9,7 +9,7 @@ ghost use Rattle.cal_report.specs.headline.ReportLines.{direction_text, distance
 
 use cal_bytes::{ShortText, Sink, WriteFault, push, put_pieces};
 use cal_span::{Span, push_span};
-use cal_zone::{Instant, MICROS_PER_SECOND, Moment};
+use cal_zone::{Instant, Moment};
 
 /// The label before an expression or a timestamp in its original form: as the user gave it, or as it is written in the
 /// timer file.
@@ -35,19 +35,9 @@ pub fn push_distance(text: &mut ShortText, now: Instant, moment: Moment)
     ensures text { text.new.items ≡ text.old.items ++ distance_text (micros_of now.secs) moment.micros }
     ensures short { length text.new.items ≤ length text.old.items + SPAN_ROOM + 5 }
 {
-    let now = first_moment(now);
+    let now = Moment::first_of(now);
     push_span(text, distance(now, moment));
     push(text, direction(now, moment));
-}
-
-/// Returns the first microsecond of an instant, which is a whole second.
-pub fn first_moment(instant: Instant) -> Moment
-    ensures { result.micros ≡ micros_of instant.secs }
-{
-    let Some(moment) = Moment::new(instant.secs() * MICROS_PER_SECOND as i64) else {
-        unreachable!()
-    };
-    moment
 }
 
 /// Returns ` ago` if `moment` is earlier than `now`, and ` left` otherwise.

@@ -3,7 +3,6 @@ use Rattle.std.proofs.Common.{ℕ, ℤ, ◌-◌, ◌+◌, ◌≤◌, ◌≡◌, 
 use Rattle.std.specs.Prelude.{IfOk, is_some}
 use Rattle.std.specs.List.{list_any, slice_split}
 use Rattle.std.specs.Option.{ok_or, option_map}
-use Rattle.std.specs.Str.{str_eq_ignore_ascii_case}
 use Rattle.std.proofs.lemmas.Bool.{or_left, le-leb, ltb-false}
 use Rattle.std.proofs.lemmas.List.Folds.{list_any_at}
 use Rattle.jiff_core.specs.declared.civil.weekday.Weekday.{Weekday}
@@ -26,7 +25,7 @@ use Rattle.cal_spec.specs.ValidFields.{IsValidFields}
 use Rattle.cal_spec.specs.WeekdayNames.{day_named, leading_letters, days_of, items_of, without_comma, listed_days, is_like_shorthand, weekdays_of, weekdays_in}
 use Rattle.cal_spec.specs.headline.Weekdays.{days_until, is_in_weekday_range, set_of}
 use Rattle.cal_spec.specs.Words.{roles_of}
-use Rattle.cal_civil.specs.headline.ZoneName.{is_zone_name}
+use Rattle.cal_civil.specs.headline.ZoneName.{is_utc_name, is_zone_name}
 use Rattle.cal_civil.specs.ReadOffset.{offset_in}
 use Rattle.cal_civil.proofs.OffsetWordLemmas.{offset-minutes}
 use Rattle.cal_spec.specs.ParsedSuffix.{IsSuffixOption, suffix_due, suffix_in, suffix_of}
@@ -183,7 +182,8 @@ unfolding is_zone_name
 name_kept word true test = refl
 name_kept word false test = test
 
-name_twice : (word : List ℕ) (utc : Bool) → str_eq_ignore_ascii_case word (codes "UTC") ≡ utc → kept_name (cond utc (codes "UTC") word) ≡ cond utc (codes "UTC") word
+name_twice : (word : List ℕ) (utc : Bool) → is_utc_name word ≡ utc → kept_name (cond utc (codes "UTC") word) ≡ cond utc (codes "UTC") word
+unfolding is_utc_name
 name_twice word true is = refl
 name_twice word false is = rw is refl
 
@@ -196,7 +196,7 @@ suffix_by word (Some seconds) suffix is at =
 zone_by : (word : List ℕ) (test : Bool) (suffix : Option ZoneSuffix) → is_zone_name word ≡ test → suffix_due (cond test (Some (of_name (kept_name word))) (option_map at_offset (offset_in word))) ≡ Ok suffix → IsSuffixOption suffix
 zone_by word true suffix is at =
     let same : Some (of_name (kept_name word)) ≡ suffix = cc in
-    let utc = str_eq_ignore_ascii_case word (codes "UTC") in
+    let utc = is_utc_name word in
     subst (λ (s : Option ZoneSuffix). IsSuffixOption s) same (name_kept word utc is, name_twice word utc refl)
 zone_by word false suffix is at = suffix_by word (offset_in word) suffix refl at
 

@@ -1,7 +1,7 @@
 -- Examples of the zone at the end of an expression, checked by computation.
 use Rattle.std.proofs.Common.{◌≡◌, ℕ, pos, neg_ℤ, List, [], ◌∷◌, codes, map, Option, Some, Result, Ok, Err, refl}
 use Rattle.cal_civil.specs.ReadOffset.{hour_minute_in, offset_in, two_digits}
-use Rattle.cal_civil.specs.headline.ZoneName.{is_zone_name}
+use Rattle.cal_civil.specs.headline.ZoneName.{is_utc_name, is_zone_name}
 use Rattle.cal_spec.specs.ParsedSuffix.{suffix_in, suffix_of}
 use Rattle.cal_spec.specs.headline.ZoneSuffix.{ZoneSuffix, of_name, at_offset}
 use Rattle.cal_spec.specs.declared.spec_fault.SpecFault.{SpecFault}
@@ -23,5 +23,5 @@ rows =
     ∷ []
 
 rows_read : map (λ (row : Row). suffix_in row.0) rows ≡ map (λ (row : Row). row.1) rows
-unfolding suffix_of is_zone_name offset_in hour_minute_in two_digits
+unfolding suffix_of is_utc_name is_zone_name offset_in hour_minute_in two_digits
 rows_read = refl

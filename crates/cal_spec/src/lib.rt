@@ -39,4 +39,4 @@ pub use parts::with_century;
 pub use pieces::first_piece;
 pub use read::read_expr;
 pub use spec_fault::SpecFault;
-pub use weekdays::find_day;
+pub use weekdays::{find_day, letters_len};

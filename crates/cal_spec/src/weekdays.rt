@@ -105,7 +105,8 @@ fn find_named(days: &[Weekday], word: &[u8]) -> Option<Weekday>
     })
 }
 
-fn letters_len(word: &[u8]) -> usize
+/// Returns how many ASCII letters `word` begins with.
+pub fn letters_len(word: &[u8]) -> usize
     ensures value { result ≡ position_or_len is_no_letter word.now }
     ensures within { result ≤ length word.now }
 {

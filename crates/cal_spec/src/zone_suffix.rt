@@ -9,8 +9,7 @@ ghost use Rattle.cal_spec.specs.ParsedSuffix.{suffix_in};
 ghost use Rattle.cal_spec.specs.headline.ZoneSuffix.{kept_name};
 
 use crate::SpecFault;
-use crate::same_word::is_same_word;
-use cal_civil::{is_zone_name, read_offset};
+use cal_civil::{is_utc_name, is_zone_name, read_offset};
 use cal_text::first_word;
 use std::alloc::Global;
 
@@ -46,13 +45,9 @@ pub(crate) fn read_suffix(alloc: Global, text: &str) -> Result<Option<ZoneSuffix
     }
 }
 
-/// Returns the name to store: `UTC` if the word equals `UTC` ignoring case, and otherwise the word itself.
+/// Returns the name to store: `UTC` if the word is `UTC` in any case, and otherwise the word itself.
 fn name_of(word: &str) -> &str
     ensures { result.now ≡ kept_name word.now }
 {
-    if is_same_word(word.as_bytes(), b"UTC") {
-        "UTC"
-    } else {
-        word
-    }
+    if is_utc_name(word) { "UTC" } else { word }
 }

@@ -1,9 +1,8 @@
 //! Parsing of the two instants between which the verb `between` lists elapses.
 
-ghost use Rattle.std.specs.Prelude.{◌≡◌, IfOk, ◌≤◌, length, option_map};
-ghost use Rattle.std.specs.List.{position_or_len};
+ghost use Rattle.std.specs.Prelude.{◌≡◌, IfOk, option_map};
 ghost use Rattle.cal_zone.specs.Setting.{setting_seen};
-ghost use Rattle.cal_spec.specs.WeekdayNames.{is_no_letter, leading_letters};
+ghost use Rattle.cal_spec.specs.WeekdayNames.{leading_letters};
 ghost use Rattle.cal_text.specs.headline.Separators.{words};
 ghost use Rattle.cal_tasks.specs.When.{IsUnlessNoMemory, begin_with_weekday, fields_unless_dated, first_elapse, first_if_some, has_date, instant_in, next_weekday_time, setting_without_names, weekday_time_in};
 
@@ -11,7 +10,7 @@ use crate::clocked::Clocked;
 use cal_elapse::Elapses;
 use cal_plan::{Instants, zone_for};
 use cal_read::{StampFault, read_stamp};
-use cal_spec::{Expr, Field, SpecFault, find_day, read_expr};
+use cal_spec::{Expr, Field, SpecFault, find_day, letters_len, read_expr};
 use cal_text::first_word;
 use cal_zone::{Instant, Setting, ZoneTable};
 use std::alloc::{AllocError, Global};
@@ -168,13 +167,4 @@ fn leading_letters(word: &[u8]) -> &[u8]
     ensures { result.now ≡ leading_letters word.now }
 {
     &word[..letters_len(word)]
-}
-
-fn letters_len(word: &[u8]) -> usize
-    ensures value { result ≡ position_or_len is_no_letter word.now }
-    ensures within { result ≤ length word.now }
-{
-    word.iter()
-        .take_while(|byte| byte.is_ascii_alphabetic())
-        .count()
 }

@@ -2,7 +2,7 @@
 
 ghost use Rattle.std.specs.Prelude.{◌≡◌, ◌↔◌, ◌/◌, pos, unsigned_abs, IsSome, IfSome};
 ghost use Rattle.cal_zone.specs.Instant.{IsMoment};
-ghost use Rattle.cal_zone.specs.headline.Moment.{micros_per_second};
+ghost use Rattle.cal_zone.specs.headline.Moment.{micros_of, micros_per_second};
 
 use crate::Instant;
 
@@ -30,6 +30,16 @@ impl Moment {
             return None;
         }
         Some(Moment { micros })
+    }
+
+    /// Returns the first moment of an instant, which is a whole second.
+    pub fn first_of(instant: Instant) -> Moment
+        ensures { result.micros ≡ micros_of instant.secs }
+    {
+        match Moment::new(instant.secs() * MICROS_PER_SECOND as i64) {
+            Some(moment) => moment,
+            None => unreachable!(),
+        }
     }
 
     /// Returns the microseconds since 1970-01-01 00:00:00 UTC.

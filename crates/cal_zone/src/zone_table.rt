@@ -2,9 +2,9 @@
 
 ghost use Rattle.std.specs.Prelude.{◌≡◌, option_map, IfSome, IfErr, OnErr, MatchResult};
 ghost use Rattle.std.specs.FinMap as map;
-ghost use Rattle.cal_civil.specs.headline.ZoneName.{is_utc_name};
 
 use crate::{Rules, Zone, ZoneFault, ZoneName};
+use cal_civil::is_utc_name;
 use std::alloc::Global;
 use std::collections::BTreeMap;
 use std::marker::Model;
@@ -106,11 +106,4 @@ impl ZoneTable {
             None => None,
         }
     }
-}
-
-/// Returns whether `text` is `UTC`, ignoring case.
-fn is_utc_name(text: &str) -> bool
-    ensures { result ≡ is_utc_name text.now }
-{
-    text.eq_ignore_ascii_case("utc")
 }

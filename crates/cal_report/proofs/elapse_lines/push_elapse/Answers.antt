@@ -15,5 +15,5 @@ returns-clause-text c =
     let ended = pushed_more front _ _ (codes "\n") _ instant c.push.ensures in
     let utc = pushed_more front _ _ (utc_line c.args.formatter.now c.args.elapse.secs) _ ended (rw c.push_local.ensures.local at c.push_utc_line.ensures.text) in
     let labelled = pushed_more front _ _ (codes "       From now: ") _ utc c.push-2.ensures in
-    let distance = pushed_more front _ _ (distance_text (micros_of c.args.now.secs) (micros_of c.args.elapse.secs)) _ labelled (rw c.first_moment.ensures at c.push_distance.ensures.text) in
+    let distance = pushed_more front _ _ (distance_text (micros_of c.args.now.secs) (micros_of c.args.elapse.secs)) _ labelled (rw c.first_of.ensures at c.push_distance.ensures.text) in
     (pushed_more front _ _ (codes "\n") _ distance c.push-3.ensures).is

@@ -1,7 +1,7 @@
 use Rattle.std.proofs.Common.{rules}
 use Rattle.std.proofs.lemmas.Slice.Eq.{bytes_eq-Decides}
 use Rattle.cal_civil.specs.headline.ZoneName.{is_utc_name}
-use Rattle.cal_zone.proofs.zone_table.is_utc_name.Goals as goal
+use Rattle.cal_civil.proofs.zone_name.is_utc_name.Goals as goal
 
 pub returns : goal.returns
 unfolding is_utc_name
