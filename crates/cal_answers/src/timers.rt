@@ -9,12 +9,13 @@ use cal_tasks::{ClockNote, clock_notes, elapses_of, next_of_timers};
 use cal_timers_json::{ShownTimer, list_json, show_json};
 use cal_timers_text::{list_text, show_text};
 use cal_units::Tree;
+use cal_zone::Instant;
 use std::alloc::{AllocError, Global};
 
 /// What `show` and `next` compute for a timer: its next elapses, and notes about clock changes.
 #[derive(Debug, Drop)]
 struct Elapsing {
-    elapses: Vec<i64>,
+    elapses: Vec<Instant>,
     clock: Vec<ClockNote>,
 }
 

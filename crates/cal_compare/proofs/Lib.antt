@@ -1,2 +1,3 @@
 pub mod DifferenceLemmas
+pub mod OrderLemmas
 pub mod RangeLemmas

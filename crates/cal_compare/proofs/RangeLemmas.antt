@@ -8,8 +8,7 @@ use Rattle.std.specs.List.Sorted.{IsStrictlySortedBy}
 use Rattle.std.specs.Ordering.{int_cmp}
 use Rattle.std.specs.declared.cmp.Ordering.TheVariants.{Less}
 use Rattle.cal_text.proofs.General.{list-first, lt_from_less}
-use Rattle.cal_compare.specs.SeveralTimers.{in_range, range_of_one}
-use Rattle.cal_compare.specs.declared.timer_elapse.TimerElapse.{TimerElapse}
+use Rattle.cal_compare.specs.SeveralTimers.{Elapse, in_range, range_of_one}
 
 -- leaving out the first elapse, if it is outside the range, doesn't change which elapses are in the range
 left_out : (from before : ℤ) (timer : ℕ) (x : ℤ) (xs : List ℤ) → in_range from before x ≡ false
@@ -27,7 +26,7 @@ none_past from before timer x (y ∷ xs) late above =
     left_out from before timer y xs (in_range-late from before y later) ∙ none_past from before timer x xs late above.1
 
 -- if the first elapse is at or after the end of the range, no elapse is in the range
-pub range_past : (from before : ℤ) (timer : ℕ) (x : ℤ) (xs : List ℤ) (found whole : List TimerElapse) → slice_get xs 0 ≡ Some x → IsStrictlySortedBy int_cmp xs → before ≤ℤ x
+pub range_past : (from before : ℤ) (timer : ℕ) (x : ℤ) (xs : List ℤ) (found whole : List Elapse) → slice_get xs 0 ≡ Some x → IsStrictlySortedBy int_cmp xs → before ≤ℤ x
     → found ++ range_of_one from before timer xs ≡ whole → found ≡ whole
 range_past from before timer x xs found whole first rises late all =
     let split = list-first xs x first in

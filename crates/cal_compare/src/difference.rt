@@ -1,29 +1,29 @@
 //! The first instants at which only one of two timers elapses.
 
-ghost use Rattle.std.specs.Prelude.{◌≡◌, ◌≢◌, IfOk, MatchResult};
+ghost use Rattle.std.specs.Prelude.{◌≡◌, ◌≢◌, None, IfOk, MatchResult, option_map};
 ghost use Rattle.cal_zone.specs.Setting.{setting_seen};
 ghost use Rattle.cal_plan.specs.ZoneFor.{IsUnzoned, unzoned};
-ghost use Rattle.cal_plan.specs.TimerElapses.{IsMergeOf, elapses_of_lists};
+ghost use Rattle.cal_plan.specs.TimerElapses.{elapses_of_lists};
 ghost use Rattle.cal_plan.specs.declared.plan_fault.PlanFault.TheVariants.{NoMemory as PlanNoMemory};
 ghost use Rattle.cal_compare.specs.Difference.{IsDifference, IsUnzonedInEither, first_only_in};
 ghost use Rattle.cal_compare.specs.declared.compare_fault.CompareFault.TheVariants.{NoMemory as CompareNoMemory};
 
 use crate::compare_fault::CompareFault;
 use cal_elapse::Elapses;
-use cal_plan::{PlanFault, merge_of};
+use cal_plan::{Instants, PlanFault, merge_of};
 use cal_rising::{Merge, NoMemory, Rising};
 use cal_timer::Timer;
 use cal_zone::{Instant, Setting};
 use std::alloc::Global;
 
-/// The first instants in a range at which only one of two timers elapses, in seconds of Unix time. If both fields are
-/// `None`, the timers elapse at the same instants in this range.
+/// The first instants in a range at which only one of two timers elapses. If both fields are `None`, the timers elapse
+/// at the same instants in this range.
 #[derive(Clone, Copy, PartialEq, Eq, Debug)]
 pub struct Difference {
     /// The first instant at which the first timer elapses and the second doesn't.
-    pub only_one: Option<i64>,
+    pub only_one: Option<Instant>,
     /// The first instant at which the second timer elapses and the first doesn't.
-    pub only_other: Option<i64>,
+    pub only_other: Option<Instant>,
 }
 
 /// Compares the elapses of the timers `one` and `other` after `base`, through 2199. Returns the first instant at which
@@ -59,25 +59,25 @@ pub fn first_difference(
     })
 }
 
-/// Returns the first remaining number of `one` that isn't a remaining number of `other`. Returns `None` if there is no
-/// such number.
+/// Returns the first instant that `one` has yet to return and that `other` doesn't return. Returns `None` if there is
+/// no such instant.
 ///
 /// Fails with `NoMemory` if allocation fails.
 pub fn first_only<S: Rising + Drop>(
     alloc: Global,
-    one: S,
-    other: S,
-) -> Result<Option<i64>, NoMemory>
-    ensures { IfOk result (λ first. first ≡ first_only_in (S.rest one) (S.rest other)) }
+    one: Instants<S>,
+    other: Instants<S>,
+) -> Result<Option<Instant>, NoMemory>
+    ensures { IfOk result (λ first. option_map (λ instant. instant.secs) first ≡ first_only_in one other) }
 {
     let mut merge = Merge::new(alloc);
-    if let Err((_, refused)) = merge.add(one) {
+    if let Err((_, refused)) = merge.add(one.into_inner()) {
         return Err(refused);
     }
-    if let Err((_, refused)) = merge.add_except(other) {
+    if let Err((_, refused)) = merge.add_except(other.into_inner()) {
         return Err(refused);
     }
-    Ok(merge.next())
+    Ok(Instants::new(merge).next())
 }
 
 /// Returns the first instant after `base` at which the timer `one` elapses and the timer `other` doesn't.
@@ -87,9 +87,10 @@ fn first_only_of(
     base: Instant,
     one: &Timer,
     other: &Timer,
-) -> Result<Option<i64>, CompareFault>
+) -> Result<Option<Instant>, CompareFault>
     ensures { MatchResult result
-        (λ first. first ≡ first_only_in (elapses_of_lists (setting_seen setting.entry) base.secs one.now) (elapses_of_lists (setting_seen setting.entry) base.secs other.now))
+        (λ first. option_map (λ instant. instant.secs) first
+        ≡ first_only_in (elapses_of_lists (setting_seen setting.entry) base.secs one.now) (elapses_of_lists (setting_seen setting.entry) base.secs other.now))
         (λ fault. fault ≢ CompareNoMemory
         → IsUnzonedInEither (unzoned (setting_seen setting.entry) one.now) (unzoned (setting_seen setting.entry) other.now) fault) }
 {
@@ -112,10 +113,12 @@ fn elapses_of<'a>(
     setting: Setting<'a>,
     base: Instant,
     timer: &Timer,
-) -> Result<Merge<Elapses<'a>>, PlanFault>
+) -> Result<Instants<Merge<Elapses<'a>>>, PlanFault>
     ensures { MatchResult result
-        (IsMergeOf (setting_seen setting.entry) base.secs timer.now)
+        (λ elapses. (unzoned (setting_seen setting.entry) timer.now ≡ None)
+        × (elapses ≡ elapses_of_lists (setting_seen setting.entry) base.secs timer.now))
         (λ fault. fault ≢ PlanNoMemory → IsUnzoned (unzoned (setting_seen setting.entry) timer.now) fault) }
 {
-    merge_of(alloc, setting, base, timer.lines(), timer.exceptions())
+    let merge = merge_of(alloc, setting, base, timer.lines(), timer.exceptions())?;
+    Ok(Instants::new(merge))
 }

@@ -5,6 +5,7 @@
 mod compare_fault;
 mod difference;
 mod next;
+mod order;
 mod range;
 mod timer_elapse;
 

@@ -1,9 +1,11 @@
 //! Finding which of several timers elapses next.
 
-ghost use Rattle.std.specs.Prelude.{◌≡◌, ◌++◌, IfOk, map, IsPermutation, IsSorted};
-ghost use Rattle.cal_compare.specs.SeveralTimers.{by_instant, ended, next_of_each};
+ghost use Rattle.std.specs.Prelude.{◌≡◌, IfOk, map, IsPermutation, IsSorted};
+ghost use Rattle.cal_compare.specs.SeveralTimers.{by_instant, elapse_seen, ended, next_of_each};
 
+use crate::order::sort_elapses;
 use crate::timer_elapse::TimerElapse;
+use cal_plan::Instants;
 use cal_rising::{NoMemory, Rising};
 use std::alloc::Global;
 
@@ -19,31 +21,33 @@ pub struct NextOfAll {
 
 /// Takes the next elapse of each timer, and returns these elapses sorted, soonest first.
 ///
-/// Each timer is given as a source of its elapses, such as `cal_plan::merge_of` returns. Fails with `NoMemory` if
-/// allocation fails.
-pub fn next_of_all<S: Rising>(alloc: Global, timers: &mut [S]) -> Result<NextOfAll, NoMemory>
+/// Each timer is given as the source of its elapses. Fails with `NoMemory` if allocation fails.
+pub fn next_of_all<S: Rising>(
+    alloc: Global,
+    timers: &mut [Instants<S>],
+) -> Result<NextOfAll, NoMemory>
     ensures sorted { IfOk result (λ next. IsSorted by_instant next.soonest.items) }
-    ensures soonest { IfOk result (λ next. IsPermutation (next_of_each (map S.rest timers.old)) next.soonest.items) }
-    ensures never { IfOk result (λ next. next.never.items ≡ ended (map S.rest timers.old)) }
+    ensures soonest { IfOk result (λ next. IsPermutation (next_of_each timers.old) (map elapse_seen next.soonest.items)) }
+    ensures never { IfOk result (λ next. next.never.items ≡ ended timers.old) }
 {
     let mut next = take_next(alloc, timers)?;
-    next.soonest.sort_unstable();
+    sort_elapses(&mut next.soonest);
     Ok(next)
 }
 
 /// Takes the next elapse of each timer, and returns these elapses in the order of the timers.
-fn take_next<S: Rising>(alloc: Global, timers: &mut [S]) -> Result<NextOfAll, NoMemory>
-    ensures soonest { IfOk result (λ next. next.soonest.items ≡ next_of_each (map S.rest timers.old)) }
-    ensures never { IfOk result (λ next. next.never.items ≡ ended (map S.rest timers.old)) }
+fn take_next<S: Rising>(alloc: Global, timers: &mut [Instants<S>]) -> Result<NextOfAll, NoMemory>
+    ensures soonest { IfOk result (λ next. map elapse_seen next.soonest.items ≡ next_of_each timers.old) }
+    ensures never { IfOk result (λ next. next.never.items ≡ ended timers.old) }
 {
     let mut soonest = Vec::new(alloc);
     let mut never = Vec::new(alloc);
     for (timer, elapses) in timers.iter_mut().enumerate() {
-        let Some(secs) = elapses.next() else {
+        let Some(instant) = elapses.next() else {
             never.push(timer)?;
             continue;
         };
-        soonest.push(TimerElapse { secs, timer })?;
+        soonest.push(TimerElapse { instant, timer })?;
     }
     Ok(NextOfAll { soonest, never })
 }

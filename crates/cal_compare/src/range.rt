@@ -2,9 +2,11 @@
 
 ghost use Rattle.std.specs.Prelude.{◌≡◌, ◌++◌, ◌-ℤ◌, pos, IfOk, OnOk, map, IsPermutation, IsSorted};
 ghost use Rattle.std.specs.Int.{int_max};
-ghost use Rattle.cal_compare.specs.SeveralTimers.{by_instant, range_of_each, range_of_one};
+ghost use Rattle.cal_compare.specs.SeveralTimers.{by_instant, elapse_seen, range_of_each, range_of_one};
 
+use crate::order::sort_elapses;
 use crate::timer_elapse::TimerElapse;
+use cal_plan::Instants;
 use cal_rising::{NoMemory, Rising};
 use cal_zone::Instant;
 use std::alloc::Global;
@@ -12,24 +14,24 @@ use std::alloc::Global;
 /// Returns the elapses of all timers from `from` on (included) and before `before`, in increasing order, each with the
 /// index of its timer. Elapses at the same instant are in the order of their timers.
 ///
-/// Each timer is given as a source of its elapses, such as `cal_plan::merge_of` returns. The base of its elapses should
-/// be [`base_before`] of `from`: an earlier base takes longer, and with a later base, elapses at or after `from` can be
-/// missing. Fails with `NoMemory` if allocation fails.
+/// Each timer is given as the source of its elapses. The base of its elapses should be [`base_before`] of `from`: an
+/// earlier base takes longer, and with a later base, elapses at or after `from` can be missing. Fails with `NoMemory`
+/// if allocation fails.
 pub fn between<S: Rising>(
     alloc: Global,
-    timers: &mut [S],
+    timers: &mut [Instants<S>],
     from: Instant,
     before: Instant,
 ) -> Result<Vec<TimerElapse>, NoMemory>
     ensures sorted { IfOk result (λ found. IsSorted by_instant found.items) }
     ensures all { IfOk result (λ found.
-        IsPermutation (range_of_each from.secs before.secs (map S.rest timers.old)) found.items) }
+        IsPermutation (range_of_each from.secs before.secs timers.old) (map elapse_seen found.items)) }
 {
     let mut found = Vec::new(alloc);
     for (timer, elapses) in timers.iter_mut().enumerate() {
-        add_range(&mut found, timer, elapses, from.secs(), before.secs())?;
+        add_range(&mut found, timer, elapses, from, before)?;
     }
-    found.sort_unstable();
+    sort_elapses(&mut found);
     Ok(found)
 }
 
@@ -47,20 +49,21 @@ pub fn base_before(from: Instant) -> Instant
 fn add_range<S: Rising>(
     found: &mut Vec<TimerElapse>,
     timer: usize,
-    elapses: &mut S,
-    from: i64,
-    before: i64,
+    elapses: &mut Instants<S>,
+    from: Instant,
+    before: Instant,
 ) -> Result<(), NoMemory>
-    ensures { OnOk result (found.new.items ≡ found.old.items ++ range_of_one from before timer (S.rest elapses.old)) }
+    ensures { OnOk result (map elapse_seen found.new.items
+        ≡ map elapse_seen found.old.items ++ range_of_one from.secs before.secs timer elapses.old) }
 {
-    while let Some(secs) = elapses.next() {
-        if secs >= before {
+    while let Some(instant) = elapses.next() {
+        if instant.secs() >= before.secs() {
             return Ok(());
         }
-        if secs < from {
+        if instant.secs() < from.secs() {
             continue;
         }
-        found.push(TimerElapse { secs, timer })?;
+        found.push(TimerElapse { instant, timer })?;
     }
     Ok(())
 }

@@ -1,10 +1,11 @@
 //! An elapse of one of several timers.
 
+use cal_zone::Instant;
+
 /// An instant, and the timer that elapses then.
-#[derive(Clone, Copy, PartialEq, Eq, PartialOrd, Ord, Debug)]
+#[derive(Clone, Copy, PartialEq, Eq, Debug)]
 pub struct TimerElapse {
-    /// The instant, in seconds of Unix time.
-    pub secs: i64,
+    pub instant: Instant,
     /// The index of the timer in the list of timers, from 0.
     pub timer: usize,
 }

@@ -24,6 +24,8 @@ impl<S: Rising> Model for Instants<S> {
 
 impl<S: Rising> Instants<S> {
     ghost use Rattle.std.specs.Prelude.{◌≡◌, drop, option_map, slice_get};
+    ghost use Rattle.std.specs.List.Sorted.{IsStrictlySortedBy};
+    ghost use Rattle.std.specs.Ordering.{int_cmp};
     ghost use Rattle.cal_plan.specs.Instants.{AreInstants};
 
     /// Wraps a source. All numbers that it has yet to return must be instants.
@@ -38,7 +40,16 @@ impl<S: Rising> Instants<S> {
     pub fn next(&mut self) -> Option<Instant>
         ensures given { option_map (λ instant. instant.secs) result ≡ slice_get self.old 0 }
         ensures left { self.new ≡ drop 1 self.old }
+        ensures rises { IsStrictlySortedBy int_cmp self.old }
     {
         Instant::new(self.source.next()?)
+    }
+
+    /// Returns the source.
+    pub fn into_inner(self) -> S
+        ensures rest { S.rest result ≡ self }
+        ensures instants { AreInstants self }
+    {
+        self.source
     }
 }

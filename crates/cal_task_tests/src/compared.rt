@@ -2,44 +2,31 @@
 
 ghost use Rattle.std.specs.List.Sorted.{IsStrictlySortedBy};
 ghost use Rattle.std.specs.Ordering.{int_cmp};
+ghost use Rattle.cal_plan.specs.Instants.{AreInstants};
 
-use crate::shared::{NOON, berlin, ensure, instant, timer};
-use cal_compare::{
-    CompareFault, Difference, TimerElapse, base_before, between, first_difference, first_only,
-    next_of_all,
-};
+use crate::shared::{NOON, are_elapses, berlin, ensure, instant, is_instant, timer};
+use cal_compare::{CompareFault, base_before, between, first_difference, first_only, next_of_all};
+use cal_plan::Instants;
 use cal_rising::Listed;
 use cal_zone::{Setting, Zone, ZoneTable};
 use std::alloc::{AllocError, Global};
 use std::test::Fail;
 
-/// Returns a source of these numbers.
-fn listed(alloc: Global, numbers: &[i64]) -> Result<Listed, AllocError>
-    requires { IsStrictlySortedBy int_cmp numbers.now }
+/// Returns a source of the instants at these numbers of seconds of Unix time.
+fn listed(alloc: Global, numbers: &[i64]) -> Result<Instants<Listed>, AllocError>
+    requires rises { IsStrictlySortedBy int_cmp numbers.now }
+    requires instants { AreInstants numbers.now }
 {
-    Ok(Listed::new(Vec::from_slice(alloc, numbers)?))
+    Ok(Instants::new(Listed::new(Vec::from_slice(alloc, numbers)?)))
 }
 
-/// Returns three sources. The second has no numbers.
-fn three(alloc: Global) -> Result<Vec<Listed>, AllocError> {
+/// Returns three sources. The second has no instants.
+fn three(alloc: Global) -> Result<Vec<Instants<Listed>>, AllocError> {
     let mut sources = Vec::new(alloc);
     sources.push(listed(alloc, &[5, 7, 9])?)?;
     sources.push(listed(alloc, &[])?)?;
     sources.push(listed(alloc, &[3, 5, 6, 7])?)?;
     Ok(sources)
-}
-
-/// Returns whether `found` has the expected instants and timers, in this order.
-fn are_elapses(found: &[TimerElapse], expected: &[(i64, usize)]) -> bool {
-    if found.len() != expected.len() {
-        return false;
-    }
-    for (elapse, (secs, timer)) in found.iter().zip(expected) {
-        if elapse.secs != *secs || elapse.timer != *timer {
-            return false;
-        }
-    }
-    true
 }
 
 #[test]
@@ -74,39 +61,35 @@ fn only_one_of_two_lists(rt: HostRuntime) -> Result<(), Fail> {
         listed(alloc, &[3, 5, 7])?,
         listed(alloc, &[3, 6, 7])?,
     )?;
-    ensure(found == Some(5), "5")?;
+    ensure(is_instant(found, Some(5)), "5")?;
     let found = first_only(alloc, listed(alloc, &[3, 7])?, listed(alloc, &[3, 6, 7])?)?;
     ensure(found.is_none(), "none")
 }
 
-/// Two timers, and the expected difference or error.
-type Pair = (&'static str, &'static str, Result<Difference, CompareFault>);
+/// Two timers, and the expected instants at which only the first and only the second timer elapses, or the expected
+/// error.
+type Pair = (
+    &'static str,
+    &'static str,
+    Result<(Option<i64>, Option<i64>), CompareFault>,
+);
 
 static PAIRS: [Pair; 5] = [
     (
         "[Timer]\nOnCalendar=2026-12-01..03 18:00",
         "[Timer]\nOnCalendar=2026-12-02..04 18:00",
-        Ok(Difference {
-            only_one: Some(1_796_144_400),
-            only_other: Some(1_796_403_600),
-        }),
+        Ok((Some(1_796_144_400), Some(1_796_403_600))),
     ),
     (
         "[Timer]\nOnCalendar=2026-12-01..03 18:00\nX-ExceptOnCalendar=*-12-01",
         "[Timer]\nOnCalendar=2026-12-01..03 18:00",
-        Ok(Difference {
-            only_one: None,
-            only_other: None,
-        }),
+        Ok((None, None)),
     ),
     // In the next row, both timers elapse only before the base, and these elapses don't count.
     (
         "[Timer]\nOnCalendar=2026-01-01",
         "[Timer]\nOnCalendar=2026-01-02",
-        Ok(Difference {
-            only_one: None,
-            only_other: None,
-        }),
+        Ok((None, None)),
     ),
     (
         "[Timer]\nOnCalendar=daily Nowhere",
@@ -124,7 +107,14 @@ fn expect_pair(alloc: Global, setting: Setting<'_>, pair: &Pair) -> Result<(), F
     let (one, other, expected) = pair;
     let (first, second) = (timer(alloc, one)?, timer(alloc, other)?);
     let found = first_difference(alloc, setting, setting.now, &first, &second);
-    ensure(found == *expected, one)
+    match (found, *expected) {
+        (Ok(found), Ok((only_one, only_other))) => {
+            ensure(is_instant(found.only_one, only_one), one)?;
+            ensure(is_instant(found.only_other, only_other), other)
+        }
+        (Err(found), Err(expected)) => ensure(found == expected, one),
+        _ => Err((*one).into()),
+    }
 }
 
 #[test]

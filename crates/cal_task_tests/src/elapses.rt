@@ -1,6 +1,6 @@
 //! Tests of the elapses of one timer.
 
-use crate::shared::{NOON, berlin, clocked, ensure, loaded, loaded_of, posix, timer};
+use crate::shared::{NOON, berlin, clocked, ensure, instants, loaded, loaded_of, posix, timer};
 use cal_load::{Calendar, LoadedTimer};
 use cal_plan::PlanFault;
 use cal_tasks::{Clocked, elapses_of};
@@ -47,8 +47,9 @@ fn expect_elapses_of(
     expected: &[i64],
     about: &str,
 ) -> Result<(), Fail> {
+    let expected = instants(alloc, expected)?;
     match elapses_of(alloc, at, timer, count) {
-        Ok(found) => ensure(found.as_slice() == expected, about),
+        Ok(found) => ensure(found.as_slice() == expected.as_slice(), about),
         Err(_) => Err(about.into()),
     }
 }

@@ -1,6 +1,6 @@
 //! Tests of `clock_notes`: local times that a clock change skips or repeats.
 
-use crate::shared::{DAY, berlin, clocked, ensure, loaded};
+use crate::shared::{DAY, berlin, clocked, ensure, instants, loaded};
 use cal_tasks::{ClockChange, ClockNote, Clocked, clock_notes};
 use std::alloc::Global;
 use std::test::Fail;
@@ -129,7 +129,8 @@ fn notes_at(
     elapses: &[i64],
 ) -> Result<Vec<ClockNote>, Fail> {
     let timer = loaded(alloc, text)?;
-    match clock_notes(alloc, at, &timer, elapses) {
+    let elapses = instants(alloc, elapses)?;
+    match clock_notes(alloc, at, &timer, &elapses) {
         Ok(notes) => Ok(notes),
         Err(_) => Err(text.into()),
     }

@@ -1,9 +1,10 @@
 //! Tests of `next_of_timers`, `elapses_between` and `difference_of`, which take several timers.
 
-use crate::shared::{DAY, NOON, all_loaded, berlin, clocked, ensure, instant};
-use cal_load::LoadedTimer;
+use crate::shared::{
+    DAY, NOON, all_loaded, are_elapses, berlin, clocked, ensure, instant, is_instant,
+};
 use cal_plan::PlanFault;
-use cal_tasks::{Clocked, Difference, TimerElapse, difference_of, elapses_between, next_of_timers};
+use cal_tasks::{Clocked, difference_of, elapses_between, next_of_timers};
 use std::alloc::Global;
 use std::test::Fail;
 
@@ -18,19 +19,6 @@ static TIMERS: [&str; 4] = [
 
 /// The next elapse of each timer that has one, soonest first, with the index of the timer.
 static SOONEST: [(i64, usize); 3] = [(1_795_696_200, 2), (1_795_712_400, 0), (1_795_712_400, 3)];
-
-/// Returns whether `found` has the expected instants and timers, in this order.
-fn are_elapses(found: &[TimerElapse], expected: &[(i64, usize)]) -> bool {
-    if found.len() != expected.len() {
-        return false;
-    }
-    for (elapse, (secs, timer)) in found.iter().zip(expected) {
-        if elapse.secs != *secs || elapse.timer != *timer {
-            return false;
-        }
-    }
-    true
-}
 
 #[test]
 fn next_of_four(rt: HostRuntime) -> Result<(), Fail> {
@@ -123,27 +111,16 @@ static PAIRS: [Pair; 4] = [
 
 fn expect_difference(alloc: Global, at: Clocked<'_>, pair: &Pair) -> Result<(), Fail> {
     let (texts, only_one, only_other) = pair;
-    let expected = Difference {
-        only_one: *only_one,
-        only_other: *only_other,
-    };
     let timers = all_loaded(alloc, texts.as_slice())?;
     let [one, other] = timers.as_slice() else {
         return Err("two timers".into());
     };
-    ensure(is_difference(alloc, at, one, other, expected), texts[0])
-}
-
-fn is_difference(
-    alloc: Global,
-    at: Clocked<'_>,
-    one: &LoadedTimer,
-    other: &LoadedTimer,
-    expected: Difference,
-) -> bool {
     match difference_of(alloc, at, one, other) {
-        Ok(found) => found == expected,
-        Err(_) => false,
+        Ok(found) => {
+            ensure(is_instant(found.only_one, *only_one), texts[0])?;
+            ensure(is_instant(found.only_other, *only_other), texts[1])
+        }
+        Err(_) => Err("no zone".into()),
     }
 }
 

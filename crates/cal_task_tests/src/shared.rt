@@ -4,7 +4,7 @@
 use cal_load::{Calendar, LoadedTimer};
 use cal_read::{Timer, read_timer};
 use cal_streams::Port;
-use cal_tasks::Clocked;
+use cal_tasks::{Clocked, TimerElapse};
 use cal_zone::{Instant, Rules, Zone, ZoneTable};
 use std::alloc::{AllocError, Global};
 use std::test::Fail;
@@ -36,6 +36,33 @@ pub fn posix(alloc: Global, rule: &str) -> Result<Rules, Fail> {
 /// Returns the instant at `secs` seconds of Unix time, which must be from 0 to 7,258,211,998.
 pub fn instant(secs: i64) -> Result<Instant, Fail> {
     Ok(Instant::new(secs).ok_or("no instant")?)
+}
+
+/// Returns the instants at these numbers of seconds of Unix time.
+pub fn instants(alloc: Global, numbers: &[i64]) -> Result<Vec<Instant>, Fail> {
+    let mut instants = Vec::new(alloc);
+    for secs in numbers {
+        instants.push(instant(*secs)?)?;
+    }
+    Ok(instants)
+}
+
+/// Returns whether `found` is the instant at the expected number of seconds of Unix time, or whether both are `None`.
+pub fn is_instant(found: Option<Instant>, expected: Option<i64>) -> bool {
+    found.map(|instant| instant.secs()) == expected
+}
+
+/// Returns whether `found` has the expected instants and timers, in this order.
+pub fn are_elapses(found: &[TimerElapse], expected: &[(i64, usize)]) -> bool {
+    if found.len() != expected.len() {
+        return false;
+    }
+    for (elapse, (secs, timer)) in found.iter().zip(expected) {
+        if elapse.instant.secs() != *secs || elapse.timer != *timer {
+            return false;
+        }
+    }
+    true
 }
 
 /// Returns the instant at `secs` seconds of Unix time as the present, and the zone with these rules as the local zone.

@@ -1,16 +1,15 @@
 //! The elapses of one timer (systemd.timer(5), OnCalendar=).
 
-ghost use Rattle.std.specs.Prelude.{◌≡◌, ◌≢◌, IfOk, MatchResult, take};
+ghost use Rattle.std.specs.Prelude.{◌≡◌, ◌≢◌, None, IfOk, MatchResult, map, take};
 ghost use Rattle.cal_zone.specs.Setting.{setting_seen};
 ghost use Rattle.cal_plan.specs.ZoneFor.{IsUnzoned};
-ghost use Rattle.cal_plan.specs.TimerElapses.{IsMergeOf};
 ghost use Rattle.cal_plan.specs.declared.plan_fault.PlanFault.TheVariants.{NoMemory};
-ghost use Rattle.cal_tasks.specs.LoadedElapses.{elapses_in, lists_of_loaded, setting_for, unzoned_line};
+ghost use Rattle.cal_tasks.specs.LoadedElapses.{elapses_in, setting_for, unzoned_line};
 
 use crate::clocked::Clocked;
 use cal_elapse::Elapses;
 use cal_load::LoadedTimer;
-use cal_plan::{PlanFault, merge_of};
+use cal_plan::{Instants, PlanFault, merge_of};
 use cal_rising::{Merge, NoMemory as OutOfMemory, Rising};
 use cal_zone::{Instant, Setting};
 use std::alloc::Global;
@@ -24,33 +23,34 @@ pub fn elapses_of(
     at: Clocked<'_>,
     timer: &LoadedTimer,
     count: u32,
-) -> Result<Vec<i64>, PlanFault>
+) -> Result<Vec<Instant>, PlanFault>
     ensures { MatchResult result
-        (λ elapses. elapses.items ≡ take count (elapses_in at.entry at.entry.now.secs timer.now))
+        (λ elapses. map (λ instant. instant.secs) elapses.items ≡ take count (elapses_in at.entry at.entry.now.secs timer.now))
         (λ fault. fault ≢ NoMemory → IsUnzoned (unzoned_line at.entry timer.now) fault) }
 {
-    let mut merge = merge_of_timer(alloc, at, at.now, timer)?;
-    Ok(take_first(alloc, &mut merge, count)?)
+    let mut elapses = elapses_after(alloc, at, at.now, timer)?;
+    Ok(take_first(alloc, &mut elapses, count)?)
 }
 
 /// Creates the iterator over the elapses of a timer after `base`. Fails like [`elapses_of`].
-pub(crate) fn merge_of_timer<'a>(
+pub(crate) fn elapses_after<'a>(
     alloc: Global,
     at: Clocked<'a>,
     base: Instant,
     timer: &'a LoadedTimer,
-) -> Result<Merge<Elapses<'a>>, PlanFault>
+) -> Result<Instants<Merge<Elapses<'a>>>, PlanFault>
     ensures { MatchResult result
-        (IsMergeOf (setting_for at.entry timer.now) base.secs (lists_of_loaded timer.now.calendar))
+        (λ elapses. (unzoned_line at.entry timer.now ≡ None) × (elapses ≡ elapses_in at.entry base.secs timer.now))
         (λ fault. fault ≢ NoMemory → IsUnzoned (unzoned_line at.entry timer.now) fault) }
 {
-    merge_of(
+    let merge = merge_of(
         alloc,
         setting_for(at, timer),
         base,
         timer.lines(),
         timer.exceptions(),
-    )
+    )?;
+    Ok(Instants::new(merge))
 }
 
 /// Returns the present, the local zone, and the zones that were loaded for a timer.
@@ -65,20 +65,20 @@ pub(crate) fn setting_for<'a>(at: Clocked<'a>, timer: &'a LoadedTimer) -> Settin
     }
 }
 
-/// Takes the first `count` numbers from a source, or all of them if there are fewer.
+/// Takes the first `count` instants from a source, or all of them if there are fewer.
 pub(crate) fn take_first<S: Rising>(
     alloc: Global,
-    source: &mut S,
+    source: &mut Instants<S>,
     count: u32,
-) -> Result<Vec<i64>, OutOfMemory>
-    ensures { IfOk result (λ first. first.items ≡ take count (S.rest source.old)) }
+) -> Result<Vec<Instant>, OutOfMemory>
+    ensures { IfOk result (λ first. map (λ instant. instant.secs) first.items ≡ take count source.old) }
 {
     let mut first = Vec::new(alloc);
     for _ in 0..count {
-        let Some(number) = source.next() else {
+        let Some(instant) = source.next() else {
             return Ok(first);
         };
-        first.push(number)?;
+        first.push(instant)?;
     }
     Ok(first)
 }

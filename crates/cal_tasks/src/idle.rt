@@ -15,13 +15,13 @@ ghost use Rattle.cal_tasks.specs.IdleLines.{elapses_of_line, idle_as, idle_lines
 ghost use Rattle.cal_tasks.specs.LoadedElapses.{lists_of_loaded, setting_for, unzoned_line};
 
 use crate::clocked::Clocked;
-use crate::elapses::{merge_of_timer, setting_for, take_first};
+use crate::elapses::{elapses_after, setting_for, take_first};
 use cal_elapse::Elapses;
 use cal_load::LoadedTimer;
-use cal_plan::{PlanFault, merge_of, zone_for};
+use cal_plan::{Instants, PlanFault, merge_of, zone_for};
 use cal_rising::Rising;
 use cal_timer::TimerLine;
-use cal_zone::Setting;
+use cal_zone::{Instant, Setting};
 use std::alloc::{AllocError, Global};
 
 /// The number of elapses that an exception is compared with. An exception that suppresses none of them is reported.
@@ -61,7 +61,7 @@ pub fn idle_lines(
         (λ fault. fault ≢ NoMemory → IsUnzoned (unzoned_line at.entry timer.now) fault) }
 {
     // This fails if a zone is missing. The iterator itself isn't used.
-    let _ = merge_of_timer(alloc, at, at.now, timer)?;
+    let _ = elapses_after(alloc, at, at.now, timer)?;
     let setting = setting_for(at, timer);
     let found = idle_among(alloc, setting, timer.lines(), timer.exceptions())?;
     Ok(found)
@@ -93,16 +93,16 @@ fn next_elapses(
     alloc: Global,
     setting: Setting<'_>,
     lines: &[TimerLine],
-) -> Result<Vec<i64>, AllocError>
+) -> Result<Vec<Instant>, AllocError>
     requires { first_unzoned (setting_seen setting) (map shown lines.now) ≡ None }
-    ensures { IfOk result (λ next. next.items
+    ensures { IfOk result (λ next. map (λ instant. instant.secs) next.items
         ≡ next_elapses (setting_seen setting.entry) setting.entry.now.secs (map shown lines.now)) }
 {
     // No zone is missing, so this fails only if allocation fails.
-    let Ok(mut merge) = merge_of(alloc, setting, setting.now, lines, &[]) else {
+    let Ok(merge) = merge_of(alloc, setting, setting.now, lines, &[]) else {
         return Err(AllocError);
     };
-    take_first(alloc, &mut merge, MAX_ELAPSES)
+    take_first(alloc, &mut Instants::new(merge), MAX_ELAPSES)
 }
 
 /// Appends the expressions that don't elapse after the present. Every zone that an expression names must be known.
@@ -131,12 +131,12 @@ fn add_unused(
     found: &mut Vec<IdleLine>,
     setting: Setting<'_>,
     exceptions: &[TimerLine],
-    elapses: &[i64],
+    elapses: &[Instant],
 ) -> Result<(), AllocError>
     requires { first_unzoned (setting_seen setting) (map shown exceptions.now) ≡ None }
     ensures { OnOk result (found.new.items ≡ found.old.items
         ++ idle_as IdleKind.SuppressesNothing
-        (suppresses_nothing (setting_seen setting.entry) setting.entry.now.secs elapses.now)
+        (suppresses_nothing (setting_seen setting.entry) setting.entry.now.secs (map (λ instant. instant.secs) elapses.now))
         (map shown exceptions.now)) }
 {
     for line in exceptions {
@@ -172,28 +172,29 @@ fn never_elapses(alloc: Global, setting: Setting<'_>, line: &TimerLine) -> Resul
     Ok(elapses.next().is_none())
 }
 
-/// Returns whether none of `numbers` is an instant after the present at which the exception on `line` elapses. The zone
-/// of the exception must be known.
+/// Returns whether none of `instants` is an elapse, after the present, of the exception on `line`. The zone of the
+/// exception must be known.
 fn suppresses_nothing(
     alloc: Global,
     setting: Setting<'_>,
     line: &TimerLine,
-    numbers: &[i64],
+    instants: &[Instant],
 ) -> Result<bool, AllocError>
     requires { lacks_zone (setting_seen setting) (shown line.now) ≡ false }
     ensures { IfOk result (λ nothing. nothing
-        ≡ suppresses_nothing (setting_seen setting.entry) setting.entry.now.secs numbers.now (shown line.now)) }
+        ≡ suppresses_nothing (setting_seen setting.entry) setting.entry.now.secs (map (λ instant. instant.secs) instants.now) (shown line.now)) }
 {
     let mut elapses = elapses_of_line(alloc, setting, line)?;
-    Ok(!has_any(&mut elapses, numbers))
+    Ok(!has_any(&mut elapses, instants))
 }
 
-/// Returns whether at least one of `numbers` is an elapse that `elapses` has yet to return.
-fn has_any(elapses: &mut Elapses<'_>, numbers: &[i64]) -> bool
-    ensures { result ≡ list_any (is_member int_eq (remaining_elapses elapses.old)) numbers.now }
+/// Returns whether at least one of `instants` is an elapse that `elapses` has yet to return.
+fn has_any(elapses: &mut Elapses<'_>, instants: &[Instant]) -> bool
+    ensures { result
+        ≡ list_any (is_member int_eq (remaining_elapses elapses.old)) (map (λ instant. instant.secs) instants.now) }
 {
-    for number in numbers {
-        if elapses.has(*number) == Some(true) {
+    for instant in instants {
+        if elapses.has(instant.secs()) == Some(true) {
             return true;
         }
     }

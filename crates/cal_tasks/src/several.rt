@@ -1,24 +1,23 @@
 //! Several timers together: the next elapse of each, all elapses in a range, and how two timers differ
 //! (systemd.timer(5), OnCalendar=).
 
-ghost use Rattle.std.specs.Prelude.{◌≡◌, ◌≢◌, ◌-ℤ◌, pos, IfErr, IfOk, MatchResult, IsPermutation, IsSorted, map};
+ghost use Rattle.std.specs.Prelude.{◌≡◌, ◌≢◌, ◌-ℤ◌, pos, IfErr, IfOk, MatchResult, IsPermutation, IsSorted, map, option_map};
 ghost use Rattle.std.specs.Int.{int_max};
 ghost use Rattle.std.specs.Option.{option_or};
-ghost use Rattle.cal_rising.specs.Merge.{merged};
 ghost use Rattle.cal_compare.specs.Difference.{IsDifference, first_only_in};
-ghost use Rattle.cal_compare.specs.SeveralTimers.{by_instant, ended, next_of_each, range_of_each};
+ghost use Rattle.cal_compare.specs.SeveralTimers.{by_instant, elapse_seen, ended, next_of_each, range_of_each};
 ghost use Rattle.cal_plan.specs.ZoneFor.{IsUnzoned};
 ghost use Rattle.cal_plan.specs.declared.plan_fault.PlanFault.TheVariants.{NoMemory};
 ghost use Rattle.cal_tasks.specs.LoadedElapses.{elapses_in, first_unzoned_line, unzoned_line};
 
 use crate::clocked::Clocked;
-use crate::elapses::merge_of_timer;
+use crate::elapses::elapses_after;
 use cal_compare::{
     Difference, NextOfAll, TimerElapse, base_before, between, first_only, next_of_all,
 };
 use cal_elapse::Elapses;
 use cal_load::LoadedTimer;
-use cal_plan::PlanFault;
+use cal_plan::{Instants, PlanFault};
 use cal_rising::Merge;
 use cal_zone::Instant;
 use std::alloc::Global;
@@ -34,14 +33,14 @@ pub fn next_of_timers(
 ) -> Result<NextOfAll, PlanFault>
     ensures sorted { IfOk result (λ next. IsSorted by_instant next.soonest.items) }
     ensures soonest { IfOk result (λ next.
-        IsPermutation (next_of_each (map (elapses_in at.entry at.entry.now.secs) timers.now)) next.soonest.items) }
+        IsPermutation (next_of_each (map (elapses_in at.entry at.entry.now.secs) timers.now)) (map elapse_seen next.soonest.items)) }
     ensures never { IfOk result (λ next.
         next.never.items ≡ ended (map (elapses_in at.entry at.entry.now.secs) timers.now)) }
     ensures fault { IfErr result (λ fault. fault ≢ NoMemory
         → IsUnzoned (first_unzoned_line at.entry timers.now) fault) }
 {
-    let mut merges = merges_of(alloc, at, at.now, timers)?;
-    Ok(next_of_all(alloc, merges.as_mut_slice())?)
+    let mut elapses = elapses_of_each(alloc, at, at.now, timers)?;
+    Ok(next_of_all(alloc, elapses.as_mut_slice())?)
 }
 
 /// Returns all elapses of the timers that are at or after `from` and before `before`, in increasing order, each with
@@ -59,12 +58,12 @@ pub fn elapses_between(
     ensures all { IfOk result (λ found. IsPermutation
         (range_of_each from.secs before.secs
         (map (elapses_in at.entry (int_max (from.secs -ℤ pos 1) (pos 0))) timers.now))
-        found.items) }
+        (map elapse_seen found.items)) }
     ensures fault { IfErr result (λ fault. fault ≢ NoMemory
         → IsUnzoned (first_unzoned_line at.entry timers.now) fault) }
 {
-    let mut merges = merges_of(alloc, at, base_before(from), timers)?;
-    Ok(between(alloc, merges.as_mut_slice(), from, before)?)
+    let mut elapses = elapses_of_each(alloc, at, base_before(from), timers)?;
+    Ok(between(alloc, elapses.as_mut_slice(), from, before)?)
 }
 
 /// Returns, for each of two timers, the first instant after the present, through 2199, at which it elapses and the
@@ -101,35 +100,35 @@ fn first_only_of(
     at: Clocked<'_>,
     one: &LoadedTimer,
     other: &LoadedTimer,
-) -> Result<Option<i64>, PlanFault>
+) -> Result<Option<Instant>, PlanFault>
     ensures { MatchResult result
-        (λ first. first ≡ first_only_in
+        (λ first. option_map (λ instant. instant.secs) first ≡ first_only_in
         (elapses_in at.entry at.entry.now.secs one.now)
         (elapses_in at.entry at.entry.now.secs other.now))
         (λ fault. fault ≢ NoMemory
         → IsUnzoned (option_or (unzoned_line at.entry one.now) (unzoned_line at.entry other.now)) fault) }
 {
-    let these = merge_of_timer(alloc, at, at.now, one)?;
-    let those = merge_of_timer(alloc, at, at.now, other)?;
+    let these = elapses_after(alloc, at, at.now, one)?;
+    let those = elapses_after(alloc, at, at.now, other)?;
     Ok(first_only(alloc, these, those)?)
 }
 
 /// Creates one iterator for each timer, over the timer's elapses after `base`.
-fn merges_of<'a>(
+fn elapses_of_each<'a>(
     alloc: Global,
     at: Clocked<'a>,
     base: Instant,
     timers: &'a [LoadedTimer],
-) -> Result<Vec<Merge<Elapses<'a>>>, PlanFault>
+) -> Result<Vec<Instants<Merge<Elapses<'a>>>>, PlanFault>
     ensures { MatchResult result
-        (λ merges. map merged merges.items ≡ map (elapses_in at.entry base.secs) timers.now)
+        (λ all. all.items ≡ map (elapses_in at.entry base.secs) timers.now)
         (λ fault. fault ≢ NoMemory → IsUnzoned (first_unzoned_line at.entry timers.now) fault) }
 {
-    let mut merges = Vec::new(alloc);
+    let mut all = Vec::new(alloc);
     for timer in timers {
-        let merge = merge_of_timer(alloc, at, base, timer)?;
-        merges.reserve(1)?;
-        merges.push_reserved(merge);
+        let elapses = elapses_after(alloc, at, base, timer)?;
+        all.reserve(1)?;
+        all.push_reserved(elapses);
     }
-    Ok(merges)
+    Ok(all)
 }

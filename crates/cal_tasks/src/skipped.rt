@@ -45,7 +45,7 @@ pub fn clock_notes(
     alloc: Global,
     at: Clocked<'_>,
     timer: &LoadedTimer,
-    elapses: &[i64],
+    elapses: &[Instant],
 ) -> Result<Vec<ClockNote>, PlanFault>
     ensures notes { IfOk result (λ notes. All
         (IsNoteAmong (setting_for at.entry timer.now) (lists_of_loaded timer.now.calendar).expressions)
@@ -61,9 +61,9 @@ pub fn clock_notes(
 }
 
 /// Returns the last of `elapses`, or `now` if there are none.
-fn last_instant(now: Instant, elapses: &[i64]) -> Instant {
+fn last_instant(now: Instant, elapses: &[Instant]) -> Instant {
     match elapses {
-        [.., last] => Instant::new(*last).unwrap_or(now),
+        [.., last] => *last,
         [] => now,
     }
 }

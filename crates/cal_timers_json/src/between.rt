@@ -42,7 +42,7 @@ fn between_rows<'a>(
     timers: &'a [LoadedTimer],
     elapses: &[TimerElapse],
 ) -> Result<Vec<BetweenRow<'a>>, AllocError>
-    ensures { IfOk result (λ rows. map (λ row. row.unix) rows.items ≡ map (λ elapse. elapse.secs) elapses.now) }
+    ensures { IfOk result (λ rows. map (λ row. row.unix) rows.items ≡ map (λ elapse. elapse.instant.secs) elapses.now) }
 {
     let mut rows = Vec::new(alloc);
     for elapse in elapses {
@@ -57,13 +57,13 @@ fn between_row<'a>(
     timers: &'a [LoadedTimer],
     elapse: TimerElapse,
 ) -> Result<BetweenRow<'a>, AllocError>
-    ensures { IfOk result (λ row. row.unix ≡ elapse.secs) }
+    ensures { IfOk result (λ row. row.unix ≡ elapse.instant.secs) }
 {
-    let local = local_text(alloc, zone, elapse.secs)?;
+    let local = local_text(alloc, zone, elapse.instant)?;
     Ok(BetweenRow {
         unit: name_of(timers, elapse.timer),
         local,
-        unix: elapse.secs,
+        unix: elapse.instant.secs(),
     })
 }
 

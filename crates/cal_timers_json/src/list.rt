@@ -52,7 +52,7 @@ fn list_rows<'a>(
     next: &NextOfAll,
 ) -> Result<Vec<ListRow<'a>>, AllocError>
     ensures { IfOk result (λ rows. map (λ row. row.unix) rows.items
-        ≡ map (λ elapse. Some elapse.secs) next.now.soonest.items
+        ≡ map (λ elapse. Some elapse.instant.secs) next.now.soonest.items
         ++ map (λ _. None) next.now.never.items ++ map (λ _. None) loaded.now.masked.items) }
 {
     let mut rows: Vec<ListRow<'a>> = Vec::new(alloc);
@@ -71,7 +71,7 @@ fn push_soonest<'a>(
     soonest: &[TimerElapse],
 ) -> Result<(), AllocError>
     ensures { OnOk result (map (λ row. row.unix) rows.new.items
-        ≡ map (λ row. row.unix) rows.old.items ++ map (λ elapse. Some elapse.secs) soonest.now) }
+        ≡ map (λ row. row.unix) rows.old.items ++ map (λ elapse. Some elapse.instant.secs) soonest.now) }
 {
     for elapse in soonest {
         rows.push(row_of_elapse(alloc, at, timers, *elapse)?)?;
@@ -117,16 +117,16 @@ fn row_of_elapse<'a>(
     timers: &'a [LoadedTimer],
     elapse: TimerElapse,
 ) -> Result<ListRow<'a>, AllocError>
-    ensures { IfOk result (λ row. row.unix ≡ Some elapse.secs) }
+    ensures { IfOk result (λ row. row.unix ≡ Some elapse.instant.secs) }
 {
     let (unit, notes) = name_and_notes(timers, elapse.timer);
-    let next = local_text(alloc, at.local, elapse.secs)?;
-    let left = left_text(alloc, at.now, elapse.secs)?;
+    let next = local_text(alloc, at.local, elapse.instant)?;
+    let left = left_text(alloc, at.now, elapse.instant)?;
     let notes = notes_after(alloc, None, notes)?;
     Ok(ListRow {
         unit,
         next: Some(next),
-        unix: Some(elapse.secs),
+        unix: Some(elapse.instant.secs()),
         left: Some(left),
         notes,
     })

@@ -7,7 +7,7 @@ ghost use Rattle.cal_timers_json.specs.Document.{IsDocument};
 use crate::document::document;
 use crate::texts::local_text;
 use cal_tasks::Difference;
-use cal_zone::Zone;
+use cal_zone::{Instant, Zone};
 use serde::Serialize;
 use std::alloc::{AllocError, Global};
 
@@ -55,7 +55,8 @@ fn same_row<'a>(
     ensures same { IfOk result (λ row. IsTrue row.same
         ↔ ((difference.only_one ≡ None) × (difference.only_other ≡ None))) }
     ensures only { IfOk result (λ row. map (λ only. only.unix) row.only.items
-        ≡ option_to_list difference.only_one ++ option_to_list difference.only_other) }
+        ≡ map (λ instant. instant.secs)
+        (option_to_list difference.only_one ++ option_to_list difference.only_other)) }
 {
     let mut only = Vec::new(alloc);
     push_only(alloc, &mut only, local, one, difference.only_one)?;
@@ -73,13 +74,14 @@ fn push_only<'a>(
     rows: &mut Vec<OnlyRow<'a>>,
     zone: Zone<'_>,
     of: &'a str,
-    elapse: Option<i64>,
+    elapse: Option<Instant>,
 ) -> Result<(), AllocError>
     ensures { OnOk result (map (λ only. only.unix) rows.new.items
-        ≡ map (λ only. only.unix) rows.old.items ++ option_to_list elapse) }
+        ≡ map (λ only. only.unix) rows.old.items ++ map (λ instant. instant.secs) (option_to_list elapse)) }
 {
-    if let Some(unix) = elapse {
-        let local = local_text(alloc, zone, unix)?;
+    if let Some(instant) = elapse {
+        let local = local_text(alloc, zone, instant)?;
+        let unix = instant.secs();
         rows.push(OnlyRow { of, local, unix })?;
     }
     Ok(())

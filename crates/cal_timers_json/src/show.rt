@@ -9,6 +9,7 @@ use crate::texts::{clock_text, left_text, local_text, normal_text};
 use cal_load::LoadedTimer;
 use cal_tasks::{ClockChange, ClockNote, Clocked};
 use cal_timer::TimerLine;
+use cal_zone::Instant;
 use serde::Serialize;
 use std::alloc::{AllocError, Global};
 
@@ -16,8 +17,8 @@ use std::alloc::{AllocError, Global};
 #[derive(Clone, Copy)]
 pub struct ShownTimer<'a> {
     pub timer: &'a LoadedTimer,
-    /// The timer's next elapses, in seconds of Unix time.
-    pub elapses: &'a [i64],
+    /// The timer's next elapses.
+    pub elapses: &'a [Instant],
     /// Local times that the timer's expressions match, and that a clock change skips or repeats.
     pub clock: &'a [ClockNote],
 }
@@ -89,7 +90,8 @@ fn show_row<'a>(
     at: Clocked<'_>,
     shown: ShownTimer<'a>,
 ) -> Result<ShowRow<'a>, AllocError>
-    ensures { IfOk result (λ row. map (λ elapse. elapse.unix) row.elapses.items ≡ shown.entry.elapses.now) }
+    ensures { IfOk result (λ row. map (λ elapse. elapse.unix) row.elapses.items
+        ≡ map (λ instant. instant.secs) shown.entry.elapses.now) }
 {
     let timer = shown.timer;
     Ok(ShowRow {
@@ -150,25 +152,25 @@ fn line_row<'a>(
 fn elapse_rows(
     alloc: Global,
     at: Clocked<'_>,
-    elapses: &[i64],
+    elapses: &[Instant],
 ) -> Result<Vec<ElapseRow>, AllocError>
-    ensures { IfOk result (λ rows. map (λ row. row.unix) rows.items ≡ elapses.now) }
+    ensures { IfOk result (λ rows. map (λ row. row.unix) rows.items ≡ map (λ instant. instant.secs) elapses.now) }
 {
     let mut rows = Vec::new(alloc);
-    for secs in elapses {
-        rows.push(elapse_row(alloc, at, *secs)?)?;
+    for instant in elapses {
+        rows.push(elapse_row(alloc, at, *instant)?)?;
     }
     Ok(rows)
 }
 
-fn elapse_row(alloc: Global, at: Clocked<'_>, secs: i64) -> Result<ElapseRow, AllocError>
-    ensures { IfOk result (λ row. row.unix ≡ secs) }
+fn elapse_row(alloc: Global, at: Clocked<'_>, instant: Instant) -> Result<ElapseRow, AllocError>
+    ensures { IfOk result (λ row. row.unix ≡ instant.secs) }
 {
-    let local = local_text(alloc, at.local, secs)?;
-    let left = left_text(alloc, at.now, secs)?;
+    let local = local_text(alloc, at.local, instant)?;
+    let left = left_text(alloc, at.now, instant)?;
     Ok(ElapseRow {
         local,
-        unix: secs,
+        unix: instant.secs(),
         left,
     })
 }

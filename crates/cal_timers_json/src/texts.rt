@@ -2,7 +2,6 @@
 //! them.
 
 ghost use Rattle.std.specs.Prelude.{◌≡◌, IfOk, string_bytes};
-ghost use Rattle.cal_zone.specs.Instant.{IsInstant};
 ghost use Rattle.cal_zone.specs.headline.InstantText.{instant_text};
 ghost use Rattle.cal_spec.specs.headline.ExprText.{expr_text};
 
@@ -14,14 +13,15 @@ use cal_zone::{Instant, Zone, push_instant};
 use std::alloc::{AllocError, Global};
 
 /// Returns the text of an instant in a zone, such as `Fri 2026-11-27 18:00:00 +01:00`.
-///
-/// `secs` should be an instant in seconds of Unix time, as all elapses are. For any other number, this returns the text
-/// of the nearest instant.
-pub(crate) fn local_text(alloc: Global, zone: Zone<'_>, secs: i64) -> Result<String, AllocError>
-    ensures { IsInstant secs → IfOk result (λ text. string_bytes text ≡ instant_text zone.entry secs) }
+pub(crate) fn local_text(
+    alloc: Global,
+    zone: Zone<'_>,
+    instant: Instant,
+) -> Result<String, AllocError>
+    ensures { IfOk result (λ text. string_bytes text ≡ instant_text zone.entry instant.secs) }
 {
     let mut text = ShortText::new();
-    push_instant(&mut text, zone, instant_near(secs));
+    push_instant(&mut text, zone, instant);
     copy_of(alloc, text.as_slice())
 }
 
@@ -30,15 +30,15 @@ pub(crate) fn local_text(alloc: Global, zone: Zone<'_>, secs: i64) -> Result<Str
 /// zone.
 pub(crate) fn clock_text(alloc: Global, local: i64) -> Result<String, AllocError> {
     let mut text = ShortText::new();
-    push_instant(&mut text, Zone::utc(), instant_near(local));
+    push_instant(&mut text, Zone::utc(), instant_in_utc(local));
     let bytes = text.as_slice();
     copy_of(alloc, bytes.strip_suffix(b" UTC").unwrap_or(bytes))
 }
 
-/// Returns the text of the time span from `now` to an instant, such as `22h 12min`, or `0` if the instant isn't later
-/// than `now`.
-pub(crate) fn left_text(alloc: Global, now: Instant, secs: i64) -> Result<String, AllocError> {
-    let text = format_span(span_until(now, instant_near(secs)));
+/// Returns the text of the time span from `now` to `then`, such as `22h 12min`, or `0` if `then` isn't later than
+/// `now`.
+pub(crate) fn left_text(alloc: Global, now: Instant, then: Instant) -> Result<String, AllocError> {
+    let text = format_span(span_until(now, then));
     copy_of(alloc, text.as_slice())
 }
 
@@ -56,11 +56,10 @@ pub(crate) fn normal_text(alloc: Global, expr: &Expr) -> Result<String, AllocErr
     }
 }
 
-/// Returns the instant nearest to `secs`, in seconds of Unix time.
-fn instant_near(secs: i64) -> Instant
-    ensures { IsInstant secs → result.secs ≡ secs }
-{
-    match Instant::new(secs.clamp(0, Instant::LAST)) {
+/// Returns the instant at which a clock in UTC shows the local time `local`. If there is no such instant, returns the
+/// nearest one.
+fn instant_in_utc(local: i64) -> Instant {
+    match Instant::new(local.clamp(0, Instant::LAST)) {
         Some(instant) => instant,
         None => unreachable!(),
     }

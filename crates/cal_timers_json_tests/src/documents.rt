@@ -2,14 +2,14 @@
 
 use crate::ensure;
 use crate::expected::{BETWEEN, DIFFERENT, LINT, LIST, NEXT, SAME, SHOW};
-use crate::made::{backup, expression, monotonic, past, present};
+use crate::made::{backup, elapse, expression, instant, monotonic, past, present};
 use cal_load::{Loaded, LoadedTimer};
-use cal_tasks::{ClockChange, ClockNote, Difference, NextOfAll, TimerElapse};
+use cal_tasks::{ClockChange, ClockNote, Difference, NextOfAll};
 use cal_timers_json::{
     LintRow, ShownTimer, between_json, lint_json, list_json, same_json, show_json,
 };
 use cal_zone::Zone;
-use std::alloc::{AllocError, Global};
+use std::alloc::Global;
 use std::test::Fail;
 
 /// Fri 2026-11-27 18:00:00 +01:00, in seconds of Unix time.
@@ -67,12 +67,9 @@ fn loaded(alloc: Global) -> Result<Loaded, Fail> {
     })
 }
 
-fn next(alloc: Global) -> Result<NextOfAll, AllocError> {
+fn next(alloc: Global) -> Result<NextOfAll, Fail> {
     let mut soonest = Vec::new(alloc);
-    soonest.push(TimerElapse {
-        secs: FRIDAY,
-        timer: 1,
-    })?;
+    soonest.push(elapse(FRIDAY, 1)?)?;
     let mut never = Vec::new(alloc);
     never.push(0)?;
     never.push(2)?;
@@ -90,9 +87,10 @@ fn a_list(rt: HostRuntime) -> Result<(), Fail> {
 #[test]
 fn a_unit(rt: HostRuntime) -> Result<(), Fail> {
     let timer = backup(rt.alloc())?;
+    let elapses = [instant(FRIDAY)?, instant(MONDAY)?];
     let shown = ShownTimer {
         timer: &timer,
-        elapses: &[FRIDAY, MONDAY],
+        elapses: &elapses,
         clock: &CLOCK,
     };
     let text = show_json(rt.alloc(), present()?, &[shown])?;
@@ -120,16 +118,7 @@ fn problems(rt: HostRuntime) -> Result<(), Fail> {
 #[test]
 fn elapses_in_a_range(rt: HostRuntime) -> Result<(), Fail> {
     let timers = timers(rt.alloc())?;
-    let elapses = [
-        TimerElapse {
-            secs: FRIDAY,
-            timer: 0,
-        },
-        TimerElapse {
-            secs: MONDAY,
-            timer: 1,
-        },
-    ];
+    let elapses = [elapse(FRIDAY, 0)?, elapse(MONDAY, 1)?];
     let text = between_json(rt.alloc(), Zone::utc(), &timers, &elapses)?;
     ensure(text.as_str() == BETWEEN, text.as_str())
 }
@@ -141,8 +130,8 @@ fn expect_difference(
     expected: &str,
 ) -> Result<(), Fail> {
     let difference = Difference {
-        only_one,
-        only_other,
+        only_one: only_one.map(instant).transpose()?,
+        only_other: only_other.map(instant).transpose()?,
     };
     let text = same_json(alloc, Zone::utc(), "a.timer", "b.timer", difference)?;
     ensure(text.as_str() == expected, text.as_str())

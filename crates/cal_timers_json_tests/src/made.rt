@@ -2,7 +2,7 @@
 
 use cal_load::{Calendar, LoadedTimer};
 use cal_spec::read_expr;
-use cal_tasks::Clocked;
+use cal_tasks::{Clocked, TimerElapse};
 use cal_timer::{TimerLine, TimerLists};
 use cal_units::UnitText;
 use cal_zone::{Instant, Zone, ZoneTable};
@@ -17,10 +17,22 @@ X-ExceptOnCalendar=12-24 *:*:*
 
 /// Returns the present of the tests, Thu 2026-11-26 18:48:00, in a zone that is one hour ahead of UTC.
 pub fn present() -> Result<Clocked<'static>, Fail> {
-    let now = Instant::new(1_795_715_280).ok_or("no instant")?;
     Ok(Clocked {
-        now,
+        now: instant(1_795_715_280)?,
         local: Zone::offset(3_600),
+    })
+}
+
+/// Returns the instant `secs` seconds after 1970-01-01 00:00:00 UTC.
+pub fn instant(secs: i64) -> Result<Instant, Fail> {
+    Ok(Instant::new(secs).ok_or("no instant")?)
+}
+
+/// Returns the elapse at `secs` of the timer with this index.
+pub fn elapse(secs: i64, timer: usize) -> Result<TimerElapse, Fail> {
+    Ok(TimerElapse {
+        instant: instant(secs)?,
+        timer,
     })
 }
 

@@ -5,7 +5,7 @@ use crate::cells::{push_blanks, push_shown};
 use crate::times::{instant_width, push_instant};
 use cal_load::LoadedTimer;
 use cal_tasks::{Difference, TimerElapse};
-use cal_zone::{InstantFormatter, Zone};
+use cal_zone::{Instant, InstantFormatter, Zone};
 use std::alloc::{AllocError, Global};
 
 /// Returns a line for each elapse: the instant, as clocks in the zone `local` show it, and the name of the timer. If
@@ -25,7 +25,7 @@ pub fn between_text(
                 &mut out,
                 &mut formatter,
                 width,
-                elapse.secs,
+                elapse.instant,
                 timer.name.as_str(),
             )?;
         }
@@ -37,7 +37,7 @@ pub fn between_text(
 fn widest(formatter: &mut InstantFormatter<'_>, elapses: &[TimerElapse]) -> usize {
     let mut width = 0;
     for elapse in elapses {
-        width = instant_width(formatter, elapse.secs).max(width);
+        width = instant_width(formatter, elapse.instant).max(width);
     }
     width
 }
@@ -47,11 +47,11 @@ fn push_elapse(
     out: &mut String,
     formatter: &mut InstantFormatter<'_>,
     width: usize,
-    secs: i64,
+    instant: Instant,
     name: &str,
 ) -> Result<(), AllocError> {
-    let own_width = instant_width(formatter, secs);
-    push_instant(out, formatter, secs)?;
+    let own_width = instant_width(formatter, instant);
+    push_instant(out, formatter, instant)?;
     push_blanks(out, width.saturating_sub(own_width).saturating_add(2))?;
     push_shown(out, name)?;
     out.push('\n')
@@ -81,14 +81,14 @@ fn push_only(
     out: &mut String,
     formatter: &mut InstantFormatter<'_>,
     name: &str,
-    only: Option<i64>,
+    only: Option<Instant>,
 ) -> Result<(), AllocError> {
-    let Some(secs) = only else {
+    let Some(instant) = only else {
         return Ok(());
     };
     out.push_str("only ")?;
     push_shown(out, name)?;
     out.push_str(": ")?;
-    push_instant(out, formatter, secs)?;
+    push_instant(out, formatter, instant)?;
     out.push('\n')
 }

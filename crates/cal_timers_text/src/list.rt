@@ -2,10 +2,10 @@
 
 use crate::cells::{push_cut, push_padded, push_shown, width_of};
 use crate::style::{Emphasis, Style};
-use crate::times::{NO_INSTANT, push_instant, push_left};
+use crate::times::{push_instant, push_left};
 use cal_load::{Calendar, Loaded, LoadedTimer};
 use cal_tasks::{Clocked, NextOfAll, TimerElapse};
-use cal_zone::InstantFormatter;
+use cal_zone::{Instant, InstantFormatter};
 use std::alloc::{AllocError, Global};
 
 /// The number of blanks between columns.
@@ -13,6 +13,9 @@ const GAP: usize = 2;
 
 /// The minimum width of the notes: the width of `masked`, the longest note that isn't a setting.
 const NOTES_WIDTH: usize = 6;
+
+/// What is printed in place of a next elapse that is missing, and in place of the time until then.
+const NO_ELAPSE: &str = "-";
 
 /// The headings of the columns.
 const HEADINGS: [&str; 4] = ["NEXT", "LEFT", "UNIT", "NOTES"];
@@ -63,7 +66,7 @@ fn push_soonest(
     let mut formatter = InstantFormatter::new(at.local);
     for elapse in soonest {
         if let Some(timer) = timers.get(elapse.timer) {
-            let row = elapse_row(alloc, at, &mut formatter, timer, elapse.secs)?;
+            let row = elapse_row(alloc, at, &mut formatter, timer, elapse.instant)?;
             rows.push(row)?;
         }
     }
@@ -93,19 +96,19 @@ fn push_never(
     Ok(())
 }
 
-/// Returns the row of a timer whose next elapse is at `secs`.
+/// Returns the row of a timer whose next elapse is at `instant`.
 fn elapse_row(
     alloc: Global,
     at: Clocked<'_>,
     formatter: &mut InstantFormatter<'_>,
     timer: &LoadedTimer,
-    secs: i64,
+    instant: Instant,
 ) -> Result<Row, AllocError> {
     let mut row = plain_row(alloc, timer.name.as_str(), "")?;
     row.next = String::new(alloc);
     row.left = String::new(alloc);
-    push_instant(&mut row.next, formatter, secs)?;
-    push_left(&mut row.left, at.now, secs)?;
+    push_instant(&mut row.next, formatter, instant)?;
+    push_left(&mut row.left, at.now, instant)?;
     push_notes(&mut row.notes, &timer.notes)?;
     Ok(row)
 }
@@ -127,8 +130,8 @@ fn plain_row(alloc: Global, unit: &str, note: &str) -> Result<Row, AllocError> {
     let mut name = String::new(alloc);
     push_shown(&mut name, unit)?;
     Ok(Row {
-        next: String::from_str(alloc, NO_INSTANT)?,
-        left: String::from_str(alloc, NO_INSTANT)?,
+        next: String::from_str(alloc, NO_ELAPSE)?,
+        left: String::from_str(alloc, NO_ELAPSE)?,
         unit: name,
         notes: String::from_str(alloc, note)?,
     })

@@ -20,7 +20,7 @@ pub fn show_text(
     alloc: Global,
     at: Clocked<'_>,
     timer: &LoadedTimer,
-    elapses: &[i64],
+    elapses: &[Instant],
     notes: &[ClockNote],
     style: Style,
 ) -> Result<String, AllocError> {
@@ -88,26 +88,26 @@ fn push_field(out: &mut String, label: &str, value: &str) -> Result<(), AllocErr
     out.push('\n')
 }
 
-fn push_elapses(out: &mut String, at: Clocked<'_>, elapses: &[i64]) -> Result<(), AllocError> {
+fn push_elapses(out: &mut String, at: Clocked<'_>, elapses: &[Instant]) -> Result<(), AllocError> {
     let mut label = "  Next:";
     if elapses.is_empty() {
         return push_field(out, label, "never");
     }
     let mut formatter = InstantFormatter::new(at.local);
     let width = widest(&mut formatter, elapses);
-    for secs in elapses {
+    for instant in elapses {
         push_padded(out, label, LABEL_WIDTH)?;
-        push_elapse(out, &mut formatter, width, at.now, *secs)?;
+        push_elapse(out, &mut formatter, width, at.now, *instant)?;
         label = "";
     }
     Ok(())
 }
 
 /// Returns the width of the widest instant, in characters.
-fn widest(formatter: &mut InstantFormatter<'_>, elapses: &[i64]) -> usize {
+fn widest(formatter: &mut InstantFormatter<'_>, elapses: &[Instant]) -> usize {
     let mut width = 0;
-    for secs in elapses {
-        width = instant_width(formatter, *secs).max(width);
+    for instant in elapses {
+        width = instant_width(formatter, *instant).max(width);
     }
     width
 }
@@ -118,15 +118,15 @@ fn push_elapse(
     formatter: &mut InstantFormatter<'_>,
     width: usize,
     now: Instant,
-    secs: i64,
+    instant: Instant,
 ) -> Result<(), AllocError> {
-    let own_width = instant_width(formatter, secs);
-    push_instant(out, formatter, secs)?;
+    let own_width = instant_width(formatter, instant);
+    push_instant(out, formatter, instant)?;
     push_padded(out, "", width.saturating_sub(own_width).saturating_add(2))?;
-    if secs > now.secs() {
+    if instant.secs() > now.secs() {
         out.push_str("in ")?;
     }
-    push_left(out, now, secs)?;
+    push_left(out, now, instant)?;
     out.push('\n')
 }
 

@@ -2,7 +2,6 @@
 
 ghost use Rattle.std.specs.Prelude.{◌≡◌, ◌++◌, ◌≤ℤ◌, ◌<ℤ◌, IfOk, OnOk, codes, length, string_bytes};
 ghost use Rattle.cal_text.specs.headline.Separators.{words};
-ghost use Rattle.cal_zone.specs.Instant.{IsInstant};
 ghost use Rattle.cal_zone.specs.headline.InstantText.{instant_text};
 ghost use Rattle.cal_spec.specs.headline.ExprText.{expr_text};
 ghost use Rattle.cal_timers_text.specs.Left.{two_units, two_words};
@@ -15,16 +14,12 @@ use cal_text::first_word;
 use cal_zone::{Instant, InstantFormatter, Zone};
 use std::alloc::{AllocError, Global};
 
-/// What is printed in place of an instant that is missing or out of range.
-pub(crate) const NO_INSTANT: &str = "-";
-
-/// Returns what clocks in the zone show at an instant, as in `Fri 2026-11-27 18:00:00 +01:00`, or `-` if `secs` is not
-/// an [`Instant`].
-pub fn instant_text(alloc: Global, zone: Zone<'_>, secs: i64) -> Result<String, AllocError>
-    ensures { IsInstant secs → IfOk result (λ text. string_bytes text ≡ instant_text zone.entry secs) }
+/// Returns what clocks in the zone show at an instant, as in `Fri 2026-11-27 18:00:00 +01:00`.
+pub fn instant_text(alloc: Global, zone: Zone<'_>, instant: Instant) -> Result<String, AllocError>
+    ensures { IfOk result (λ text. string_bytes text ≡ instant_text zone.entry instant.secs) }
 {
     let mut text = String::new(alloc);
-    push_instant(&mut text, &mut InstantFormatter::new(zone), secs)?;
+    push_instant(&mut text, &mut InstantFormatter::new(zone), instant)?;
     Ok(text)
 }
 
@@ -32,58 +27,49 @@ pub fn instant_text(alloc: Global, zone: Zone<'_>, secs: i64) -> Result<String, 
 pub(crate) fn push_instant(
     out: &mut String,
     formatter: &mut InstantFormatter<'_>,
-    secs: i64,
+    instant: Instant,
 ) -> Result<(), AllocError>
-    ensures text { IsInstant secs → OnOk result (string_bytes out.new ≡ string_bytes out.old ++ instant_text formatter.old secs) }
+    ensures text { OnOk result (string_bytes out.new ≡ string_bytes out.old ++ instant_text formatter.old instant.secs) }
     ensures zone { formatter.new ≡ formatter.old }
 {
-    let Some(instant) = Instant::new(secs) else {
-        return out.push_str(NO_INSTANT);
-    };
     let mut text = ShortText::new();
     formatter.push(&mut text, instant);
     out.push_str(ascii(text.as_slice())?)
 }
 
 /// Returns the number of characters that [`push_instant`] appends.
-pub(crate) fn instant_width(formatter: &mut InstantFormatter<'_>, secs: i64) -> usize
-    ensures width { IsInstant secs → result ≡ length (instant_text formatter.old secs) }
+pub(crate) fn instant_width(formatter: &mut InstantFormatter<'_>, instant: Instant) -> usize
+    ensures width { result ≡ length (instant_text formatter.old instant.secs) }
     ensures zone { formatter.new ≡ formatter.old }
 {
-    let Some(instant) = Instant::new(secs) else {
-        return NO_INSTANT.len();
-    };
     let mut text = ShortText::new();
     formatter.push(&mut text, instant);
     text.as_slice().len()
 }
 
-/// Returns how long it is from `now` until `secs`: the two largest units of the time span, as in `4h 12min`. If `secs`
-/// isn't after `now`, returns the text "now". If `secs` is after the last [`Instant`], returns `-`.
-pub fn left_text(alloc: Global, now: Instant, secs: i64) -> Result<String, AllocError>
-    ensures past { secs ≤ℤ now.secs → IfOk result (λ text. string_bytes text ≡ codes "now") }
-    ensures ahead { IsInstant secs → now.secs <ℤ secs
-        → IfOk result (λ text. string_bytes text ≡ two_units now.secs secs) }
+/// Returns how long it is from `now` until `then`: the two largest units of the time span, as in `4h 12min`. If `then`
+/// isn't after `now`, returns the text "now".
+pub fn left_text(alloc: Global, now: Instant, then: Instant) -> Result<String, AllocError>
+    ensures past { then.secs ≤ℤ now.secs → IfOk result (λ text. string_bytes text ≡ codes "now") }
+    ensures ahead { now.secs <ℤ then.secs
+        → IfOk result (λ text. string_bytes text ≡ two_units now.secs then.secs) }
 {
     let mut text = String::new(alloc);
-    push_left(&mut text, now, secs)?;
+    push_left(&mut text, now, then)?;
     Ok(text)
 }
 
 /// Appends how long it is until an instant, as [`left_text`] returns it.
-pub(crate) fn push_left(out: &mut String, now: Instant, secs: i64) -> Result<(), AllocError>
-    ensures past { secs ≤ℤ now.secs
+pub(crate) fn push_left(out: &mut String, now: Instant, then: Instant) -> Result<(), AllocError>
+    ensures past { then.secs ≤ℤ now.secs
         → OnOk result (string_bytes out.new ≡ string_bytes out.old ++ codes "now") }
-    ensures ahead { IsInstant secs → now.secs <ℤ secs
-        → OnOk result (string_bytes out.new ≡ string_bytes out.old ++ two_units now.secs secs) }
+    ensures ahead { now.secs <ℤ then.secs
+        → OnOk result (string_bytes out.new ≡ string_bytes out.old ++ two_units now.secs then.secs) }
 {
-    if secs <= now.secs() {
+    if then.secs() <= now.secs() {
         return out.push_str("now");
     }
-    match Instant::new(secs) {
-        Some(instant) => push_two_units(out, now, instant),
-        None => out.push_str(NO_INSTANT),
-    }
+    push_two_units(out, now, then)
 }
 
 /// Appends the two largest units of the time span between two instants.

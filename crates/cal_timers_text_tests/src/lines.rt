@@ -1,8 +1,8 @@
 //! Tests of the lines about elapses in a range, and about the difference of two timers.
 
 use crate::expect;
-use crate::timers::{MIDNIGHT, Made, timers};
-use cal_tasks::{Difference, TimerElapse};
+use crate::timers::{EVENING, MIDNIGHT, Made, elapse, instant, timers};
+use cal_tasks::Difference;
 use cal_timers_text::{between_text, same_text};
 use cal_zone::Zone;
 use std::test::Fail;
@@ -22,21 +22,11 @@ static MADE: [Made<'static>; 2] = [
     },
 ];
 
-const ELAPSES: [TimerElapse; 2] = [
-    TimerElapse {
-        secs: MIDNIGHT,
-        timer: 1,
-    },
-    TimerElapse {
-        secs: 1_795_802_400,
-        timer: 0,
-    },
-];
-
 #[test]
 fn elapses_in_a_range(rt: HostRuntime) -> Result<(), Fail> {
     let timers = timers(rt.alloc(), &MADE)?;
-    let found = between_text(rt.alloc(), Zone::utc(), &timers, &ELAPSES)?;
+    let elapses = [elapse(MIDNIGHT, 1)?, elapse(EVENING, 0)?];
+    let found = between_text(rt.alloc(), Zone::utc(), &timers, &elapses)?;
     expect(
         found.as_str(),
         "Fri 2026-11-27 00:00:00 UTC  logrotate.timer\nFri 2026-11-27 18:00:00 UTC  backup.timer\n",
@@ -58,7 +48,7 @@ static ROWS: [Row; 3] = [
     ),
     (
         Some(MIDNIGHT),
-        Some(1_795_802_400),
+        Some(EVENING),
         "only a.timer: Fri 2026-11-27 00:00:00 UTC\nonly b.timer: Fri 2026-11-27 18:00:00 UTC\n",
     ),
 ];
@@ -67,8 +57,8 @@ static ROWS: [Row; 3] = [
 fn differences(rt: HostRuntime) -> Result<(), Fail> {
     for (only_one, only_other, expected) in ROWS {
         let difference = Difference {
-            only_one,
-            only_other,
+            only_one: only_one.map(instant).transpose()?,
+            only_other: only_other.map(instant).transpose()?,
         };
         let found = same_text(rt.alloc(), Zone::utc(), "a.timer", "b.timer", difference)?;
         expect(found.as_str(), expected)?;

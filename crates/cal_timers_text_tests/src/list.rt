@@ -1,11 +1,11 @@
 //! Tests of the table of timers, and of the texts of instants and of the time until them.
 
 use crate::expect;
-use crate::timers::{MIDNIGHT, Made, NOW, now, strings, timers};
+use crate::timers::{EVENING, MIDNIGHT, Made, NOW, elapse, instant, now, strings, timers};
 use cal_load::Loaded;
-use cal_tasks::{NextOfAll, TimerElapse};
+use cal_tasks::NextOfAll;
 use cal_timers_text::{Style, instant_text, left_text, list_text};
-use cal_zone::{Instant, Zone};
+use cal_zone::Zone;
 use std::alloc::Global;
 use std::test::Fail;
 
@@ -36,17 +36,6 @@ static MADE: [Made<'static>; 4] = [
     },
 ];
 
-const SOONEST: [TimerElapse; 2] = [
-    TimerElapse {
-        secs: MIDNIGHT,
-        timer: 1,
-    },
-    TimerElapse {
-        secs: 1_795_802_400,
-        timer: 0,
-    },
-];
-
 const TABLE: &str = "\
 NEXT                         LEFT       UNIT             NOTES
 Fri 2026-11-27 00:00:00 UTC  4h 12min   logrotate.timer  RandomizedDelaySec=1h
@@ -72,7 +61,7 @@ fn table(alloc: Global, style: Style) -> Result<String, Fail> {
         faults: Vec::new(alloc),
     };
     let next = NextOfAll {
-        soonest: SOONEST.to_vec(alloc)?,
+        soonest: vec![in alloc; elapse(MIDNIGHT, 1)?, elapse(EVENING, 0)?]?,
         never: vec![in alloc; 2, 3]?,
     };
     Ok(list_text(alloc, now()?, &loaded, &next, style)?)
@@ -125,12 +114,7 @@ fn characters(rt: HostRuntime) -> Result<(), Fail> {
         faults: Vec::new(alloc),
     };
     let next = NextOfAll {
-        soonest: vec![in alloc;
-            TimerElapse {
-                secs: MIDNIGHT,
-                timer: 0
-            },
-        ]?,
+        soonest: vec![in alloc; elapse(MIDNIGHT, 0)?]?,
         never: Vec::new(alloc),
     };
     let found = list_text(alloc, now()?, &loaded, &next, style)?;
@@ -168,20 +152,15 @@ static LEFT: [(i64, &str); 6] = [
 
 #[test]
 fn how_long_until(rt: HostRuntime) -> Result<(), Fail> {
-    let Some(now) = Instant::new(NOW) else {
-        return Err(Fail::new("NOW"));
-    };
     for (seconds, expected) in LEFT {
-        let found = left_text(rt.alloc(), now, NOW + seconds)?;
+        let found = left_text(rt.alloc(), instant(NOW)?, instant(NOW + seconds)?)?;
         expect(found.as_str(), expected)?;
     }
     Ok(())
 }
 
 #[test]
-fn instants(rt: HostRuntime) -> Result<(), Fail> {
-    let found = instant_text(rt.alloc(), Zone::utc(), NOW)?;
-    expect(found.as_str(), "Thu 2026-11-26 19:48:00 UTC")?;
-    let found = instant_text(rt.alloc(), Zone::utc(), -1)?;
-    expect(found.as_str(), "-")
+fn an_instant(rt: HostRuntime) -> Result<(), Fail> {
+    let found = instant_text(rt.alloc(), Zone::utc(), instant(NOW)?)?;
+    expect(found.as_str(), "Thu 2026-11-26 19:48:00 UTC")
 }

@@ -1,7 +1,7 @@
 //! Tests of timers shown in detail.
 
 use crate::expect;
-use crate::timers::{MIDNIGHT, Made, now};
+use crate::timers::{EVENING, MIDNIGHT, Made, instant, now};
 use cal_tasks::{ClockChange, ClockNote};
 use cal_timers_text::{Style, show_text};
 use std::test::Fail;
@@ -49,7 +49,7 @@ fn two_files(rt: HostRuntime) -> Result<(), Fail> {
         is_bold: true,
     };
     let timer = BACKUP.timer(alloc)?;
-    let elapses = [1_795_802_400, 1_796_061_600];
+    let elapses = [instant(EVENING)?, instant(1_796_061_600)?];
     let found = show_text(alloc, now()?, &timer, &elapses, &NOTES, style)?;
     expect(found.as_str(), SHOWN)
 }
@@ -102,9 +102,11 @@ fn without_files(rt: HostRuntime) -> Result<(), Fail> {
             notes,
         };
         let timer = made.timer(rt.alloc())?;
-        let all = [MIDNIGHT];
-        let elapses: &[i64] = if has_elapse { &all } else { &[] };
-        let found = show_text(rt.alloc(), now()?, &timer, elapses, &[], PLAIN)?;
+        let mut elapses = Vec::new(rt.alloc());
+        if has_elapse {
+            elapses.push(instant(MIDNIGHT)?)?;
+        }
+        let found = show_text(rt.alloc(), now()?, &timer, &elapses, &[], PLAIN)?;
         expect(found.as_str(), expected)?;
     }
     Ok(())

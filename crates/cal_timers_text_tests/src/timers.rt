@@ -2,7 +2,7 @@
 
 use cal_load::{Calendar, LoadedTimer};
 use cal_streams::Port;
-use cal_tasks::Clocked;
+use cal_tasks::{Clocked, TimerElapse};
 use cal_timer::read_timer;
 use cal_units::UnitText;
 use cal_zone::{Instant, Zone, ZoneTable};
@@ -14,6 +14,9 @@ pub const NOW: i64 = 1_795_722_480;
 
 /// The next midnight: 2026-11-27 00:00:00 UTC, 4 h 12 min after [`NOW`].
 pub const MIDNIGHT: i64 = 1_795_737_600;
+
+/// The evening after that: 2026-11-27 18:00:00 UTC.
+pub const EVENING: i64 = 1_795_802_400;
 
 /// What a timer is made from. `text` is a timer file with the expressions and exceptions of the timer. If it is empty,
 /// the timer has no calendar expressions.
@@ -82,11 +85,21 @@ pub fn timers(alloc: Global, made: &[Made<'_>]) -> Result<Vec<LoadedTimer>, Fail
 
 /// Returns the present, [`NOW`], with UTC as the local zone.
 pub fn now() -> Result<Clocked<'static>, Fail> {
-    match Instant::new(NOW) {
-        Some(now) => Ok(Clocked {
-            now,
-            local: Zone::utc(),
-        }),
-        None => Err("NOW".into()),
-    }
+    Ok(Clocked {
+        now: instant(NOW)?,
+        local: Zone::utc(),
+    })
+}
+
+/// Returns the instant `secs` seconds after 1970-01-01 00:00:00 UTC.
+pub fn instant(secs: i64) -> Result<Instant, Fail> {
+    Ok(Instant::new(secs).ok_or("no instant")?)
+}
+
+/// Returns the elapse at `secs` of the timer with this index.
+pub fn elapse(secs: i64, timer: usize) -> Result<TimerElapse, Fail> {
+    Ok(TimerElapse {
+        instant: instant(secs)?,
+        timer,
+    })
 }

@@ -1,10 +1,10 @@
 -- The elapses of the timers before the loop's index, followed by those that the remaining timers have in the range, are
 -- the elapses of all timers in the range.
 use Rattle.std.proofs.Common.{◌≡◌, ◌++◌, map, drop}
-use Rattle.cal_compare.specs.SeveralTimers.{of_each, range_of_each, range_of_one}
+use Rattle.cal_compare.specs.SeveralTimers.{elapse_seen, of_each, range_of_each, range_of_one}
 use Rattle.cal_compare.proofs.range.between.Given as goal
 
 abbrev pub invariant-loop-timer : goal.invariant-loop-timer
 invariant-loop-timer g l =
-    let rest = g.S.Rising.rest in
-    l.found.items ++ of_each (range_of_one l.from.secs l.before.secs) l.timer (map rest (drop l.timer l.timers)) ≡ range_of_each l.from.secs l.before.secs (map rest l.fn.timers)
+    map elapse_seen l.found.items ++ of_each (range_of_one l.from.secs l.before.secs) l.timer (drop l.timer l.timers)
+    ≡ range_of_each l.from.secs l.before.secs l.fn.timers

@@ -1,15 +1,26 @@
-use Rattle.std.proofs.Common.{rules}
+use Rattle.std.proofs.Common.{[], ◌∷◌, pos, rules}
 use Rattle.std.specs.List.Sorted.{IsStrictlySortedBy}
+use Rattle.cal_rising.proofs.OrderLemmas.{all_at}
+use Rattle.cal_zone.specs.Instant.{IsInstant}
 use Rattle.cal_task_tests.proofs.compared.three.Goals as goal
 
-pub listed-requires : goal.listed-requires
+pub listed-requires-clause-rises : goal.listed-requires-clause-rises
 unfolding IsStrictlySortedBy
-listed-requires c = search rules
+listed-requires-clause-rises c = search rules
 
-pub listed-requires-2 : goal.listed-requires-2
-unfolding IsStrictlySortedBy
-listed-requires-2 c = search rules
+pub listed-requires-clause-instants : goal.listed-requires-clause-instants
+listed-requires-clause-instants c i = all_at IsInstant (pos 5 ∷ pos 7 ∷ pos 9 ∷ []) i (search rules)
 
-pub listed-requires-3 : goal.listed-requires-3
+pub listed-requires-2-clause-rises : goal.listed-requires-2-clause-rises
 unfolding IsStrictlySortedBy
-listed-requires-3 c = search rules
+listed-requires-2-clause-rises c = search rules
+
+pub listed-requires-2-clause-instants : goal.listed-requires-2-clause-instants
+listed-requires-2-clause-instants c i = all_at IsInstant ([]) i (search rules)
+
+pub listed-requires-3-clause-rises : goal.listed-requires-3-clause-rises
+unfolding IsStrictlySortedBy
+listed-requires-3-clause-rises c = search rules
+
+pub listed-requires-3-clause-instants : goal.listed-requires-3-clause-instants
+listed-requires-3-clause-instants c i = all_at IsInstant (pos 3 ∷ pos 5 ∷ pos 6 ∷ pos 7 ∷ []) i (search rules)

@@ -1,10 +1,12 @@
-use Rattle.std.proofs.Common.{FitsSigned, ◌∙◌, rules, sym, w64}
-use Rattle.std.proofs.lemmas.Int.{to_z-of_z}
+use Rattle.std.proofs.Common.{◌∙◌, ℤ, [], ◌∷◌, ap, map, sym}
+use Rattle.std.proofs.lemmas.List.{map-append}
+use Rattle.cal_zone.specs.declared.instant.Instant.{Instant}
 use Rattle.cal_tasks.proofs.TakeLemmas.{taken_more}
 use Rattle.cal_tasks.proofs.elapses.take_first.Goals as goal
 
 pub loop-preserved : goal.loop-preserved
 loop-preserved g c =
-    let fits : FitsSigned w64 c.in-Some.number = search rules in
-    taken_more c.loop.first.items _ _ _ _ c.args.count c.loop.counter c.in-Some.number c.loop-test.true (sym c.next.ensures.given ∙ c.in-Some.is) c.next.ensures.left
-    c.loop.invariant (rw (to_z-of_z w64 c.in-Some.number fits) at c.in_ok-push.ensures.items)
+    let seconds : Instant → ℤ = λ instant. instant.secs in
+    let pushed = ap (map seconds) c.in_ok-push.ensures.items ∙ map-append seconds c.loop.first.items (c.in-Some.instant ∷ []) in
+    taken_more (map seconds c.loop.first.items) _ _ _ _ c.args.count c.loop.counter c.in-Some.instant.secs c.loop-test.true
+    (sym (rw c.in-Some.is at c.next.ensures.given)) c.next.ensures.left c.loop.invariant pushed

@@ -1,4 +1,4 @@
-use Rattle.std.proofs.Common.{arith}
+use Rattle.std.proofs.Common.{arith, map}
 use Rattle.cal_plan.proofs.PlanLemmas.{zoned_at}
 use Rattle.cal_zone.specs.Setting.{setting_seen}
 use Rattle.cal_tasks.proofs.IdleLemmas.{idle_more}
@@ -12,5 +12,5 @@ suppresses_nothing-requires c =
 
 pub loop-line-preserved : goal.loop-line-preserved
 loop-line-preserved c =
-    idle_more SuppressesNothing (suppresses_nothing (setting_seen c.args.setting) c.args.setting.now.secs c.args.elapses.now) c.args.exceptions.now
+    idle_more SuppressesNothing (suppresses_nothing (setting_seen c.args.setting) c.args.setting.now.secs (map (λ instant. instant.secs) c.args.elapses.now)) c.args.exceptions.now
     c.loop-line.line-index c.line-item.result _ _ _ _ (omega arith) c.line-item.is c.loop-line.invariant c.in_ok-nothing.ensures c.in_ok-push_if.ensures

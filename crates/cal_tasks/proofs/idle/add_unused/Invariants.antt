@@ -9,4 +9,4 @@ use Rattle.cal_tasks.proofs.idle.add_unused.Given as goal
 abbrev pub invariant-loop-line : goal.invariant-loop-line
 invariant-loop-line l =
     l.found.items ≡ l.fn.found.items
-    ++ idle_as SuppressesNothing (suppresses_nothing (setting_seen l.setting) l.setting.now.secs l.elapses) (map shown (take l.line-index l.exceptions))
+    ++ idle_as SuppressesNothing (suppresses_nothing (setting_seen l.setting) l.setting.now.secs (map (λ instant. instant.secs) l.elapses)) (map shown (take l.line-index l.exceptions))

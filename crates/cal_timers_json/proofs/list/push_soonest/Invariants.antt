@@ -5,4 +5,4 @@ use Rattle.cal_timers_json.proofs.list.push_soonest.Given as goal
 abbrev pub invariant-loop-elapse : goal.invariant-loop-elapse
 invariant-loop-elapse l =
     map (λ row. row.unix) l.rows.items
-    ≡ map (λ row. row.unix) l.fn.rows.items ++ map (λ elapse. Some elapse.secs) (take l.elapse-index l.soonest)
+    ≡ map (λ row. row.unix) l.fn.rows.items ++ map (λ elapse. Some elapse.instant.secs) (take l.elapse-index l.soonest)
