@@ -43,9 +43,9 @@ error_reported r a d e read line answer is status had err = rw is (record { stat
 pub nothing_had : HadMemory (Ok [])
 nothing_had h = cc
 
--- `ByReading` holds if the request is for these texts, the input hasn't failed and wasn't read, and the run wrote the
--- reports and the error lines of all texts and returned their status, or `Refused` and the error line about the base
--- time. If the run failed, prefixes of both texts are enough.
+-- `ByReading` holds if the request is for these texts, the input hasn't failed and wasn't read, and the run either
+-- wrote the reports and the error lines of all texts and returned their status, or wrote the error line about the base
+-- time and returned `Refused`. If the run failed, it is enough that it wrote a prefix of this to each output.
 pub texts_reported : (asked : Request) (verb : TextVerb) (texts : List (List ℕ)) (a b c d e : Option (List ℕ)) (failed : Bool) (r : Result Status RunFault) → for_texts verb texts ≡ kind_of asked
     → failed ≡ false → IfOk r (λ status. status ≡ (texts_report asked verb texts).status) → Writes b c r (texts_report asked verb texts).out → Writes d e r (texts_report asked verb texts).err
     → ByReading asked a a failed (IsReported r b c d e)

@@ -1,6 +1,6 @@
-//! Following paths below a root folder, with all their links. The system can't do this by itself: it would look for the
-//! absolute targets of links below its own root, and it doesn't say where the folder of a path is after its links are
-//! followed.
+//! Following paths below a root folder, with all their links. The system can't do this by itself: it resolves an
+//! absolute target of a link from its own root instead, and it doesn't tell which folder a path ends up in once all
+//! links are followed.
 
 use cal_units::TreeFault;
 use std::alloc::{AllocError, Global};

@@ -1,6 +1,6 @@
 //! Reordering of the arguments. `clap` accepts the options of a verb only after the verb, so the verb is moved to the
-//! front. If no verb is given, `list` is inserted there, unless an argument asks for help or the version before any
-//! target.
+//! front. If no verb is given, `list` is inserted there, unless an argument before the first target asks for help
+//! or the version.
 
 use crate::value_option::{COUNT, NOW, ROOT, ZONE};
 use std::alloc::{AllocError, Global};
