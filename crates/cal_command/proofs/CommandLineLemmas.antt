@@ -1,22 +1,26 @@
 -- Lemmas about the command that is described to `clap`, and about which results of parsing the arguments are right.
-use Rattle.std.proofs.Common.{arith, ◌≡◌, List, [], ◌∷◌, ◌++◌, append_assoc, Some, Bool, true, false, refl, sym, ap, ◌∙◌, inl, inr, ◌⊎◌, Result, Ok, Err}
+use Rattle.std.proofs.Common.{arith, ◌≡◌, ◌+◌, ◌<◌, ℕ, List, [], ◌∷◌, add-one, append-nil, append_assoc, drop, drop-cons, get_or, length, map, Some, Bool, true, false, refl, sym, ap, ◌∙◌, inl, inr, ◌⊎◌, Result, Ok, Err}
 use Rattle.std.specs.Prelude.{not}
 use Rattle.std.specs.List.{list_any}
 use Rattle.clap.specs.Words.{App, IsAmong, Kinds, Rule, Text, is_simple, is_simple_and_free, with_rule}
 use Rattle.clap.specs.declared.error.kind.ErrorKind.{ErrorKind}
 use Rattle.clap.specs.declared.error.kind.ErrorKind.TheVariants.{OutOfMemory}
 use Rattle.clap.proofs.OnLiterals.{clap_on_literals}
-use Rattle.cal_command.specs.Ask.{CommandFault, usage, help, bad_iterations, bad_now, bad_zones, bad_local, no_memory, Ask}
+use Rattle.cal_command.specs.Ask.{Ask}
+use Rattle.cal_command.specs.CommandFault.{CommandFault, usage, help, bad_value, no_memory}
 use Rattle.cal_command.specs.CommandLine.{parsed_in, read_options, IsAskOf, IsFaultOf, IsOrNoMemory, IsReportedOf, ask_in, command_app, faults_in, is_of_help, takes_arguments, with_rules}
 use Rattle.cal_command.specs.VerbMatches.{VerbMatches}
 
-pub with_three : (app : App) (a b d : Rule) → with_rule (with_rule (with_rule app a) b) d ≡ with_rules app (a ∷ b ∷ d ∷ [])
-with_three app a b d = ap (λ rules. record app { top = record app.top { rules = rules } })
-    (append_assoc (app.top.rules ++ a ∷ []) (b ∷ []) (d ∷ []) ∙ append_assoc app.top.rules (a ∷ []) (b ∷ d ∷ []))
+-- adding an argument and then others is the same as adding them all
+pub with_rule-rules : (app : App) (rule : Rule) (rules : List Rule) → with_rules (with_rule app rule) rules ≡ with_rules app (rule ∷ rules)
+with_rule-rules app rule rules = ap (λ rules. record app { top = record app.top { rules = rules } }) (append_assoc app.top.rules (rule ∷ []) rules)
 
-pub with_two_more : (app : App) (a b : Rule) (rules : List Rule) → with_rules (with_rule (with_rule app a) b) rules ≡ with_rules app (a ∷ b ∷ rules)
-with_two_more app a b rules = ap (λ rules. record app { top = record app.top { rules = rules } })
-    (append_assoc (app.top.rules ++ a ∷ []) (b ∷ []) rules ∙ append_assoc app.top.rules (a ∷ []) (b ∷ rules))
+pub with_rules-none : (app : App) → with_rules app [] ≡ app
+with_rules-none app = ap (λ rules. record app { top = record app.top { rules = rules } }) (append-nil app.top.rules)
+
+-- the mapped list from index `i` on begins with item `i` mapped
+pub next_mapped : {A B : Type 0} (f : A → B) (xs : List A) (i : ℕ) (d : A) → i < length xs → f (get_or xs i d) ∷ map f (drop (i + 1) xs) ≡ map f (drop i xs)
+next_mapped f xs i d h = rw (add-one, drop-cons xs i d h) refl
 
 pub is_free_command : is_simple_and_free command_app ≡ true
 unfolding clap_on_literals
@@ -40,10 +44,7 @@ reported_fault arguments kind (usage text) passes kinds reported =
     grind (arith, among (λ k. not (is_of_help k)) kind (faults_in arguments))
 reported_fault arguments kind (help text) passes kinds reported = grind (arith, among is_of_help kind (faults_in arguments))
 reported_fault arguments kind no_memory passes kinds reported = tt
-reported_fault arguments kind bad_iterations passes kinds reported = absurd reported
-reported_fault arguments kind bad_now passes kinds reported = absurd reported
-reported_fault arguments kind bad_zones passes kinds reported = absurd reported
-reported_fault arguments kind bad_local passes kinds reported = absurd reported
+reported_fault arguments kind (bad_value message) passes kinds reported = absurd reported
 
 -- if `clap` parses the arguments, then the result of checking the values that it found, or the error for a failed
 -- allocation, is right for the arguments, as `IsAskOf` defines it
@@ -53,10 +54,7 @@ unfolding ask_in
 read_answer arguments found (Ok ask) none parsed is = (none, rw (← parsed) (sym is))
 read_answer arguments found (Err (usage text)) none parsed is = absurd is
 read_answer arguments found (Err (help text)) none parsed is = absurd is
-read_answer arguments found (Err bad_iterations) none parsed is = (none, rw (← parsed) (sym is))
-read_answer arguments found (Err bad_now) none parsed is = (none, rw (← parsed) (sym is))
-read_answer arguments found (Err bad_zones) none parsed is = (none, rw (← parsed) (sym is))
-read_answer arguments found (Err bad_local) none parsed is = (none, rw (← parsed) (sym is))
+read_answer arguments found (Err (bad_value message)) none parsed is = (none, rw (← parsed) (sym is))
 read_answer arguments found (Err no_memory) none parsed is = tt
 
 -- if `clap` accepts the arguments, only two results are right for them (`IsAskOf`): the one that `ask_in` returns,
@@ -66,8 +64,5 @@ pub taken_arguments : (arguments : List Text) (answer : Result Ask CommandFault)
 taken_arguments arguments (Ok ask) is takes = inr (sym is.1)
 taken_arguments arguments (Err (usage text)) is takes = let bad : true ≡ false = sym takes ∙ is.0 in absurd (cc)
 taken_arguments arguments (Err (help text)) is takes = let bad : true ≡ false = sym takes ∙ is.0 in absurd (cc)
-taken_arguments arguments (Err bad_iterations) is takes = inr (sym is.1)
-taken_arguments arguments (Err bad_now) is takes = inr (sym is.1)
-taken_arguments arguments (Err bad_zones) is takes = inr (sym is.1)
-taken_arguments arguments (Err bad_local) is takes = inr (sym is.1)
+taken_arguments arguments (Err (bad_value message)) is takes = inr (sym is.1)
 taken_arguments arguments (Err no_memory) is takes = inl refl

@@ -1,7 +1,7 @@
 -- The examples of `WorkedArguments`, checked by computing the definitions.
 use Rattle.std.proofs.Common.{◌≡◌, ℕ, true, List, Some, Ok, Err, refl}
 use Rattle.clap.proofs.OnLiterals.{clap_on_literals}
-use Rattle.cal_command.specs.Ask.{bad_iterations, help, usage}
+use Rattle.cal_command.specs.CommandFault.{bad_iterations, help, usage}
 use Rattle.cal_command.specs.CommandLine.{IsAskOf, ask_in, faults_in, parsed_in, read_options, takes_arguments}
 use Rattle.cal_command.specs.VerbMatches.{verb_matches_in}
 use Rattle.cal_command.specs.OptionValues.{count_in, local_zone_in, number_between, present_in, zone_item_in, zone_items_in, zones_in}

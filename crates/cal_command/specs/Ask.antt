@@ -1,6 +1,6 @@
 -- What the arguments ask for, with each string as the list of its bytes. The options are `--iterations` and
 -- `--base-time` of systemd-analyze(1), and this project's own `--now`, `--zones` and `--local`.
-use Rattle.std.specs.Prelude.{ℕ, ℤ, List, Option, Result, Ok, Err, map}
+use Rattle.std.specs.Prelude.{ℕ, ℤ, List, [], Option, None, Result, Ok, Err, map}
 use Rattle.std.specs.Borrow.{Bor}
 use Rattle.std.specs.String.{string_bytes}
 use Rattle.std.specs.Option.{option_map}
@@ -9,8 +9,8 @@ use Rattle.cal_command.specs.declared.ask.LocalZone as declared_local
 use Rattle.cal_command.specs.declared.ask.LocalZone.TheVariants.{Utc, Offset, Posix, Name}
 use Rattle.cal_command.specs.declared.ask.ZoneItem as declared_item
 use Rattle.cal_command.specs.declared.command_fault.CommandFault as declared_fault
-use Rattle.cal_command.specs.declared.command_fault.CommandFault.TheVariants.{Usage, Help, BadIterations, BadNow, BadZones, BadLocal, NoMemory}
-use Rattle.cal_request.specs.declared.request.Verb.{Verb}
+use Rattle.cal_command.specs.CommandFault.{CommandFault, shown_fault}
+use Rattle.cal_request.specs.declared.verb.Verb.{Verb}
 
 -- the bytes of each argument
 abbrev pub texts_of : List (Bor (List ℕ)) → List (List ℕ)
@@ -38,6 +38,11 @@ pub record Ask : Type 0 where
   pub local : LocalZone
   pub zones : List ZoneItem
 
+-- what a verb and its texts ask for if no option is given: one elapse after the present instant, which is read from the
+-- system's clock; the local zone is UTC, and there are no zone files
+abbrev pub default_ask : Verb → List (List ℕ) → Ask
+default_ask verb texts = record { verb = verb; texts = texts; iterations = 1; base = None; now = None; local = in_utc; zones = [] }
+
 abbrev pub shown_local : declared_local.LocalZone → LocalZone
 shown_local Utc = in_utc
 shown_local (Offset seconds) = at_offset seconds
@@ -57,26 +62,6 @@ shown_ask ask = record {
   local = shown_local ask.local;
   zones = map shown_item ask.zones.items;
 }
-
--- the errors for arguments: usage or help, with the text of `clap`; an invalid value of an option; or a failed
--- allocation
-pub data CommandFault : Type 0 where
-  usage : List ℕ → CommandFault
-  help : List ℕ → CommandFault
-  bad_iterations : CommandFault
-  bad_now : CommandFault
-  bad_zones : CommandFault
-  bad_local : CommandFault
-  no_memory : CommandFault
-
-abbrev pub shown_fault : declared_fault.CommandFault → CommandFault
-shown_fault (Usage text) = usage (string_bytes text)
-shown_fault (Help text) = help (string_bytes text)
-shown_fault BadIterations = bad_iterations
-shown_fault BadNow = bad_now
-shown_fault BadZones = bad_zones
-shown_fault BadLocal = bad_local
-shown_fault NoMemory = no_memory
 
 -- the result of parsing the arguments, with each string as the list of its bytes
 abbrev pub shown_answer : Result declared_ask.Ask declared_fault.CommandFault → Result Ask CommandFault

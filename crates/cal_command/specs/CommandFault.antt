@@ -1,15 +1,41 @@
--- The messages for errors of the command line: the texts of `clap`, and this project's own messages.
+-- The errors of the command line, with each string as the list of its bytes, and their messages: the texts of `clap`, and
+-- this project's own messages.
 use Rattle.std.specs.Prelude.{ℕ, List, [], codes}
 use Rattle.std.specs.String.{string_bytes}
-use Rattle.cal_command.specs.declared.command_fault.CommandFault.{CommandFault}
+use Rattle.cal_command.specs.declared.command_fault.CommandFault as declared_fault
 use Rattle.cal_command.specs.declared.command_fault.CommandFault.TheVariants.{Usage, Help, BadIterations, BadNow, BadZones, BadLocal, NoMemory}
 
--- the message of an error: the text of `clap` for usage and help, and no text if memory ran out
+-- usage or help, with the text of `clap`; an invalid value of an option, with the message; or a failed allocation
+pub data CommandFault : Type 0 where
+  usage : List ℕ → CommandFault
+  help : List ℕ → CommandFault
+  bad_value : List ℕ → CommandFault
+  no_memory : CommandFault
+
+abbrev pub bad_iterations : CommandFault
+bad_iterations = bad_value (codes "bad iterations")
+
+abbrev pub bad_now : CommandFault
+bad_now = bad_value (codes "bad now")
+
+abbrev pub bad_zones : CommandFault
+bad_zones = bad_value (codes "bad zones")
+
+abbrev pub bad_local : CommandFault
+bad_local = bad_value (codes "bad local zone")
+
+abbrev pub shown_fault : declared_fault.CommandFault → CommandFault
+shown_fault (Usage text) = usage (string_bytes text)
+shown_fault (Help text) = help (string_bytes text)
+shown_fault BadIterations = bad_iterations
+shown_fault BadNow = bad_now
+shown_fault BadZones = bad_zones
+shown_fault BadLocal = bad_local
+shown_fault NoMemory = no_memory
+
+-- the message of an error, which is empty if memory ran out
 abbrev pub message_of : CommandFault → List ℕ
-message_of (Usage text) = string_bytes text
-message_of (Help text) = string_bytes text
-message_of BadIterations = codes "bad iterations"
-message_of BadNow = codes "bad now"
-message_of BadZones = codes "bad zones"
-message_of BadLocal = codes "bad local zone"
-message_of NoMemory = []
+message_of (usage text) = text
+message_of (help text) = text
+message_of (bad_value message) = message
+message_of no_memory = []

@@ -1,14 +1,18 @@
 -- The command line (systemd-analyze(1)): the command that is described to `clap`, and what the arguments ask for, given
 -- what `clap` finds in them.
-use Rattle.std.specs.Prelude.{◌≡◌, ◌≢◌, ⊤, Bool, true, false, not, List, [], ◌∷◌, ◌++◌, Option, None, Some, Result, Ok, Err, codes, option_map}
+use Rattle.std.specs.Prelude.{◌≡◌, ◌≢◌, ⊤, Bool, true, false, not, List, [], ◌∷◌, ◌++◌, map, Option, None, Some, Result, Ok, Err, codes, if◌then◌else◌, option_map}
 use Rattle.std.specs.List.{list_any}
 use Rattle.std.specs.Option.{option_map_or}
-use Rattle.clap.specs.Words.{App, Kinds, Rule, Shape, Text, fault_of, new_app, new_rule, subcommand_of, takes}
+use Rattle.clap.specs.Words.{App, Kinds, Rule, Shape, Text, fault_of, new_app, new_rule, subcommand_of, takes, with_subcommand}
 use Rattle.clap.specs.declared.builder.ArgAction.TheVariants.{Append, Set}
 use Rattle.clap.specs.declared.error.kind.ErrorKind.{ErrorKind}
 use Rattle.clap.specs.declared.error.kind.ErrorKind.TheVariants.{DisplayHelp, DisplayVersion, OutOfMemory}
-use Rattle.cal_command.specs.Ask.{CommandFault, usage, help, bad_iterations, bad_now, bad_zones, bad_local, no_memory, Ask, in_utc}
+use Rattle.cal_request.specs.Verb.{all_verbs, has_zones, is_timer, seeks_elapses, verb_name}
+use Rattle.cal_request.specs.declared.verb.Verb.{Verb}
+use Rattle.cal_command.specs.Ask.{Ask, in_utc}
+use Rattle.cal_command.specs.CommandFault.{CommandFault, usage, help, bad_value, bad_iterations, bad_now, bad_zones, bad_local, no_memory}
 use Rattle.cal_command.specs.OptionValues.{count_in, local_zone_in, present_in, zones_in}
+use Rattle.cal_command.specs.declared.value_option.ValueOption.{ValueOption}
 use Rattle.cal_command.specs.VerbMatches.{VerbMatches, elapse_option, verb_matches_in, zone_option}
 
 -- ---- the command, as it is described to `clap`
@@ -17,13 +21,8 @@ use Rattle.cal_command.specs.VerbMatches.{VerbMatches, elapse_option, verb_match
 abbrev pub option_rule : Text → Rule
 option_rule name = record (new_rule name) { long = Some name; action = Some Set; value_names = 1 }
 
--- the positional argument for one or more texts
-abbrev pub texts_rule : Rule
-texts_rule = record (new_rule (codes "text")) { action = Some Append; value_names = 1; required = true }
-
--- the positional argument for the one file of `timer`
-abbrev pub file_rule : Rule
-file_rule = record (new_rule (codes "text")) { action = Some Set; value_names = 1; required = true }
+abbrev pub shown_option : ValueOption → Rule
+shown_option option = option_rule option.name.now
 
 -- the options of the verbs that read or print instants
 abbrev pub zone_rules : List Rule
@@ -33,21 +32,24 @@ zone_rules = option_rule (codes "local") ∷ option_rule (codes "zones") ∷ opt
 abbrev pub elapse_rules : List Rule
 elapse_rules = option_rule (codes "iterations") ∷ option_rule (codes "base-time") ∷ zone_rules
 
-abbrev pub verb_shape : Text → List Rule → Rule → Shape
-verb_shape name options texts = record (new_app name).top { rules = options ++ texts ∷ [] }
+abbrev pub option_rules : Verb → List Rule
+option_rules verb = if seeks_elapses verb then elapse_rules else if has_zones verb then zone_rules else []
+
+-- the positional argument: one or more texts, or the one path of a timer file
+abbrev pub texts_rule : Verb → Rule
+texts_rule verb = record (new_rule (codes "text")) { action = Some (if is_timer verb then Set else Append); value_names = 1; required = true }
+
+-- the subcommand of a verb
+abbrev pub verb_shape : Verb → Shape
+verb_shape verb = record (new_app (verb_name verb)).top { rules = option_rules verb ++ texts_rule verb ∷ [] }
+
+-- the whole command, without its subcommands
+abbrev pub program_shape : Shape
+program_shape = record (new_app (codes "calendar-analyze")).top { no_binary_name = true; has_version = true; subcommand_required = true }
 
 -- the whole command, with a subcommand for each verb
 abbrev pub command_app : App
-command_app = record {
-  top = record (new_app (codes "calendar-analyze")).top {
-    is_leaf = false;
-    no_binary_name = true;
-    has_version = true;
-    subcommand_required = true;
-  };
-  subs = verb_shape (codes "calendar") elapse_rules texts_rule ∷ verb_shape (codes "timestamp") zone_rules texts_rule
-      ∷ verb_shape (codes "timespan") [] texts_rule ∷ verb_shape (codes "timer") elapse_rules file_rule ∷ [];
-}
+command_app = record { top = record program_shape { is_leaf = false }; subs = map verb_shape all_verbs }
 
 -- whether `clap` accepts the arguments
 unfoldable pub takes_arguments : List Text → Bool
@@ -109,10 +111,7 @@ HasRefused arguments is_kind = (takes_arguments arguments ≡ false) × (list_an
 abbrev pub IsFaultOf : List Text → CommandFault → Type 0
 IsFaultOf arguments (usage text) = HasRefused arguments (λ kind. not (is_of_help kind))
 IsFaultOf arguments (help text) = HasRefused arguments is_of_help
-IsFaultOf arguments bad_iterations = HasRead arguments (Err bad_iterations)
-IsFaultOf arguments bad_now = HasRead arguments (Err bad_now)
-IsFaultOf arguments bad_zones = HasRead arguments (Err bad_zones)
-IsFaultOf arguments bad_local = HasRead arguments (Err bad_local)
+IsFaultOf arguments (bad_value message) = HasRead arguments (Err (bad_value message))
 IsFaultOf arguments no_memory = ⊤
 
 -- `answer` is right for the arguments. If `clap` parses them, the right answer is what `ask_in` returns for them.
@@ -132,13 +131,15 @@ IsReportedOf kind _ = ⊥
 abbrev pub with_rules : App → List Rule → App
 with_rules app rules = record app { top = record app.top { rules = app.top.rules ++ rules } }
 
+-- adds subcommands to the command
+abbrev pub with_subcommands : App → List Shape → App
+with_subcommands app [] = app
+with_subcommands app (shape ∷ shapes) = with_subcommands (with_subcommand app shape) shapes
+
 abbrev pub IsFaultOrNoMemory : CommandFault → Result Ask CommandFault → Type 0
 IsFaultOrNoMemory (usage text) answer = ⊥
 IsFaultOrNoMemory (help text) answer = ⊥
-IsFaultOrNoMemory bad_iterations answer = Err bad_iterations ≡ answer
-IsFaultOrNoMemory bad_now answer = Err bad_now ≡ answer
-IsFaultOrNoMemory bad_zones answer = Err bad_zones ≡ answer
-IsFaultOrNoMemory bad_local answer = Err bad_local ≡ answer
+IsFaultOrNoMemory (bad_value message) answer = Err (bad_value message) ≡ answer
 IsFaultOrNoMemory no_memory answer = ⊤
 
 -- the first result equals `answer` and is neither usage nor help, or it is the error for a failed allocation

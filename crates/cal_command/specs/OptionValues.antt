@@ -8,7 +8,7 @@ use Rattle.cal_zone.specs.Instant.{last_instant}
 use Rattle.cal_civil.specs.ReadOffset.{offset_in}
 use Rattle.cal_civil.specs.headline.ZoneName.{is_utc_name, is_zone_name}
 use Rattle.cal_command.specs.Ask.{LocalZone, in_utc, at_offset, by_rule, of_name, ZoneItem}
-use Rattle.cal_request.specs.VerbOptions.{max_iterations}
+use Rattle.cal_request.specs.Verb.{max_iterations}
 use Rattle.cal_text.specs.headline.Separators.{is_equals, is_comma}
 
 -- the number that a text of digits stands for, if it is from `least` to `most`

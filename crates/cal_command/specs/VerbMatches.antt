@@ -1,12 +1,10 @@
 -- What `clap` finds in the arguments: a verb with its texts, and the values of its options (systemd-analyze(1)).
-use Rattle.std.specs.Prelude.{List, take, Option, None, Some, codes, if◌then◌else◌, option_and_then, option_map}
-use Rattle.std.specs.Str.{bytes_eq}
+use Rattle.std.specs.Prelude.{List, take, Option, None, codes, if◌then◌else◌, option_and_then, option_map}
 use Rattle.clap.specs.Words.{Row, Text, all_of, first_of, found_of, rows_of}
 use Rattle.cal_command.specs.Ask.{texts_of}
 use Rattle.cal_command.specs.declared.verb_matches.VerbMatches as declared_matches
-use Rattle.cal_request.specs.VerbOptions.{has_zones, is_timer, seeks_elapses}
-use Rattle.cal_request.specs.declared.request.Verb.{Verb}
-use Rattle.cal_request.specs.declared.request.Verb.TheVariants.{Calendar, Timer, Timestamp, Timespan}
+use Rattle.cal_request.specs.Verb.{has_zones, is_timer, seeks_elapses, verb_named}
+use Rattle.cal_request.specs.declared.verb.Verb.{Verb}
 
 -- a verb with its texts, and the rows of what `clap` found for the verb: one row for each option that was given, and
 -- one row for all texts
@@ -14,13 +12,6 @@ pub record VerbMatches : Type 0 where
   pub verb : Verb
   pub texts : List Text
   pub rows : List Row
-
-abbrev pub verb_named : Text → Option Verb
-verb_named name =
-    if bytes_eq name (codes "calendar") then Some Calendar
-    else if bytes_eq name (codes "timestamp") then Some Timestamp
-    else if bytes_eq name (codes "timespan") then Some Timespan
-    else if bytes_eq name (codes "timer") then Some Timer else None
 
 -- the texts that are used: only the first for `timer`, and all for other verbs
 abbrev pub texts_kept : Verb → List Text → List Text

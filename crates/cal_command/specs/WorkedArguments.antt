@@ -1,8 +1,8 @@
 -- Examples of arguments, and for some of them also what `clap` finds in them or what they ask for: systemd-analyze(1).
 use Rattle.std.specs.Prelude.{ℕ, List, [], ◌∷◌, None, Some, codes, pos}
-use Rattle.cal_command.specs.Ask.{Ask, in_utc, of_name}
+use Rattle.cal_command.specs.Ask.{Ask, default_ask, of_name}
 use Rattle.cal_command.specs.VerbMatches.{VerbMatches}
-use Rattle.cal_request.specs.declared.request.Verb.TheVariants.{Calendar}
+use Rattle.cal_request.specs.declared.verb.Verb.TheVariants.{Calendar}
 use Rattle.clap.specs.declared.builder.value_parser.Reading.TheVariants as reading
 use Rattle.clap.specs.declared.parser.matches.ValueSource.TheVariants as source
 
@@ -14,10 +14,9 @@ daily_arguments = codes "calendar" ∷ codes "daily" ∷ []
 abbrev pub daily_matches : VerbMatches
 daily_matches = record { verb = Calendar; texts = codes "daily" ∷ []; rows = record { id = codes "text"; values = codes "daily" ∷ []; count = None; source = Some source.CommandLine; reading = reading.AsWritten } ∷ [] }
 
--- what `calendar daily` asks for: one elapse after the present instant, which is read from the system's clock; the
--- local zone is UTC, and there are no zone files
+-- what `calendar daily` asks for
 abbrev pub daily_ask : Ask
-daily_ask = record { verb = Calendar; texts = codes "daily" ∷ []; iterations = 1; base = None; now = None; local = in_utc; zones = [] }
+daily_ask = default_ask Calendar (codes "daily" ∷ [])
 
 -- every option of `calendar`, with the text `daily` among them and the text `weekly` after them
 abbrev pub options_arguments : List (List ℕ)
@@ -27,9 +26,7 @@ options_arguments =
 
 -- what the arguments `options_arguments` ask for
 abbrev pub options_ask : Ask
-options_ask = record {
-  verb = Calendar;
-  texts = codes "daily" ∷ codes "weekly" ∷ [];
+options_ask = record (default_ask Calendar (codes "daily" ∷ codes "weekly" ∷ [])) {
   iterations = 3;
   base = Some (codes "now");
   now = Some (pos 5);

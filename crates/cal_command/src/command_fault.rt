@@ -39,12 +39,12 @@ pub enum CommandFault {
 }
 
 impl CommandFault {
-    ghost use Rattle.cal_command.specs.CommandFault.{message_of};
+    ghost use Rattle.cal_command.specs.CommandFault.{message_of, shown_fault};
 
     /// Returns the message for users. For usage and help it is the text of `clap`, including the line feed at its end.
     /// For [`CommandFault::NoMemory`] it is empty.
     pub fn words(&self) -> &str
-        ensures { result.now ≡ message_of self.now }
+        ensures { result.now ≡ message_of (shown_fault self.now) }
     {
         match self {
             CommandFault::Usage(text) | CommandFault::Help(text) => text.as_str(),

@@ -4,8 +4,8 @@ ghost use Rattle.std.specs.Prelude.{◌≡◌, ◌≤◌, None, IfSome, false, l
 ghost use Rattle.std.specs.Option.{option_copied};
 ghost use Rattle.clap.specs.Words.{found_of, rows_of, subcommand_rows_of};
 ghost use Rattle.cal_command.specs.Ask.{texts_of};
-ghost use Rattle.cal_command.specs.VerbMatches.{elapse_option, shown_matches, texts_for, texts_kept, verb_matches_for, verb_matches_in, verb_named, zone_option};
-ghost use Rattle.cal_request.specs.VerbOptions.{is_timer, seeks_elapses};
+ghost use Rattle.cal_command.specs.VerbMatches.{elapse_option, shown_matches, texts_for, texts_kept, verb_matches_for, verb_matches_in, zone_option};
+ghost use Rattle.cal_request.specs.Verb.{is_timer, seeks_elapses};
 
 use crate::value_option::ValueOption;
 use crate::verb_matches::VerbMatches;
@@ -18,7 +18,7 @@ impl<'b, 'a> VerbMatches<'b, 'a> {
         ensures { option_map shown_matches result ≡ verb_matches_in (subcommand_rows_of matches.now) }
     {
         let (name, values) = matches.subcommand()?;
-        verb_matches_for(verb_named(name)?, values)
+        verb_matches_for(Verb::named(name)?, values)
     }
 
     /// Returns the value of an option that only the verbs that compute elapses have. Returns `None` if the verb doesn't
@@ -78,17 +78,5 @@ fn texts_kept<'b, 'a>(verb: Verb, texts: &'b [&'a str]) -> &'b [&'a str]
         &texts[..1]
     } else {
         texts
-    }
-}
-
-fn verb_named(name: &str) -> Option<Verb>
-    ensures { result ≡ verb_named name.now }
-{
-    match name {
-        "calendar" => Some(Verb::Calendar),
-        "timestamp" => Some(Verb::Timestamp),
-        "timespan" => Some(Verb::Timespan),
-        "timer" => Some(Verb::Timer),
-        _ => None,
     }
 }

@@ -2,12 +2,14 @@
 #![tactic(auto)]
 
 mod ask;
+mod clap_command;
 mod command_fault;
 pub mod command_laws;
 mod command_line;
 mod found;
 mod option_values;
 mod value_option;
+mod verb_help;
 mod verb_matches;
 
 pub use ask::{Ask, LocalZone, ZoneItem};

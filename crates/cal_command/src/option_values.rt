@@ -13,7 +13,7 @@ ghost use Rattle.cal_command.specs.Ask.{in_utc, shown_local, texts_of, shown_ite
 ghost use Rattle.cal_command.specs.LocalZone.{IsLocalOffset};
 ghost use Rattle.cal_text.specs.headline.Separators.{is_comma};
 ghost use Rattle.cal_command.specs.OptionValues.{count_in, local_zone_in, number_between, parts_at, present_in, zone_item_in, zones_in};
-ghost use Rattle.cal_request.specs.VerbOptions.{IsCount};
+ghost use Rattle.cal_request.specs.Verb.{IsCount};
 
 use crate::ask::{LocalZone, ZoneItem};
 use cal_civil::{is_utc_name, is_zone_name, read_offset};

@@ -1,6 +1,11 @@
 //! The options that take a value: what `clap` is told about them, and the names by which their values are looked up.
 //! `--iterations` and `--base-time` are options of systemd-analyze(1); the others are this project's own.
 
+ghost use Rattle.std.specs.Prelude.{◌≡◌, map};
+ghost use Rattle.cal_command.specs.CommandLine.{option_rules, shown_option};
+
+use cal_request::Verb;
+
 /// An option that takes one value and may be given once.
 #[derive(Clone, Copy)]
 pub(crate) struct ValueOption {
@@ -41,3 +46,22 @@ pub(crate) const NOW: ValueOption = ValueOption {
     value: "@N",
     help: "Present time in Unix seconds [default: the clock]",
 };
+
+/// The options of the verbs that compute elapses, in the order in which the help lists them.
+const ELAPSE_OPTIONS: [ValueOption; 5] = [ITERATIONS, BASE_TIME, LOCAL, ZONES, NOW];
+
+/// The options of the verbs that only read or print instants.
+const ZONE_OPTIONS: [ValueOption; 3] = [LOCAL, ZONES, NOW];
+
+/// Returns the options of a verb, in the order in which the help lists them.
+pub(crate) fn options_of(verb: Verb) -> &'static [ValueOption]
+    ensures { map shown_option result.now ≡ option_rules verb }
+{
+    if verb.seeks_elapses() {
+        &ELAPSE_OPTIONS
+    } else if verb.has_zones() {
+        &ZONE_OPTIONS
+    } else {
+        &[]
+    }
+}

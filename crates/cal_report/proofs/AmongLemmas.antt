@@ -14,7 +14,7 @@ use Rattle.cal_report.proofs.HeadlineAccepted.{AreNormalForms, text_accepted}
 use Rattle.cal_report.proofs.HeadlineEach.{each_answered}
 use Rattle.cal_report.proofs.HeadlineLemmas.{HaveOneNormalForm, each_report, is_answered, one_meaning, report_of, report_of_texts}
 use Rattle.cal_request.specs.headline.Request.{Request}
-use Rattle.cal_request.specs.declared.request.Verb.TheVariants.{Calendar}
+use Rattle.cal_request.specs.declared.verb.Verb.TheVariants.{Calendar}
 
 -- The expressions that `AreAcceptedAmong` selects are accepted
 

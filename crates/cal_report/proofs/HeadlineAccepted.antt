@@ -37,7 +37,7 @@ use Rattle.cal_report.specs.TimerReport.{answer_of_timer, answer_unless, timer_a
 use Rattle.cal_request.specs.RequestKind.{timer_path}
 use Rattle.cal_request.specs.headline.Request.{Request}
 use Rattle.cal_request.specs.declared.request.Status.TheVariants.{Fine, Refused}
-use Rattle.cal_request.specs.declared.request.Verb.TheVariants as verb
+use Rattle.cal_request.specs.declared.verb.Verb.TheVariants as verb
 use Rattle.cal_report.proofs.HeadlineLemmas.{HaveOneNormalForm, report_of_texts, report_of_timer, spelled_is_read, text_of}
 use Rattle.cal_plan.proofs.PlanLemmas.{all_zoned, none_mapped}
 use Rattle.cal_plan.specs.ZoneFor.{lacks_zone, unzoned, zone_for}

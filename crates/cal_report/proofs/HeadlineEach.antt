@@ -14,7 +14,7 @@ use Rattle.cal_report.specs.headline.ReportLines.{Report}
 use Rattle.cal_request.specs.headline.Request.{Request}
 use Rattle.cal_request.specs.declared.request.Status.{Status}
 use Rattle.cal_request.specs.declared.request.Status.TheVariants.{Fine, Refused}
-use Rattle.cal_request.specs.declared.request.Verb.TheVariants.{Calendar}
+use Rattle.cal_request.specs.declared.verb.Verb.TheVariants.{Calendar}
 use Rattle.cal_report.proofs.HeadlineAccepted.{AreNormalForms, text_accepted}
 use Rattle.cal_report.proofs.HeadlineLemmas.{HaveOneNormalForm, is_answered, is_report, report_of, report_of_texts}
 

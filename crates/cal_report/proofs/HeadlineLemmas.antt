@@ -38,7 +38,7 @@ use Rattle.cal_request.specs.RequestKind.{timer_path, kind_by}
 use Rattle.cal_request.specs.headline.Request.{Request}
 use Rattle.cal_request.specs.declared.request.Status.{Status}
 use Rattle.cal_request.specs.declared.request.Status.TheVariants.{Fine, Refused}
-use Rattle.cal_request.specs.declared.request.Verb.TheVariants as verb
+use Rattle.cal_request.specs.declared.verb.Verb.TheVariants as verb
 
 -- Accepted expressions are parsed as the definitions say
 

@@ -18,7 +18,7 @@ use Rattle.cal_request.specs.headline.Request.{Request}
 use Rattle.std.specs.Io.KnownBytes.{Appends}
 use Rattle.cal_request.specs.declared.request.RunFault.{RunFault}
 use Rattle.cal_request.specs.declared.request.Status.{Status}
-use Rattle.cal_request.specs.declared.request.Verb.TheVariants.{Calendar}
+use Rattle.cal_request.specs.declared.verb.Verb.TheVariants.{Calendar}
 
 -- Prefixes of lists that are joined with a separator
 

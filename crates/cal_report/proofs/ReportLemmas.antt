@@ -1,12 +1,12 @@
 -- Lemmas on what a whole run wrote and what it returned.
-use Rattle.std.proofs.Common.{◌≡◌, ℕ, ℤ, Bool, true, false, List, [], Option, Result, Ok, Err, IfOk, refl, sym, subst}
+use Rattle.std.proofs.Common.{arith, ◌≡◌, ℕ, ℤ, Bool, true, false, List, [], Option, Result, Ok, Err, IfOk, refl, sym, subst}
 use Rattle.std.proofs.lemmas.List.{append-nil}
 use Rattle.std.proofs.KnownBytes.{Appends-nil}
 use Rattle.std.specs.Io.KnownBytes.{Appends}
 use Rattle.cal_streams.specs.Whole.{is_read_failed}
 use Rattle.cal_streams.specs.declared.whole.WholeFault.{WholeFault}
 use Rattle.cal_report.specs.TimerReport.{HadMemory}
-use Rattle.cal_request.specs.VerbOptions.{seeks_elapses}
+use Rattle.cal_request.specs.Verb.{seeks_elapses}
 use Rattle.cal_request.specs.RequestKind.{RequestKind, for_file, for_texts, kind_by, kind_of}
 use Rattle.cal_request.specs.headline.Request.{Request}
 use Rattle.cal_bytes.specs.Writes.{AppendsFront, Writes}
@@ -14,10 +14,10 @@ use Rattle.cal_report.specs.RunReport.{ByReading, IsCut, IsCutAt, IsReported, Re
 use Rattle.cal_request.specs.declared.request.RunFault.{RunFault}
 use Rattle.cal_request.specs.declared.request.Status.{Status}
 use Rattle.cal_request.specs.declared.request.Status.TheVariants.{Fine, Refused}
-use Rattle.cal_request.specs.declared.request.Verb.{Verb}
-use Rattle.cal_request.specs.declared.request.Verb.TheVariants as verbs
-use Rattle.cal_request.specs.declared.request_kind.TextVerb.{TextVerb}
-use Rattle.cal_request.specs.declared.request_kind.TextVerb.TheVariants.{Calendar}
+use Rattle.cal_request.specs.declared.verb.Verb.{Verb}
+use Rattle.cal_request.specs.declared.verb.Verb.TheVariants as verbs
+use Rattle.cal_request.specs.declared.verb.TextVerb.{TextVerb}
+use Rattle.cal_request.specs.declared.verb.TextVerb.TheVariants.{Calendar}
 use Rattle.cal_report.proofs.AnswerLemmas.{writes_nothing}
 
 if_ok : {T E : Type 0} (r : Result T E) (P : Type 0) → P → IfOk r (λ x. P)
@@ -81,17 +81,11 @@ is_cut asked base kind out out' err err' sought is cut =
 
 -- if a request is for texts of the verb `calendar`, then its verb computes elapses
 pub sought_by : (verb : Verb) (texts all : List (List ℕ)) → for_texts Calendar texts ≡ kind_by verb all → seeks_elapses verb ≡ true
-sought_by verbs.Calendar texts all is = refl
-sought_by verbs.Timestamp texts all is = cc
-sought_by verbs.Timespan texts all is = cc
-sought_by verbs.Timer texts all is = refl
+sought_by verb texts all is = grind arith
 
 -- if a request is for a timer file, then its verb is `timer`
 pub timer_by : (verb : Verb) (name : List ℕ) (all : List (List ℕ)) → for_file name ≡ kind_by verb all → verb ≡ verbs.Timer
-timer_by verbs.Calendar name all is = cc
-timer_by verbs.Timestamp name all is = cc
-timer_by verbs.Timespan name all is = cc
-timer_by verbs.Timer name all is = refl
+timer_by verb name all is = grind arith
 
 -- a call that wrote nothing wrote a prefix of every text
 pub nothing_front : (a : Option (List ℕ)) (text : List ℕ) → AppendsFront a a text

@@ -23,7 +23,7 @@ use Rattle.cal_report.specs.Resume.{AreShown, Begins, IsBaseAfter, IsBegunAgain,
 use Rattle.cal_request.specs.headline.Request.{Request}
 use Rattle.cal_request.specs.declared.request.RunFault.{RunFault}
 use Rattle.cal_request.specs.declared.request.Status.{Status}
-use Rattle.cal_request.specs.declared.request.Verb.TheVariants.{Calendar, Timer}
+use Rattle.cal_request.specs.declared.verb.Verb.TheVariants.{Calendar, Timer}
 use Rattle.cal_report.proofs.HeadlineElapses.{goes_on}
 use Rattle.cal_report.proofs.HeadlineLemmas.{HaveOneNormalForm, calendar_report_is, one_elapses, timer_report_is}
 use Rattle.std.proofs.lemmas.Option.{get_or_from_slice_get, slice_get_read, slice_get_within}

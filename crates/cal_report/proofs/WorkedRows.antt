@@ -29,7 +29,7 @@ use Rattle.cal_report.specs.RunReport.{answers_report, base_in, report}
 use Rattle.cal_request.specs.headline.Request.{Request}
 use Rattle.cal_report.specs.TimespanReport.{timespan_answer, timespan_report}
 use Rattle.cal_request.specs.declared.request.Status.TheVariants.{Refused}
-use Rattle.cal_request.specs.declared.request.Verb.TheVariants.{Calendar, Timespan}
+use Rattle.cal_request.specs.declared.verb.Verb.TheVariants.{Calendar, Timespan}
 use Rattle.cal_zone.proofs.PlaceLemmas.{place_of-UTC}
 use Rattle.std.proofs.lemmas.Int.{ints}
 use lib.Utf8.{encode}

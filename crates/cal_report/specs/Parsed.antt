@@ -10,7 +10,7 @@ use Rattle.cal_report.specs.TimestampReport.{timestamp_report}
 use Rattle.cal_report.specs.declared.parsed.Parsed.{Parsed}
 use Rattle.cal_report.specs.declared.parsed.Parsed.TheVariants.{Calendar, Timestamp, Timespan}
 use Rattle.cal_report.specs.declared.text_fault.TextFault.{TextFault}
-use Rattle.cal_request.specs.declared.request_kind.TextVerb.{TextVerb}
+use Rattle.cal_request.specs.declared.verb.TextVerb.{TextVerb}
 use Rattle.cal_report.specs.declared.text_fault.TextFault.TheVariants.{Spec, NoSuchZone, Stamp, Span, NoMemory}
 
 -- the verb that takes arguments of this kind

@@ -19,8 +19,8 @@ use Rattle.cal_report.specs.TimestampReport.{second_at, stamp_in, timestamp_answ
 use Rattle.cal_request.specs.declared.request.RunFault.{RunFault}
 use Rattle.cal_request.specs.declared.request.Status.{Status}
 use Rattle.cal_request.specs.declared.request.Status.TheVariants.{Fine, Refused}
-use Rattle.cal_request.specs.declared.request_kind.TextVerb.{TextVerb}
-use Rattle.cal_request.specs.declared.request_kind.TextVerb.TheVariants.{Calendar, Timestamp, Timespan}
+use Rattle.cal_request.specs.declared.verb.TextVerb.{TextVerb}
+use Rattle.cal_request.specs.declared.verb.TextVerb.TheVariants.{Calendar, Timestamp, Timespan}
 use Rattle.cal_report.specs.headline.ReportLines.{Report}
 
 -- the answer to one text of this verb, for this base time

@@ -5,7 +5,7 @@ ghost use Rattle.cal_bytes.specs.Puts.{Puts};
 ghost use Rattle.cal_bytes.specs.declared.short_text.TheConstants.{SHORT_TEXT_ROOM};
 ghost use Rattle.cal_span.specs.declared.span.text.TheConstants.{SPAN_ROOM};
 ghost use Rattle.cal_report.specs.headline.ElapseLines.{label_text, elapse_text, elapse_texts, elapses_text};
-ghost use Rattle.cal_request.specs.VerbOptions.{IsCount};
+ghost use Rattle.cal_request.specs.Verb.{IsCount};
 
 use crate::local_and_utc::LocalAndUtc;
 use crate::report_lines::push_distance;

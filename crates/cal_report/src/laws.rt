@@ -23,7 +23,7 @@ ghost use Rattle.cal_request.specs.headline.Request.{Request};
 ghost use Rattle.cal_request.specs.declared.request.RunFault.{RunFault};
 ghost use Rattle.cal_request.specs.declared.request.Status.{Status};
 ghost use Rattle.cal_request.specs.declared.request.Status.TheVariants.{Fine};
-ghost use Rattle.cal_request.specs.declared.request.Verb.TheVariants.{Calendar, Timer};
+ghost use Rattle.cal_request.specs.declared.verb.Verb.TheVariants.{Calendar, Timer};
 
 use cal_spec::laws::one_normal_form_of_fields;
 

@@ -12,7 +12,7 @@ ghost use Rattle.cal_bytes.specs.headline.Bytes.{joined};
 ghost use Rattle.cal_report.specs.Answer.{IsAnsweredBefore, error_line_in, error_line, later_text, status_in, reports_text, error_lines, texts_status};
 ghost use Rattle.cal_report.specs.Context.{asked_by, asked_in};
 ghost use Rattle.cal_report.specs.RunReport.{ByReading, IsCut, IsReported, ReadsFile, answer_by, base_in, file_report, secs_or_fault, texts_report, whole_report};
-ghost use Rattle.cal_request.specs.VerbOptions.{is_timer, seeks_elapses};
+ghost use Rattle.cal_request.specs.Verb.{is_timer, seeks_elapses};
 ghost use Rattle.cal_request.specs.RequestView.{asked};
 ghost use Rattle.cal_report.specs.TimerReport.{error_line_at, timer_answer};
 ghost use Rattle.cal_request.specs.Status.{is_out_failed, is_err_failed};

@@ -1,5 +1,5 @@
 pub mod RequestKind
 pub mod RequestView
 pub mod Status
-pub mod VerbOptions
+pub mod Verb
 pub mod headline

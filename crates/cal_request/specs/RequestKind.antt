@@ -1,13 +1,13 @@
 -- What a request asks about, texts or a timer file, with each string as the list of its bytes.
 use Rattle.std.specs.Prelude.{ℕ, List, [], map, slice_index_or}
 use Rattle.std.specs.String.{string_bytes}
+use Rattle.std.specs.Option.{option_map_or}
 use Rattle.cal_request.specs.headline.Request.{Request}
-use Rattle.cal_request.specs.declared.request.Verb.{Verb}
-use Rattle.cal_request.specs.declared.request.Verb.TheVariants.{Calendar, Timer, Timestamp, Timespan}
+use Rattle.cal_request.specs.Verb.{text_verb}
+use Rattle.cal_request.specs.declared.verb.Verb.{Verb}
 use Rattle.cal_request.specs.declared.request_kind.RequestKind as declared_kind
 use Rattle.cal_request.specs.declared.request_kind.RequestKind.TheVariants as kinds
-use Rattle.cal_request.specs.declared.request_kind.TextVerb.{TextVerb}
-use Rattle.cal_request.specs.declared.request_kind.TextVerb.TheVariants as text_verbs
+use Rattle.cal_request.specs.declared.verb.TextVerb.{TextVerb}
 
 -- the texts of a verb, or the path of a timer file
 pub data RequestKind : Type 0 where
@@ -20,10 +20,7 @@ timer_path texts = slice_index_or texts 0 []
 
 -- the kind of a request with this verb and these texts
 abbrev pub kind_by : Verb → List (List ℕ) → RequestKind
-kind_by Calendar texts = for_texts text_verbs.Calendar texts
-kind_by Timestamp texts = for_texts text_verbs.Timestamp texts
-kind_by Timespan texts = for_texts text_verbs.Timespan texts
-kind_by Timer texts = for_file (timer_path texts)
+kind_by verb texts = option_map_or (λ taking. for_texts taking texts) (text_verb verb) (for_file (timer_path texts))
 
 abbrev pub kind_of : Request → RequestKind
 kind_of asked = kind_by asked.verb asked.texts

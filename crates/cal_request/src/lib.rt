@@ -3,6 +3,8 @@
 
 mod request;
 mod request_kind;
+mod verb;
 
-pub use request::{Request, RunFault, Status, Verb};
-pub use request_kind::{RequestKind, TextVerb};
+pub use request::{Request, RunFault, Status};
+pub use request_kind::RequestKind;
+pub use verb::{TextVerb, Verb};

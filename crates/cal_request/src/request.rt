@@ -1,49 +1,9 @@
 //! The types that describe a request, and how a run ends, as plain data.
 
 ghost use Rattle.std.specs.Prelude.{◌≡◌, None, false, true, vec_len};
-ghost use Rattle.cal_request.specs.VerbOptions.{IsCount, is_timer, seeks_elapses};
+ghost use Rattle.cal_request.specs.Verb.{IsCount, is_timer, seeks_elapses};
 
-/// The verb of a request, which says what to report for each text or for a timer file. The verb `timer` is this
-/// project's own; systemd-analyze(1) describes the others.
-#[derive(Clone, Copy, PartialEq, Eq, Debug)]
-pub enum Verb {
-    /// `calendar`: the normal form of a calendar expression, and its next elapses.
-    Calendar,
-    /// `timer`: the next elapses of a timer file. The request's only text is the path of this file.
-    Timer,
-    /// `timestamp`: the instant that a timestamp resolves to.
-    Timestamp,
-    /// `timespan`: the length of a time span.
-    Timespan,
-}
-
-impl Verb {
-    ghost use Rattle.std.specs.Prelude.{◌≡◌};
-    ghost use Rattle.cal_request.specs.VerbOptions.{has_zones, is_timer, seeks_elapses};
-
-    /// Returns whether the verb computes elapses. Only such verbs have a base time, and only runs of such verbs can
-    /// fail because memory runs out.
-    pub fn seeks_elapses(self) -> bool
-        ensures { result ≡ seeks_elapses self }
-    {
-        matches!(self, Verb::Calendar | Verb::Timer)
-    }
-
-    /// Returns whether the verb reads or prints instants. Only the reports of such verbs depend on the present and on
-    /// zones.
-    pub fn has_zones(self) -> bool
-        ensures { result ≡ has_zones self }
-    {
-        !matches!(self, Verb::Timespan)
-    }
-
-    /// Returns whether the verb reads a timer file. The only text of the request is then the path of this file.
-    pub fn is_timer(self) -> bool
-        ensures { result ≡ is_timer self }
-    {
-        matches!(self, Verb::Timer)
-    }
-}
+use crate::verb::Verb;
 
 /// A request: a verb with its texts and options.
 #[derive(Debug, Drop)]

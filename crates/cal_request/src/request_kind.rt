@@ -4,18 +4,8 @@ ghost use Rattle.std.specs.Prelude.{◌≡◌, map};
 ghost use Rattle.std.specs.String.{string_bytes};
 ghost use Rattle.cal_request.specs.RequestKind.{kind_by, shown_kind};
 
-use crate::request::{Request, Verb};
-
-/// A verb that takes texts.
-#[derive(Clone, Copy, PartialEq, Eq, Debug)]
-pub enum TextVerb {
-    /// [`Verb::Calendar`], whose texts are calendar expressions.
-    Calendar,
-    /// [`Verb::Timestamp`], whose texts are timestamps.
-    Timestamp,
-    /// [`Verb::Timespan`], whose texts are time spans.
-    Timespan,
-}
+use crate::request::Request;
+use crate::verb::TextVerb;
 
 /// What a request asks about: texts, or a timer file.
 #[derive(Clone, Copy)]
@@ -36,16 +26,11 @@ impl Request {
         ensures { shown_kind result ≡ kind_by self.now.verb (map string_bytes self.now.texts.items) }
     {
         let texts = self.texts.as_slice();
-        let verb = match self.verb {
-            Verb::Calendar => TextVerb::Calendar,
-            Verb::Timestamp => TextVerb::Timestamp,
-            Verb::Timespan => TextVerb::Timespan,
-            Verb::Timer => {
-                return RequestKind::Timer {
-                    path: texts[0].as_str(),
-                };
-            }
-        };
-        RequestKind::Texts { verb, texts }
+        match self.verb.text_verb() {
+            Some(verb) => RequestKind::Texts { verb, texts },
+            None => RequestKind::Timer {
+                path: texts[0].as_str(),
+            },
+        }
     }
 }

@@ -11,7 +11,8 @@ use Rattle.cal_civil.specs.headline.ZoneName.{is_zone_name}
 use Rattle.cal_streams.specs.declared.whole.WholeFault.{WholeFault}
 use Rattle.cal_streams.specs.declared.whole.WholeFault.TheVariants as whole
 use Rattle.cal_timer.specs.TimerEntries.{timer_file_limit}
-use Rattle.cal_command.specs.Ask.{Ask, CommandFault, ZoneItem}
+use Rattle.cal_command.specs.Ask.{Ask, ZoneItem}
+use Rattle.cal_command.specs.CommandFault.{CommandFault}
 use Rattle.cal_command.specs.CommandLine.{ask_in, takes_arguments}
 use Rattle.cal_work.specs.Outcome.{World, ZoneFound, and_then, loaded, or_load_stop, table_by, local_by, present_by, run_by, run_on, asked_at, outcome, outcome_of}
 use Rattle.cal_request.specs.RequestKind.{RequestKind, for_file, for_texts, kind_by}

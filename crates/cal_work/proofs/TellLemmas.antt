@@ -7,15 +7,14 @@ use Rattle.cal_bytes.specs.Writes.{AppendsFront, Writes}
 use Rattle.cal_streams.specs.Output.{Flushes}
 use Rattle.cal_work.specs.Outcome.{outcome, out_text, err_text, ended_status}
 use Rattle.cal_report.specs.headline.ReportLines.{Report}
-use Rattle.cal_work.specs.Stop.{Stop, fault_stop, outlet_of, shown_stop, stop_text}
+use Rattle.cal_work.specs.Stop.{Stop, command_outlet, command_stop, command_text, fault_stop, outlet_of, shown_stop, stop_text}
 use Rattle.cal_work.specs.System.{Known}
 use Rattle.cal_work.specs.WorkSteps.{StopsAs, StopEnds, EndsAs, AnsweredArguments, IsFlushed, TellsOn, TellsStop, status_by, WritesOf}
 use Rattle.cal_work.specs.Works.{Reaches, TellsFault, Works}
 use Rattle.cal_request.specs.declared.request.RunFault.{RunFault}
 use Rattle.cal_request.specs.declared.request.RunFault.TheVariants.{OutFailed, ErrFailed, NoMemory}
 use Rattle.cal_request.specs.declared.request.Status.{Status}
-use Rattle.cal_command.specs.declared.command_fault.CommandFault.{CommandFault}
-use Rattle.cal_command.specs.declared.command_fault.CommandFault.TheVariants as command
+use Rattle.cal_command.specs.CommandFault.{CommandFault, usage, help, bad_value, no_memory, shown_fault}
 use Rattle.cal_zone.specs.declared.zone_files.LoadFault.TheVariants.{ReadFailed, Zone}
 use Rattle.cal_zone.specs.declared.zone_fault.ZoneFault.TheVariants as zone
 use Rattle.cal_work.specs.declared.stop.Outlet.{Outlet}
@@ -43,26 +42,23 @@ fault_written NoMemory expected out out' err err' status o e = record { by_statu
 same_status : (r : Result Unit RunFault) (shown : Stop) → ended_status r (Err shown) ≡ status_by r shown.status
 same_status r shown = grind arith
 
--- If the outlet of the stop is an output, the report of the stop is `stop_text` on this output, and nothing on the
--- other one. If the stop is reported later, nothing is required.
-TextsFit : Outlet → declared_stop.Stop → Type 0
-TextsFit OnOut stop = ((shown_stop stop).out ≡ stop_text stop) × ((shown_stop stop).err ≡ [])
-TextsFit OnErr stop = ((shown_stop stop).out ≡ []) × ((shown_stop stop).err ≡ stop_text stop)
-TextsFit (Later fault) stop = Unit {0}
+-- If the outlet of a stop is an output, the report of the stop is `text` on this output, and nothing on the other one.
+-- If the stop is reported later, nothing is required.
+TextsFit : Outlet → Stop → List ℕ → Type 0
+TextsFit OnOut shown text = (shown.out ≡ text) × (shown.err ≡ [])
+TextsFit OnErr shown text = (shown.out ≡ []) × (shown.err ≡ text)
+TextsFit (Later fault) shown text = Unit {0}
 
-command_fits : (fault : CommandFault) → TextsFit (outlet_of (Command fault)) (Command fault)
+command_fits : (fault : CommandFault) → TextsFit (command_outlet fault) (command_stop fault) (command_text fault)
 unfolding TextsFit
-command_fits (command.Usage text) = (refl, refl)
-command_fits (command.Help text) = (refl, refl)
-command_fits command.BadIterations = (refl, refl)
-command_fits command.BadNow = (refl, refl)
-command_fits command.BadZones = (refl, refl)
-command_fits command.BadLocal = (refl, refl)
-command_fits command.NoMemory = tt
+command_fits (usage text) = (refl, refl)
+command_fits (help text) = (refl, refl)
+command_fits (bad_value message) = (refl, refl)
+command_fits no_memory = tt
 
-texts_fit : (stop : declared_stop.Stop) → TextsFit (outlet_of stop) stop
+texts_fit : (stop : declared_stop.Stop) → TextsFit (outlet_of stop) (shown_stop stop) (stop_text stop)
 unfolding TextsFit
-texts_fit (Command fault) = command_fits fault
+texts_fit (Command fault) = command_fits (shown_fault fault)
 texts_fit (Zones name ReadFailed) = (refl, refl)
 texts_fit (Zones name (Zone zone.BadName)) = (refl, refl)
 texts_fit (Zones name (Zone zone.BadRule)) = (refl, refl)
@@ -79,7 +75,7 @@ texts_fit (Run fault) = tt
 module _ (stop : declared_stop.Stop) (r : Result Unit RunFault) (expected : Result Report Stop) (out out1 out' err err1 err' : Option (List ℕ)) (s : StopsAs stop expected) (at_out : out1 ≡ out) (at_err : err1 ≡ err) where
   -- if the work stopped before the run, and the stop was reported as `TellsOn` says, then what was written agrees with
   -- `expected`, as `WritesOf` says
-  early_written : (outlet : Outlet) → outlet_of stop ≡ outlet → TextsFit outlet stop → TellsOn outlet (stop_text stop) r out1 out' err1 err' → WritesOf r (shown_stop stop).status expected out out' err err'
+  early_written : (outlet : Outlet) → outlet_of stop ≡ outlet → TextsFit outlet (shown_stop stop) (stop_text stop) → TellsOn outlet (stop_text stop) r out1 out' err1 err' → WritesOf r (shown_stop stop).status expected out out' err err'
   unfolding TextsFit
   early_written OnOut is fits (w, same) =
       let stopped : expected ≡ Err (shown_stop stop) = s.same (rw is refl) in

@@ -21,7 +21,8 @@ use Rattle.cal_zone.specs.declared.zone.Zone.{Zone as ClockZone}
 use Rattle.cal_zone.specs.declared.zone_fault.ZoneFault.TheVariants as zone
 use Rattle.cal_timer.specs.TimerEntries.{timer_file_limit}
 use Rattle.cal_stamp.specs.declared.fault.StampFault.{StampFault}
-use Rattle.cal_command.specs.Ask.{Ask, LocalZone, in_utc, at_offset, by_rule, of_name, ZoneItem, shown_fault, bad_iterations, bad_now, bad_zones, bad_local, no_memory}
+use Rattle.cal_command.specs.Ask.{Ask, LocalZone, in_utc, at_offset, by_rule, of_name, ZoneItem}
+use Rattle.cal_command.specs.CommandFault.{CommandFault, usage, help, bad_value, no_memory, shown_fault}
 use Rattle.cal_command.specs.CommandLine.{IsAskOf}
 use Rattle.cal_zone.specs.LoadZone.{IsLoaded, IsLoadFault, is_load_read_failed}
 use Rattle.cal_work.specs.Outcome.{ZoneFound, and_then, loaded, table_by, local_by, present_by, run_by, run_on, asked_at, outcome, outcome_of, out_text, err_text}
@@ -29,18 +30,17 @@ use Rattle.cal_report.specs.RunReport.{IsReported, ReadsFile, base_in, file_repo
 use Rattle.cal_report.specs.headline.ReportLines.{Report}
 use Rattle.cal_request.specs.RequestKind.{for_file, for_texts, kind_of}
 use Rattle.cal_request.specs.headline.Request.{Request}
-use Rattle.cal_work.specs.Stop.{Stop, command_stop, exit_status, load_stop, name_stop, rule_stop, shown_stop, unopened_stop, memory_stop, is_out_stop, is_err_stop}
+use Rattle.cal_work.specs.Stop.{Stop, command_outlet, command_stop, is_out_outlet, is_err_outlet, exit_status, load_stop, name_stop, rule_stop, shown_stop, unopened_stop, memory_stop, is_out_stop, is_err_stop}
 use Rattle.cal_work.specs.System.{Known, Opens, GivesTime, Comes, Seen, Sees, SeesBytes}
 use Rattle.cal_work.specs.WorkSteps.{StopsAs, Loads, ReadsZones, FindsLocal, IsBadRule, EndsAs, Runs, Answered, AnsweredArguments, ran}
 use Rattle.cal_work.specs.Works.{SeesFor, SeesZones, ReadsZone}
 use Rattle.cal_command.specs.declared.command_fault.CommandFault as declared_fault
-use Rattle.cal_command.specs.declared.command_fault.CommandFault.TheVariants as command
 use Rattle.cal_zone.specs.declared.zone_files.LoadFault.{LoadFault}
 use Rattle.cal_zone.specs.declared.zone_files.LoadFault.TheVariants.{ReadFailed, Zone}
 use Rattle.cal_request.specs.declared.request.RunFault.{RunFault}
 use Rattle.cal_request.specs.declared.request.RunFault.TheVariants.{OutFailed, ErrFailed, NoMemory}
 use Rattle.cal_request.specs.declared.request.Status.{Status}
-use Rattle.cal_request.specs.declared.request_kind.TextVerb.{TextVerb}
+use Rattle.cal_request.specs.declared.verb.TextVerb.{TextVerb}
 use Rattle.cal_work.specs.declared.stop.Stop as declared_stop
 use Rattle.cal_work.specs.declared.stop.Stop.TheVariants.{Command, Zones, LocalRule, LocalName, Clock, Open, Run}
 use Rattle.cal_report.proofs.ReportLemmas.{nothing_front}
@@ -440,14 +440,15 @@ arguments_answered known arguments ask result out out' err err' asks a = record 
   ends = a.ends;
 }
 
+-- an error of the command line isn't due to a failed output
+no_output : (fault : CommandFault) → (is_out_outlet (command_outlet fault) ≡ false) × (is_err_outlet (command_outlet fault) ≡ false)
+no_output (usage text) = (refl, refl)
+no_output (help text) = (refl, refl)
+no_output (bad_value message) = (refl, refl)
+no_output no_memory = (refl, refl)
+
 command_stops : (fault : declared_fault.CommandFault) → StopsAs {X = Report} (Command fault) (Err (command_stop (shown_fault fault)))
-command_stops (command.Usage text) = is_stop (Command (command.Usage text)) (command_stop (shown_fault (command.Usage text))) refl refl refl
-command_stops (command.Help text) = is_stop (Command (command.Help text)) (command_stop (shown_fault (command.Help text))) refl refl refl
-command_stops command.BadIterations = is_stop (Command command.BadIterations) (command_stop bad_iterations) refl refl refl
-command_stops command.BadNow = is_stop (Command command.BadNow) (command_stop bad_now) refl refl refl
-command_stops command.BadZones = is_stop (Command command.BadZones) (command_stop bad_zones) refl refl refl
-command_stops command.BadLocal = is_stop (Command command.BadLocal) (command_stop bad_local) refl refl refl
-command_stops command.NoMemory = is_stop (Command command.NoMemory) (command_stop no_memory) refl refl refl
+command_stops fault = let apart = no_output (shown_fault fault) in is_stop (Command fault) (command_stop (shown_fault fault)) apart.0 apart.1 refl
 
 -- if the arguments were rejected or ask for help, and nothing was written, then the stop for the arguments agrees with
 -- `outcome` (`AnsweredArguments`)

@@ -3,10 +3,8 @@ use Rattle.std.specs.Prelude.{ℕ, Bool, true, false, List, [], ◌∷◌, strin
 use Rattle.cal_bytes.specs.headline.Bytes.{joined}
 use Rattle.cal_zone.specs.declared.zone_fault.ZoneFault.{ZoneFault}
 use Rattle.cal_zone.specs.declared.zone_fault.ZoneFault.TheVariants as zone
-use Rattle.cal_command.specs.Ask.{CommandFault, usage, help, bad_iterations, bad_now, bad_zones, bad_local, no_memory, shown_fault}
+use Rattle.cal_command.specs.CommandFault.{CommandFault, usage, help, bad_value, no_memory, shown_fault}
 use Rattle.cal_zone.specs.LoadFault.{message_of}
-use Rattle.cal_command.specs.declared.command_fault.CommandFault as declared_fault
-use Rattle.cal_command.specs.declared.command_fault.CommandFault.TheVariants as command
 use Rattle.cal_zone.specs.declared.zone_files.LoadFault.{LoadFault}
 use Rattle.cal_zone.specs.declared.zone_files.LoadFault.TheVariants.{ReadFailed, Zone}
 use Rattle.cal_request.specs.declared.request.RunFault.{RunFault}
@@ -48,10 +46,7 @@ memory_stop = with_line (own_line (codes "out of memory")) 1
 abbrev pub command_stop : CommandFault → Stop
 command_stop (usage text) = with_line text 2
 command_stop (help text) = record { out = text; err = []; status = 0 }
-command_stop bad_iterations = with_line (own_line (codes "bad iterations")) 2
-command_stop bad_now = with_line (own_line (codes "bad now")) 2
-command_stop bad_zones = with_line (own_line (codes "bad zones")) 2
-command_stop bad_local = with_line (own_line (codes "bad local zone")) 2
+command_stop (bad_value message) = with_line (own_line message) 2
 command_stop no_memory = memory_stop
 
 -- the stop for a zone file that can't be loaded
@@ -95,13 +90,13 @@ shown_stop (Open path) = unopened_stop (string_bytes path)
 shown_stop (Run fault) = fault_stop fault
 
 -- the text that is written for help or for invalid arguments, to whichever output it goes
-abbrev pub command_text : declared_fault.CommandFault → List ℕ
-command_text (command.Help text) = string_bytes text
-command_text fault = (command_stop (shown_fault fault)).err
+abbrev pub command_text : CommandFault → List ℕ
+command_text (help text) = text
+command_text fault = (command_stop fault).err
 
 -- the text that is written for a stop, to whichever output it goes
 abbrev pub stop_text : declared_stop.Stop → List ℕ
-stop_text (Command fault) = command_text fault
+stop_text (Command fault) = command_text (shown_fault fault)
 stop_text stop = (shown_stop stop).err
 
 -- Where each stop is reported: help on standard output, other stops on standard error. A failed output and running out
@@ -115,13 +110,13 @@ abbrev pub load_outlet : LoadFault → Outlet
 load_outlet ReadFailed = OnErr
 load_outlet (Zone fault) = zone_outlet fault
 
-abbrev pub command_outlet : declared_fault.CommandFault → Outlet
-command_outlet (command.Help text) = OnOut
-command_outlet command.NoMemory = Later run.NoMemory
+abbrev pub command_outlet : CommandFault → Outlet
+command_outlet (help text) = OnOut
+command_outlet no_memory = Later run.NoMemory
 command_outlet fault = OnErr
 
 abbrev pub outlet_of : declared_stop.Stop → Outlet
-outlet_of (Command fault) = command_outlet fault
+outlet_of (Command fault) = command_outlet (shown_fault fault)
 outlet_of (Zones name fault) = load_outlet fault
 outlet_of LocalRule = OnErr
 outlet_of LocalName = OnErr

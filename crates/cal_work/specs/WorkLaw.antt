@@ -7,7 +7,8 @@ use Rattle.cal_zone.specs.ZoneFile.{file_limit}
 use Rattle.cal_streams.specs.declared.whole.WholeFault.{WholeFault}
 use Rattle.cal_streams.specs.declared.whole.WholeFault.TheVariants.{TooLarge}
 use Rattle.cal_timer.specs.TimerEntries.{timer_file_limit}
-use Rattle.cal_command.specs.Ask.{Ask, CommandFault, ZoneItem}
+use Rattle.cal_command.specs.Ask.{Ask, ZoneItem}
+use Rattle.cal_command.specs.CommandFault.{CommandFault}
 use Rattle.cal_request.specs.RequestKind.{RequestKind, for_file, for_texts, kind_by}
 use Rattle.cal_work.specs.Outcome.{World, ZoneFound, outcome}
 use Rattle.cal_report.specs.headline.ReportLines.{Report}

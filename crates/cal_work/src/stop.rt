@@ -2,7 +2,7 @@
 
 ghost use Rattle.std.specs.Prelude.{◌≡◌, [], false};
 ghost use Rattle.cal_bytes.specs.Puts.{Puts};
-ghost use Rattle.cal_command.specs.Ask.{shown_fault};
+ghost use Rattle.cal_command.specs.CommandFault.{shown_fault};
 ghost use Rattle.cal_work.specs.Stop.{command_outlet, command_stop, command_text, exit_status, fault_stop, load_outlet, load_stop, outlet_of, own_line, shown_stop, stop_text, unopened_line, zones_line};
 
 use cal_bytes::{Sink, WriteFault, put_all, put_pieces};
@@ -71,16 +71,12 @@ pub(crate) enum Outlet {
 
 /// Returns where an error in the arguments, or help, is reported.
 fn command_outlet(fault: &CommandFault) -> Outlet
-    ensures { result ≡ command_outlet fault.now }
+    ensures { result ≡ command_outlet (shown_fault fault.now) }
 {
     match fault {
         CommandFault::Help(_) => Outlet::OnOut,
         CommandFault::NoMemory => Outlet::Later(RunFault::NoMemory),
-        CommandFault::Usage(_)
-        | CommandFault::BadIterations
-        | CommandFault::BadNow
-        | CommandFault::BadZones
-        | CommandFault::BadLocal => Outlet::OnErr,
+        _ => Outlet::OnErr,
     }
 }
 
@@ -99,13 +95,9 @@ fn command_status(fault: &CommandFault) -> u8
     ensures { result ≡ (command_stop (shown_fault fault.now)).status }
 {
     match fault {
-        CommandFault::Usage(_) => 2,
         CommandFault::Help(_) => 0,
-        CommandFault::BadIterations => 2,
-        CommandFault::BadNow => 2,
-        CommandFault::BadZones => 2,
-        CommandFault::BadLocal => 2,
         CommandFault::NoMemory => 1,
+        _ => 2,
     }
 }
 
@@ -150,15 +142,12 @@ pub fn write_stop<W: Sink>(out: &mut W, stop: &Stop) -> Result<(), WriteFault>
 /// Writes the error line for invalid arguments, or the text of help.
 fn write_command<W: Sink>(out: &mut W, fault: &CommandFault) -> Result<(), WriteFault>
     requires { W.is_failed out.old ≡ false }
-    ensures { Puts W.Sink out.old out.new result (command_text fault.now) }
+    ensures { Puts W.Sink out.old out.new result (command_text (shown_fault fault.now)) }
 {
     match fault {
         CommandFault::Usage(text) | CommandFault::Help(text) => put_all(out, text.as_bytes()),
         CommandFault::NoMemory => write_own(out, "out of memory"),
-        CommandFault::BadIterations
-        | CommandFault::BadNow
-        | CommandFault::BadZones
-        | CommandFault::BadLocal => write_own(out, fault.words()),
+        _ => write_own(out, fault.words()),
     }
 }
 

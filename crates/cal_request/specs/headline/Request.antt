@@ -2,7 +2,7 @@
 use Rattle.std.specs.Prelude.{ℕ, ℤ, List, Option}
 use Rattle.cal_zone.specs.headline.ZoneTable.{ZoneMap}
 use Rattle.cal_zone.specs.declared.zone.Zone.{Zone}
-use Rattle.cal_request.specs.declared.request.Verb.{Verb}
+use Rattle.cal_request.specs.declared.verb.Verb.{Verb}
 
 -- a request, the present instant, the local zone and the named zones; each string is the list of its bytes
 pub record Request : Type 0 where

@@ -22,12 +22,12 @@ unfolding verb_matches_in
 returns-in_err-name c =
     rw (pair_none (subcommand_rows_of c.args.matches.now) (c.in_err-name.ensures.name ∙ map-first _ _ _)) (search rules)
 
-pub returns-in_err-verb_named : goal.returns-in_err-verb_named
+pub returns-in_err-named : goal.returns-in_err-named
 unfolding verb_matches_in
-returns-in_err-verb_named c =
-    rw (pair_some _ _ _ (c.in_ok-name.ensures.name ∙ map-first _ _ _) c.in_ok-name.ensures.rows, ← c.in_err-verb_named.ensures) (search rules)
+returns-in_err-named c =
+    rw (pair_some _ _ _ (c.in_ok-name.ensures.name ∙ map-first _ _ _) c.in_ok-name.ensures.rows, ← c.in_err-named.ensures) (search rules)
 
 pub returns : goal.returns
 unfolding verb_matches_in
 returns c =
-    rw (pair_some _ _ _ (c.in_ok-name.ensures.name ∙ map-first _ _ _) c.in_ok-name.ensures.rows, ← c.in_ok-verb_named.ensures) c.verb_matches_for.ensures
+    rw (pair_some _ _ _ (c.in_ok-name.ensures.name ∙ map-first _ _ _) c.in_ok-name.ensures.rows, ← c.in_ok-named.ensures) c.verb_matches_for.ensures
