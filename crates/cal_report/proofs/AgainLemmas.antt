@@ -12,7 +12,7 @@ use Rattle.cal_plan.specs.Instants.{AreInstants}
 use Rattle.cal_report.specs.RunReport.{base_from, base_in, report, second_or_fault}
 use Rattle.cal_report.specs.Resume.{AreShown, IsBaseAfter, IsBegunAgain, Resumes, base_after, begun_again, showing}
 use Rattle.cal_report.specs.Context.{setting_of}
-use Rattle.cal_report.specs.TimestampReport.{stamp_in}
+use Rattle.cal_report.specs.TextReport.TimestampReport.{stamp_in}
 use Rattle.cal_report.specs.headline.Headline.{Schedule, base_text, started_at}
 use Rattle.cal_report.proofs.HeadlineElapses.{elapses_are_instants}
 use Rattle.cal_request.specs.headline.Request.{Request}

@@ -5,7 +5,7 @@ use Rattle.std.specs.Prelude.{is_err}
 use Rattle.std.specs.List.{AllByRecursion, AllZip, filter_map, flat_map, join_by}
 use Rattle.cal_streams.specs.declared.whole.WholeFault.{WholeFault}
 use Rattle.cal_report.specs.Answer.{Answer, report_in, reports_text}
-use Rattle.cal_report.specs.CalendarReport.{calendar_answer}
+use Rattle.cal_report.specs.TextReport.CalendarReport.{calendar_answer}
 use Rattle.cal_report.specs.RunReport.{answers_report, base_in, report}
 use Rattle.cal_report.specs.Resume.{AreAcceptedAmong, IsReadAs}
 use Rattle.cal_report.specs.headline.Headline.{AreReportsOf, Expression, IsAccepted, IsAnswerTo, IsRejected, IsReportOf, alone}

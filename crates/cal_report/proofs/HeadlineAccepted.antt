@@ -29,7 +29,7 @@ use Rattle.cal_timer.specs.declared.fault.TimerFault.{TimerFault}
 use Rattle.cal_timer.proofs.ListedLemmas.{fault_of_exception, fault_of_expression}
 use Rattle.cal_timer.proofs.TimerRuleLemmas.{judged}
 use Rattle.cal_report.specs.Answer.{texts_status}
-use Rattle.cal_report.specs.CalendarReport.{answer_in, answer_with, calendar_answer}
+use Rattle.cal_report.specs.TextReport.CalendarReport.{answer_in, answer_with, calendar_answer}
 use Rattle.cal_report.specs.headline.Headline.{AreAccepted, AreSpelled, Expression, IsAccepted, IsAcceptedFile, IsZoneFor, Spells, assigned_in}
 use Rattle.cal_report.specs.RunReport.{answers_report, base_in, report, whole_report}
 use Rattle.cal_report.specs.headline.ReportLines.{Report}

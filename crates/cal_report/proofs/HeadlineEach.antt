@@ -7,7 +7,7 @@ use Rattle.std.specs.List.{AllZip, cons_option, filter_map, flat_map, join_by, l
 use Rattle.std.specs.Result.{result_err, result_ok}
 use Rattle.cal_streams.specs.declared.whole.WholeFault.{WholeFault}
 use Rattle.cal_report.specs.Answer.{Answer, error_line_in, error_line, error_lines, report_in, reports_text, texts_status}
-use Rattle.cal_report.specs.CalendarReport.{calendar_answer}
+use Rattle.cal_report.specs.TextReport.CalendarReport.{calendar_answer}
 use Rattle.cal_report.specs.headline.Headline.{AreAnswered, IsAnswerTo, IsReportOf, alone}
 use Rattle.cal_report.specs.RunReport.{ByReading, IsReported, answers_report, base_in, report}
 use Rattle.cal_report.specs.headline.ReportLines.{Report}

@@ -23,7 +23,7 @@ use Rattle.cal_stamp.specs.declared.fault.StampFault.{StampFault}
 use Rattle.cal_plan.specs.Instants.{AreInstants}
 use Rattle.cal_report.specs.headline.Headline.{AreElapsesOf, Expression, Schedule, meaning}
 use Rattle.cal_report.specs.RunReport.{base_from, base_in, second_or_fault}
-use Rattle.cal_report.specs.TimestampReport.{stamp_in}
+use Rattle.cal_report.specs.TextReport.TimestampReport.{stamp_in}
 use Rattle.cal_request.specs.headline.Request.{Request}
 use Rattle.cal_report.proofs.HeadlineLemmas.{one_elapses}
 

@@ -28,7 +28,7 @@ use Rattle.cal_plan.specs.ZoneFor.{lacks_zone, unzoned, zone_for}
 use Rattle.cal_report.specs.Context.{setting_of}
 use Rattle.cal_report.specs.Answer.{error_lines, report_in, reports_text, texts_status}
 use Rattle.cal_spec.specs.headline.ZoneSuffix.{ZoneSuffix, of_name, at_offset}
-use Rattle.cal_report.specs.CalendarReport.{answer_in, answer_with, calendar_answer, calendar_report}
+use Rattle.cal_report.specs.TextReport.CalendarReport.{answer_in, answer_with, calendar_answer, calendar_report}
 use Rattle.cal_report.specs.headline.ReportLines.{heading_text, except_label, original_label}
 use Rattle.cal_report.specs.headline.ElapseLines.{elapses_text}
 use Rattle.cal_report.specs.headline.Headline.{AreAllAccepted, AreReportsOf, AreSpelled, Expression, IsAccepted, IsFileOf, IsFine, IsReportOf, IsZoneFor, Schedule, Spells, alone, assigned_in, headings, meaning}

@@ -8,7 +8,7 @@ use Rattle.std.specs.List.{AllByRecursion, AllZip, flat_map, join_by}
 use Rattle.cal_streams.specs.declared.whole.WholeFault.{WholeFault}
 use Rattle.cal_report.specs.RunReport.{ByReading, IsReported, base_from, base_in, report}
 use Rattle.cal_report.specs.Resume.{AreAcceptedAmong, ResumesAmong, for_text, report_of_one}
-use Rattle.cal_report.specs.TimestampReport.{stamp_in}
+use Rattle.cal_report.specs.TextReport.TimestampReport.{stamp_in}
 use Rattle.cal_report.specs.headline.Headline.{AreReportsOf, Expression, IsAccepted, IsReportOf, alone}
 use Rattle.cal_report.proofs.AmongLemmas.{all_accepted, reports_are_among}
 use Rattle.cal_report.proofs.HeadlineAccepted.{AreNormalForms}

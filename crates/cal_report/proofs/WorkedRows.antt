@@ -15,7 +15,7 @@ use Rattle.cal_civil.specs.headline.Local.{civil_date, seconds_in_all-is}
 use Rattle.cal_stamp.specs.Stamp.{in_moments, moment_in}
 use Rattle.cal_stamp.specs.StampForm.{day_shift, form_by_end, form_of}
 use Rattle.cal_report.specs.Resume.{AreShown, IsBegunAgain}
-use Rattle.cal_report.specs.TimestampReport.{stamp_in}
+use Rattle.cal_report.specs.TextReport.TimestampReport.{stamp_in}
 use Rattle.cal_span.specs.UnitSpellings.{spellings_of}
 use Rattle.cal_span.specs.headline.TimeUnit.{unit_name}
 use Rattle.cal_span.specs.headline.SpanText.{units_text, counts_in_row}
@@ -27,7 +27,7 @@ use Rattle.cal_report.specs.Answer.{reports_text, error_lines, texts_status}
 use Rattle.cal_elapse.specs.headline.Elapses.{IsElapse, timed}
 use Rattle.cal_report.specs.RunReport.{answers_report, base_in, report}
 use Rattle.cal_request.specs.headline.Request.{Request}
-use Rattle.cal_report.specs.TimespanReport.{timespan_answer, timespan_report}
+use Rattle.cal_report.specs.TextReport.TimespanReport.{timespan_answer, timespan_report}
 use Rattle.cal_request.specs.declared.request.Status.TheVariants.{Refused}
 use Rattle.cal_request.specs.declared.verb.Verb.TheVariants.{Calendar, Timespan}
 use Rattle.cal_zone.proofs.PlaceLemmas.{place_of-UTC}

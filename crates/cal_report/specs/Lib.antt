@@ -1,11 +1,8 @@
 pub mod Answer
-pub mod CalendarReport
 pub mod Context
-pub mod Parsed
 pub mod Resume
 pub mod RunReport
+pub mod TextReport
 pub mod TimerPlan
 pub mod TimerReport
-pub mod TimespanReport
-pub mod TimestampReport
 pub mod headline

@@ -10,24 +10,16 @@ use Rattle.cal_timer.specs.TimerEntries.{ReadsWhole, timer_file_limit}
 use Rattle.cal_stamp.specs.StampFault.{message_of}
 use Rattle.cal_stamp.specs.declared.fault.StampFault.{StampFault}
 use Rattle.cal_report.specs.Answer.{Answer, IsAnsweredBefore, error_line, reports_text, error_lines, texts_status}
-use Rattle.cal_report.specs.CalendarReport.{calendar_answer}
 use Rattle.cal_request.specs.RequestKind.{RequestKind, for_file, for_texts, kind_of}
 use Rattle.cal_request.specs.headline.Request.{Request}
 use Rattle.cal_report.specs.TimerReport.{HadMemory, timer_answer}
-use Rattle.cal_report.specs.TimespanReport.{timespan_answer}
-use Rattle.cal_report.specs.TimestampReport.{second_at, stamp_in, timestamp_answer}
+use Rattle.cal_report.specs.TextReport.{answer_by}
+use Rattle.cal_report.specs.TextReport.TimestampReport.{second_at, stamp_in}
 use Rattle.cal_request.specs.declared.request.RunFault.{RunFault}
 use Rattle.cal_request.specs.declared.request.Status.{Status}
 use Rattle.cal_request.specs.declared.request.Status.TheVariants.{Fine, Refused}
 use Rattle.cal_request.specs.declared.verb.TextVerb.{TextVerb}
-use Rattle.cal_request.specs.declared.verb.TextVerb.TheVariants.{Calendar, Timestamp, Timespan}
 use Rattle.cal_report.specs.headline.ReportLines.{Report}
-
--- the answer to one text of this verb, for this base time
-abbrev pub answer_by : TextVerb → Request → ℤ → List ℕ → Answer
-answer_by Calendar asked base = calendar_answer asked base
-answer_by Timestamp asked base = timestamp_answer asked
-answer_by Timespan asked base = timespan_answer
 
 -- the second in which the moment of a timestamp lies, or why the timestamp is invalid
 abbrev pub second_or_fault : Result ℤ StampFault → Result ℤ StampFault

@@ -1,7 +1,6 @@
 //! Running a request: parsing its arguments, and writing the reports and the error lines.
 #![tactic(auto)]
 
-mod calendar_report;
 mod context;
 mod elapse_lines;
 pub mod laws;
@@ -12,7 +11,5 @@ mod report_lines;
 mod text_fault;
 mod text_report;
 mod timer_report;
-mod timespan_report;
-mod timestamp_report;
 
 pub use report::{run, run_texts, run_timer};

@@ -1,10 +1,10 @@
 //! Parsing one argument of the verbs `calendar`, `timestamp` and `timespan`.
 
 ghost use Rattle.std.specs.Prelude.{◌≡◌, Ok, Err, IfOk, IfErr, IsErrOf};
-ghost use Rattle.cal_report.specs.Parsed.{report_text, text_fault_message, verb_of};
-ghost use Rattle.cal_report.specs.CalendarReport.{calendar_answer};
+ghost use Rattle.cal_report.specs.TextReport.{report_text, text_fault_message, verb_of};
+ghost use Rattle.cal_report.specs.TextReport.CalendarReport.{calendar_answer};
 ghost use Rattle.cal_report.specs.Context.{asked_by};
-ghost use Rattle.cal_report.specs.RunReport.{answer_by};
+ghost use Rattle.cal_report.specs.TextReport.{answer_by};
 ghost use Rattle.cal_report.specs.declared.text_fault.TextFault.TheVariants.{NoMemory};
 
 use crate::context::Context;
@@ -33,7 +33,7 @@ pub enum Parsed<'a> {
 ///
 /// Everything that the report of this argument needs is allocated here, so that writing the report cannot run out of
 /// memory. Parsing a timestamp or a time span allocates nothing.
-#[tactic(auto, unfolding(crate::specs::TimespanReport::timespan_answer, crate::specs::TimestampReport::stamp_in, crate::specs::TimestampReport::timestamp_answer))]
+#[tactic(auto, unfolding(crate::specs::TextReport::TimespanReport::timespan_answer, crate::specs::TextReport::TimestampReport::stamp_in, crate::specs::TextReport::TimestampReport::timestamp_answer))]
 pub fn read_text<'a>(
     alloc: Global,
     context: Context<'a>,
@@ -64,7 +64,7 @@ pub fn read_text<'a>(
 ///
 /// Fails with [`TextFault::Spec`] if the expression is invalid, with [`TextFault::NoSuchZone`] if it names a zone that
 /// is neither `UTC` nor in the table, and with [`TextFault::NoMemory`] if allocation fails.
-#[tactic(auto, using(cal_plan::proofs::ElapseInstants::elapses_are_instants), unfolding(crate::specs::CalendarReport::calendar_answer, crate::specs::CalendarReport::calendar_report))]
+#[tactic(auto, using(cal_plan::proofs::ElapseInstants::elapses_are_instants), unfolding(crate::specs::TextReport::CalendarReport::calendar_answer, crate::specs::TextReport::CalendarReport::calendar_report))]
 fn read_calendar<'a>(
     alloc: Global,
     context: Context<'a>,

@@ -11,7 +11,8 @@ ghost use Rattle.cal_bytes.specs.Puts.{Puts};
 ghost use Rattle.cal_bytes.specs.headline.Bytes.{joined};
 ghost use Rattle.cal_report.specs.Answer.{IsAnsweredBefore, error_line_in, error_line, later_text, status_in, reports_text, error_lines, texts_status};
 ghost use Rattle.cal_report.specs.Context.{asked_by, asked_in};
-ghost use Rattle.cal_report.specs.RunReport.{ByReading, IsCut, IsReported, ReadsFile, answer_by, base_in, file_report, secs_or_fault, texts_report, whole_report};
+ghost use Rattle.cal_report.specs.RunReport.{ByReading, IsCut, IsReported, ReadsFile, base_in, file_report, secs_or_fault, texts_report, whole_report};
+ghost use Rattle.cal_report.specs.TextReport.{answer_by};
 ghost use Rattle.cal_request.specs.Verb.{is_timer, seeks_elapses};
 ghost use Rattle.cal_request.specs.RequestView.{asked};
 ghost use Rattle.cal_report.specs.TimerReport.{error_line_at, timer_answer};
@@ -160,7 +161,7 @@ pub fn run_timer<R: Source, O: Sink, E: Sink>(
 }
 
 /// Parses the base time of the request. Returns the present if the request doesn't have one.
-#[tactic(auto, unfolding(crate::specs::RunReport::base_in, crate::specs::TimestampReport::stamp_in))]
+#[tactic(auto, unfolding(crate::specs::RunReport::base_in, crate::specs::TextReport::TimestampReport::stamp_in))]
 fn read_base(request: &Request, setting: Setting<'_>) -> Result<Instant, StampFault>
     ensures { secs_or_fault result ≡ base_in (asked_in request.now setting.entry) }
 {

@@ -5,10 +5,11 @@ ghost use Rattle.cal_bytes.specs.Puts.{Puts};
 ghost use Rattle.cal_bytes.specs.declared.short_text.TheConstants.{SHORT_TEXT_ROOM};
 ghost use Rattle.cal_span.specs.declared.span.text.TheConstants.{SPAN_ROOM};
 ghost use Rattle.cal_zone.specs.headline.Moment.{micros_of};
-ghost use Rattle.cal_report.specs.headline.ReportLines.{direction_text, distance_text, text_line};
+ghost use Rattle.cal_report.specs.headline.ReportLines.{direction_text, distance_text, heading_text, normal_line, text_line};
 
-use cal_bytes::{ShortText, Sink, WriteFault, push, put_pieces};
+use cal_bytes::{ShortText, Sink, WriteFault, push, put_all, put_pieces};
 use cal_span::{Span, push_span};
+use cal_spec::{Expr, write_expr};
 use cal_zone::{Instant, Moment};
 
 /// The label before an expression or a timestamp in its original form: as the user gave it, or as it is written in the
@@ -25,6 +26,31 @@ pub fn put_text<W: Sink>(out: &mut W, label: &[u8], text: &str) -> Result<(), Wr
     ensures { Puts W.Sink out.old out.new result (text_line label.now text.now) }
 {
     put_pieces(out, &[label, text.as_bytes(), b"\nNormalized form: "])
+}
+
+/// Writes two lines: one with `label` and the expression as it was given, and one with its normal form.
+#[tactic(auto, using(cal_bytes::proofs::PutLemmas::puts), unfolding(crate::specs::headline::ReportLines::heading_text))]
+pub fn put_heading<W: Sink>(
+    out: &mut W,
+    label: &[u8],
+    text: &str,
+    expr: &Expr,
+) -> Result<(), WriteFault>
+    requires { W.is_failed out.old ≡ false }
+    ensures { Puts W.Sink out.old out.new result (heading_text label.now text.now expr.now) }
+{
+    put_text(out, label, text)?;
+    put_normal(out, expr)
+}
+
+/// Writes the normal form and a line feed. [`put_text`] has already written the label of this line.
+#[tactic(auto, using(cal_bytes::proofs::PutLemmas::puts), unfolding(crate::specs::headline::ReportLines::normal_line))]
+fn put_normal<W: Sink>(out: &mut W, expr: &Expr) -> Result<(), WriteFault>
+    requires { W.is_failed out.old ≡ false }
+    ensures { Puts W.Sink out.old out.new result (normal_line expr.now) }
+{
+    write_expr(out, expr)?;
+    put_all(out, b"\n")
 }
 
 /// Appends the time span between the present and `moment`, followed by ` left` or ` ago`. Appends at most [`SPAN_ROOM`]

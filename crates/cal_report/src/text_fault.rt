@@ -1,7 +1,7 @@
 //! Why an argument of the verbs `calendar`, `timestamp` and `timespan` is rejected.
 
 ghost use Rattle.std.specs.Prelude.{◌≡◌};
-ghost use Rattle.cal_report.specs.Parsed.{text_fault_message};
+ghost use Rattle.cal_report.specs.TextReport.{text_fault_message};
 
 use cal_span::SpanFault;
 use cal_spec::SpecFault;

@@ -5,13 +5,17 @@ ghost use Rattle.cal_bytes.specs.Puts.{Puts};
 ghost use Rattle.cal_bytes.specs.headline.Bytes.{joined};
 ghost use Rattle.cal_report.specs.Answer.{lead_text};
 ghost use Rattle.cal_report.specs.Context.{asked_by};
-ghost use Rattle.cal_report.specs.Parsed.{report_text};
+ghost use Rattle.cal_report.specs.TextReport.{report_text};
 
-use crate::calendar_report::write_calendar;
+mod calendar_report;
+mod timespan_report;
+mod timestamp_report;
+
+use self::calendar_report::write_calendar;
+use self::timespan_report::write_timespan;
+use self::timestamp_report::write_timestamp;
 use crate::context::Context;
 use crate::parsed::Parsed;
-use crate::timespan_report::write_timespan;
-use crate::timestamp_report::write_timestamp;
 use cal_bytes::{Sink, WriteFault, put_all};
 
 /// Writes the report of a parsed argument. `follows_report` says whether another report precedes it; if so, an empty

@@ -13,10 +13,9 @@ ghost use Rattle.cal_report.specs.TimerReport.{HadMemory, headings_text, lists_t
 ghost use Rattle.cal_report.specs.TimerPlan.{plan_text, plan_fault_line, plan_fault_message};
 ghost use Rattle.cal_report.specs.declared.timer_report.TimerPlanFault.TheVariants.{NoMemory};
 
-use crate::calendar_report::put_heading;
 use crate::context::Context;
 use crate::elapse_lines::put_elapses;
-use crate::report_lines::{EXCEPT_LABEL, ORIGINAL_LABEL};
+use crate::report_lines::{EXCEPT_LABEL, ORIGINAL_LABEL, put_heading};
 use cal_bytes::{Sink, Source, WriteFault};
 use cal_elapse::{Elapses, Merge};
 use cal_plan::{Instants, PlanFault, merge_of};

@@ -1,17 +1,27 @@
--- The report of a valid argument, and the error message for an invalid one.
-use Rattle.std.specs.Prelude.{ℕ, List, [], codes}
+-- The answer of each verb to one text: the report of a valid argument, or the error message for an invalid one.
+pub mod CalendarReport
+pub mod TimespanReport
+pub mod TimestampReport
+use Rattle.std.specs.Prelude.{ℕ, ℤ, List, [], codes}
 use Rattle.cal_span.specs.SpanFault.{message_of as span_message}
 use Rattle.cal_stamp.specs.StampFault.{message_of as stamp_message}
 use Rattle.cal_spec.specs.SpecFault.{message_of as spec_message}
-use Rattle.cal_report.specs.CalendarReport.{report_of_elapses}
+use Rattle.cal_report.specs.Answer.{Answer}
+use Rattle.cal_report.specs.TextReport.CalendarReport.{calendar_answer, report_of_elapses}
 use Rattle.cal_request.specs.headline.Request.{Request}
-use Rattle.cal_report.specs.TimespanReport.{timespan_report}
-use Rattle.cal_report.specs.TimestampReport.{timestamp_report}
+use Rattle.cal_report.specs.TextReport.TimespanReport.{timespan_answer, timespan_report}
+use Rattle.cal_report.specs.TextReport.TimestampReport.{timestamp_answer, timestamp_report}
 use Rattle.cal_report.specs.declared.parsed.Parsed.{Parsed}
 use Rattle.cal_report.specs.declared.parsed.Parsed.TheVariants.{Calendar, Timestamp, Timespan}
 use Rattle.cal_report.specs.declared.text_fault.TextFault.{TextFault}
 use Rattle.cal_request.specs.declared.verb.TextVerb.{TextVerb}
 use Rattle.cal_report.specs.declared.text_fault.TextFault.TheVariants.{Spec, NoSuchZone, Stamp, Span, NoMemory}
+
+-- the answer to one text of this verb, for this base time
+abbrev pub answer_by : TextVerb → Request → ℤ → List ℕ → Answer
+answer_by TextVerb.Calendar asked base = calendar_answer asked base
+answer_by TextVerb.Timestamp asked base = timestamp_answer asked
+answer_by TextVerb.Timespan asked base = timespan_answer
 
 -- the verb that takes arguments of this kind
 abbrev pub verb_of : Parsed → TextVerb

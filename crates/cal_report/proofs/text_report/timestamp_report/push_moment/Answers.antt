@@ -3,8 +3,8 @@ use Rattle.cal_bytes.proofs.ShortText.{pushed_first, pushed_more}
 use Rattle.cal_zone.specs.headline.InstantText.{instant_text}
 use Rattle.cal_zone.specs.headline.Moment.{micros_of}
 use Rattle.cal_report.specs.headline.ReportLines.{distance_text, utc_line}
-use Rattle.cal_report.specs.TimestampReport.{moment_lines, second_at, unix_text}
-use Rattle.cal_report.proofs.timestamp_report.push_moment.Goals as goal
+use Rattle.cal_report.specs.TextReport.TimestampReport.{moment_lines, second_at, unix_text}
+use Rattle.cal_report.proofs.text_report.timestamp_report.push_moment.Goals as goal
 
 pub returns : goal.returns
 unfolding moment_lines
