@@ -143,10 +143,7 @@ fn read_zones<S: System>(alloc: Global, system: &S, items: &[ZoneItem]) -> Resul
     for item in items {
         match load_item(alloc, system, &mut table, item) {
             Ok(()) => {}
-            Err(fault) => {
-                let refused = zone_stop(alloc, item.name.as_str(), fault);
-                return Err(refused);
-            }
+            Err(fault) => return Err(zone_stop(alloc, item.name.as_str(), fault)),
         }
     }
     Ok(table)
@@ -187,10 +184,8 @@ fn read_rules(alloc: Global, local: &LocalZone) -> Result<Option<Rules>, Stop>
     let LocalZone::Posix(rule) = local else {
         return Ok(None);
     };
-    match Rules::posix(alloc, rule.as_str()) {
-        Ok(rules) => Ok(Some(rules)),
-        Err(_) => Err(Stop::LocalRule),
-    }
+    let rules = Rules::posix(alloc, rule.as_str()).map_err(|_| Stop::LocalRule)?;
+    Ok(Some(rules))
 }
 
 /// Returns the local zone. If it is given as a POSIX rule, `rules` are the parsed rules. Fails with `Stop::LocalName`
@@ -233,13 +228,7 @@ fn find_present<S: System>(system: &S, given: Option<Instant>) -> Result<Instant
 fn read_system_clock<S: System>(system: &S) -> Result<Instant, Stop>
     ensures { Reads (λ now. now.secs) (S.tells system.now) result }
 {
-    let Some(secs) = system.clock() else {
-        return Err(Stop::Clock);
-    };
-    match instant_in(secs) {
-        Some(instant) => Ok(instant),
-        None => Err(Stop::Clock),
-    }
+    system.clock().and_then(instant_in).ok_or(Stop::Clock)
 }
 
 /// Returns the instant `secs` seconds after 1970-01-01 00:00:00 UTC, or `None` if it is outside the supported range.
@@ -275,24 +264,12 @@ fn run_request<S: System, O: Sink, E: Sink>(
     };
     match request.kind() {
         RequestKind::Texts { verb, texts } => {
-            after_run(run_texts(alloc, request, verb, texts, setting, out, err))
+            run_texts(alloc, request, verb, texts, setting, out, err).map_err(Stop::Run)
         }
-        RequestKind::Timer { path } => match open_file(alloc, system, path) {
-            Ok(mut input) => {
-                after_run(run_timer(alloc, request, path, setting, &mut input, out, err))
-            }
-            Err(stop) => Err(stop),
-        },
-    }
-}
-
-/// Converts the result of a run to the result of the work.
-fn after_run(run: Result<Status, RunFault>) -> Result<Status, Stop>
-    ensures { result ≡ ran run }
-{
-    match run {
-        Ok(status) => Ok(status),
-        Err(fault) => Err(Stop::Run(fault)),
+        RequestKind::Timer { path } => {
+            let mut input = open_file(alloc, system, path)?;
+            run_timer(alloc, request, path, setting, &mut input, out, err).map_err(Stop::Run)
+        }
     }
 }
 
@@ -359,14 +336,8 @@ fn tell_stop<O: Sink, E: Sink>(stop: &Stop, out: &mut O, err: &mut E) -> Result<
 {
     match stop.outlet() {
         Outlet::Later(fault) => Err(fault),
-        Outlet::OnOut => match write_stop(out, stop) {
-            Ok(()) => Ok(()),
-            Err(_) => Err(RunFault::OutFailed),
-        },
-        Outlet::OnErr => match write_stop(err, stop) {
-            Ok(()) => Ok(()),
-            Err(_) => Err(RunFault::ErrFailed),
-        },
+        Outlet::OnOut => write_stop(out, stop).map_err(|_| RunFault::OutFailed),
+        Outlet::OnErr => write_stop(err, stop).map_err(|_| RunFault::ErrFailed),
     }
 }
 
