@@ -6,9 +6,9 @@ pub use cal_bytes::{
     put_all, put_pieces,
 };
 pub use cal_civil::{
-    DAY, LOCAL_END, MAX_OFFSET, WEEK, begins_with_letter, begins_zone, date_of_day, day_of,
-    is_utc_name, is_zone_name, push_offset, read_offset, second_of_day, short_weekday_name,
-    weekday_name,
+    DAY, FIRST_YEAR, LAST_YEAR, LOCAL_END, MAX_OFFSET, WEEK, begins_with_letter, begins_zone,
+    date_of_day, day_of, is_utc_name, is_zone_name, push_offset, read_offset, second_of_day,
+    short_weekday_name, weekday_name,
 };
 pub use cal_faulty::{Faulty, Then};
 pub use cal_span::{

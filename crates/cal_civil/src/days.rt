@@ -12,6 +12,11 @@ use jiff_core::civil::Date;
 /// The number of seconds in a day.
 pub const DAY: i64 = 86_400;
 
+/// The first and the last supported year.
+pub const FIRST_YEAR: u16 = 1970;
+
+pub const LAST_YEAR: u16 = 2199;
+
 /// The first local second of 2200, which is the first one after the supported years 1970 to 2199. These years have
 /// 84,006 days.
 pub const LOCAL_END: i64 = 84_006 * DAY;

@@ -7,7 +7,9 @@ mod offset_word;
 mod weekday;
 mod zone_name;
 
-pub use days::{DAY, LOCAL_END, MAX_OFFSET, date_of_day, day_of, second_of_day};
+pub use days::{
+    DAY, FIRST_YEAR, LAST_YEAR, LOCAL_END, MAX_OFFSET, date_of_day, day_of, second_of_day,
+};
 pub use offset_text::push_offset;
 pub use offset_word::{begins_zone, read_offset};
 pub use weekday::{WEEK, short_weekday_name, weekday_name};

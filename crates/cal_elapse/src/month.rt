@@ -19,7 +19,7 @@ pub(crate) struct Month {
     pub(crate) index: u32,
     pub(crate) first: u32,
     pub(crate) length: u32,
-    ghost index_in: { index < 2_760 },
+    ghost index_in: { index < months_in_all },
     ghost first_is: { first ≡ first_day index },
     ghost length_is: { length ≡ length_of index },
 }

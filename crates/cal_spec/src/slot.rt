@@ -3,6 +3,8 @@
 ghost use Rattle.std.specs.Prelude.{◌≡◌, ◌≤◌};
 ghost use Rattle.cal_spec.specs.headline.Slot.{day_slot, least, greatest};
 
+use cal_civil::{FIRST_YEAR, LAST_YEAR};
+
 /// The component that a number belongs to. Days that are counted from the month's end have a slot of their own, since
 /// their bounds differ.
 #[derive(Clone, Copy, PartialEq, Eq, Debug)]
@@ -22,7 +24,7 @@ impl Slot {
         ensures { result ≡ least self }
     {
         match self {
-            Slot::Year => 1970,
+            Slot::Year => FIRST_YEAR,
             Slot::Month | Slot::Day | Slot::DayFromEnd => 1,
             Slot::Hour | Slot::Minute | Slot::Second => 0,
         }
@@ -33,7 +35,7 @@ impl Slot {
         ensures { result ≡ greatest self }
     {
         match self {
-            Slot::Year => 2199,
+            Slot::Year => LAST_YEAR,
             Slot::Month => 12,
             Slot::Day => 31,
             Slot::DayFromEnd => 28,

@@ -5,6 +5,7 @@ use Rattle.std.specs.List.{list_all, slice_split}
 use Rattle.std.specs.Str.Parse.{digits_value}
 use Rattle.jiff.specs.Words.{days_in_month}
 use Rattle.jiff_core.specs.Calendar.{days_from_civil}
+use Rattle.cal_civil.specs.headline.Local.{first_year, last_year}
 use Rattle.cal_spec.specs.headline.FullYears.{with_century}
 use Rattle.cal_stamp.specs.declared.date.DateNumbers.{DateNumbers}
 use Rattle.cal_stamp.specs.declared.fault.StampFault.{StampFault}
@@ -36,7 +37,7 @@ date_numbers word = date_of_pieces (slice_split is_hyphen word)
 -- whether the year, month and day are a date from 1970-01-01 to 2199-12-31
 abbrev pub is_day : ℕ → ℕ → ℕ → Bool
 is_day year month day =
-    nat_le 1970 year && nat_le year 2199 && nat_le 1 month && nat_le month 12 && nat_le 1 day
+    nat_le first_year year && nat_le year last_year && nat_le 1 month && nat_le month 12 && nat_le 1 day
     && nat_le day (days_in_month (pos year) month)
 
 -- the day number of a date, counted from 1970-01-01, or `NoSuchDate` if the date isn't a day from 1970-01-01 to

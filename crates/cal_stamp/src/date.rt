@@ -6,6 +6,7 @@ ghost use Rattle.cal_stamp.specs.StampDate.{date_numbers, day_of_date, day_writt
 ghost use Rattle.cal_civil.specs.headline.Local.{last_day};
 
 use crate::StampFault;
+use cal_civil::{FIRST_YEAR, LAST_YEAR};
 use cal_spec::{first_piece, with_century};
 use cal_text::{are_digits, decimal_value};
 use jiff_core::civil::Date;
@@ -72,7 +73,7 @@ fn day_of_date(year: u16, month: u16, day: u16) -> Result<i64, StampFault>
     ensures value { result ≡ day_of_date year month day }
     ensures range { IfOk result (IsBetween (pos 0) (pos last_day)) }
 {
-    if year < 1970 || year > 2199 || month > 12 || day > 31 {
+    if year < FIRST_YEAR || year > LAST_YEAR || month > 12 || day > 31 {
         return Err(StampFault::NoSuchDate);
     }
     match Date::new(year as i16, month as i8, day as i8) {

@@ -64,7 +64,7 @@ pub struct Searcher {
     minute: u32,
     /// One bit for each later minute with matches in the hour of `found`.
     minutes: u64,
-    ghost few_months: { most_months ≤ 2_760 },
+    ghost few_months: { most_months ≤ months_in_all },
     ghost found_low: { pos 0 ≤ℤ found },
     ghost from_low: { pos 0 ≤ℤ from },
     ghost is_left: { AreRemaining (matches (sets_in masks)) (unsigned_abs found) (unsigned_abs from) left },

@@ -1,11 +1,12 @@
 -- Slots: which component a number belongs to, and the least and the greatest number that each slot allows
 -- (systemd.time(7), Calendar Events). No number in a component may be above `max_number`, whatever its slot.
 use Rattle.std.specs.Prelude.{ℕ, Bool, true, false}
+use Rattle.cal_civil.specs.headline.Local.{first_year, last_year}
 use Rattle.cal_spec.specs.declared.slot.Slot.{Slot}
 use Rattle.cal_spec.specs.declared.slot.Slot.TheVariants.{Year, Month, Day, DayFromEnd, Hour, Minute, Second}
 
 abbrev pub least : Slot → ℕ
-least Year = 1970
+least Year = first_year
 least Month = 1
 least Day = 1
 least DayFromEnd = 1
@@ -14,7 +15,7 @@ least Minute = 0
 least Second = 0
 
 abbrev pub greatest : Slot → ℕ
-greatest Year = 2199
+greatest Year = last_year
 greatest Month = 12
 greatest Day = 31
 greatest DayFromEnd = 28
