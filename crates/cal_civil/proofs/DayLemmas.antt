@@ -40,3 +40,5 @@ date_of-epoch_day d = same_date (date_of (epoch_day d)) d (epoch_day-date_of (ep
 pub date_numbered : (d : Date) (day : ℕ) → epoch_day d ≡ pos day → d ≡ civil_date day
 unfolding civil_date
 date_numbered d day number = sym (date_of-epoch_day d) ∙ ap date_of number
+
+pub ruleset dates = (epoch_day-date_of, date_of-epoch_day)

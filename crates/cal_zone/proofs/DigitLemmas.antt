@@ -15,3 +15,11 @@ from_ten n from h = rw (decimal_step n from (omega arith), decimal_digit (n / 10
 -- is the byte of `0`
 pub two_digits_are : (n : ℕ) → n < 100 → zeros 2 n ++ decimal n ≡ (48 + n / 10) ∷ (48 + n % 10) ∷ []
 two_digits_are n h = grind (arith, signed_arith, cases_lt, below_ten, from_ten)
+
+-- if n is below 100, the decimal digits of 100 + n are a 1, the digit for the tens of n and the digit for its ones
+pub hundred_more : (n : ℕ) → n < 100 → decimal (100 + n) ≡ 49 ∷ (48 + n / 10) ∷ (48 + n % 10) ∷ []
+hundred_more n h =
+    let front : (100 + n) / 10 / 10 ≡ 1 = omega arith in
+    let tens : (100 + n) / 10 % 10 ≡ n / 10 = omega arith in
+    let ones : (100 + n) % 10 ≡ n % 10 = omega arith in
+    rw (decimal_step (100 + n) (omega arith) (omega arith), decimal_step ((100 + n) / 10) (omega arith) (omega arith), front, tens, ones, decimal_digit 1 (omega arith)) refl

@@ -7,13 +7,20 @@ use Rattle.std.proofs.lemmas.Int.{ints}
 use Rattle.jiff.specs.Types.{AmbiguousOffset, DateTime, Fixed, Offset, TimeZone, UTC}
 use Rattle.jiff.specs.Words.{ambiguous_at, compatible_offset, civil_nanos, fixed_zone, instant_of, nanos_of_seconds, offset_at, picked_instant, IsEpochDay, IsOffsetSeconds}
 use Rattle.jiff.proofs.SpanFacts.{signed_arith}
+use Rattle.cal_civil.proofs.LocalLemmas.{local_arith}
+use Rattle.cal_civil.specs.LocalSecond.{CanSettle}
+use Rattle.cal_zone.specs.declared.zone.FixedOffset.{FixedOffset}
+use Rattle.cal_zone.specs.declared.zone.ZoneKind.TheVariants.{Offset as AtOffset, Rules as ByRules}
+use Rattle.cal_zone.specs.declared.zone.Zone.{Zone}
+use Rattle.cal_zone.specs.declared.rules.Rules.{Rules}
+use Rattle.std.specs.Borrow.{Bor}
 use Rattle.jiff.proofs.ZoneFacts.{offset_at-fixed_zone}
 use Rattle.cal_civil.specs.headline.Local.{day_of}
 use Rattle.cal_zone.specs.PlaceAt.{place_at}
 use Rattle.cal_zone.specs.headline.Place.{datetime_of, place_of, settle_of, time_of}
-use Rattle.cal_zone.specs.headline.Zone.{local_shown_at}
+use Rattle.cal_zone.specs.headline.Zone.{local_shown_at, offset_of, zone_of}
 use Rattle.cal_civil.proofs.DayLemmas.{epoch_day-date_of}
-use Rattle.cal_zone.proofs.ZoneLemmas.{offset_at-in_range}
+use Rattle.cal_zone.proofs.ZoneLemmas.{offset_at-in_range, zone_of-offset, zone_of-rules, zone_of-utc}
 
 int_eq-other : (a b : ℤ) → (a ≡ b → ⊥) → int_eq a b ≡ false
 int_eq-other a b e = grind (arith, ints)
@@ -123,3 +130,36 @@ pub place_at-elsewhere : (tz : TimeZone) (local : ℤ) (offset : Offset) → (of
     → place_at tz local offset ≡ None
 unfolding place_at
 place_at-elsewhere tz local offset e = rw (int_eq-other (offset_at tz (nanos_of_seconds (local -ℤ offset.seconds))) offset.seconds e)
+
+pub place_of-offset : (zone : Zone) (ahead : FixedOffset) (local : ℤ) → zone.kind ≡ AtOffset ahead → place_of (zone_of zone) local ≡ Some (local -ℤ ahead.seconds)
+place_of-offset zone ahead local e = ap (λ tz. place_of tz local) (zone_of-offset zone ahead e) ∙ place_of-fixed_zone (offset_of ahead) local
+
+pub settle_of-offset : (zone : Zone) (ahead : FixedOffset) (local : ℤ) → zone.kind ≡ AtOffset ahead → settle_of (zone_of zone) local ≡ local -ℤ ahead.seconds
+settle_of-offset zone ahead local e = ap (λ tz. settle_of tz local) (zone_of-offset zone ahead e) ∙ settle_of-fixed_zone (offset_of ahead) local
+
+pub settle_of-rules : (zone : Zone) (rules : Bor Rules) (local : ℤ) → zone.kind ≡ ByRules rules → settle_of (zone_of zone) local ≡ settle_of rules.now local
+settle_of-rules zone rules local e = ap (λ tz. settle_of tz local) (zone_of-rules zone rules e)
+
+-- If `shown` is the civil time of `local`, and `zone` reports the same for it as `tz`, the instant that `jiff`'s
+-- compatible conversion picks in `zone` is the one that `settle_of` returns for `tz`. It differs from `local` by at most
+-- 25:59:59.
+pub picked : (tz zone : TimeZone) (shown : DateTime) (local : ℤ) → CanSettle local → shown ≡ datetime_of local → ambiguous_at zone shown ≡ ambiguous_at tz shown
+    → (instant_of shown (compatible_offset (ambiguous_at zone shown)) ≡ nanos_of_seconds (settle_of tz local)) × IsOffsetSeconds (local -ℤ settle_of tz local)
+picked tz zone shown local within e of =
+    let day : IsEpochDay (day_of local) = (omega (arith, signed_arith), omega (arith, signed_arith)) in
+    (instant_of-settled tz (ambiguous_at zone shown) shown local day e of, settle_of-near tz local)
+
+-- The sets below are for functions and laws whose proofs need nothing else: their attribute `tactic` names the set.
+
+-- the place of a local second in a zone with rules
+pub ruleset placed_by = (local_arith, place_of-shown, place_of-skipped)
+
+-- the places of local seconds in a zone of any kind
+pub ruleset places = (local_arith, zone_of-utc, zone_of-rules, place_of-UTC, place_of-offset)
+
+-- the results of `settle_of` in a zone of any kind
+pub ruleset settles = (local_arith, zone_of-utc, settle_of-rules, settle_of-UTC, settle_of-offset)
+
+pub ruleset fixed_places = (place_of-fixed_zone, settle_of-fixed_zone)
+
+pub ruleset as_jiff = (civil_nanos-datetime_of, picked_instant-settle_of, place_of-UTC)

@@ -1,5 +1,6 @@
 -- The `TimeZone` of `jiff` that each kind of zone stands for, and the range of its UTC offsets.
-use Rattle.std.proofs.Common.{◌≡◌, ℤ, ap}
+use Rattle.std.proofs.Common.{◌≡◌, ◌∙◌, ℤ, ap}
+use Rattle.jiff.proofs.SpanFacts.{signed_arith}
 use Rattle.std.specs.Borrow.{Bor}
 use Rattle.jiff.specs.Types.{Fixed, Offset, Posix, TimeZone, Tzif, UTC, Unknown}
 use Rattle.jiff.specs.Words.{fixed_zone, offset_at, IsOffsetSeconds}
@@ -11,7 +12,8 @@ use Rattle.cal_zone.specs.declared.zone.FixedOffset.{FixedOffset}
 use Rattle.cal_zone.specs.declared.zone.ZoneKind.TheVariants.{Utc, Offset as AtOffset, Rules as ByRules}
 use Rattle.cal_zone.specs.declared.zone.Zone.{Zone}
 use Rattle.cal_zone.specs.headline.Zone.{offset_of, zone_of, zone_of_kind}
-use Rattle.cal_zone.proofs.OffsetLemmas.{same_offset}
+use Rattle.cal_zone.proofs.OffsetLemmas.{nearest, same_offset}
+use Rattle.jiff.proofs.ZoneFacts.{offset_at-UTC, offset_at-fixed_zone}
 
 pub zone_of-utc : (zone : Zone) → zone.kind ≡ Utc → zone_of zone ≡ UTC
 unfolding zone_of
@@ -37,3 +39,12 @@ offset_at-in_range Unknown n = zero_in_range
 offset_at-in_range (Fixed o) n = o.in_range
 offset_at-in_range (Posix rule) n = (PosixRule.offset_at rule n).in_range
 offset_at-in_range (Tzif table) n = (Table.offset_at table.now n).in_range
+
+pub offset_at-offset : (zone : Zone) (ahead : FixedOffset) (n : ℤ) → zone.kind ≡ AtOffset ahead → offset_at (zone_of zone) n ≡ ahead.seconds
+offset_at-offset zone ahead n e = ap (λ tz. offset_at tz n) (zone_of-offset zone ahead e) ∙ offset_at-fixed_zone (offset_of ahead) n
+
+-- the UTC offsets of each kind of zone
+pub ruleset offsets = (zone_of-utc, zone_of-rules, offset_at-UTC, offset_at-offset)
+
+-- for the zone with a fixed offset
+pub ruleset fixed = (signed_arith, zone_of-ahead, nearest)

@@ -67,3 +67,5 @@ unfolding zone_named
 zone_named-elsewhere table name other zone apart =
     ap (λ o. cond (is_utc_name other) (Some UTC) o)
     (get-insert nat_list_cmp_total table name zone other ∙ ap (λ b. cond b (Some zone) (get table other)) (differ other name apart))
+
+pub ruleset one_name = (zone_named-here, zone_named-elsewhere)

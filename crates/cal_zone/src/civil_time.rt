@@ -13,6 +13,7 @@ use jiff_core::Offset;
 use jiff_core::civil::DateTime;
 
 /// Returns the civil date and time that clocks in the zone show at `instant`.
+#[tactic(auto, using(cal_civil::proofs::LocalLemmas::local_arith))]
 pub fn civil(zone: Zone, instant: Instant) -> Civil
     ensures value { result ≡ civil_of (zone_of zone.entry) instant.secs }
     ensures ranges { IsCivil result }
@@ -36,6 +37,7 @@ pub(crate) fn civil_at(offset: Offset, instant: Instant) -> Civil
 }
 
 /// Returns the UTC offset of the zone at `timestamp`.
+#[tactic(auto, using(crate::proofs::ZoneLemmas::offsets))]
 pub(crate) fn offset_in(zone: Zone, timestamp: Timestamp) -> tz::Offset
     ensures { result.seconds ≡ offset_at (zone_of zone.entry) timestamp.nanosecond }
 {
@@ -47,6 +49,7 @@ pub(crate) fn offset_in(zone: Zone, timestamp: Timestamp) -> tz::Offset
 }
 
 /// Converts a fixed offset to the `Offset` type of `jiff`.
+#[tactic(auto, using(cal_civil::proofs::LocalLemmas::local_arith, crate::proofs::OffsetLemmas::same_offset))]
 pub(crate) fn fixed_offset(ahead: FixedOffset) -> tz::Offset
     ensures { result ≡ offset_of ahead }
 {

@@ -27,6 +27,7 @@ pub(crate) struct InstantOffsetRange {
 }
 
 /// Returns a range with a constant UTC offset that contains `instant`.
+#[tactic(auto, using(cal_civil::proofs::LocalLemmas::local_arith, crate::proofs::ZoneLemmas::offsets))]
 pub(crate) fn instant_range_at(zone: Zone, instant: Instant) -> InstantOffsetRange
     ensures { IsInstantOffsetRangeAt (zone_of zone.entry) instant.secs result }
 {

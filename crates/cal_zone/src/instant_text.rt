@@ -109,7 +109,7 @@ pub(crate) fn push_time(text: &mut ShortText, hour: u8, minute: u8, second: u8)
 
 /// Formats a number below 100 with two digits. The digits are the last two of `100 + number`, so that numbers below 10
 /// get a leading zero.
-#[tactic(auto)]
+#[tactic(auto, using(jiff::proofs::SpanFacts::signed_arith, crate::proofs::DigitLemmas::hundred_more, crate::proofs::DigitLemmas::two_digits_are))]
 fn two_digits(number: u8) -> [u8; 2]
     requires { number < 100 }
     ensures { result ≡ zeros 2 number ++ decimal number }

@@ -18,6 +18,7 @@ ghost use Rattle.cal_zone.specs.headline.ZoneTable.{ZoneMap, zone_named};
 ghost use Rattle.cal_civil.specs.headline.ZoneName.{is_utc_name};
 
 /// Every day number in the range of `jiff`'s calendar has a date, and no other date has that day number.
+#[tactic(auto, using(cal_civil::proofs::DayLemmas::dates))]
 pub fn days_have_one_date()
     ensures number { (day : ℤ) → IsEpochDay day → epoch_day (date_of day) ≡ day }
     ensures only { (day : ℤ) (date : Date) → epoch_day date ≡ day → date_of day ≡ date }
@@ -37,6 +38,7 @@ pub fn local_seconds_are_counted()
 /// The civil time of the local second `local` is `local` seconds after 1970-01-01 00:00:00, and `settle_of` returns the
 /// instant that `jiff`'s compatible conversion picks for this civil time. In UTC, the place of `local` is the same
 /// number, `local`.
+#[tactic(auto, using(crate::proofs::PlaceLemmas::as_jiff))]
 pub fn places_are_those_of_jiff()
     ensures civil { (local : ℤ) → IsEpochDay (day_of local)
         → civil_nanos (datetime_of local) ≡ nanos_of_seconds local }
@@ -60,6 +62,7 @@ pub fn places_are_near()
 {}
 
 /// No two local seconds have the same place.
+#[tactic(auto, using(crate::proofs::PlaceLemmas::one_local_second))]
 pub fn places_are_of_one_local_second()
     ensures { (tz : TimeZone) (a b place : ℤ) → place_of tz a ≡ Some place → place_of tz b ≡ Some place → a ≡ b }
 {}
@@ -87,6 +90,7 @@ pub fn places_by_the_offset_tried()
 {}
 
 /// In a zone with a fixed offset, the place of a local second is that local second minus the offset.
+#[tactic(auto, using(crate::proofs::PlaceLemmas::fixed_places))]
 pub fn fixed_zones_place_every_local_second()
     ensures place { (offset : Offset) (local : ℤ)
         → place_of (fixed_zone offset) local ≡ Some (local -ℤ offset.seconds) }
@@ -96,6 +100,7 @@ pub fn fixed_zones_place_every_local_second()
 
 /// A zone that was added to a table under a name other than `UTC` (ignoring case) is found under this name. Look-ups of
 /// all other names return the same as before.
+#[tactic(auto, using(crate::proofs::ZoneMapLemmas::one_name))]
 pub fn tables_change_at_one_name()
     ensures here { (table : ZoneMap) (name : List ℕ) (zone : TimeZone) → is_utc_name name ≡ false
         → zone_named (insert table name zone) name ≡ Some zone }

@@ -36,6 +36,7 @@ pub(crate) struct LocalOffsetRange {
 }
 
 /// Returns a range with a constant UTC offset that contains `local`, if one is found.
+#[tactic(auto, using(crate::proofs::PlaceLemmas::places))]
 pub(crate) fn local_range_at(zone: Zone, local: i64) -> Option<LocalOffsetRange>
     requires { IsLocalSecond local }
     ensures { IfSome result (IsLocalOffsetRangeAt (zone_of zone.entry) local) }
@@ -117,6 +118,7 @@ pub(crate) fn range_end_after_table(table: &Tzif, local: i64, constant_until: In
 ///
 /// The caller guarantees that the UTC offset is constant from [`TRANSITION_MARGIN`] seconds before `local` until
 /// `constant_until`.
+#[tactic(auto, using(cal_civil::proofs::LocalLemmas::local_arith))]
 pub(crate) fn range_end_in_zone(zone: TimeZone<'_>, local: i64, constant_until: Instant) -> i64
     requires local_in { IsLocalSecond local }
     requires constant { HasConstantOffset zone (local -ℤ pos transition_margin) constant_until.secs }
@@ -199,6 +201,7 @@ fn transitions_until(table: &Tzif, second: i64) -> usize
     )
 }
 
+#[tactic(auto, using(cal_civil::proofs::LocalLemmas::local_arith, crate::proofs::LocalOffsetRangeLemmas::length_of_copy, crate::proofs::LocalOffsetRangeLemmas::transition_of_copy))]
 fn transition_second(table: &Tzif, index: usize) -> Option<i64>
     ensures { IfSome result (IsTransitionSecond table.now index) }
 {

@@ -30,6 +30,7 @@ pub(crate) fn local_at(zone: Zone, instant: Instant) -> Option<i64>
 }
 
 /// Returns the local second that the zone's clock shows at `instant`, whether for the first or for the second time.
+#[tactic(auto, using(cal_civil::proofs::LocalLemmas::local_arith), unfolding(crate::specs::headline::Zone::local_shown_at))]
 fn local_shown_at(zone: Zone, instant: Instant) -> i64
     ensures { result ≡ local_shown_at (zone_of zone.entry) instant.secs }
 {

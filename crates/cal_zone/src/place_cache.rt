@@ -69,6 +69,7 @@ impl<'z> PlaceCache<'z> {
     }
 
     /// Returns the place of `local`, as the function [`place`] does, or `None` if the clock skips it.
+    #[tactic(auto, using(crate::proofs::PlaceLemmas::places))]
     pub fn place(&mut self, local: i64) -> Option<i64>
         requires { IsLocalSecond local }
         ensures value { result ≡ place_of (zone_of self.old) local }
@@ -86,6 +87,7 @@ impl<'z> PlaceCache<'z> {
     /// Returns the UTC offset of all local seconds from `from` to `to` (inclusive), if the zone is UTC or all of them
     /// are in the cached range. Each of them then has a place, which is the local second minus this offset. `None` only
     /// means that the offset isn't known to be constant.
+    #[tactic(auto, using(crate::proofs::PlaceLemmas::places))]
     pub fn offset_over(&self, from: i64, to: i64) -> Option<i64>
         ensures { IfSome result (AreAtOffset (zone_of self.now) from to) }
     {

@@ -18,6 +18,7 @@ use jiff::tz::Offset;
 ///
 /// If clocks are turned back and show the local second twice, the place is the first occurrence, which `jiff`'s
 /// compatible conversion picks. Returns `None` if the clock skips the local second. (systemd.time(7), Calendar Events.)
+#[tactic(auto, using(crate::proofs::PlaceLemmas::places))]
 pub fn place(zone: Zone, local: i64) -> Option<i64>
     requires { IsLocalSecond local }
     ensures { result ≡ place_of (zone_of zone.entry) local }
@@ -32,6 +33,7 @@ pub fn place(zone: Zone, local: i64) -> Option<i64>
 /// Converts a local second (-300,000 to 7,258,500,000) to Unix time, resolving gaps and folds as `jiff`'s compatible
 /// conversion does: a local second that the clock skips is moved forward by the length of the gap, and one that the
 /// clock shows twice resolves to its first occurrence. (systemd.time(7), Parsing Timestamps.)
+#[tactic(auto, using(crate::proofs::PlaceLemmas::settles))]
 pub fn settle(zone: Zone, local: i64) -> i64
     requires { CanSettle local }
     ensures value { result ≡ settle_of (zone_of zone.entry) local }
@@ -53,6 +55,7 @@ fn unix_second(ahead: FixedOffset, local: i64) -> i64
 }
 
 /// Returns the place of a local second in a zone with rules, or `None` if the clock skips it.
+#[tactic(auto, using(crate::proofs::PlaceLemmas::placed_by))]
 pub(crate) fn place_by(rules: &Rules, local: i64) -> Option<i64>
     requires { CanSettle local }
     ensures { result ≡ place_of rules.now local }
@@ -80,6 +83,7 @@ fn settle_by(rules: &Rules, local: i64) -> i64
 
 /// Returns the local second that the clock shows at a second of Unix time, which must be in the range of the
 /// results of [`settle`].
+#[tactic(auto, using(cal_civil::proofs::LocalLemmas::local_arith), unfolding(crate::specs::headline::Zone::local_shown_at))]
 fn local_shown_by(rules: &Rules, second: i64) -> i64
     requires { IsNearSettled second }
     ensures { result ≡ local_shown_at rules.now second }

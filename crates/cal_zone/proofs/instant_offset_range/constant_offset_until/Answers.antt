@@ -1,22 +1,18 @@
-use Rattle.std.proofs.Common.{◌≡◌, ◌∙◌, arith, rules, to_z, w32, w64, FitsSigned, ap}
-use Rattle.std.proofs.lemmas.Int.{to_z-of_z}
-use Rattle.jiff.proofs.SpanFacts.{signed_arith}
+use Rattle.std.proofs.Common.{arith}
+use Rattle.cal_civil.proofs.LocalLemmas.{local_arith}
 use Rattle.cal_zone.proofs.InstantOffsetRangeLemmas.{constant_over, constant_within}
 use Rattle.cal_zone.proofs.instant_offset_range.constant_offset_until.Goals as goal
 
 pub returns-in-Some-new : goal.returns-in-Some-new
 returns-in-Some-new c =
-    let before_fits : FitsSigned w64 c.instant_range_by_rules-before.result.to = search rules in
-    let after_fits : FitsSigned w64 c.instant_range_by_rules-after.result.to = search rules in
-    let turn : c.in-Some.turn.secs ≡ c.instant_range_by_rules-before.result.to = c.in-Some.ensures.value ∙ to_z-of_z w64 c.instant_range_by_rules-before.result.to before_fits in
-    let end : c.in-Some-new.end.secs ≡ c.instant_range_by_rules-after.result.to = c.in-Some-new.ensures.value ∙ to_z-of_z w64 c.instant_range_by_rules-after.result.to after_fits in
-    let same : c.instant_range_by_rules-after.result.offset.seconds ≡ c.instant_range_by_rules-before.result.offset.seconds
-    = omega (arith, signed_arith, ap (to_z w32) c.if-after-before.true) in
-    constant_over c.args.rules.now c.args.from.secs c.in-Some.turn.secs c.in-Some-new.end.secs c.instant_range_by_rules-before.result c.instant_range_by_rules-after.result
-    c.instant_range_by_rules-before.ensures turn c.instant_range_by_rules-after.ensures (omega (arith, signed_arith)) same
+    constant_over _ _ _ _ _ _ c.instant_range_by_rules-before.ensures (grind (arith, local_arith)) c.instant_range_by_rules-after.ensures (grind (arith, local_arith)) (grind (arith, local_arith))
+
+t1 : goal.returns-in-Some-new
+t1 c =
+    constant_over _ c.args.from.secs c.in-Some.turn.secs c.in-Some-new.end.secs _ _ c.instant_range_by_rules-before.ensures (grind (arith, local_arith)) c.instant_range_by_rules-after.ensures (grind (arith, local_arith)) (grind (arith, local_arith))
 
 pub returns-in_default-new : goal.returns-in_default-new
-returns-in_default-new c = grind (arith, signed_arith, c.in-Some.ensures.value, to_z-of_z, constant_within, c.instant_range_by_rules-before.ensures)
+returns-in_default-new c = constant_within _ _ _ _ c.instant_range_by_rules-before.ensures (grind (arith, local_arith))
 
 pub returns-in_default-new-2 : goal.returns-in_default-new-2
-returns-in_default-new-2 c = grind (arith, signed_arith, c.in-Some.ensures.value, to_z-of_z, constant_within, c.instant_range_by_rules-before.ensures)
+returns-in_default-new-2 c = grind (arith, local_arith, constant_within, c.instant_range_by_rules-before.ensures)
