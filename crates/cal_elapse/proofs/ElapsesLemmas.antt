@@ -246,3 +246,6 @@ union-elapses_after es b =
 pub without-elapses : (es exceptions : List Timed) (b : ℤ) → without (union (each_after es b)) (union (each_after exceptions b)) ≡ elapses_except es exceptions b
 unfolding elapses_except
 without-elapses es exceptions b = rw (union-elapses_after es b, union-elapses_after exceptions b)
+
+-- for the laws of how elapses continue
+pub ruleset continued = (elapses_except-later, elapses_except-parts, without-elapses)

@@ -11,6 +11,8 @@ use Rattle.cal_elapse.specs.Searched.{IsMostSearched, IsSearched}
 use Rattle.cal_elapse.specs.Window.{IsReady, bound_of, count_from, start_of, timed_by, timed_of, to_place}
 use Rattle.cal_elapse.specs.declared.masks.Masks.{Masks}
 use Rattle.cal_elapse.specs.declared.window.Window.{Window}
+use Rattle.cal_civil.proofs.LocalLemmas.{local_arith}
+use Rattle.cal_elapse.proofs.WindowLemmas.{first_given, later_given, none_given}
 use Rattle.cal_elapse.proofs.CountLemmas.{count_from-on}
 use Rattle.cal_elapse.proofs.MinuteLemmas.{match_inside}
 use Rattle.cal_elapse.proofs.MostMonthsLemmas.{most_same}
@@ -87,3 +89,6 @@ most_searched_some v i h full at =
     let there = subst (λ (o : Option ℤ). to_place v.ahead o ≡ None) at full in
     most_same (sets_in v.searcher.masks) (start_of v.base) (bound_of v.ahead) (unsigned_abs i + 93_600) v.searcher.most_months
     (same_below v i (unsigned_abs i + 93_600) h m there top.0 top.1) h.examined
+
+-- what remains after `Window::take`
+pub ruleset taken = (local_arith, first_given, later_given, none_given, searched_some, most_searched_some)

@@ -26,6 +26,7 @@ pub fn elapses_are_one_list()
 /// The elapses after a base can be listed for each expression and each exception separately. Removing the union of the
 /// exceptions' lists from the union of the expressions' lists yields the elapses of the expressions without those of
 /// the exceptions.
+#[tactic(auto, using(crate::proofs::ElapsesLemmas::continued))]
 pub fn elapses_of_each()
     ensures { (es exceptions : List Timed) (base : ℤ) → without (union (each_after es base)) (union (each_after exceptions base))
         ≡ elapses_except es exceptions base }
@@ -49,6 +50,7 @@ pub fn covered_are_left_out()
 
 /// If one of the elapses becomes the new base, the elapses after this base are exactly those that follow this elapse in
 /// the list.
+#[tactic(auto, using(crate::proofs::ElapsesLemmas::continued))]
 pub fn elapses_go_on()
     ensures { (es exceptions : List Timed) (base e : ℤ) (k : ℕ) → slice_get (elapses_except es exceptions base) k ≡ Some e
         → elapses_except es exceptions e ≡ drop (suc k) (elapses_except es exceptions base) }
@@ -57,6 +59,7 @@ pub fn elapses_go_on()
 /// The elapses after a base can be listed in two parts. Suppose that there are at least k + 1 of them, and that e is
 /// the last of the first k + 1. These k + 1 elapses, followed by the first m elapses after e, are the first k + 1 + m
 /// elapses after the base.
+#[tactic(auto, using(crate::proofs::ElapsesLemmas::continued))]
 pub fn elapses_in_parts()
     ensures { (es exceptions : List Timed) (base e : ℤ) (k m : ℕ) → slice_get (elapses_except es exceptions base) k ≡ Some e
         → take (suc k) (elapses_except es exceptions base) ++ take m (elapses_except es exceptions e)

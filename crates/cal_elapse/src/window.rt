@@ -203,6 +203,7 @@ impl<'z> Window<'z> {
 
     /// Removes and returns the smallest pending instant, which is the next elapse, or returns `None` if nothing is
     /// pending. The caller must have called `fill` before.
+    #[tactic(auto, using(crate::proofs::SearchedLemmas::taken))]
     pub fn take(&mut self) -> Option<i64>
         requires ready { IsReady self.old }
         requires full { to_place self.old.ahead (slice_get self.old.pending 0) ≡ None }
@@ -226,6 +227,7 @@ impl<'z> Window<'z> {
     /// Returns whether `instant` is an elapse of the expression, even if `instant` has already been returned or is not
     /// after the base. It is an elapse if and only if the local second that the zone's clock shows at `instant` matches
     /// and resolves to `instant`. Doesn't search.
+    #[tactic(auto, using(cal_civil::proofs::LocalLemmas::local_arith))]
     pub fn has_elapse(&mut self, instant: Instant) -> bool
         ensures has { (result ≡ true) ↔ IsPlace (timed_of self.old) instant.secs }
         ensures same { self.new ≡ self.old }

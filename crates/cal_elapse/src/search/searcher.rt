@@ -109,6 +109,7 @@ impl Searcher {
     /// the two. Also returns the number of months examined. Each call counts as one search. The result is the same as
     /// that of `next_local`.
     #[inline(always)]
+    #[tactic(auto, using(cal_civil::proofs::LocalLemmas::local_arith))]
     pub fn search(&mut self, start: SearchStart) -> Found
         requires start { CanStart (matches (sets_in self.old.masks)) start }
         requires few { self.old.searches ≤ seconds_in_all }
@@ -201,6 +202,7 @@ impl Searcher {
     }
 
     /// Finds the first match at or after a local second.
+    #[tactic(auto, using(cal_civil::proofs::LocalLemmas::local_arith, crate::proofs::FoundLemmas::first_match))]
     fn find_at(&mut self, local: i64) -> Found
         requires low { pos 0 ≤ℤ local }
         requires high { local ≤ℤ pos seconds_in_all }

@@ -1,7 +1,6 @@
-use Rattle.std.proofs.Common.{◌≡◌, ◌↔◌, ◌∙◌, ◌<ℤ◌, ℤ, FitsSigned, ap, arith, rules, subst, true, w64, int_eq}
+use Rattle.std.proofs.Common.{◌≡◌, ◌↔◌, ◌∙◌, ◌<ℤ◌, ℤ, ap, arith, subst, true, int_eq}
 use Rattle.std.proofs.lemmas.Bool.{false≢true}
-use Rattle.std.proofs.lemmas.Int.{to_z-of_z}
-use Rattle.jiff.proofs.SpanFacts.{signed_arith}
+use Rattle.cal_civil.proofs.LocalLemmas.{local_arith}
 use Rattle.std.specs.Set.{is_member}
 use Rattle.cal_elapse.specs.headline.Elapses.{IsPlace}
 use Rattle.cal_elapse.specs.RemainingElapses.{remaining_elapses}
@@ -14,15 +13,13 @@ pub returns-in-Some-clause-has : goal.returns-in-Some-clause-has
 returns-in-Some-clause-has c =
     let w = c.self.inside.window in
     let number = c.args.number in
-    let fits : FitsSigned w64 number = search rules in
-    let last_fits : FitsSigned w64 w.last = search rules in
-    let above : w.last <ℤ number = omega (arith, signed_arith) in
-    let at : c.in-Some.instant.secs ≡ number = c.in-Some.ensures.value ∙ to_z-of_z w64 number fits in
+    let above : w.last <ℤ number = omega (arith, local_arith) in
+    let at : c.in-Some.instant.secs ≡ number = omega (arith, local_arith, c.in-Some.ensures.value) in
     in_rest w number c.has_elapse.result above (subst (λ (i : ℤ). (c.has_elapse.result ≡ true) ↔ IsPlace (timed_of w) i) at c.has_elapse.ensures.has)
     ∙ ap (λ (v : Window). is_member int_eq (remaining_elapses v) number) c.self.view_is
 
 pub returns-in_default-clause-has : goal.returns-in_default-clause-has
-returns-in_default-clause-has c = grind (arith, w64, signed_arith, not_above, int_eq)
+returns-in_default-clause-has c = grind (arith, local_arith, not_above, int_eq)
 
 pub returns-in_default-2-clause-has : goal.returns-in_default-2-clause-has
-returns-in_default-2-clause-has c = grind (arith, w64, signed_arith, not_instant, false≢true, to_z-of_z, int_eq)
+returns-in_default-2-clause-has c = grind (arith, local_arith, not_instant, false≢true, int_eq)

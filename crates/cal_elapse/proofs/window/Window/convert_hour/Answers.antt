@@ -1,6 +1,6 @@
 use Rattle.std.proofs.Common.{◌≡◌, ◌≤◌, ◌/◌, ◌∙◌, FitsSigned, IfSome, IsSome, List, Option, Some, ℤ, negsuc, pos, ◌+ℤ◌, ◌-ℤ◌, ◌≤ℤ◌, ◌<ℤ◌, ap, false, int_lt, arith, of_z, refl, rules, subst, sym, to_z, unsigned_abs, w64}
 use Rattle.std.proofs.lemmas.Int.{ints, to_z-of_z}
-use Rattle.jiff.proofs.SpanFacts.{signed_arith}
+use Rattle.cal_civil.proofs.LocalLemmas.{local_arith}
 use Rattle.jiff.specs.Types.{TimeZone}
 use Rattle.cal_civil.specs.LocalSecond.{IsLocalSecond}
 use Rattle.cal_civil.proofs.LocalLemmas.{local_inside}
@@ -53,7 +53,7 @@ module _ (v : Window) (searcher : Searcher) (next offset : ℤ) (s : IsStep v se
 
 -- the instant of a local second fits into a 64-bit integer
 fits_instant : (tz : TimeZone) (next instant : ℤ) → IsLocalSecond next → place_of tz next ≡ Some instant → FitsSigned w64 instant
-fits_instant tz next instant inside at = let near = within tz next instant at in omega (arith, signed_arith, near, inside)
+fits_instant tz next instant inside at = let near = within tz next instant at in omega (arith, local_arith, near, inside)
 
 -- a later local second in the hour of `local` is at most 3,599 seconds after `local`
 in_hour : (local next : ℤ) → pos 0 ≤ℤ local → pos 0 ≤ℤ next → unsigned_abs next / 3_600 ≡ unsigned_abs local / 3_600 → unsigned_abs local ≤ unsigned_abs next
@@ -75,11 +75,9 @@ next_in c = hour_found c.loop-self.self.searcher.masks (unsigned_abs (to_z w64 c
 step : (c : After-search) (next : ℤ) → c.search.result.local ≡ Some next → IsStep c.loop-self.self c.search.new.self next c.in-Some.offset
 step c next is =
     let kept = c.loop-self.invariant in
-    let fits : FitsSigned w64 c.args.local = c.ranges.local in
-    let local = to_z-of_z w64 c.args.local fits in
+    let local = to_z-of_z w64 _ c.ranges.local in
     let inside = c.requires.found.0 in
-    let end_fits : FitsSigned w64 (c.args.local +ℤ pos 3_599) = omega (arith, signed_arith, inside) in
-    let end : to_z w64 (of_z w64 (to_z w64 (of_z w64 c.args.local) +ℤ pos 3_599)) ≡ (c.args.local +ℤ pos 3_599) = rw local (to_z-of_z w64 _ end_fits) in
+    let end : to_z w64 (of_z w64 (to_z w64 (of_z w64 c.args.local) +ℤ pos 3_599)) ≡ (c.args.local +ℤ pos 3_599) = omega (arith, local_arith, inside) in
     let found = rw is at (next_in c).0 in
     let ready = subst (λ (ahead : Option ℤ). IsReady (record c.loop-self.self { searcher = c.search.new.self; ahead = ahead })) is
     (next_ready c.loop-self.self (to_z w64 c.loop-self.last-bits) c.search.new.self c.search.result kept.placed c.search.ensures.masks c.search.ensures.counted c.search.ensures.most c.search.ensures.found) in
@@ -90,26 +88,18 @@ step c next is =
     let from : to_z w64 (of_z w64 c.args.local) ≤ℤ next = rw local near.0 in
     let to : next ≤ℤ to_z w64 (of_z w64 (to_z w64 (of_z w64 c.args.local) +ℤ pos 3_599)) = rw end near.1 in
     let place : place_of (zone_of c.loop-self.self.place_cache) next ≡ Some (next -ℤ c.in-Some.offset) = rw kept.zone (c.in-Some.ensures next ready.found.0 from to) in
-    let args_last : FitsSigned w64 c.args.self.now.last = search rules in
     let reach : to_z w64 (of_z w64 (to_z w64 (of_z w64 (to_z w64 (of_z w64 c.args.local) +ℤ pos 3_599)) -ℤ pos 93_599)) ≡ ((c.args.local +ℤ pos 3_599) -ℤ pos 93_599)
-    = rw end (to_z-of_z w64 ((c.args.local +ℤ pos 3_599) -ℤ pos 93_599) (omega (arith, signed_arith, inside))) in
-    let offset_fits : FitsSigned w64 c.in-Some.offset = search rules in
-    let last_fits : FitsSigned w64 c.loop-self.self.last = search rules in
+    = omega (arith, local_arith, inside) in
     let next_inside = ready.found.0 in
     record {
       ready = ready;
       place = place;
-      late = rw kept.last (not_late _ c.args.local next (rw (to_z-of_z w64 c.args.self.now.last args_last, reach) at c.if-end-self.false) near.1);
+      late = rw kept.last (not_late _ c.args.local next (rw (to_z-of_z w64 c.args.self.now.last (search rules), reach) at c.if-end-self.false) near.1);
       fits = fits_instant (zone_of c.loop-self.self.place_cache) next _ ready.found.0 place;
-      next_is = to_z-of_z w64 next (omega (arith, signed_arith, next_inside));
-      offset_is = to_z-of_z w64 c.in-Some.offset offset_fits;
-      last_is = to_z-of_z w64 c.loop-self.self.last last_fits;
+      next_is = to_z-of_z w64 next (omega (arith, local_arith, next_inside));
+      offset_is = to_z-of_z w64 c.in-Some.offset (search rules);
+      last_is = to_z-of_z w64 c.loop-self.self.last (search rules);
     }
-
-pub loop-self-init : goal.loop-self-init
-loop-self-init c =
-    let fits : FitsSigned w64 c.args.local = c.ranges.local in
-    rw (to_z-of_z w64 c.args.local fits) (record { placed = c.requires; hour = refl; on = omega arith; masks = refl; zone = refl; base = refl; last = refl })
 
 pub unreachable-requires : goal.unreachable-requires
 unreachable-requires c = let some = rw c.in_default-local.is at (next_in (goal.at.unreachable-requires c).After-search).1 in absurd (cc)
@@ -154,10 +144,4 @@ loop-self-preserved c =
     })
 
 pub returns-clause-on : goal.returns-clause-on
-returns-clause-on c =
-    let fits : FitsSigned w64 c.args.local = c.ranges.local in
-    let kept = rw (to_z-of_z w64 c.args.local fits) at c.loop-self.invariant in
-    (in_hour c.args.local (to_z w64 c.loop-self.last-bits) c.requires.found.0.0 (placed_is_match _ _ kept.placed).0.0 kept.hour kept.on).0
-
-pub returns-clause-timed : goal.returns-clause-timed
-returns-clause-timed c = rw (c.loop-self.invariant.masks, c.loop-self.invariant.zone) refl
+returns-clause-on c = grind (arith, local_arith, in_hour, placed_is_match)

@@ -1,10 +1,10 @@
-use Rattle.std.proofs.Common.{◌≡◌, ◌∙◌, ◌+◌, ◌*◌, ◌<◌, ◌+ℤ◌, FitsSigned, arith, of_z, pos, refl, rules, to_z, unsigned_abs, w64}
-use Rattle.std.proofs.lemmas.Int.{to_z-of_z}
+use Rattle.std.proofs.Common.{◌≡◌, ◌+◌, ◌*◌, ◌<◌, ◌+ℤ◌, arith, of_z, pos, rules, to_z, unsigned_abs, w64}
+use Rattle.cal_civil.proofs.LocalLemmas.{local_arith}
 use Rattle.cal_spec.specs.headline.Match.{matches}
 use Rattle.cal_elapse.specs.Bits.{is_bit}
 use Rattle.cal_elapse.specs.RemainingMatches.{AreRemaining}
 use Rattle.cal_elapse.specs.Masks.{sets_in}
-use Rattle.cal_text.proofs.General.{below_end, sum_whole}
+use Rattle.cal_text.proofs.General.{below_end}
 use Rattle.cal_elapse.proofs.MinuteLemmas.{minutes_inside, minutes_later, search_later, seconds_later}
 use Rattle.cal_elapse.proofs.search.searcher.Searcher.find_in_hour.Goals.{After-local_in-local, After-lowest_bit}
 use Rattle.cal_elapse.proofs.search.searcher.Searcher.find_in_hour.Goals as goal
@@ -20,9 +20,7 @@ none c = rw c.requires.none at c.args.self.now.is_left
 -- the local second of the match and the one after it (`behind_is`) fit into 64-bit integers, so storing them doesn't
 -- change them
 local_is : (c : After-local_in-local) → to_z w64 (of_z w64 c.local_in-local.result) ≡ pos ((c.args.self.now.minute + c.lowest_bit.result) * 60 + c.lowest_bit-second.result)
-local_is c =
-    let fits : FitsSigned w64 c.local_in-local.result = search rules in
-    to_z-of_z w64 c.local_in-local.result fits ∙ c.local_in-local.ensures
+local_is c = grind (arith, local_arith)
 
 behind_is : (c : After-local_in-local) → to_z w64 (of_z w64 (to_z w64 (of_z w64 c.local_in-local.result) +ℤ pos 1))
     ≡ pos ((c.args.self.now.minute + c.lowest_bit.result) * 60 + c.lowest_bit-second.result + 1)
@@ -30,7 +28,7 @@ behind_is c =
     let m = c.args.self.now.masks in
     let low = below_end (is_bit m.seconds) 60 c.lowest_bit-second.result m.last_second c.lowest_bit-second.ensures.2 in
     let minute = minutes_inside m (unsigned_abs c.args.self.now.found) _ _ _ c.args.self.now.are_left c.lowest_bit.ensures in
-    sum_whole c.local_in-local.result (pos 1) ((c.args.self.now.minute + c.lowest_bit.result) * 60 + c.lowest_bit-second.result) 1 c.local_in-local.ensures refl (omega arith)
+    omega (arith, local_arith, c.local_in-local.ensures)
 
 pub overflow_add-self : goal.overflow_add-self
 overflow_add-self c = let minute = inside c in omega arith

@@ -1,17 +1,13 @@
-use Rattle.std.proofs.Common.{◌≡◌, ◌+◌, ◌/◌, ◌%◌, ◌+ℤ◌, FitsSigned, arith, rules, of_z, pos, refl, sym, to_z, unsigned_abs, w64}
+use Rattle.std.proofs.Common.{◌≡◌, ◌+◌, ◌/◌, ◌%◌, ◌+ℤ◌, arith, rules, of_z, pos, to_z, unsigned_abs, w64}
 use Rattle.std.proofs.lemmas.Int.{to_z-of_z}
-use Rattle.cal_civil.specs.headline.Local.{seconds_in_all-is}
-use Rattle.cal_text.proofs.General.{pos_unsigned_abs, sum_whole}
-use Rattle.cal_civil.proofs.LocalLemmas.{local_inside}
+use Rattle.cal_civil.proofs.LocalLemmas.{local_arith}
 use Rattle.cal_elapse.proofs.MinuteLemmas.{minutes_after, seconds_after}
 use Rattle.cal_elapse.proofs.search.searcher.Searcher.keep.Goals.{In-Some}
 use Rattle.cal_elapse.proofs.search.searcher.Searcher.keep.Goals as goal
 
 -- the local second after the match fits into a 64-bit integer, so storing it doesn't change it
 next_is : (c : In-Some) → to_z w64 (of_z w64 (to_z w64 (of_z w64 c.in-Some.local) +ℤ pos 1)) ≡ pos (unsigned_abs c.in-Some.local + 1)
-next_is c =
-    let found = rw c.in-Some.is at c.requires in
-    sum_whole c.in-Some.local (pos 1) (unsigned_abs c.in-Some.local) 1 (sym (pos_unsigned_abs c.in-Some.local _ found.0.0 refl)) refl (omega (arith, local_inside c.in-Some.local found.0, seconds_in_all-is))
+next_is c = let found = rw c.in-Some.is at c.requires in grind (arith, local_arith)
 
 pub invariant_of-self-clause-from_low : goal.invariant_of-self-clause-from_low
 invariant_of-self-clause-from_low c = rw (next_is (goal.at.invariant_of-self-clause-from_low c).In-Some) (search rules)
@@ -19,15 +15,13 @@ invariant_of-self-clause-from_low c = rw (next_is (goal.at.invariant_of-self-cla
 pub invariant_of-self-clause-is_left : goal.invariant_of-self-clause-is_left
 invariant_of-self-clause-is_left c =
     let found = rw c.in-Some.is at c.requires in
-    let fits : FitsSigned w64 c.in-Some.local = search rules in
-    let of_day : c.second_of_day.result ≡ unsigned_abs c.in-Some.local % 86_400 = simp to_z-of_z at c.second_of_day.ensures in
+    let of_day : c.second_of_day.result ≡ unsigned_abs c.in-Some.local % 86_400 = grind (arith, local_arith) in
     let second : c.second_of_day.result % 60 ≡ unsigned_abs c.in-Some.local % 60 = omega arith in
-    rw (next_is (goal.at.invariant_of-self-clause-is_left c).In-Some, to_z-of_z w64 c.in-Some.local fits, second)
+    rw (next_is (goal.at.invariant_of-self-clause-is_left c).In-Some, to_z-of_z w64 c.in-Some.local (search rules), second)
     (search (seconds_after c.args.self.now.masks (unsigned_abs c.in-Some.local) found.1))
 
 pub invariant_of-self-clause-are_left : goal.invariant_of-self-clause-are_left
 invariant_of-self-clause-are_left c =
     let found = rw c.in-Some.is at c.requires in
-    let fits : FitsSigned w64 c.in-Some.local = search rules in
-    let minute : c.minute_of-minute.result ≡ unsigned_abs c.in-Some.local / 60 = simp to_z-of_z at c.minute_of-minute.ensures in
-    rw (minute, to_z-of_z w64 c.in-Some.local fits) (search (minutes_after c.args.self.now.masks (unsigned_abs c.in-Some.local) found.1))
+    let minute : c.minute_of-minute.result ≡ unsigned_abs c.in-Some.local / 60 = grind (arith, local_arith) in
+    rw (minute, to_z-of_z w64 c.in-Some.local (search rules)) (search (minutes_after c.args.self.now.masks (unsigned_abs c.in-Some.local) found.1))

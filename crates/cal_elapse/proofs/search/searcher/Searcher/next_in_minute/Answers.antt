@@ -1,5 +1,6 @@
-use Rattle.std.proofs.Common.{◌+◌, FitsSigned, IsSome, arith, option_map, subst, sym, unsigned_abs, unwrap_or, w64, Option, ◌≡◌, IfSome}
-use Rattle.std.proofs.lemmas.Int.{ints, to_z-of_z}
+use Rattle.std.proofs.Common.{◌+◌, IsSome, arith, option_map, subst, sym, unsigned_abs, unwrap_or, w64, Option, ◌≡◌, IfSome}
+use Rattle.std.proofs.lemmas.Int.{to_z-of_z}
+use Rattle.cal_civil.proofs.LocalLemmas.{local_arith}
 use Rattle.std.proofs.lemmas.Option.{IfSome_then}
 use Rattle.cal_spec.specs.headline.Match.{matches}
 use Rattle.cal_civil.specs.headline.Local.{seconds_in_all}
@@ -22,19 +23,17 @@ returns-then-not-has_more_in_minute-clause-counted c =
     omega arith
 
 pub returns-clause-inside : goal.returns-clause-inside
-returns-clause-inside c = IfSome_then c.search.result.local (first_match _ _ _ (omega (arith, ints)) c.search.ensures.found.first) (λ x found. found.0)
+returns-clause-inside c = IfSome_then c.search.result.local (first_match _ _ _ (omega (arith, local_arith)) c.search.ensures.found.first) (λ x found. found.0)
 
 -- there is another match in the minute, and the search found it
 known : (c : goal.After-search) → IsNextInMinute (matches (sets_in c.args.self.now.masks)) (unsigned_abs c.args.local) (option_map unsigned_abs c.search.result.local) × IsSome c.search.result.local
 known c =
-    let fits : FitsSigned w64 c.args.local = c.ranges.local in
-    next_found c.args.self.now.masks (unsigned_abs c.args.local) c.search.result.local (simp to_z-of_z at (c.has_more_in_minute.ensures.more c.if-not-has_more_in_minute.false)) (simp to_z-of_z at c.search.ensures.found).first
+    next_found c.args.self.now.masks (unsigned_abs c.args.local) c.search.result.local (rw (to_z-of_z w64 _ c.ranges.local) at (c.has_more_in_minute.ensures.more c.if-not-has_more_in_minute.false)) (rw (to_z-of_z w64 _ c.ranges.local) at c.search.ensures.found).first
 
 -- the search returned the first match after `local`
 first : (c : goal.After-search) → IsFirstPassing (matches (sets_in c.args.self.now.masks)) (unsigned_abs c.args.local + 1) seconds_in_all (option_map unsigned_abs c.search.result.local)
 first c =
-    let fits : FitsSigned w64 c.args.local = c.ranges.local in
-    first_passing _ (unsigned_abs c.args.local + 1) c.search.result.local (simp to_z-of_z at c.search.ensures.found).first
+    first_passing _ (unsigned_abs c.args.local + 1) c.search.result.local (rw (to_z-of_z w64 _ c.ranges.local) at c.search.ensures.found).first
 
 pub returns-clause-next : goal.returns-clause-next
 returns-clause-next c = (known c).0
@@ -51,6 +50,5 @@ returns-clause-counted c = let one = next_counted _ c.args.local c.search.result
 pub returns-clause-most : goal.returns-clause-most
 returns-clause-most c =
     let now = c.args.self.now in
-    let fits : FitsSigned w64 c.args.local = c.ranges.local in
     subst (IsMostAfter (sets_in now.masks) (unsigned_abs c.args.local) (unsigned_abs (unwrap_or c.search.result.local c.args.local)) now.most_months) (sym c.search.ensures.most)
-    (next_most (sets_in now.masks) c.args.local now.most_months c.search.result c.search.result.local c.requires.start.1 (simp to_z-of_z at c.search.ensures.found) (first c) (known c).1)
+    (next_most (sets_in now.masks) c.args.local now.most_months c.search.result c.search.result.local c.requires.start.1 (rw (to_z-of_z w64 _ c.ranges.local) at c.search.ensures.found) (first c) (known c).1)

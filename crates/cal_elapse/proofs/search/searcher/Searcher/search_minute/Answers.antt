@@ -1,5 +1,6 @@
-use Rattle.std.proofs.Common.{◌≡◌, ◌∙◌, ◌+◌, ◌-◌, FitsSigned, Some, arith, of_z, refl, rules, subst, sym, to_z, unsigned_abs, w64, ℕ, ℤ, ◌-ℤ◌, ◌<◌, pos, ◌^◌}
-use Rattle.std.proofs.lemmas.Int.{to_z-of_z, ints, to_z_pos}
+use Rattle.std.proofs.Common.{◌≡◌, ◌∙◌, ◌+◌, ◌-◌, Some, arith, of_z, refl, rules, subst, sym, to_z, unsigned_abs, w64, ℕ, ℤ, ◌-ℤ◌, ◌<◌, pos, ◌^◌}
+use Rattle.cal_civil.proofs.LocalLemmas.{local_arith}
+use Rattle.std.proofs.lemmas.Int.{to_z-of_z, ints}
 use Rattle.cal_civil.specs.headline.Local.{seconds_in_all-is}
 use Rattle.cal_spec.specs.headline.Match.{matches}
 use Rattle.cal_elapse.specs.Search.{count_from}
@@ -18,21 +19,13 @@ use Rattle.cal_elapse.proofs.search.searcher.Searcher.search_minute.Goals as goa
 -- integers without overflow
 between_whole : (a b : ℤ) (n m : ℕ) → a ≡ pos n → b ≡ pos m → m < n → n < 2 ^ 63
     → unsigned_abs (to_z w64 (of_z w64 (to_z w64 (of_z w64 (to_z w64 (of_z w64 a) -ℤ to_z w64 (of_z w64 b))) -ℤ pos 1))) ≡ n - m - 1
-between_whole a b n m is_n is_m less small =
-    let apart : (pos n -ℤ pos m) ≡ pos (n - m) = omega (arith, ints) in
-    let between : (pos (n - m) -ℤ pos 1) ≡ pos (n - m - 1) = omega (arith, ints) in
-    rw (is_n, is_m, to_z_pos w64 n small, to_z_pos w64 m (omega arith), apart, to_z_pos w64 (n - m) (omega arith), between, to_z_pos w64 (n - m - 1) (omega arith)) refl
-
--- `local` fits into a 64-bit integer, so passing it as an argument doesn't change it
-local_is : (local : ℤ) → FitsSigned w64 local → to_z w64 (of_z w64 local) ≡ local
-local_is local fits = to_z-of_z w64 local fits
+between_whole a b n m is_n is_m less small = omega (arith, ints)
 
 pub loop-next-init : goal.loop-next-init
 loop-next-init c =
     let sets = sets_in c.args.self.now.masks in
-    let fits : FitsSigned w64 c.args.local = c.ranges.local in
     let nothing = count_from-nothing (matches sets) (unsigned_abs c.args.local + 1) (unsigned_abs c.args.local) in
-    rw (to_z-of_z w64 c.args.local fits) (record {
+    rw (to_z-of_z w64 _ c.ranges.local) (record {
       inside = c.requires.start.0;
       rest = rest_unknown (matches sets) (unsigned_abs c.args.local) c.requires.start.1;
       masks = refl;
@@ -42,27 +35,22 @@ loop-next-init c =
     })
 
 pub next_in_minute-requires-clause-few : goal.next_in_minute-requires-clause-few
-next_in_minute-requires-clause-few c =
-    let kept = rw (local_is c.args.local c.ranges.local) at c.loop-next.invariant in
-    let counted = kept.counted in
-    let most = count_from-most (matches (sets_in c.args.self.now.masks)) (unsigned_abs c.args.local + 1) in
-    omega (arith, most, local_inside _ kept.inside, kept.rest.begun)
+next_in_minute-requires-clause-few c = grind (arith, local_arith, count_from-most)
 
 pub loop-next-preserved : goal.loop-next-preserved
 loop-next-preserved c =
-    let kept = rw (local_is c.args.local c.ranges.local) at c.loop-next.invariant in
+    let kept = rw (to_z-of_z w64 _ c.ranges.local) at c.loop-next.invariant in
     let sets = sets_in c.args.self.now.masks in
     let local : ℕ = unsigned_abs c.args.local in
     let last : ℕ = unsigned_abs (to_z w64 c.loop-next.last-bits) in
     let next : ℕ = unsigned_abs c.in-Some.next in
-    let next_fits : FitsSigned w64 c.in-Some.next = search rules in
     let inside = c.in-Some.ensures.inside in
     let found = subst (λ (m : Masks). IsNextInMinute (matches (sets_in m)) last (Some next)) kept.masks c.in-Some.ensures.next in
     let begun = kept.rest.begun in
     let one = subst (λ (m : Masks). c.next_in_minute.new.self.searches ≡ c.loop-next.self.searches + count_from (matches (sets_in m)) (last + 1) (next - last)) kept.masks c.in-Some.ensures.counted in
     let both = count_from-then (matches sets) local last next begun (omega arith) in
     let counted = kept.counted in
-    rw (local_is c.args.local c.ranges.local, to_z-of_z w64 c.in-Some.next next_fits)
+    rw (to_z-of_z w64 _ c.ranges.local, to_z-of_z w64 c.in-Some.next (search rules))
     (record {
       inside = inside;
       rest = rest_on (matches sets) local c.loop-next.bits last next c.with_bit-bits.result _ kept.rest found.0 found.1 c.with_bit-bits.ensures.set c.with_bit-bits.ensures.others
@@ -76,21 +64,15 @@ loop-next-preserved c =
 
 pub returns-clause-whole : goal.returns-clause-whole
 returns-clause-whole c = λ same.
-    let kept = rw (local_is c.args.local c.ranges.local) at c.loop-next.invariant in
+    let kept = rw (to_z-of_z w64 _ c.ranges.local) at c.loop-next.invariant in
     subst (λ (m : Masks). NoneLeftInMinute (matches (sets_in m)) (unsigned_abs (to_z w64 c.loop-next.last-bits))) kept.masks (c.next_in_minute.ensures.none c.in_default.is (kept.found same))
 
 pub returns-clause-counted : goal.returns-clause-counted
-returns-clause-counted c =
-    let kept = rw (local_is c.args.local c.ranges.local) at c.loop-next.invariant in
-    let last : ℕ = unsigned_abs (to_z w64 c.loop-next.last-bits) in
-    let nothing = count_from-nothing (matches (sets_in c.args.self.now.masks)) (last + 1) last in
-    let one = subst (λ (m : Masks). c.next_in_minute.new.self.searches ≡ c.loop-next.self.searches + count_from (matches (sets_in m)) (last + 1) (last - last)) kept.masks c.in_default.ensures.counted in
-    let counted = kept.counted in
-    omega arith
+returns-clause-counted c = grind (arith, local_arith, count_from-nothing)
 
 pub returns-clause-most : goal.returns-clause-most
 returns-clause-most c =
-    let kept = rw (local_is c.args.local c.ranges.local) at c.loop-next.invariant in
+    let kept = rw (to_z-of_z w64 _ c.ranges.local) at c.loop-next.invariant in
     let last : ℕ = unsigned_abs (to_z w64 c.loop-next.last-bits) in
     most_on (sets_in c.args.self.now.masks) (unsigned_abs c.args.local) last last c.args.self.now.most_months c.loop-next.self.most_months c.next_in_minute.new.self.most_months kept.rest.begun (omega arith) kept.most
     (subst (λ (m : Masks). IsMostAfter (sets_in m) last last c.loop-next.self.most_months c.next_in_minute.new.self.most_months) kept.masks c.in_default.ensures.most)
