@@ -24,6 +24,7 @@ pub fn expressions_are_those_of_the_rule()
 
 /// The words of a text are its maximal runs of bytes that are not blanks: no word contains a blank, and blanks separate
 /// the words.
+#[tactic(auto, using(crate::proofs::WordsBetween::words_found, crate::proofs::WordsBetween::words_only))]
 pub fn words_stand_between_blanks()
     ensures found { (text : List ℕ) → AreWords text (words text) }
     ensures only { (text : List ℕ) (ws : List (List ℕ)) → AreWords text ws → words text ≡ ws }

@@ -24,6 +24,7 @@ ghost use Rattle.cal_spec.specs.declared.slot.Slot.TheVariants.{Second};
 
 /// If no range in a list of parts runs backwards and no step is zero, the list has exactly one normal form, which
 /// `normal_parts` returns. A list that is already in normal form is its own normal form.
+#[tactic(auto, using(crate::proofs::NormalFieldsLemmas::are_normal, crate::proofs::NormalFieldsLemmas::normal_fixed, crate::proofs::NormalFieldsLemmas::normal_is_of, crate::proofs::NormalFieldsLemmas::normal_only))]
 pub fn one_normal_form()
     ensures some { (raw : List Part) → AllByRecursion IsPart raw → AreNormalOf raw (normal_parts raw) }
     ensures only { (raw ps : List Part) → AllByRecursion IsPart raw → AreNormalOf raw ps → ps ≡ normal_parts raw }
@@ -33,6 +34,7 @@ pub fn one_normal_form()
 
 /// If no range in a component runs backwards and no step is zero, the component has exactly one normal form. This is
 /// also true of the seconds. Their normal form differs in one case: the single part `0/1` becomes `*`.
+#[tactic(auto, using(crate::proofs::NormalFieldsLemmas::component_of, crate::proofs::NormalFieldsLemmas::component_only, crate::proofs::NormalFieldsLemmas::second_normal_of, crate::proofs::NormalFieldsLemmas::second_only))]
 pub fn one_normal_component()
     ensures some { (raw : Option (List Part)) → AreParts raw → IsNormalOf raw (normal_component raw) }
     ensures only { (raw normal : Option (List Part)) → AreParts raw → IsNormalOf raw normal
@@ -43,6 +45,7 @@ pub fn one_normal_component()
 {}
 
 /// Valid fields have exactly one normal form. It is valid, and normalizing it again changes nothing.
+#[tactic(auto, using(crate::proofs::NormalFieldsLemmas::fields_are, crate::proofs::NormalFieldsLemmas::fields_only, crate::proofs::NormalFieldsLemmas::fields_twice, crate::proofs::NormalFieldsLemmas::fields_valid))]
 pub fn one_normal_form_of_fields()
     ensures some { (f : Fields) → IsValidFields f → IsNormalFieldsOf f (normal_fields f) }
     ensures only { (f g : Fields) → IsValidFields f → IsNormalFieldsOf f g → g ≡ normal_fields f }
@@ -52,6 +55,7 @@ pub fn one_normal_form_of_fields()
 
 /// Bringing a component into its normal form doesn't change which values it matches, if no range runs backwards and no
 /// step is zero.
+#[tactic(auto, using(crate::proofs::MemberLemmas::component_stays, crate::proofs::MemberLemmas::second_stays))]
 pub fn members_stay()
     ensures component { (slot : Slot) (raw : Option (List Part)) (v : ℕ) → AreParts raw
         → component_has slot (normal_component raw) v ≡ component_has slot raw v }
@@ -60,12 +64,14 @@ pub fn members_stay()
 {}
 
 /// Bringing valid fields into their normal form doesn't change which local seconds they match.
+#[tactic(auto, using(crate::proofs::MemberLemmas::matches_stay))]
 pub fn matches_stay()
     ensures { (f : Fields) (local : ℕ) → IsValidFields f
         → matches (sets_of (normal_fields f)) local ≡ matches (sets_of f) local }
 {}
 
 /// The printed normal form of valid fields has fewer than 4,096 bytes.
+#[tactic(auto, using(crate::proofs::LengthLemmas::normal_length))]
 pub fn normal_texts_are_short()
     ensures { (f : Fields) → IsValidFields f → length (expr_text (normal_fields f)) < 4_096 }
 {}
@@ -77,6 +83,7 @@ pub fn one_list_of_runs()
 {}
 
 /// Parsing the printed normal form of valid fields returns this normal form.
+#[tactic(auto, using(crate::proofs::ReadBack::normal_back))]
 pub fn normal_texts_read_back()
     ensures normal { (f : Fields) → IsValidFields f
         → fields_in (expr_text (normal_fields f)) ≡ Ok (normal_fields f) }
@@ -89,6 +96,7 @@ pub fn zones_are_names_or_offsets()
 {}
 
 /// Trailing blanks don't change how a text is parsed, unless they make it longer than 4,096 bytes.
+#[tactic(auto, using(crate::proofs::TrailingBlanks::same_expression))]
 pub fn trailing_blanks_are_ignored()
     ensures { (text : List ℕ) → length text ≤ max_text_bytes
         → expr_in (trim_end_matches is_blank text) ≡ expr_in text }
