@@ -11,7 +11,7 @@ use Rattle.std.specs.declared.cmp.Ordering.TheVariants.{Less}
 use Rattle.std.proofs.lemmas.Map.Keys.{sorted_head}
 use Rattle.std.proofs.Math.Bool.{or-true}
 use Rattle.std.proofs.lemmas.Bool.Decides.{Decides-int_eq}
-use Rattle.std.proofs.lemmas.Int.{ints}
+use Rattle.std.proofs.lemmas.Int.{ints, to_z-of_z}
 use Rattle.std.proofs.lemmas.List.{get_or_default}
 use borrow.Author.Count.{below_more}
 use Rattle.cal_rising.specs.Merge.{Peeked, HasHead, numbers, numbers_by}
@@ -154,3 +154,6 @@ pub any_replaced : (n : ℤ) (ss : List Peeked) (i : ℕ) (s d : Peeked) → i <
 any_replaced n [] i s d lt h = absurd (omega arith)
 any_replaced n (x ∷ ss) zero s d lt h = ap (λ (b : Bool). b || list_any (λ xs. is_member int_eq xs n) (map numbers ss)) h
 any_replaced n (x ∷ ss) (suc i) s d lt h = ap (λ (b : Bool). is_member int_eq (numbers x) n || b) (any_replaced n ss i s d (omega arith) h)
+
+-- whether a list has a number, where the code compares the words in which it stores numbers
+pub ruleset member_arith = (ints, to_z-of_z, is_member-head)

@@ -99,6 +99,7 @@ impl<S: Rising> Peeked<S> {
 
     /// Returns whether `number` is still to be returned, or `None` if the source cannot tell. If a number has been read
     /// ahead and is at least `number`, the source is not asked.
+    #[tactic(auto, using(crate::proofs::WithoutLemmas::member_arith))]
     fn has(&mut self, number: i64) -> Option<bool>
         ensures has { IfSome result (λ has. has ≡ is_member int_eq (numbers self.old) number) }
         ensures same { numbers self.new ≡ numbers self.old }
