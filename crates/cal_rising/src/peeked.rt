@@ -80,6 +80,7 @@ impl<S: Rising> Peeked<S> {
     /// Returns whether `number` is still to be returned. The caller promises not to ask for a smaller number again, so
     /// numbers below `number` may be dropped. If the source cannot tell whether it has `number`, its numbers are read
     /// until `number` or a greater number is reached.
+    #[tactic(auto, using(crate::proofs::WithoutLemmas::member_arith))]
     pub fn has_onward(&mut self, number: i64) -> bool
         ensures has { result ≡ is_member int_eq (numbers self.old) number }
         ensures left { IsSameFrom number (numbers self.new) (numbers self.old) }
