@@ -12,7 +12,7 @@ use Rattle.cal_spec.specs.headline.Members.{component_has, star_has, part_has, p
 use Rattle.cal_spec.specs.headline.Slot.{least, greatest, day_slot}
 use Rattle.cal_spec.specs.ValidFields.{IsValidComponent}
 use Rattle.cal_spec.specs.headline.ValidParts.{EndsAfter, IsValidPart, IsEndWithin, IsStep, IsWithin}
-use Rattle.cal_spec.specs.declared.part.Part.{Part}
+use Rattle.cal_spec.specs.declared.field.Part.{Part}
 use Rattle.cal_spec.specs.declared.slot.Slot.{Slot}
 use Rattle.cal_spec.specs.declared.slot.Slot.TheVariants.{DayFromEnd}
 

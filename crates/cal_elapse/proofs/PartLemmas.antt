@@ -12,7 +12,7 @@ use Rattle.cal_spec.specs.headline.Members.{component_has, is_between, part_has,
 use Rattle.cal_spec.specs.Parts.{is_from_end}
 use Rattle.cal_spec.specs.headline.Slot.{greatest}
 use Rattle.cal_spec.specs.declared.field.Field.{Field}
-use Rattle.cal_spec.specs.declared.part.Part.{Part}
+use Rattle.cal_spec.specs.declared.field.Part.{Part}
 use Rattle.cal_spec.specs.declared.slot.Slot.{Slot}
 use Rattle.cal_text.proofs.General.{and_regrouped, and_true}
 

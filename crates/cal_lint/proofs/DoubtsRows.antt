@@ -2,7 +2,7 @@
 -- unknown.
 use Rattle.std.proofs.Common.{◌≡◌, ℕ, List, true, false, [], ◌∷◌, codes, refl, Option, None, Some}
 use Rattle.cal_text.specs.headline.Separators.{words}
-use Rattle.cal_spec.specs.declared.part.Part.{Part}
+use Rattle.cal_spec.specs.declared.field.Part.{Part}
 use Rattle.cal_spec.specs.headline.NormalForm.{point}
 use Rattle.cal_lint.specs.Doubts.{has_month_day, is_hour_list, is_hour_range}
 use Rattle.cal_lint.specs.UnknownKeys.{is_unknown_key}

@@ -5,7 +5,7 @@ use Rattle.cal_text.specs.AndThen.{◌>>=◌}
 use Rattle.cal_text.specs.headline.Separators.{words}
 use Rattle.cal_spec.specs.Expr.{expr_in}
 use Rattle.cal_spec.specs.headline.Fields.{Fields}
-use Rattle.cal_spec.specs.declared.part.Part.{Part}
+use Rattle.cal_spec.specs.declared.field.Part.{Part}
 use Rattle.cal_spec.specs.declared.spec_fault.SpecFault.{SpecFault}
 use Rattle.cal_lint.specs.declared.doubts.Doubt.{Doubt}
 use Rattle.cal_lint.specs.declared.doubts.Doubt.TheVariants.{HourRange, HourList, MonthDay}

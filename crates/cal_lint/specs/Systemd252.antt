@@ -14,7 +14,7 @@ use Rattle.cal_spec.specs.Parts.{is_slash}
 use Rattle.cal_spec.specs.headline.Slot.{max_number}
 use Rattle.cal_spec.specs.Expr.{expr_in}
 use Rattle.cal_spec.specs.headline.Fields.{Fields}
-use Rattle.cal_spec.specs.declared.part.Part.{Part}
+use Rattle.cal_spec.specs.declared.field.Part.{Part}
 use Rattle.cal_spec.specs.declared.spec_fault.SpecFault.{SpecFault}
 use Rattle.cal_text.specs.AndThen.{◌>>=◌}
 use Rattle.cal_spec.specs.WeekdayNames.{day_named, days_of, leading_letters}

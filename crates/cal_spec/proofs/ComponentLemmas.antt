@@ -10,7 +10,7 @@ use Rattle.cal_spec.specs.Reads.{unless}
 use Rattle.cal_spec.specs.headline.Slot.{least, greatest}
 use Rattle.cal_spec.specs.ValidFields.{IsValidComponent}
 use Rattle.cal_spec.specs.headline.ValidParts.{IsWithin, IsEndWithin, EndsAfter, IsStep, GoesOn, IsValidPart}
-use Rattle.cal_spec.specs.declared.part.Part.{Part}
+use Rattle.cal_spec.specs.declared.field.Part.{Part}
 use Rattle.cal_spec.specs.declared.slot.Slot.{Slot}
 use Rattle.cal_spec.specs.declared.slot.Slot.TheVariants.{DayFromEnd}
 use Rattle.cal_spec.specs.declared.spec_fault.SpecFault.TheVariants.{OutOfField, BackwardRange, ZeroRepeat, NoRepeat, TooManyParts}

@@ -15,7 +15,7 @@ use Rattle.cal_spec.specs.Parts.{is_time, is_within, is_outside, is_backward, is
 use Rattle.cal_spec.specs.headline.FullYears.{with_full_years}
 use Rattle.cal_spec.specs.headline.Slot.{least, greatest}
 use Rattle.cal_spec.specs.headline.ValidParts.{IsWithin, IsEndWithin, EndsAfter, IsStep, GoesOn, IsValidPart}
-use Rattle.cal_spec.specs.declared.part.Part.{Part}
+use Rattle.cal_spec.specs.declared.field.Part.{Part}
 use Rattle.cal_spec.specs.declared.slot.Slot.{Slot}
 use Rattle.cal_spec.specs.declared.slot.Slot.TheVariants.{DayFromEnd}
 use Rattle.cal_spec.proofs.ComponentLemmas.{ListedRead, component_is, parts_of-cons, sound_parts}

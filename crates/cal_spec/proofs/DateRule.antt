@@ -12,7 +12,7 @@ use Rattle.cal_spec.specs.headline.UnparsedTexts.{DateTexts, TimeTexts}
 use Rattle.cal_spec.specs.headline.Fields.{Fields, counted_parts, max_counted_parts}
 use Rattle.cal_spec.specs.headline.GrammarRule.{last_sign, IsDateShape, IsTimeShape, IsDate, IsTime, IsComponent}
 use Rattle.cal_spec.specs.headline.Slot.{day_slot}
-use Rattle.cal_spec.specs.declared.part.Part.{Part}
+use Rattle.cal_spec.specs.declared.field.Part.{Part}
 use Rattle.cal_spec.specs.declared.slot.Slot.{Slot}
 use Rattle.cal_spec.specs.declared.slot.Slot.TheVariants.{Year, Month, Hour, Minute, Second}
 use Rattle.cal_spec.specs.headline.ZoneSuffix.{ZoneSuffix}

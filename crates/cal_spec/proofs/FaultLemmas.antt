@@ -19,7 +19,7 @@ use Rattle.cal_spec.specs.Words.{roles_of}
 use Rattle.cal_text.specs.headline.Separators.{words}
 use Rattle.cal_spec.specs.ParsedSuffix.{suffix_in}
 use Rattle.cal_spec.specs.headline.ZoneSuffix.{ZoneSuffix}
-use Rattle.cal_spec.specs.declared.part.Part.{Part}
+use Rattle.cal_spec.specs.declared.field.Part.{Part}
 use Rattle.cal_spec.specs.declared.slot.Slot.{Slot}
 use Rattle.cal_spec.specs.declared.slot.Slot.TheVariants.{Year, Month, Hour, Minute, Second}
 use Rattle.cal_spec.specs.declared.spec_fault.SpecFault.{SpecFault}

@@ -30,7 +30,7 @@ use Rattle.cal_civil.specs.ReadOffset.{offset_in}
 use Rattle.cal_civil.proofs.OffsetWordLemmas.{offset-minutes}
 use Rattle.cal_spec.specs.ParsedSuffix.{IsSuffixOption, suffix_due, suffix_in, suffix_of}
 use Rattle.cal_spec.specs.headline.ZoneSuffix.{ZoneSuffix, at_offset, kept_name, of_name}
-use Rattle.cal_spec.specs.declared.part.Part.{Part}
+use Rattle.cal_spec.specs.declared.field.Part.{Part}
 use Rattle.cal_spec.specs.declared.slot.Slot.{Slot}
 use Rattle.cal_spec.specs.declared.slot.Slot.TheVariants.{Year, Month, Hour, Minute, Second}
 use Rattle.cal_spec.specs.declared.spec_fault.SpecFault.{SpecFault}

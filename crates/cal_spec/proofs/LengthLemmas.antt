@@ -19,7 +19,7 @@ use Rattle.cal_spec.specs.headline.WeekdayRuns.{run_text, runs_text, weekdays_te
 use Rattle.cal_spec.specs.ParsedSuffix.{IsSuffixOption}
 use Rattle.cal_spec.specs.headline.ZoneSuffix.{ZoneSuffix, suffix_text}
 use Rattle.cal_spec.proofs.SuffixLemmas.{suffix_word}
-use Rattle.cal_spec.specs.declared.part.Part.{Part}
+use Rattle.cal_spec.specs.declared.field.Part.{Part}
 use Rattle.cal_spec.specs.declared.slot.Slot.{Slot}
 use Rattle.cal_spec.specs.declared.slot.Slot.TheVariants.{Year, Month, DayFromEnd, Hour, Minute, Second}
 use Rattle.cal_spec.proofs.NormalFieldsLemmas.{are_normal, component_sound, fields_valid, starred_is}

@@ -3,7 +3,7 @@ use Rattle.std.proofs.Common.{◌≡◌, ℕ, true, false, [], ◌∷◌, Option
 use Rattle.std.specs.Fmt.{digits}
 use Rattle.cal_civil.specs.headline.Weekday.{name_of}
 use Rattle.cal_spec.specs.headline.ZoneSuffix.{of_name}
-use Rattle.cal_spec.specs.declared.part.Part.{Part}
+use Rattle.cal_spec.specs.declared.field.Part.{Part}
 use Rattle.cal_spec.specs.headline.ExprText.{expr_text, fields_text, row_text, parts_text, part_text, number_text}
 use Rattle.cal_spec.specs.headline.Fields.{Fields}
 use Rattle.cal_spec.specs.NormalParts.{normal_fields, normal_parts, normal_second, reduced}

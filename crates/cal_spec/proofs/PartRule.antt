@@ -10,7 +10,7 @@ use Rattle.cal_text.specs.headline.Separators.{is_point}
 use Rattle.cal_spec.specs.Parts.{Symbol, digits, dots, slash, point, other, is_slash, with_digit, with_byte, lone, symbols, starts_with_point, is_second, Counted, after_number, number_due, part_at_end, with_step, after_end, after_start, part_of}
 use Rattle.cal_spec.specs.headline.Slot.{max_number}
 use Rattle.cal_text.specs.AndThen.{◌>>=◌}
-use Rattle.cal_spec.specs.declared.part.Part.{Part}
+use Rattle.cal_spec.specs.declared.field.Part.{Part}
 use Rattle.cal_spec.specs.declared.slot.Slot.{Slot}
 use Rattle.cal_spec.specs.declared.spec_fault.SpecFault.TheVariants.{NumberTooLarge, FractionalSecond}
 use Rattle.cal_spec.proofs.ReadLemmas.{bind_ok, cond_ok}

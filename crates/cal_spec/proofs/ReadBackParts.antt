@@ -12,7 +12,7 @@ use Rattle.cal_spec.specs.headline.GrammarRule.{IsNumber, IsNext, IsPartText, Is
 use Rattle.cal_spec.specs.headline.FullYears.{with_century, with_full_years}
 use Rattle.cal_spec.specs.ValidFields.{IsValidComponent}
 use Rattle.cal_spec.specs.headline.ValidParts.{IsEndWithin, IsValidPart}
-use Rattle.cal_spec.specs.declared.part.Part.{Part}
+use Rattle.cal_spec.specs.declared.field.Part.{Part}
 use Rattle.cal_spec.specs.declared.slot.Slot.{Slot}
 use Rattle.cal_spec.specs.declared.slot.Slot.TheVariants.{Year}
 use Rattle.cal_spec.proofs.ComponentRule.{component_bytes, is_component_byte}

@@ -8,7 +8,7 @@ use Rattle.cal_spec.specs.headline.Members.{is_between, is_step_between}
 use Rattle.cal_spec.specs.NormalParts.{IsPart, IsNormal, IsNormalTo, IsNormalRange, reduced_to, reduced}
 use Rattle.cal_spec.specs.headline.NormalForm.{IsLastReached, IsReducedTo, IsReduced, range_to, range_step, step_of, point}
 use Rattle.cal_spec.specs.headline.ValidParts.{EndsAfter, GoesOn, IsEndWithin, IsValidPart, IsStep, IsWithin}
-use Rattle.cal_spec.specs.declared.part.Part.{Part}
+use Rattle.cal_spec.specs.declared.field.Part.{Part}
 use Rattle.cal_spec.specs.declared.slot.Slot.{Slot}
 use Rattle.cal_spec.proofs.NormalLemmas.{same_part}
 use Rattle.std.specs.Cmp.{both_ways}

@@ -7,7 +7,7 @@ use Rattle.cal_text.specs.AndThen.{◌>>=◌}
 use Rattle.cal_spec.specs.Reads.{unless, first_of}
 use Rattle.cal_spec.specs.Parts.{is_time, part_of, fault_of}
 use Rattle.cal_spec.specs.headline.FullYears.{with_full_years}
-use Rattle.cal_spec.specs.declared.part.Part.{Part}
+use Rattle.cal_spec.specs.declared.field.Part.{Part}
 use Rattle.cal_spec.specs.declared.slot.Slot.{Slot}
 use Rattle.cal_spec.specs.declared.spec_fault.SpecFault.{SpecFault}
 use Rattle.cal_spec.specs.declared.spec_fault.SpecFault.TheVariants.{TooManyParts}

@@ -15,7 +15,7 @@ use Rattle.cal_spec.specs.headline.Slot.{day_slot}
 use Rattle.cal_spec.specs.WeekdayNames.{weekdays_in}
 use Rattle.cal_spec.specs.Words.{roles_of}
 use Rattle.cal_spec.specs.ParsedSuffix.{suffix_in}
-use Rattle.cal_spec.specs.declared.part.Part.{Part}
+use Rattle.cal_spec.specs.declared.field.Part.{Part}
 use Rattle.cal_spec.specs.declared.slot.Slot.{Slot}
 use Rattle.cal_spec.specs.declared.slot.Slot.TheVariants.{Year, Month, Hour, Minute, Second}
 use Rattle.cal_spec.specs.declared.spec_fault.SpecFault.{SpecFault}

@@ -7,7 +7,7 @@ use Rattle.std.specs.List.Sorted.{IsStrictlySortedBy}
 use Rattle.std.specs.Option.{option_map, option_and_then, option_eq}
 use Rattle.cal_spec.specs.headline.Fields.{Fields}
 use Rattle.cal_spec.specs.headline.ValidParts.{EndsAfter, IsStep}
-use Rattle.cal_spec.specs.declared.part.Part.{Part}
+use Rattle.cal_spec.specs.declared.field.Part.{Part}
 use Rattle.cal_spec.specs.headline.NormalForm.{each, normal_from_end, part_cmp, range_to, step_of}
 
 -- sorts the elements by `cmp`, and keeps only one of several elements that compare as equal

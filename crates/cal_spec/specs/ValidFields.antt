@@ -1,7 +1,7 @@
 -- Components and fields with valid values: systemd.time(7), Calendar Events.
 use Rattle.std.specs.Prelude.{◌<◌, List, length, Option, None, Some, ◌≡◌, ◌≤◌, true}
 use Rattle.std.specs.List.{AllByRecursion, list_any}
-use Rattle.cal_spec.specs.declared.part.Part.{Part}
+use Rattle.cal_spec.specs.declared.field.Part.{Part}
 use Rattle.cal_spec.specs.declared.slot.Slot.{Slot}
 use Rattle.cal_spec.specs.headline.ValidParts.{IsValidPart}
 use Rattle.cal_spec.specs.headline.Fields.{Fields, counted_parts, max_counted_parts}

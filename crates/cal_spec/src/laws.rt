@@ -18,7 +18,7 @@ ghost use Rattle.cal_spec.specs.WeekdayRunsRule.{AreWeekdayRuns};
 ghost use Rattle.cal_spec.specs.headline.WeekdayRuns.{Run, runs_from};
 ghost use Rattle.cal_spec.specs.ParsedSuffix.{name_in, offset_said};
 ghost use Rattle.cal_spec.specs.headline.ZoneSuffix.{ZoneSuffix};
-ghost use Rattle.cal_spec.specs.declared.part.Part.{Part};
+ghost use Rattle.cal_spec.specs.declared.field.Part.{Part};
 ghost use Rattle.cal_spec.specs.declared.slot.Slot.{Slot};
 ghost use Rattle.cal_spec.specs.declared.slot.Slot.TheVariants.{Second};
 

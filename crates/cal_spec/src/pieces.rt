@@ -1,8 +1,9 @@
-//! Splitting a text at its first separator.
+//! Splitting a text at its first separator, and comparing words without regard to case.
 
 ghost use Rattle.std.specs.Prelude.{◌≡◌, ◌≤◌, ◌==◌, ◌∷◌, length};
 ghost use Rattle.std.specs.List.{position, slice_split};
 ghost use Rattle.std.specs.Option.{option_copied};
+ghost use Rattle.std.specs.Str.{str_eq_ignore_ascii_case};
 ghost use Rattle.cal_bytes.specs.SplitPieces.{left, pieces_after};
 
 fn index_of(text: &[u8], separator: u8) -> Option<usize>
@@ -22,4 +23,11 @@ pub fn first_piece(text: &[u8], separator: u8) -> (&[u8], Option<&[u8]>)
         Some(index) => (&text[..index], Some(&text[index + 1..])),
         None => (text, None),
     }
+}
+
+/// Returns whether the words are equal, ignoring the case of ASCII letters.
+pub(crate) fn is_same_word(word: &[u8], other: &[u8]) -> bool
+    ensures { result ≡ str_eq_ignore_ascii_case word.now other.now }
+{
+    word.eq_ignore_ascii_case(other)
 }

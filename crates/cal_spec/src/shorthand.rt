@@ -6,7 +6,7 @@ ghost use Rattle.std.specs.Str.{str_eq_ignore_ascii_case};
 ghost use Rattle.cal_spec.specs.headline.Shorthand.{dates, times, names_of, expansion_of, shorthand_named};
 ghost use Rattle.cal_spec.specs.Views.{shown_expansion};
 
-use crate::same_word::is_same_word;
+use crate::pieces::is_same_word;
 
 /// The date that is used if an expression has none.
 pub(crate) const ANY_DATE: &[u8] = b"*-*-*";

@@ -11,8 +11,7 @@ ghost use Rattle.cal_spec.specs.WeekdayNames.{after_joint, day_named, days_of, i
 ghost use Rattle.cal_spec.specs.headline.Weekdays.{is_in_weekday_range, set_of};
 
 use crate::SpecFault;
-use crate::pieces::first_piece;
-use crate::same_word::is_same_word;
+use crate::pieces::{first_piece, is_same_word};
 use cal_civil::{WEEK, short_weekday_name, weekday_name};
 use jiff_core::civil::Weekday;
 use std::alloc::Global;

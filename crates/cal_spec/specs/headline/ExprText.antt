@@ -7,7 +7,7 @@ use Rattle.cal_civil.specs.headline.OffsetText.{zeros}
 use Rattle.cal_spec.specs.headline.Fields.{Fields}
 use Rattle.cal_spec.specs.headline.WeekdayRuns.{weekdays_text}
 use Rattle.cal_spec.specs.headline.ZoneSuffix.{ZoneSuffix, suffix_text}
-use Rattle.cal_spec.specs.declared.part.Part.{Part}
+use Rattle.cal_spec.specs.declared.field.Part.{Part}
 
 -- the text of a number: `lead`, then the number padded with zeros to at least `width` digits
 unfoldable pub number_text : List ℕ → ℕ → ℕ → List ℕ

@@ -1,7 +1,7 @@
 -- The fields of a calendar expression: systemd.time(7), Calendar Events.
 use Rattle.std.specs.Prelude.{ℕ, ◌+◌, ◌-◌, Bool, List, length, Option, None, Some}
 use Rattle.cal_spec.specs.headline.ZoneSuffix.{ZoneSuffix}
-use Rattle.cal_spec.specs.declared.part.Part.{Part}
+use Rattle.cal_spec.specs.declared.field.Part.{Part}
 
 -- which weekdays match, from Monday to Sunday; the six components, where None stands for `*`; whether the day is
 -- counted from the month's end; and the zone

@@ -18,7 +18,7 @@ use Rattle.cal_spec.specs.headline.Weekdays.{set_of}
 use Rattle.cal_civil.specs.headline.OffsetWord.{IsOffsetWord, begins_with_sign}
 use Rattle.cal_civil.specs.headline.ZoneName.{begins_with_letter, is_zone_name}
 use Rattle.cal_spec.specs.headline.ZoneSuffix.{ZoneSuffix, of_name, at_offset, kept_name}
-use Rattle.cal_spec.specs.declared.part.Part.{Part}
+use Rattle.cal_spec.specs.declared.field.Part.{Part}
 use Rattle.cal_spec.specs.declared.shorthand.Shorthand.{Shorthand}
 use Rattle.cal_spec.specs.declared.slot.Slot.{Slot}
 use Rattle.cal_spec.specs.declared.slot.Slot.TheVariants.{Year, Month, Hour, Minute, Second}

@@ -7,7 +7,7 @@ use Rattle.std.specs.Ordering.{nat_cmp, ordering_then}
 use Rattle.std.specs.declared.cmp.Ordering.{Ordering}
 use Rattle.cal_spec.specs.headline.Fields.{Fields}
 use Rattle.cal_rising.specs.headline.Elements.{Has}
-use Rattle.cal_spec.specs.declared.part.Part.{Part}
+use Rattle.cal_spec.specs.declared.field.Part.{Part}
 
 -- `e` is the last of the numbers `a`, `a` + `r`, .. that are at most `b`
 pub record IsLastReached (a b r e : ℕ) : Type 0 where

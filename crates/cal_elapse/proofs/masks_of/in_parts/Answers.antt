@@ -5,7 +5,7 @@ use Rattle.cal_elapse.specs.Bits.{is_bit}
 use Rattle.cal_elapse.proofs.BitLemmas.{is_bit-none, is_bit-or}
 use Rattle.cal_elapse.proofs.PartLemmas.{parts_more}
 use Rattle.cal_spec.specs.headline.Members.{part_has}
-use Rattle.cal_spec.specs.declared.part.Part.{Part}
+use Rattle.cal_spec.specs.declared.field.Part.{Part}
 use Rattle.cal_elapse.proofs.masks_of.in_parts.Goals as goal
 
 and_none : (x : Bool) → (x && false) ≡ false

@@ -3,7 +3,7 @@ use Rattle.std.specs.Char.{to_ascii_lowercase}
 use Rattle.std.specs.Str.{str_eq_ignore_ascii_case}
 use Rattle.std.proofs.lemmas.Bool.Decides.{same_from_decides}
 use Rattle.std.proofs.lemmas.Slice.Eq.{bytes_eq-Decides}
-use Rattle.cal_spec.proofs.same_word.is_same_word.Goals as goal
+use Rattle.cal_spec.proofs.pieces.is_same_word.Goals as goal
 
 pub returns : goal.returns
 returns c =
