@@ -7,13 +7,13 @@ use Rattle.clap.specs.Words.{App, Kinds, Rule, Shape, Text, fault_of, new_app, n
 use Rattle.clap.specs.declared.builder.ArgAction.TheVariants.{Append, Set}
 use Rattle.clap.specs.declared.error.kind.ErrorKind.{ErrorKind}
 use Rattle.clap.specs.declared.error.kind.ErrorKind.TheVariants.{DisplayHelp, DisplayVersion, OutOfMemory}
-use Rattle.cal_request.specs.Verb.{all_verbs, has_zones, is_timer, seeks_elapses, verb_name}
+use Rattle.cal_request.specs.Verb.{all_verbs, uses_instants, is_timer, seeks_elapses, verb_name}
 use Rattle.cal_request.specs.declared.verb.Verb.{Verb}
 use Rattle.cal_command.specs.Ask.{Ask, in_utc}
 use Rattle.cal_command.specs.CommandFault.{CommandFault, usage, help, bad_value, bad_iterations, bad_now, bad_zones, bad_local, no_memory}
 use Rattle.cal_command.specs.OptionValues.{count_in, local_zone_in, present_in, zones_in}
 use Rattle.cal_command.specs.declared.value_option.ValueOption.{ValueOption}
-use Rattle.cal_command.specs.VerbMatches.{VerbMatches, elapse_option, verb_matches_in, zone_option}
+use Rattle.cal_command.specs.VerbMatches.{VerbMatches, elapse_option, verb_matches_in, instant_option}
 
 -- ---- the command, as it is described to `clap`
 
@@ -25,15 +25,15 @@ abbrev pub shown_option : ValueOption → Rule
 shown_option option = option_rule option.name.now
 
 -- the options of the verbs that read or print instants
-abbrev pub zone_rules : List Rule
-zone_rules = option_rule (codes "local") ∷ option_rule (codes "zones") ∷ option_rule (codes "now") ∷ []
+abbrev pub instant_rules : List Rule
+instant_rules = option_rule (codes "local") ∷ option_rule (codes "zones") ∷ option_rule (codes "now") ∷ []
 
 -- the options of the verbs that compute elapses
 abbrev pub elapse_rules : List Rule
-elapse_rules = option_rule (codes "iterations") ∷ option_rule (codes "base-time") ∷ zone_rules
+elapse_rules = option_rule (codes "iterations") ∷ option_rule (codes "base-time") ∷ instant_rules
 
 abbrev pub option_rules : Verb → List Rule
-option_rules verb = if seeks_elapses verb then elapse_rules else if has_zones verb then zone_rules else []
+option_rules verb = if seeks_elapses verb then elapse_rules else if uses_instants verb then instant_rules else []
 
 -- the positional argument: one or more texts, or the one path of a timer file
 abbrev pub texts_rule : Verb → Rule
@@ -43,13 +43,22 @@ texts_rule verb = record (new_rule (codes "text")) { action = Some (if is_timer 
 abbrev pub verb_shape : Verb → Shape
 verb_shape verb = record (new_app (verb_name verb)).top { rules = option_rules verb ++ texts_rule verb ∷ [] }
 
--- the whole command, without its subcommands
+-- the command of the program itself
 abbrev pub program_shape : Shape
 program_shape = record (new_app (codes "calendar-analyze")).top { no_binary_name = true; has_version = true; subcommand_required = true }
 
--- the whole command, with a subcommand for each verb
+-- the whole command: that of the program, and a subcommand for each verb
 abbrev pub command_app : App
 command_app = record { top = record program_shape { is_leaf = false }; subs = map verb_shape all_verbs }
+
+-- adds options and positional arguments to the command
+abbrev pub with_rules : App → List Rule → App
+with_rules app rules = record app { top = record app.top { rules = app.top.rules ++ rules } }
+
+-- adds subcommands to the command
+abbrev pub with_subcommands : App → List Shape → App
+with_subcommands app [] = app
+with_subcommands app (shape ∷ shapes) = with_subcommands (with_subcommand app shape) shapes
 
 -- whether `clap` accepts the arguments
 unfoldable pub takes_arguments : List Text → Bool
@@ -76,9 +85,9 @@ unless_bad fault (Some value) next = next value
 unfoldable pub read_options : VerbMatches → Result Ask CommandFault
 read_options found =
     unless_bad bad_iterations (option_map_or count_in (elapse_option found (codes "iterations")) (Some 1)) (λ iterations.
-    unless_bad bad_now (option_map_or (λ text. option_map Some (present_in text)) (zone_option found (codes "now")) (Some None)) (λ now.
-    unless_bad bad_zones (option_map_or zones_in (zone_option found (codes "zones")) (Some [])) (λ zones.
-    unless_bad bad_local (option_map_or local_zone_in (zone_option found (codes "local")) (Some in_utc)) (λ local. Ok (record {
+    unless_bad bad_now (option_map_or (λ text. option_map Some (present_in text)) (instant_option found (codes "now")) (Some None)) (λ now.
+    unless_bad bad_zones (option_map_or zones_in (instant_option found (codes "zones")) (Some [])) (λ zones.
+    unless_bad bad_local (option_map_or local_zone_in (instant_option found (codes "local")) (Some in_utc)) (λ local. Ok (record {
       verb = found.verb;
       texts = found.texts;
       iterations = iterations;
@@ -108,14 +117,16 @@ HasRead arguments answer = (faults_in arguments ≡ []) × (ask_in arguments ≡
 abbrev pub HasRefused : List Text → (ErrorKind → Bool) → Type 0
 HasRefused arguments is_kind = (takes_arguments arguments ≡ false) × (list_any is_kind (faults_in arguments) ≡ true)
 
+-- `fault` is right for the arguments: usage or help if `clap` rejects them for such a reason, and the error for the first
+-- invalid value if `clap` parses them; the error for a failed allocation is right for all arguments
 abbrev pub IsFaultOf : List Text → CommandFault → Type 0
 IsFaultOf arguments (usage text) = HasRefused arguments (λ kind. not (is_of_help kind))
 IsFaultOf arguments (help text) = HasRefused arguments is_of_help
 IsFaultOf arguments (bad_value message) = HasRead arguments (Err (bad_value message))
 IsFaultOf arguments no_memory = ⊤
 
--- `answer` is right for the arguments. If `clap` parses them, the right answer is what `ask_in` returns for them.
--- Otherwise the right answer is usage or help. The error for a failed allocation is right for all arguments.
+-- `answer` is right for the arguments: it is what `ask_in` returns for them if `clap` parses them, or else an error
+-- that is right for them
 abbrev pub IsAskOf : List Text → Result Ask CommandFault → Type 0
 IsAskOf arguments (Ok ask) = HasRead arguments (Ok ask)
 IsAskOf arguments (Err fault) = IsFaultOf arguments fault
@@ -127,15 +138,7 @@ IsReportedOf kind (help text) = (is_of_help kind ≡ true) × (kind ≢ OutOfMem
 IsReportedOf kind no_memory = ⊤
 IsReportedOf kind _ = ⊥
 
--- adds options and positional arguments to the command
-abbrev pub with_rules : App → List Rule → App
-with_rules app rules = record app { top = record app.top { rules = app.top.rules ++ rules } }
-
--- adds subcommands to the command
-abbrev pub with_subcommands : App → List Shape → App
-with_subcommands app [] = app
-with_subcommands app (shape ∷ shapes) = with_subcommands (with_subcommand app shape) shapes
-
+-- `fault` is the one of `answer`, or it is the error for a failed allocation; it is neither usage nor help
 abbrev pub IsFaultOrNoMemory : CommandFault → Result Ask CommandFault → Type 0
 IsFaultOrNoMemory (usage text) answer = ⊥
 IsFaultOrNoMemory (help text) answer = ⊥

@@ -3,7 +3,7 @@ use Rattle.std.specs.Prelude.{List, take, Option, None, codes, if◌then◌else�
 use Rattle.clap.specs.Words.{Row, Text, all_of, first_of, found_of, rows_of}
 use Rattle.cal_command.specs.Ask.{texts_of}
 use Rattle.cal_command.specs.declared.verb_matches.VerbMatches as declared_matches
-use Rattle.cal_request.specs.Verb.{has_zones, is_timer, seeks_elapses, verb_named}
+use Rattle.cal_request.specs.Verb.{uses_instants, is_timer, seeks_elapses, verb_named}
 use Rattle.cal_request.specs.declared.verb.Verb.{Verb}
 
 -- a verb with its texts, and the rows of what `clap` found for the verb: one row for each option that was given, and
@@ -32,8 +32,8 @@ abbrev pub elapse_option : VerbMatches → Text → Option Text
 elapse_option found name = if seeks_elapses found.verb then first_of name found.rows else None
 
 -- the value of an option, if the verb reads or prints instants and the option was given
-abbrev pub zone_option : VerbMatches → Text → Option Text
-zone_option found name = if has_zones found.verb then first_of name found.rows else None
+abbrev pub instant_option : VerbMatches → Text → Option Text
+instant_option found name = if uses_instants found.verb then first_of name found.rows else None
 
 abbrev pub shown_matches : declared_matches.VerbMatches → VerbMatches
 shown_matches found = record {

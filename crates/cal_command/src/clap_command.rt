@@ -1,6 +1,6 @@
 //! The command that describes the arguments to `clap`, with a subcommand for each verb (systemd-analyze(1)).
 
-ghost use Rattle.std.specs.Prelude.{◌≡◌, ◌++◌, codes, drop, false, map, IfOk};
+ghost use Rattle.std.specs.Prelude.{◌≡◌, false, map, IfOk};
 ghost use Rattle.clap.specs.Words.{app_of, rule_of, shape_of};
 ghost use Rattle.clap.specs.declared.builder.command.Command.TheViews.{out-Command as fields_of};
 ghost use Rattle.cal_command.specs.CommandLine.{command_app, option_rule, shown_option, texts_rule, verb_shape, with_rules, with_subcommands};
@@ -43,7 +43,7 @@ fn with_verbs<'a>(
 /// Builds the subcommand of a verb.
 fn build_verb<'a>(alloc: Global, verb: Verb) -> Result<Command<'a>, AllocError>
     ensures app { IfOk result (λ command. shape_of command ≡ verb_shape verb) }
-    ensures local { IfOk result (λ command. (fields_of command).has_globals ≡ false) }
+    ensures not_global { IfOk result (λ command. (fields_of command).has_globals ≡ false) }
 {
     let help = help_of(verb);
     let command = Command::new(alloc, verb.name())
@@ -61,7 +61,7 @@ fn with_options<'a>(
     requires { (fields_of command).has_globals ≡ false }
     ensures app { IfOk result (λ changed. app_of changed
         ≡ with_rules (app_of command.entry) (map shown_option options.now)) }
-    ensures local { IfOk result (λ changed. (fields_of changed).has_globals ≡ false) }
+    ensures not_global { IfOk result (λ changed. (fields_of changed).has_globals ≡ false) }
 {
     let mut command = command;
     for option in options {
@@ -73,11 +73,11 @@ fn with_options<'a>(
 /// Creates an option that takes one value and may be given once.
 fn option_arg<'a>(alloc: Global, option: ValueOption) -> Arg<'a>
     ensures rule { rule_of result ≡ option_rule option.name.now }
-    ensures local { result.global ≡ false }
+    ensures not_global { result.global ≡ false }
 {
     Arg::new(alloc, option.name)
         .long(option.name)
-        .value_name(option.value)
+        .value_name(option.value_name)
         .help(option.help)
         .action(ArgAction::Set)
 }
@@ -85,7 +85,7 @@ fn option_arg<'a>(alloc: Global, option: ValueOption) -> Arg<'a>
 /// Creates the positional argument of a verb: one or more texts, or the path of one timer file.
 fn texts_arg<'a>(alloc: Global, verb: Verb, help: VerbHelp) -> Arg<'a>
     ensures rule { rule_of result ≡ texts_rule verb }
-    ensures local { result.global ≡ false }
+    ensures not_global { result.global ≡ false }
 {
     let action = if verb.is_timer() {
         ArgAction::Set

@@ -7,7 +7,8 @@ use std::alloc::AllocError;
 
 /// Why a command line yields no request: it is invalid, it only asks for help or the version, or memory ran out.
 ///
-/// Two variants hold data, so the numbers of the variants can't be declared with `= N` as in other error types:
+/// The errors are numbered, so that other documents can refer to them. Two variants hold data, so the numbers can't be
+/// declared with `= N`:
 ///
 /// | Number | Variant |
 /// |---|---|

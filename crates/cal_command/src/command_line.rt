@@ -65,7 +65,7 @@ impl Ask {
     }
 }
 
-/// Checks the values of the options and builds the request.
+/// Checks the values of the options and builds the `Ask`.
 #[tactic(auto, unfolding(crate::specs::CommandLine::read_options))]
 fn read_options(alloc: Global, found: VerbMatches) -> Result<Ask, CommandFault>
     requires { 0 < length found.texts.now }
@@ -74,13 +74,13 @@ fn read_options(alloc: Global, found: VerbMatches) -> Result<Ask, CommandFault>
     let Some(iterations) = iterations_of(found.elapse_option(ITERATIONS)) else {
         return Err(CommandFault::BadIterations);
     };
-    let Some(now) = now_of(found.zone_option(NOW)) else {
+    let Some(now) = now_of(found.instant_option(NOW)) else {
         return Err(CommandFault::BadNow);
     };
-    let Some(zones) = zones_of(alloc, found.zone_option(ZONES))? else {
+    let Some(zones) = zones_of(alloc, found.instant_option(ZONES))? else {
         return Err(CommandFault::BadZones);
     };
-    let Some(local) = local_zone_of(alloc, found.zone_option(LOCAL))? else {
+    let Some(local) = local_zone_of(alloc, found.instant_option(LOCAL))? else {
         return Err(CommandFault::BadLocal);
     };
     let request = Request {

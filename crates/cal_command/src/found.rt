@@ -4,7 +4,7 @@ ghost use Rattle.std.specs.Prelude.{◌≡◌, ◌≤◌, None, IfSome, false, l
 ghost use Rattle.std.specs.Option.{option_copied};
 ghost use Rattle.clap.specs.Words.{found_of, rows_of, subcommand_rows_of};
 ghost use Rattle.cal_command.specs.Ask.{texts_of};
-ghost use Rattle.cal_command.specs.VerbMatches.{elapse_option, shown_matches, texts_for, texts_kept, verb_matches_for, verb_matches_in, zone_option};
+ghost use Rattle.cal_command.specs.VerbMatches.{elapse_option, shown_matches, texts_for, texts_kept, verb_matches_for, verb_matches_in, instant_option};
 ghost use Rattle.cal_request.specs.Verb.{is_timer, seeks_elapses};
 
 use crate::value_option::ValueOption;
@@ -36,10 +36,10 @@ impl<'b, 'a> VerbMatches<'b, 'a> {
 
     /// Returns the value of an option that only the verbs that read or print instants have. Returns `None` if the verb
     /// neither reads nor prints instants, or if the option wasn't given.
-    pub(crate) fn zone_option(&self, option: ValueOption) -> Option<&'a str>
-        ensures { option_copied result ≡ zone_option (shown_matches self.now) option.name.now }
+    pub(crate) fn instant_option(&self, option: ValueOption) -> Option<&'a str>
+        ensures { option_copied result ≡ instant_option (shown_matches self.now) option.name.now }
     {
-        if self.verb.has_zones() {
+        if self.verb.uses_instants() {
             self.values.get_str(option.name)
         } else {
             None

@@ -11,7 +11,7 @@ use Rattle.cal_request.specs.declared.verb.TextVerb.TheVariants as text_verbs
 abbrev pub all_verbs : List Verb
 all_verbs = Calendar ∷ Timestamp ∷ Timespan ∷ Timer ∷ []
 
--- the name of a verb, as it stands in the arguments
+-- the name of a verb, as it is written in the arguments
 abbrev pub verb_name : Verb → List ℕ
 verb_name Calendar = codes "calendar"
 verb_name Timestamp = codes "timestamp"
@@ -32,20 +32,20 @@ text_verb Timer = None
 abbrev pub is_timer : Verb → Bool
 is_timer verb = is_none (text_verb verb)
 
--- whether a verb computes elapses; only such verbs have a base time, and only runs of such verbs can fail because
--- memory runs out
+-- whether a verb computes elapses; only such verbs have a base time
 abbrev pub seeks_elapses : Verb → Bool
 seeks_elapses Calendar = true
 seeks_elapses Timestamp = false
 seeks_elapses Timespan = false
 seeks_elapses Timer = true
 
--- whether a verb reads or prints instants; only the reports of such verbs depend on the present and on zones
-abbrev pub has_zones : Verb → Bool
-has_zones Calendar = true
-has_zones Timestamp = true
-has_zones Timespan = false
-has_zones Timer = true
+-- whether a verb reads or prints instants; only the reports of such verbs depend on the present and on zones, so only
+-- such verbs have the options for them
+abbrev pub uses_instants : Verb → Bool
+uses_instants Calendar = true
+uses_instants Timestamp = true
+uses_instants Timespan = false
+uses_instants Timer = true
 
 -- the maximum number of elapses that a request can ask for
 abbrev pub max_iterations : ℕ

@@ -10,12 +10,12 @@ ghost use Rattle.cal_request.specs.Verb.{verb_name};
 pub enum Verb {
     /// `calendar`: the normal form of a calendar expression, and its next elapses.
     Calendar,
-    /// `timer`: the next elapses of a timer file. The request's only text is the path of this file.
-    Timer,
-    /// `timestamp`: the instant that a timestamp resolves to.
+    /// `timestamp`: the moment that a timestamp resolves to.
     Timestamp,
     /// `timespan`: the length of a time span.
     Timespan,
+    /// `timer`: the next elapses of a timer file. The request's only text is the path of this file.
+    Timer,
 }
 
 /// A verb that takes texts.
@@ -31,12 +31,13 @@ pub enum TextVerb {
 
 impl Verb {
     ghost use Rattle.std.specs.Prelude.{◌≡◌};
-    ghost use Rattle.cal_request.specs.Verb.{has_zones, is_timer, seeks_elapses, text_verb, verb_name, verb_named};
+    ghost use Rattle.cal_request.specs.Verb.{uses_instants, is_timer, seeks_elapses, text_verb, verb_name, verb_named};
 
     /// The verbs, in the order in which the help lists them.
     pub const ALL: [Verb; 4] = [Verb::Calendar, Verb::Timestamp, Verb::Timespan, Verb::Timer];
 
-    /// Returns the name of the verb, as it stands in the arguments.
+    /// Returns the name of the verb, as it is written in the arguments. The caller chooses the lifetime: the prover
+    /// doesn't shorten `'static`.
     pub fn name<'a>(self) -> &'a str
         ensures { result.now ≡ verb_name self }
     {
@@ -67,8 +68,7 @@ impl Verb {
         }
     }
 
-    /// Returns whether the verb computes elapses. Only such verbs have a base time, and only runs of such verbs can
-    /// fail because memory runs out.
+    /// Returns whether the verb computes elapses. Only such verbs have a base time.
     pub fn seeks_elapses(self) -> bool
         ensures { result ≡ seeks_elapses self }
     {
@@ -76,9 +76,9 @@ impl Verb {
     }
 
     /// Returns whether the verb reads or prints instants. Only the reports of such verbs depend on the present and on
-    /// zones.
-    pub fn has_zones(self) -> bool
-        ensures { result ≡ has_zones self }
+    /// zones, so only such verbs have the options for them.
+    pub fn uses_instants(self) -> bool
+        ensures { result ≡ uses_instants self }
     {
         !matches!(self, Verb::Timespan)
     }

@@ -10,10 +10,10 @@ loop-option-preserved c =
     let before = app_of c.loop-option.command in
     let later = map shown_option (drop (c.loop-option.option-index + 1) c.args.options.now) in
     record {
-      app = ap (λ app. with_rules app later) (c.in_ok-command.ensures.shape c.option_arg.ensures.local ∙ ap (with_rule before) c.option_arg.ensures.rule)
+      app = ap (λ app. with_rules app later) (c.in_ok-command.ensures.shape c.option_arg.ensures.not_global ∙ ap (with_rule before) c.option_arg.ensures.rule)
           ∙ with_rule-rules before _ later ∙ ap (with_rules before) (next_mapped shown_option c.args.options.now c.loop-option.option-index _ c.loop-option-test.true)
           ∙ c.loop-option.invariant.app;
-      local = search rules;
+      not_global = search rules;
     }
 
 pub returns-clause-app : goal.returns-clause-app

@@ -9,5 +9,5 @@ abbrev pub invariant-loop-option : goal.invariant-loop-option
 invariant-loop-option l = record {
   app : with_rules (app_of l.command) (map shown_option (drop l.option-index l.options))
       ≡ with_rules (app_of l.fn.command) (map shown_option l.options);
-  local : (fields_of l.command).has_globals ≡ false;
+  not_global : (fields_of l.command).has_globals ≡ false;
 }

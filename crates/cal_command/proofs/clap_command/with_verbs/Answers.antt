@@ -9,7 +9,7 @@ pub loop-verb-preserved : goal.loop-verb-preserved
 loop-verb-preserved c =
     let before = app_of c.loop-verb.command in
     let later = map verb_shape (drop (c.loop-verb.verb-index + 1) c.args.verbs.now) in
-    ap (λ app. with_subcommands app later) (c.in_ok-command.ensures.shape c.in_ok-build_verb.ensures.local ∙ ap (with_subcommand before) c.in_ok-build_verb.ensures.app)
+    ap (λ app. with_subcommands app later) (c.in_ok-command.ensures.shape c.in_ok-build_verb.ensures.not_global ∙ ap (with_subcommand before) c.in_ok-build_verb.ensures.app)
     ∙ ap (with_subcommands before) (next_mapped verb_shape c.args.verbs.now c.loop-verb.verb-index _ c.loop-verb-test.true) ∙ c.loop-verb.invariant
 
 pub returns : goal.returns
