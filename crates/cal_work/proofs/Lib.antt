@@ -1,4 +1,4 @@
 pub mod LawLemmas
-pub mod TellLemmas
+pub mod EndLemmas
 pub mod WorkLemmas
 pub mod WorkedRows

@@ -30,7 +30,7 @@ use Rattle.cal_report.specs.RunReport.{IsReported, ReadsFile, base_in, file_repo
 use Rattle.cal_report.specs.headline.ReportLines.{Report}
 use Rattle.cal_request.specs.RequestKind.{for_file, for_texts, kind_of}
 use Rattle.cal_request.specs.headline.Request.{Request}
-use Rattle.cal_work.specs.Stop.{Stop, command_outlet, command_stop, is_out_outlet, is_err_outlet, exit_status, load_stop, name_stop, rule_stop, shown_stop, unopened_stop, memory_stop, is_out_stop, is_err_stop}
+use Rattle.cal_work.specs.Stop.{Stop, command_outlet, command_stop, is_out_failure, is_err_failure, exit_status, load_stop, name_stop, rule_stop, shown_stop, unopened_stop, memory_stop, stops_for_out, stops_for_err}
 use Rattle.cal_work.specs.System.{Known, Opens, GivesTime, Comes, Seen, Sees, SeesBytes}
 use Rattle.cal_work.specs.WorkSteps.{StopsAs, Loads, ReadsZones, FindsLocal, IsBadRule, EndsAs, Runs, Answered, AnsweredArguments, ran}
 use Rattle.cal_work.specs.Works.{SeesFor, SeesZones, ReadsZone}
@@ -55,7 +55,7 @@ no_ok (Err e) P h = tt
 -- How a stop agrees with the definitions
 
 -- a stop that isn't due to a failed output agrees with `shown`, the report of this stop
-pub is_stop : {X : Type 0} (stop : declared_stop.Stop) (shown : Stop) → is_out_stop stop ≡ false → is_err_stop stop ≡ false → shown_stop stop ≡ shown → StopsAs {X = X} stop (Err shown)
+pub is_stop : {X : Type 0} (stop : declared_stop.Stop) (shown : Stop) → stops_for_out stop ≡ false → stops_for_err stop ≡ false → shown_stop stop ≡ shown → StopsAs {X = X} stop (Err shown)
 is_stop stop shown out err is = record { before_out = out; before_err = err; stopped = refl; same = λ h. ap (λ s. Err s) (sym is) }
 
 -- if a stop agrees with `expected`, the result of one step, then it also agrees with the result of this step followed
@@ -441,7 +441,7 @@ arguments_answered known arguments ask result out out' err err' asks a = record 
 }
 
 -- an error of the command line isn't due to a failed output
-no_output : (fault : CommandFault) → (is_out_outlet (command_outlet fault) ≡ false) × (is_err_outlet (command_outlet fault) ≡ false)
+no_output : (fault : CommandFault) → (is_out_failure (command_outlet fault) ≡ false) × (is_err_failure (command_outlet fault) ≡ false)
 no_output (usage text) = (refl, refl)
 no_output (help text) = (refl, refl)
 no_output (bad_value message) = (refl, refl)

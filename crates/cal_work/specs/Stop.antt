@@ -49,11 +49,12 @@ command_stop (help text) = record { out = text; err = []; status = 0 }
 command_stop (bad_value message) = with_line (own_line message) 2
 command_stop no_memory = memory_stop
 
--- the stop for a zone file that can't be loaded
+-- the stop for a zone that `jiff` rejects or that can't be added to the table
 abbrev pub zone_stop : List ℕ → ZoneFault → Stop
 zone_stop name zone.NoMemory = memory_stop
 zone_stop name fault = with_line (zones_line name (message_of (Zone fault))) 2
 
+-- the stop for a zone file that can't be loaded
 abbrev pub load_stop : List ℕ → LoadFault → Stop
 load_stop name ReadFailed = with_line (zones_line name (message_of ReadFailed)) 2
 load_stop name (Zone fault) = zone_stop name fault
@@ -124,29 +125,29 @@ outlet_of Clock = OnErr
 outlet_of (Open path) = OnErr
 outlet_of (Run fault) = Later fault
 
--- The next six definitions say whether a stop is due to a failure of standard output, a failure of standard error, or a
--- lack of memory. Three of them take an `Outlet`, which says where the stop is reported, and three the stop itself.
+-- The next six definitions say whether a stop is due to a failure of standard output, to a failure of standard error, or
+-- to a lack of memory. Three of them take the stop's `Outlet`, which names the failure, and three the stop itself.
 
-abbrev pub is_out_outlet : Outlet → Bool
-is_out_outlet (Later run.OutFailed) = true
-is_out_outlet outlet = false
+abbrev pub is_out_failure : Outlet → Bool
+is_out_failure (Later run.OutFailed) = true
+is_out_failure outlet = false
 
-abbrev pub is_err_outlet : Outlet → Bool
-is_err_outlet (Later run.ErrFailed) = true
-is_err_outlet outlet = false
+abbrev pub is_err_failure : Outlet → Bool
+is_err_failure (Later run.ErrFailed) = true
+is_err_failure outlet = false
 
-abbrev pub is_memory_outlet : Outlet → Bool
-is_memory_outlet (Later run.NoMemory) = true
-is_memory_outlet outlet = false
+abbrev pub is_memory_failure : Outlet → Bool
+is_memory_failure (Later run.NoMemory) = true
+is_memory_failure outlet = false
 
-abbrev pub is_out_stop : declared_stop.Stop → Bool
-is_out_stop stop = is_out_outlet (outlet_of stop)
+abbrev pub stops_for_out : declared_stop.Stop → Bool
+stops_for_out stop = is_out_failure (outlet_of stop)
 
-abbrev pub is_err_stop : declared_stop.Stop → Bool
-is_err_stop stop = is_err_outlet (outlet_of stop)
+abbrev pub stops_for_err : declared_stop.Stop → Bool
+stops_for_err stop = is_err_failure (outlet_of stop)
 
-abbrev pub is_for_memory : declared_stop.Stop → Bool
-is_for_memory stop = is_memory_outlet (outlet_of stop)
+abbrev pub stops_for_memory : declared_stop.Stop → Bool
+stops_for_memory stop = is_memory_failure (outlet_of stop)
 
 -- the exit status of a run that could write everything
 abbrev pub exit_status : Status → ℕ

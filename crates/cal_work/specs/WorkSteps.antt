@@ -14,7 +14,7 @@ use Rattle.cal_command.specs.Ask.{Ask, LocalZone, in_utc, at_offset, by_rule, of
 use Rattle.cal_work.specs.Outcome.{World, ZoneFound, loaded, table_by, local_by, clock_by, present_by, outcome, outcome_of, run_by, out_text, err_text, outcome_status, ended_status}
 use Rattle.cal_report.specs.headline.ReportLines.{Report}
 use Rattle.cal_request.specs.headline.Request.{Request}
-use Rattle.cal_work.specs.Stop.{Stop, exit_status, is_for_memory, is_out_stop, is_err_stop, outlet_of, shown_stop, stop_text}
+use Rattle.cal_work.specs.Stop.{Stop, exit_status, stops_for_memory, stops_for_out, stops_for_err, outlet_of, shown_stop, stop_text}
 use Rattle.cal_work.specs.System.{Known, Seen, GivesTime}
 use Rattle.cal_work.specs.Works.{Fits, FitsArguments, IsLocal, SeesFile, SeesZone, SeesZones}
 use Rattle.cal_zone.specs.declared.zone_files.LoadFault.{LoadFault}
@@ -29,21 +29,21 @@ use Rattle.cal_work.specs.declared.stop.Stop.TheVariants.{Run}
 -- whether the work ended because standard output failed
 abbrev pub is_out_cut : {T : Type 0} → Result T declared_stop.Stop → Bool
 is_out_cut (Ok x) = false
-is_out_cut (Err stop) = is_out_stop stop
+is_out_cut (Err stop) = stops_for_out stop
 
 -- whether the work ended because standard error failed
 abbrev pub is_err_cut : {T : Type 0} → Result T declared_stop.Stop → Bool
 is_err_cut (Ok x) = false
-is_err_cut (Err stop) = is_err_stop stop
+is_err_cut (Err stop) = stops_for_err stop
 
 -- The work ended with `stop` before the run, and this agrees with `expected`, the result of the definitions. `stop`
 -- isn't due to a failed output, and `expected` is a stop too. Unless `stop` is due to running out of memory, `expected`
 -- is the report of `stop`.
 pub record StopsAs {X : Type 0} (stop : declared_stop.Stop) (expected : Result X Stop) : Type 0 where
-  pub before_out : is_out_stop stop ≡ false
-  pub before_err : is_err_stop stop ≡ false
+  pub before_out : stops_for_out stop ≡ false
+  pub before_err : stops_for_err stop ≡ false
   pub stopped : IsErr expected
-  pub same : is_for_memory stop ≡ false → expected ≡ Err (shown_stop stop)
+  pub same : stops_for_memory stop ≡ false → expected ≡ Err (shown_stop stop)
 
 -- what a step returned agrees with `expected`, the result of the definitions; `view` maps the Rust value that the step
 -- returned to a value of the definitions
@@ -164,10 +164,10 @@ IsFlushed (Err fault) flushed = flushed ≡ Err fault
 
 -- The report `text` of a stop is written to the output that the outlet names. If the stop has to be reported later,
 -- nothing is written.
-abbrev pub TellsOn : Outlet → List ℕ → Result Unit RunFault → Option (List ℕ) → Option (List ℕ) → Option (List ℕ) → Option (List ℕ) → Type 0
-TellsOn OnOut text result out out' err err' = Writes out out' result text × (err' ≡ err)
-TellsOn OnErr text result out out' err err' = Writes err err' result text × (out' ≡ out)
-TellsOn (Later fault) text result out out' err err' = (result ≡ Err fault) × (out' ≡ out) × (err' ≡ err)
+abbrev pub ReportsOn : Outlet → List ℕ → Result Unit RunFault → Option (List ℕ) → Option (List ℕ) → Option (List ℕ) → Option (List ℕ) → Type 0
+ReportsOn OnOut text result out out' err err' = Writes out out' result text × (err' ≡ err)
+ReportsOn OnErr text result out out' err err' = Writes err err' result text × (out' ≡ out)
+ReportsOn (Later fault) text result out out' err err' = (result ≡ Err fault) × (out' ≡ out) × (err' ≡ err)
 
-abbrev pub TellsStop : declared_stop.Stop → Result Unit RunFault → Option (List ℕ) → Option (List ℕ) → Option (List ℕ) → Option (List ℕ) → Type 0
-TellsStop stop result out out' err err' = TellsOn (outlet_of stop) (stop_text stop) result out out' err err'
+abbrev pub ReportsStop : declared_stop.Stop → Result Unit RunFault → Option (List ℕ) → Option (List ℕ) → Option (List ℕ) → Option (List ℕ) → Type 0
+ReportsStop stop result out out' err err' = ReportsOn (outlet_of stop) (stop_text stop) result out out' err err'

@@ -90,23 +90,23 @@ Reaches old reached (Err fault) text = (held : List ℕ) × AppendsFront old (ap
 
 -- if an output or an allocation failed, the final error line is written, or a prefix of it if standard error fails;
 -- otherwise nothing is written
-abbrev pub TellsFault : {T : Type 0} → Option (List ℕ) → Option (List ℕ) → Bool → Result T RunFault → Type 0
-TellsFault old new failed (Ok all) = Keeps old new
-TellsFault old new false (Err fault) = Appends old new (fault_stop fault).err
-TellsFault old new true (Err fault) = AppendsFront old new (fault_stop fault).err
+abbrev pub ReportsFault : {T : Type 0} → Option (List ℕ) → Option (List ℕ) → Bool → Result T RunFault → Type 0
+ReportsFault old new failed (Ok all) = Keeps old new
+ReportsFault old new false (Err fault) = Appends old new (fault_stop fault).err
+ReportsFault old new true (Err fault) = AppendsFront old new (fault_stop fault).err
 
 -- If nothing failed, the whole text is written to standard error. If an output or an allocation failed, a prefix of the
--- text is written, and after it the final error line, as `TellsFault` says.
-pub record Tells {T : Type 0} (old new : Option (List ℕ)) (failed : Bool) (written : Result T RunFault) (text : List ℕ) : Type 0 where
+-- text is written, and after it the final error line, as `ReportsFault` says.
+pub record WritesErr {T : Type 0} (old new : Option (List ℕ)) (failed : Bool) (written : Result T RunFault) (text : List ℕ) : Type 0 where
   pub before : Option (List ℕ)
   pub text_bytes : Writes old before written text
-  pub line : TellsFault before new failed written
+  pub line : ReportsFault before new failed written
 
--- the status and the bytes that the program wrote agree, as `Reaches` and `Tells` say, with the outcome in a world that
+-- the status and the bytes that the program wrote agree, as `Reaches` and `WritesErr` say, with the outcome in a world that
 -- fits the arguments and what is known
 pub record Works (known : Known) (arguments : List (List ℕ)) (out reached err err' : Option (List ℕ)) (err_failed : Bool) (ended : Ended) : Type 0 where
   pub world : World
   pub fits : FitsArguments known arguments world
   pub status : ended.status ≡ ended_status ended.written (outcome world)
   pub out_bytes : Reaches out reached ended.written (out_text (outcome world))
-  pub err_bytes : Tells err err' err_failed ended.written (err_text (outcome world))
+  pub err_bytes : WritesErr err err' err_failed ended.written (err_text (outcome world))

@@ -12,10 +12,10 @@ ghost use Rattle.cal_report.specs.headline.ReportLines.{Report};
 ghost use Rattle.cal_request.specs.RequestView.{asked};
 ghost use Rattle.cal_request.specs.Status.{is_out_failed, is_err_failed};
 ghost use Rattle.cal_work.specs.Stop as stops;
-ghost use Rattle.cal_work.specs.Stop.{is_out_stop, is_err_stop, load_stop, rule_stop, unopened_stop};
+ghost use Rattle.cal_work.specs.Stop.{stops_for_out, stops_for_err, load_stop, rule_stop, unopened_stop};
 ghost use Rattle.cal_work.specs.System.{Opens};
-ghost use Rattle.cal_work.specs.WorkSteps.{is_out_cut, is_err_cut, ran, status_by, Answered, AnsweredArguments, EndsAs, FindsLocal, HasRules, IsFlushed, IsBadRule, Loads, Presents, Reads, ReadsZones, Runs, StopsAs, TellsStop, WritesOf};
-ghost use Rattle.cal_work.specs.Works.{Reaches, TellsFault, Works};
+ghost use Rattle.cal_work.specs.WorkSteps.{is_out_cut, is_err_cut, ran, status_by, Answered, AnsweredArguments, EndsAs, FindsLocal, HasRules, IsFlushed, IsBadRule, Loads, Presents, Reads, ReadsZones, Runs, StopsAs, ReportsStop, WritesOf};
+ghost use Rattle.cal_work.specs.Works.{Reaches, ReportsFault, Works};
 
 use crate::stop::{Outlet, Stop, exit_status, write_stop};
 use crate::system::System;
@@ -67,9 +67,9 @@ pub fn work<S: System, T: AsStr, O: Output, E: Sink>(
     ensures err_fault { is_err_failed result.written ≡ true → E.is_failed err.new ≡ true }
 {
     let answered = answer_arguments(alloc, system, arguments, out, err);
-    let reported = tell(&answered, out, err);
+    let reported = report_end(&answered, out, err);
     let written = flush_output(reported.written, out);
-    tell_fault(written, err);
+    report_fault(written, err);
     Ended {
         status: status_by(written, reported.status),
         written,
@@ -143,7 +143,7 @@ fn read_zones<S: System>(alloc: Global, system: &S, items: &[ZoneItem]) -> Resul
     for item in items {
         match load_item(alloc, system, &mut table, item) {
             Ok(()) => {}
-            Err(fault) => return Err(zone_stop(alloc, item.name.as_str(), fault)),
+            Err(fault) => return Err(load_stop(alloc, item.name.as_str(), fault)),
         }
     }
     Ok(table)
@@ -166,7 +166,7 @@ fn load_item<S: System>(
 
 /// Returns the stop for a zone file that can't be loaded. The stop owns a copy of the name. If the copy can't be
 /// allocated, the stop is for running out of memory instead.
-fn zone_stop(alloc: Global, name: &str, fault: LoadFault) -> Stop
+fn load_stop(alloc: Global, name: &str, fault: LoadFault) -> Stop
     ensures { StopsAs {X = Unit} result (Err (load_stop name.now fault)) }
 {
     match String::from_str(alloc, name) {
@@ -204,6 +204,7 @@ fn local_zone<'t>(
         LocalZone::Offset(seconds) => Ok(Zone::offset(*seconds)),
         LocalZone::Posix(_) => match rules {
             Some(rules) => Ok(Zone::rules(rules)),
+            // The rules were parsed before, since the zone borrows them.
             None => unreachable!(),
         },
         LocalZone::Name(name) => match table.find(name.as_str()) {
@@ -293,18 +294,9 @@ fn open_file<S: System>(alloc: Global, system: &S, path: &str) -> Result<S::File
 
 // What is reported at the end
 
-/// How the work ended before the output is flushed.
-#[derive(Clone, Copy)]
-struct Told {
-    /// The exit status if the output can be flushed.
-    status: u8,
-    /// Whether everything was written, including the report of a stop.
-    written: Result<(), RunFault>,
-}
-
 /// If the work stopped early, reports why. A failed output and running out of memory are not reported here, but by
-/// `tell_fault` after the output is flushed.
-fn tell<O: Sink, E: Sink>(answered: &Result<Status, Stop>, out: &mut O, err: &mut E) -> Told
+/// `report_fault` after the output is flushed. Returns how the work ends if the output can be flushed.
+fn report_end<O: Sink, E: Sink>(answered: &Result<Status, Stop>, out: &mut O, err: &mut E) -> Ended
     requires out { O.is_failed out.old ≡ is_out_cut answered.now }
     requires err { E.is_failed err.old ≡ is_err_cut answered.now }
     ensures reported { (expected : Result Report stops.Stop) (before_out before_err : Option (List ℕ))
@@ -314,23 +306,23 @@ fn tell<O: Sink, E: Sink>(answered: &Result<Status, Stop>, out: &mut O, err: &mu
     ensures err_failed { E.is_failed err.new ≡ is_err_failed result.written }
 {
     match answered {
-        Ok(status) => Told {
+        Ok(status) => Ended {
             status: exit_status(*status),
             written: Ok(()),
         },
-        Err(stop) => Told {
+        Err(stop) => Ended {
             status: stop.status(),
-            written: tell_stop(stop, out, err),
+            written: report_stop(stop, out, err),
         },
     }
 }
 
 /// Reports a stop: help on `out`, other stops on `err`. Fails if the report can't be written. If the stop is that an
 /// output has failed or that memory has run out, writes nothing, and fails with that error, which is reported later.
-fn tell_stop<O: Sink, E: Sink>(stop: &Stop, out: &mut O, err: &mut E) -> Result<(), RunFault>
-    requires out { O.is_failed out.old ≡ is_out_stop stop.now }
-    requires err { E.is_failed err.old ≡ is_err_stop stop.now }
-    ensures reported { TellsStop stop.now result (O.written out.old) (O.written out.new) (E.written err.old) (E.written err.new) }
+fn report_stop<O: Sink, E: Sink>(stop: &Stop, out: &mut O, err: &mut E) -> Result<(), RunFault>
+    requires out { O.is_failed out.old ≡ stops_for_out stop.now }
+    requires err { E.is_failed err.old ≡ stops_for_err stop.now }
+    ensures reported { ReportsStop stop.now result (O.written out.old) (O.written out.new) (E.written err.old) (E.written err.new) }
     ensures out_failed { O.is_failed out.new ≡ is_out_failed result }
     ensures err_failed { E.is_failed err.new ≡ is_err_failed result }
 {
@@ -361,9 +353,9 @@ fn flush_output<O: Output>(written: Result<(), RunFault>, out: &mut O) -> Result
 }
 
 /// If not everything was written, reports the reason, unless standard error is what failed.
-fn tell_fault<E: Sink>(written: Result<(), RunFault>, err: &mut E)
+fn report_fault<E: Sink>(written: Result<(), RunFault>, err: &mut E)
     requires { E.is_failed err.old ≡ is_err_failed written }
-    ensures line { TellsFault (E.written err.old) (E.written err.new) (E.is_failed err.new) written }
+    ensures line { ReportsFault (E.written err.old) (E.written err.new) (E.is_failed err.new) written }
     ensures fault { is_err_failed written ≡ true → E.is_failed err.new ≡ true }
 {
     match written {

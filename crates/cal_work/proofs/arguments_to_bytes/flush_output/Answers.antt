@@ -1,5 +1,5 @@
 use Rattle.std.proofs.Common.{false}
-use Rattle.cal_work.proofs.TellLemmas.{reaches_fault, reaches_flushed, reaches_unflushed}
+use Rattle.cal_work.proofs.EndLemmas.{reaches_fault, reaches_flushed, reaches_unflushed}
 use Rattle.cal_work.proofs.arguments_to_bytes.flush_output.Goals as goal
 
 pub returns-then-flush-clause-bytes : goal.returns-then-flush-clause-bytes

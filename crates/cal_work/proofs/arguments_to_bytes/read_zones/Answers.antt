@@ -7,7 +7,7 @@ use Rattle.cal_text.proofs.General.{items_end, items_next}
 pub returns-in-Err : goal.returns-in-Err
 returns-in-Err g c =
     let next = items_next shown_item c.args.items.now c.loop-item.item-index c.item-item.result _ (omega arith) c.item-item.is refl in
-    let stop = rw c.as_str.ensures.value at c.zone_stop.ensures in
+    let stop = rw c.as_str.ensures.value at c.load_stop.ensures in
     next_stops (λ table. table) _ _ _ _ (shown_item c.item-item.result) _ _ c.in-Err.fault _ next c.loop-item.invariant c.in-Err.ensures stop
 
 pub loop-item-preserved : goal.loop-item-preserved

@@ -1,7 +1,7 @@
-use Rattle.cal_work.proofs.TellLemmas.{works}
+use Rattle.cal_work.proofs.EndLemmas.{works}
 use Rattle.cal_work.proofs.arguments_to_bytes.work.Goals as goal
 
 pub returns-clause-works : goal.returns-clause-works
 returns-clause-works g c =
-    works _ _ c.answer_arguments-answered.result _ _ _ _ _ _ _ _ _ c.tell-reported.result.written c.flush_output-written.result c.tell-reported.result.status _
-    c.answer_arguments-answered.ensures.answered c.tell-reported.ensures.reported c.flush_output-written.ensures.bytes c.flush_output-written.ensures.same c.tell_fault.ensures.line c.status_by.ensures
+    works _ _ c.answer_arguments-answered.result _ _ _ _ _ _ _ _ _ c.report_end-reported.result.written c.flush_output-written.result c.report_end-reported.result.status _
+    c.answer_arguments-answered.ensures.answered c.report_end-reported.ensures.reported c.flush_output-written.ensures.bytes c.flush_output-written.ensures.same c.report_fault.ensures.line c.status_by.ensures

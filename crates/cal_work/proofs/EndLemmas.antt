@@ -9,8 +9,8 @@ use Rattle.cal_work.specs.Outcome.{outcome, out_text, err_text, ended_status}
 use Rattle.cal_report.specs.headline.ReportLines.{Report}
 use Rattle.cal_work.specs.Stop.{Stop, command_outlet, command_stop, command_text, fault_stop, outlet_of, shown_stop, stop_text}
 use Rattle.cal_work.specs.System.{Known}
-use Rattle.cal_work.specs.WorkSteps.{StopsAs, StopEnds, EndsAs, AnsweredArguments, IsFlushed, TellsOn, TellsStop, status_by, WritesOf}
-use Rattle.cal_work.specs.Works.{Reaches, TellsFault, Works}
+use Rattle.cal_work.specs.WorkSteps.{StopsAs, StopEnds, EndsAs, AnsweredArguments, IsFlushed, ReportsOn, ReportsStop, status_by, WritesOf}
+use Rattle.cal_work.specs.Works.{Reaches, ReportsFault, Works}
 use Rattle.cal_request.specs.declared.request.RunFault.{RunFault}
 use Rattle.cal_request.specs.declared.request.RunFault.TheVariants.{OutFailed, ErrFailed, NoMemory}
 use Rattle.cal_request.specs.declared.request.Status.{Status}
@@ -73,9 +73,9 @@ texts_fit (Open path) = (refl, refl)
 texts_fit (Run fault) = tt
 
 module _ (stop : declared_stop.Stop) (r : Result Unit RunFault) (expected : Result Report Stop) (out out1 out' err err1 err' : Option (List ℕ)) (s : StopsAs stop expected) (at_out : out1 ≡ out) (at_err : err1 ≡ err) where
-  -- if the work stopped before the run, and the stop was reported as `TellsOn` says, then what was written agrees with
+  -- if the work stopped before the run, and the stop was reported as `ReportsOn` says, then what was written agrees with
   -- `expected`, as `WritesOf` says
-  early_written : (outlet : Outlet) → outlet_of stop ≡ outlet → TextsFit outlet (shown_stop stop) (stop_text stop) → TellsOn outlet (stop_text stop) r out1 out' err1 err' → WritesOf r (shown_stop stop).status expected out out' err err'
+  early_written : (outlet : Outlet) → outlet_of stop ≡ outlet → TextsFit outlet (shown_stop stop) (stop_text stop) → ReportsOn outlet (stop_text stop) r out1 out' err1 err' → WritesOf r (shown_stop stop).status expected out out' err err'
   unfolding TextsFit
   early_written OnOut is fits (w, same) =
       let stopped : expected ≡ Err (shown_stop stop) = s.same (rw is refl) in
@@ -100,16 +100,16 @@ module _ (stop : declared_stop.Stop) (r : Result Unit RunFault) (expected : Resu
         err_bytes = rw (same_err ∙ at_err) (nothing_front err (err_text expected));
       })
 
-pub tells_stop : (stop : declared_stop.Stop) (r : Result Unit RunFault) (out1 out' err1 err' : Option (List ℕ)) → TellsStop stop r out1 out' err1 err' → (expected : Result Report Stop) (out err : Option (List ℕ)) → StopEnds stop expected out out1 err err1
+pub reports_stop : (stop : declared_stop.Stop) (r : Result Unit RunFault) (out1 out' err1 err' : Option (List ℕ)) → ReportsStop stop r out1 out' err1 err' → (expected : Result Report Stop) (out err : Option (List ℕ)) → StopEnds stop expected out out1 err err1
     → WritesOf r (shown_stop stop).status expected out out' err err'
-tells_stop (Run fault) r out1 out' err1 err' t expected out err s =
+reports_stop (Run fault) r out1 out' err1 err' t expected out err s =
     rw (t.0, t.1, t.2) (fault_written fault expected out out1 err err1 s.0 s.1 s.2)
-tells_stop (Command fault) r out1 out' err1 err' t expected out err s = early_written (Command fault) r expected out out1 out' err err1 err' s.0 s.1 s.2 (outlet_of (Command fault)) refl (texts_fit (Command fault)) t
-tells_stop (Zones name fault) r out1 out' err1 err' t expected out err s = early_written (Zones name fault) r expected out out1 out' err err1 err' s.0 s.1 s.2 (outlet_of (Zones name fault)) refl (texts_fit (Zones name fault)) t
-tells_stop LocalRule r out1 out' err1 err' t expected out err s = early_written LocalRule r expected out out1 out' err err1 err' s.0 s.1 s.2 OnErr refl (texts_fit LocalRule) t
-tells_stop LocalName r out1 out' err1 err' t expected out err s = early_written LocalName r expected out out1 out' err err1 err' s.0 s.1 s.2 OnErr refl (texts_fit LocalName) t
-tells_stop Clock r out1 out' err1 err' t expected out err s = early_written Clock r expected out out1 out' err err1 err' s.0 s.1 s.2 OnErr refl (texts_fit Clock) t
-tells_stop (Open path) r out1 out' err1 err' t expected out err s = early_written (Open path) r expected out out1 out' err err1 err' s.0 s.1 s.2 OnErr refl (texts_fit (Open path)) t
+reports_stop (Command fault) r out1 out' err1 err' t expected out err s = early_written (Command fault) r expected out out1 out' err err1 err' s.0 s.1 s.2 (outlet_of (Command fault)) refl (texts_fit (Command fault)) t
+reports_stop (Zones name fault) r out1 out' err1 err' t expected out err s = early_written (Zones name fault) r expected out out1 out' err err1 err' s.0 s.1 s.2 (outlet_of (Zones name fault)) refl (texts_fit (Zones name fault)) t
+reports_stop LocalRule r out1 out' err1 err' t expected out err s = early_written LocalRule r expected out out1 out' err err1 err' s.0 s.1 s.2 OnErr refl (texts_fit LocalRule) t
+reports_stop LocalName r out1 out' err1 err' t expected out err s = early_written LocalName r expected out out1 out' err err1 err' s.0 s.1 s.2 OnErr refl (texts_fit LocalName) t
+reports_stop Clock r out1 out' err1 err' t expected out err s = early_written Clock r expected out out1 out' err err1 err' s.0 s.1 s.2 OnErr refl (texts_fit Clock) t
+reports_stop (Open path) r out1 out' err1 err' t expected out err s = early_written (Open path) r expected out out1 out' err err1 err' s.0 s.1 s.2 OnErr refl (texts_fit (Open path)) t
 
 -- Which part of a text has reached standard output, and which part is still in its buffer
 
@@ -145,7 +145,7 @@ pub works : (known : Known) (arguments : List (List ℕ)) (answered : Result Sta
     → AnsweredArguments known arguments answered out out1 err err1
     → ((expected : Result Report Stop) (a b : Option (List ℕ)) → EndsAs answered expected a out1 b err1 → WritesOf written status expected a out2 b err2)
     → ((before : Option (List ℕ)) (text : List ℕ) → Writes before out2 written text → Reaches before reached flushed text)
-    → IsFlushed written flushed → TellsFault err2 err3 failed flushed → last ≡ status_by flushed status
+    → IsFlushed written flushed → ReportsFault err2 err3 failed flushed → last ≡ status_by flushed status
     → Works known arguments out reached err err3 failed (record { status = last; written = flushed })
 works known arguments answered out out1 out2 reached err err1 err2 err3 failed written flushed status last a tells reaches is line same =
     let w = tells (outcome a.world) out err a.ends in
