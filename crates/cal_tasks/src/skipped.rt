@@ -95,6 +95,7 @@ fn notes_of_lines(
 
 /// Appends the notes about an expression in its zone: the matching local times that a clock change skips or repeats,
 /// from the beginning of the day of `now` to one day after `last`.
+#[tactic(auto, using(cal_civil::proofs::LocalLemmas::local_arith, crate::proofs::NoteLemmas::no_notes))]
 fn add_notes(
     notes: &mut Vec<ClockNote>,
     expr: &Expr,
