@@ -92,7 +92,6 @@ impl<'z> InstantFormatter<'z> {
     /// follow.
     #[cold]
     #[inline(never)]
-    #[tactic(auto, using(cal_civil::proofs::LocalLemmas::local_arith))]
     fn push_outside(&mut self, text: &mut ShortText, instant: Instant)
         requires room { length text.old.items + 84 ≤ SHORT_TEXT_ROOM }
         ensures text { text.new.items ≡ text.old.items ++ instant_text self.old instant.secs }

@@ -36,7 +36,6 @@ pub(crate) struct LocalOffsetRange {
 }
 
 /// Returns a range with a constant UTC offset that contains `local`, if one is found.
-#[tactic(auto, using(crate::proofs::PlaceLemmas::places))]
 pub(crate) fn local_range_at(zone: Zone, local: i64) -> Option<LocalOffsetRange>
     requires { IsLocalSecond local }
     ensures { IfSome result (IsLocalOffsetRangeAt (zone_of zone.entry) local) }
