@@ -1,10 +1,9 @@
 //! Parsing one argument of the verbs `calendar`, `timestamp` and `timespan`.
 
 ghost use Rattle.std.specs.Prelude.{◌≡◌, Ok, Err, IfOk, IfErr, IsErrOf};
-ghost use Rattle.cal_report.specs.TextReport.{report_text, text_fault_message, verb_of};
 ghost use Rattle.cal_report.specs.TextReport.CalendarReport.{calendar_answer};
 ghost use Rattle.cal_report.specs.Context.{asked_by};
-ghost use Rattle.cal_report.specs.TextReport.{answer_by};
+ghost use Rattle.cal_report.specs.TextReport.{answer_by, report_text, text_fault_message, verb_of};
 ghost use Rattle.cal_report.specs.declared.text_fault.TextFault.TheVariants.{NoMemory};
 
 use crate::context::Context;
@@ -49,14 +48,14 @@ pub fn read_text<'a>(
 {
     match verb {
         TextVerb::Calendar => read_calendar(alloc, context, text),
-        TextVerb::Timestamp => match read_stamp_in(text, context.setting) {
-            Ok(moment) => Ok(Parsed::Timestamp(moment)),
-            Err(fault) => Err(TextFault::Stamp(fault)),
-        },
-        TextVerb::Timespan => match read_span(text) {
-            Ok(span) => Ok(Parsed::Timespan(span)),
-            Err(fault) => Err(TextFault::Span(fault)),
-        },
+        TextVerb::Timestamp => {
+            let moment = read_stamp_in(text, context.setting).map_err(TextFault::Stamp)?;
+            Ok(Parsed::Timestamp(moment))
+        }
+        TextVerb::Timespan => {
+            let span = read_span(text).map_err(TextFault::Span)?;
+            Ok(Parsed::Timespan(span))
+        }
     }
 }
 

@@ -102,8 +102,8 @@ pub record WritesErr {T : Type 0} (old new : Option (List ℕ)) (failed : Bool) 
   pub text_bytes : Writes old before written text
   pub line : ReportsFault before new failed written
 
--- the status and the bytes that the program wrote agree, as `Reaches` and `WritesErr` say, with the outcome in a world that
--- fits the arguments and what is known
+-- the status and the bytes that the program wrote agree, as `Reaches` and `WritesErr` say, with the outcome in a world
+-- that fits the arguments and what is known
 pub record Works (known : Known) (arguments : List (List ℕ)) (out reached err err' : Option (List ℕ)) (err_failed : Bool) (ended : Ended) : Type 0 where
   pub world : World
   pub fits : FitsArguments known arguments world
