@@ -3,7 +3,7 @@
 ghost use Rattle.std.specs.Prelude.{◌≤◌, IfOk};
 
 use crate::answer::{Answer, Asked, INVALID, fault_lines, push_fault_line};
-use cal_lint::{Finding, Kind, findings};
+use cal_lint::{Finding, ProblemKind, findings};
 use cal_load::{Loaded, LoadedTimer, load_timers};
 use cal_load_files::load_files;
 use cal_plan::PlanFault;
@@ -21,7 +21,7 @@ const MAX_TEXT: usize = 3 * 1_048_576;
 
 /// A problem of a file, with all that is printed about it.
 #[derive(Debug, Drop)]
-struct Problem {
+struct FileProblem {
     file: String,
     line: u32,
     column: Option<u32>,
@@ -66,13 +66,13 @@ fn add_files<T: Tree>(
     alloc: Global,
     tree: &T,
     asked: Asked<'_>,
-    problems: &mut Vec<Problem>,
+    problems: &mut Vec<FileProblem>,
 ) -> Result<Vec<TargetFault>, AllocError> {
     let loaded = load_files(alloc, tree, asked.path, asked.aliases, asked.targets)?;
     for file in &loaded.files {
         // systemd accepts comments that aren't UTF-8, so such bytes are replaced instead of being an error.
         let text = String::from_utf8_lossy(alloc, file.bytes.as_slice())?;
-        add_findings(
+        add_file_problems(
             alloc,
             file.path.as_str(),
             text.as_str(),
@@ -84,12 +84,12 @@ fn add_files<T: Tree>(
 }
 
 /// Adds the problems of a file. No file has a text longer than [`MAX_TEXT`]. For a longer `text`, adds nothing.
-fn add_findings(
+fn add_file_problems(
     alloc: Global,
     path: &str,
     text: &str,
     style: Style,
-    problems: &mut Vec<Problem>,
+    problems: &mut Vec<FileProblem>,
 ) -> Result<(), AllocError> {
     if text.len() > MAX_TEXT {
         return Ok(());
@@ -106,12 +106,12 @@ fn problem_of(
     path: &str,
     finding: Finding,
     text: String,
-) -> Result<Problem, AllocError> {
-    Ok(Problem {
+) -> Result<FileProblem, AllocError> {
+    Ok(FileProblem {
         file: String::from_str(alloc, path)?,
         line: finding.line,
         column: Some(finding.column),
-        is_error: matches!(finding.kind, Kind::Error),
+        is_error: matches!(finding.kind, ProblemKind::Error),
         message: message_of(alloc, finding.problem, finding.mistake)?,
         suggestion: finding.suggestion,
         text,
@@ -146,7 +146,7 @@ fn add_idle(
     alloc: Global,
     asked: Asked<'_>,
     timers: &[LoadedTimer],
-    problems: &mut Vec<Problem>,
+    problems: &mut Vec<FileProblem>,
 ) -> Result<(), PlanFault> {
     for timer in timers {
         for idle in idle_lines(alloc, asked.at, timer)? {
@@ -162,11 +162,11 @@ fn idle_problem(
     timer: &LoadedTimer,
     idle: IdleLine,
     text: String,
-) -> Result<Problem, AllocError> {
+) -> Result<FileProblem, AllocError> {
     let (path, line) = timer
-        .place(idle.number)
+        .position(idle.number)
         .unwrap_or((timer.name.as_str(), idle.number));
-    Ok(Problem {
+    Ok(FileProblem {
         file: String::from_str(alloc, path)?,
         line,
         column: None,
@@ -184,7 +184,7 @@ fn idle_problem(
 ///
 /// All other errors are left to [`add_files`], which accepts more than loading a timer does, for example comments that
 /// aren't UTF-8.
-fn is_of_timer(fault: &TargetFault, of_files: &[TargetFault], problems: &[Problem]) -> bool {
+fn is_of_timer(fault: &TargetFault, of_files: &[TargetFault], problems: &[FileProblem]) -> bool {
     match &fault.reason {
         TargetReason::Zone(..) | TargetReason::NothingToDo => true,
         TargetReason::Line(path, _, TimerFault::TooMany(_)) => {
@@ -197,11 +197,11 @@ fn is_of_timer(fault: &TargetFault, of_files: &[TargetFault], problems: &[Proble
     }
 }
 
-fn has_error(problems: &[Problem]) -> bool {
+fn has_error(problems: &[FileProblem]) -> bool {
     problems.iter().any(|problem| problem.is_error)
 }
 
-fn problems_text(alloc: Global, problems: &[Problem]) -> Result<String, AllocError> {
+fn problems_text(alloc: Global, problems: &[FileProblem]) -> Result<String, AllocError> {
     let mut text = String::new(alloc);
     for problem in problems {
         text.push_str(problem.text.as_str())?;
@@ -209,7 +209,7 @@ fn problems_text(alloc: Global, problems: &[Problem]) -> Result<String, AllocErr
     Ok(text)
 }
 
-fn problems_json(alloc: Global, problems: &[Problem]) -> Result<String, AllocError> {
+fn problems_json(alloc: Global, problems: &[FileProblem]) -> Result<String, AllocError> {
     let mut rows = Vec::new(alloc);
     for problem in problems {
         rows.push(LintRow {

@@ -1,6 +1,6 @@
 //! The local zone of the machine, with the rules or the zone table that its [`Zone`] borrows.
 
-use cal_machine_zones::{LocalZone, Origin, ZonesFault, find_local_zone, load_zones};
+use cal_machine_zones::{MachineLocalZone, Origin, ZonesFault, find_local_zone, load_zones};
 use cal_units::Tree;
 use cal_zone::{Rules, Zone, ZoneFault, ZoneTable};
 use std::alloc::Global;
@@ -28,10 +28,10 @@ impl LocalClock {
         option: Option<&str>,
     ) -> Result<LocalClock, ZonesFault> {
         match find_local_zone(alloc, tree, option) {
-            Ok(LocalZone::Utc) => Ok(LocalClock::Fixed(Zone::utc())),
-            Ok(LocalZone::Offset(seconds)) => Ok(LocalClock::Fixed(Zone::offset(seconds))),
-            Ok(LocalZone::Rule(rule)) => ruled(alloc, rule.as_str()),
-            Ok(LocalZone::Named(name)) => named(alloc, tree, name),
+            Ok(MachineLocalZone::Utc) => Ok(LocalClock::Fixed(Zone::utc())),
+            Ok(MachineLocalZone::Offset(seconds)) => Ok(LocalClock::Fixed(Zone::offset(seconds))),
+            Ok(MachineLocalZone::Rule(rule)) => ruled(alloc, rule.as_str()),
+            Ok(MachineLocalZone::Named(name)) => named(alloc, tree, name),
             Err(fault) => Err(fault),
         }
     }

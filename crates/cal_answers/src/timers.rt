@@ -5,7 +5,7 @@ ghost use Rattle.std.specs.Prelude.{◌≤◌, IfOk};
 use crate::answer::{Answer, Asked, fault_lines, push_masked, status_of};
 use cal_load::{Loaded, LoadedTimer, load_expressions, load_timers};
 use cal_plan::PlanFault;
-use cal_tasks::{ClockNote, clock_notes, elapses_of, next_of_timers};
+use cal_tasks::{ClockNote, clock_notes, first_elapses, next_of_timers};
 use cal_timers_json::{ShownTimer, list_json, show_json};
 use cal_timers_text::{list_text, show_text};
 use cal_units::Tree;
@@ -54,9 +54,9 @@ fn show_loaded(alloc: Global, asked: Asked<'_>, loaded: &Loaded) -> Result<Answe
 {
     let elapsing = elapsing_of(alloc, asked, loaded.timers.as_slice())?;
     let out = if asked.is_json {
-        shown_json(alloc, asked, loaded.timers.as_slice(), elapsing.as_slice())?
+        show_loaded_as_json(alloc, asked, loaded.timers.as_slice(), elapsing.as_slice())?
     } else {
-        shown_text(alloc, asked, loaded, elapsing.as_slice())?
+        show_loaded_as_text(alloc, asked, loaded, elapsing.as_slice())?
     };
     with_faults(alloc, loaded, out)
 }
@@ -69,14 +69,14 @@ fn elapsing_of(
 ) -> Result<Vec<Elapsing>, PlanFault> {
     let mut all = Vec::new(alloc);
     for timer in timers {
-        let elapses = elapses_of(alloc, asked.at, timer, asked.count)?;
+        let elapses = first_elapses(alloc, asked.at, timer, asked.count)?;
         let clock = clock_notes(alloc, asked.at, timer, elapses.as_slice())?;
         all.push(Elapsing { elapses, clock })?;
     }
     Ok(all)
 }
 
-fn shown_json(
+fn show_loaded_as_json(
     alloc: Global,
     asked: Asked<'_>,
     timers: &[LoadedTimer],
@@ -94,7 +94,7 @@ fn shown_json(
 }
 
 /// Returns the text about each timer, with an empty line between two texts, and then a line for each masked unit.
-fn shown_text(
+fn show_loaded_as_text(
     alloc: Global,
     asked: Asked<'_>,
     loaded: &Loaded,

@@ -94,12 +94,12 @@ fn first_only_of(
         (λ fault. fault ≢ CompareNoMemory
         → IsUnzonedInEither (unzoned (setting_seen setting.entry) one.now) (unzoned (setting_seen setting.entry) other.now) fault) }
 {
-    let these = match elapses_of(alloc, setting, base, one) {
+    let these = match elapses_of_timer(alloc, setting, base, one) {
         Ok(elapses) => elapses,
         Err(PlanFault::NoSuchZone(line)) => return Err(CompareFault::NoSuchZoneInOne(line)),
         Err(PlanFault::NoMemory) => return Err(CompareFault::NoMemory),
     };
-    let those = match elapses_of(alloc, setting, base, other) {
+    let those = match elapses_of_timer(alloc, setting, base, other) {
         Ok(elapses) => elapses,
         Err(PlanFault::NoSuchZone(line)) => return Err(CompareFault::NoSuchZoneInOther(line)),
         Err(PlanFault::NoMemory) => return Err(CompareFault::NoMemory),
@@ -108,7 +108,7 @@ fn first_only_of(
 }
 
 /// Creates the source of a timer's elapses after `base`.
-fn elapses_of<'a>(
+fn elapses_of_timer<'a>(
     alloc: Global,
     setting: Setting<'a>,
     base: Instant,

@@ -6,7 +6,7 @@ use Rattle.std.specs.List.{list_any}
 use Rattle.std.specs.Str.{bytes_eq}
 use Rattle.cal_drop_ins.specs.DropIns.{Disk, by_name, candidates, chosen, drop_ins, is_drop_in}
 use Rattle.cal_drop_ins.specs.Folders.{folder_stems, folders, prefixes_within}
-use Rattle.cal_drop_ins.specs.UnitName.{is_stem, kind_of, template_of, unit_stem, without_suffix}
+use Rattle.cal_drop_ins.specs.UnitName.{is_stem, template_of, unit_kind_of, unit_stem, without_suffix}
 use Rattle.cal_drop_ins.specs.declared.unit_name.UnitKind.TheVariants.{Plain, Template, Instance}
 
 -- a file: its folder and its name
@@ -107,6 +107,6 @@ names_read : map unit_stem (codes "backup" ∷ codes "backup.timer" ∷ codes "f
 unfolding unit_stem without_suffix is_stem
 names_read = refl
 
-kinds : map kind_of (codes "foo" ∷ codes "foo@" ∷ codes "foo@x" ∷ codes "foo@@" ∷ []) ≡ Plain ∷ Template ∷ Instance ∷ Instance ∷ []
-unfolding kind_of
+kinds : map unit_kind_of (codes "foo" ∷ codes "foo@" ∷ codes "foo@x" ∷ codes "foo@@" ∷ []) ≡ Plain ∷ Template ∷ Instance ∷ Instance ∷ []
+unfolding unit_kind_of
 kinds = refl

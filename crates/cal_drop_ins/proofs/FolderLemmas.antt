@@ -7,7 +7,7 @@ use Rattle.std.proofs.lemmas.List.{length-take, map-append, reverse-append}
 use Rattle.std.proofs.lemmas.List.Sums.{passes_at_first}
 use Rattle.std.proofs.lemmas.Bool.Decides.{nat_tests}
 use Rattle.cal_drop_ins.specs.Folders.{is_dash_within, prefixes_within}
-use Rattle.cal_drop_ins.specs.UnitName.{base_of, is_at_sign}
+use Rattle.cal_drop_ins.specs.UnitName.{is_at_sign, stem_base}
 
 pub prefixes_none : (base : List ℕ) → prefixes_within base 0 ≡ []
 unfolding prefixes_within
@@ -26,11 +26,11 @@ prefixes_step front before now base i h e =
     ∙ ap (λ last. front ++ last) (sym (prefixes_more base i))
 
 -- if a stem is longer than its base, the byte after the base, which is `@`, is ASCII
-pub at_sign_is_ascii : (stem : List ℕ) → length (base_of stem) < length stem → get_or stem (length (base_of stem)) 0 < 128
+pub at_sign_is_ascii : (stem : List ℕ) → length (stem_base stem) < length stem → get_or stem (length (stem_base stem)) 0 < 128
 at_sign_is_ascii stem h =
     let cut = length-take (position_or_len is_at_sign stem) stem in
     let short : position_or_len is_at_sign stem < length stem = omega arith in
-    let same : length (base_of stem) ≡ position_or_len is_at_sign stem = omega arith in
+    let same : length (stem_base stem) ≡ position_or_len is_at_sign stem = omega arith in
     let passes : (get_or stem (position_or_len is_at_sign stem) 0 == 64) ≡ true = passes_at_first is_at_sign stem 0 short in
     let byte : get_or stem (position_or_len is_at_sign stem) 0 ≡ 64 = grind (arith, nat_tests) in
     rw (same, byte) (omega arith)

@@ -14,7 +14,7 @@ pub record Disk : Type 0 where
   pub is_null : List ℕ → Bool
 
 -- a file in a folder: its name and its path
-pub record Found : Type 0 where
+pub record FolderFile : Type 0 where
   pub name : List ℕ
   pub path : List ℕ
 
@@ -22,25 +22,25 @@ pub record Found : Type 0 where
 unfoldable pub is_drop_in : List ℕ → Bool
 is_drop_in name = ends_with nat_eq name (codes ".conf") && not (starts_with nat_eq name (codes "."))
 
-abbrev pub found_in : List ℕ → List ℕ → Found
-found_in folder name = record { name = name; path = folder ++ codes "/" ++ name }
+abbrev pub file_in : List ℕ → List ℕ → FolderFile
+file_in folder name = record { name = name; path = folder ++ codes "/" ++ name }
 
 -- the drop-ins among the files called `names` in a folder
-unfoldable pub candidates : List ℕ → List (List ℕ) → List Found
-candidates folder names = map (found_in folder) (filter is_drop_in names)
+unfoldable pub candidates : List ℕ → List (List ℕ) → List FolderFile
+candidates folder names = map (file_in folder) (filter is_drop_in names)
 
 -- Enters the path of this file under the file's name; if the entries already have a path under this name, it is
 -- replaced. An entry is a pair of a name and a path.
-abbrev pub put : List (List ℕ × List ℕ) → Found → List (List ℕ × List ℕ)
-put entries file = insert_entry (slice_cmp nat_cmp) entries file.name file.path
+abbrev pub enter : List (List ℕ × List ℕ) → FolderFile → List (List ℕ × List ℕ)
+enter entries file = insert_entry (slice_cmp nat_cmp) entries file.name file.path
 
 -- the names of the files with their paths, sorted by the bytes of the names; of several files with the same name, the
 -- last counts
-unfoldable pub by_name : List Found → List (List ℕ × List ℕ)
-by_name found = fold put [] found
+unfoldable pub by_name : List FolderFile → List (List ℕ × List ℕ)
+by_name found = fold enter [] found
 
 -- the paths of the files that count, in the order of the files' names
-unfoldable pub chosen : List Found → List (List ℕ)
+unfoldable pub chosen : List FolderFile → List (List ℕ)
 chosen found = map (λ entry. entry.1) (by_name found)
 
 -- The drop-ins that are read, in the order in which they are read. `path` has the roots of the search path, the most
@@ -53,9 +53,9 @@ drop_ins disk path stems =
     (chosen (flat_map (λ folder. candidates folder (disk.names folder)) (folders (reverse path) stems)))
 
 -- the struct `DropIn`, with its strings as lists of bytes
-abbrev pub shown : DropIn → Found
-shown file = record { name = string_bytes file.name; path = string_bytes file.path }
+abbrev pub shown_drop_in : DropIn → FolderFile
+shown_drop_in file = record { name = string_bytes file.name; path = string_bytes file.path }
 
 -- an entry of a map, with its strings as lists of bytes
-abbrev pub shown_entry : String Global × String Global → List ℕ × List ℕ
-shown_entry entry = (string_bytes entry.0, string_bytes entry.1)
+abbrev pub shown_pair : String Global × String Global → List ℕ × List ℕ
+shown_pair entry = (string_bytes entry.0, string_bytes entry.1)

@@ -3,7 +3,7 @@
 use Rattle.std.specs.Prelude.{ℕ, zero, suc, ◌+◌, ◌==◌, nat_lt, Bool, ◌&&◌, if◌then◌else◌, List, [], ◌∷◌, ◌++◌, length, map, take, slice_index, codes}
 use Rattle.std.specs.List.{flat_map}
 use Rattle.std.specs.Option.{option_to_list}
-use Rattle.cal_drop_ins.specs.UnitName.{base_of, template_of}
+use Rattle.cal_drop_ins.specs.UnitName.{stem_base, template_of}
 
 -- whether the byte of `base` at index `i` is a dash, but neither the first byte nor the last
 abbrev pub is_dash_within : List ℕ → ℕ → Bool
@@ -20,7 +20,7 @@ prefixes_within base (suc n) = prefixes_within base n ++ (if is_dash_within base
 -- itself and a dash alone. Then come the stem of the template, if the unit is an instance, and the stem itself.
 unfoldable pub folder_stems : List ℕ → List (List ℕ)
 folder_stems stem =
-    prefixes_within (base_of stem) (length (base_of stem)) ++ (option_to_list (template_of stem) ++ stem ∷ [])
+    prefixes_within (stem_base stem) (length (stem_base stem)) ++ (option_to_list (template_of stem) ++ stem ∷ [])
 
 -- the drop-in folder below `root` for this stem
 abbrev pub own_folder : List ℕ → List ℕ → List ℕ

@@ -16,18 +16,18 @@ abbrev pub is_at_sign : ℕ → Bool
 is_at_sign b = b == 64
 
 -- the part of a stem before its first `@`, or the whole stem if it has no `@`
-abbrev pub base_of : List ℕ → List ℕ
-base_of stem = before_first is_at_sign stem
+abbrev pub stem_base : List ℕ → List ℕ
+stem_base stem = before_first is_at_sign stem
 
 -- if `stem` is the stem of an instance, the stem of its template, which ends with the first `@`; otherwise None
 unfoldable pub template_of : List ℕ → Option (List ℕ)
 template_of stem =
-    if nat_lt (length (base_of stem) + 1) (length stem) then Some (take (length (base_of stem) + 1) stem) else None
+    if nat_lt (length (stem_base stem) + 1) (length stem) then Some (take (length (stem_base stem) + 1) stem) else None
 
-unfoldable pub kind_of : List ℕ → UnitKind
-kind_of stem =
-    if length (base_of stem) == length stem then Plain
-    else (if length (base_of stem) + 1 == length stem then Template else Instance)
+unfoldable pub unit_kind_of : List ℕ → UnitKind
+unit_kind_of stem =
+    if length (stem_base stem) == length stem then Plain
+    else (if length (stem_base stem) + 1 == length stem then Template else Instance)
 
 abbrev pub is_letter_or_digit : ℕ → Bool
 is_letter_or_digit b =
@@ -43,7 +43,7 @@ max_name = 255
 
 unfoldable pub is_stem : List ℕ → Bool
 is_stem stem =
-    nat_le (length stem + length suffix) max_name && (nat_lt 0 (length (base_of stem)) && list_all is_name_byte stem)
+    nat_le (length stem + length suffix) max_name && (nat_lt 0 (length (stem_base stem)) && list_all is_name_byte stem)
 
 -- the stem of the unit that a name stands for, or None if the name isn't valid
 unfoldable pub unit_stem : List ℕ → Option (List ℕ)

@@ -1,7 +1,7 @@
 //! Which drop-ins of a unit are read, and in which order (systemd.unit(5), Description).
 
 ghost use Rattle.std.specs.Prelude.{◌≡◌, ◌++◌, ◌∷◌, [], IfOk, OnOk, map, string_bytes};
-ghost use Rattle.cal_drop_ins.specs.DropIns.{by_name, candidates, chosen, found_in, is_drop_in, put, shown, shown_entry};
+ghost use Rattle.cal_drop_ins.specs.DropIns.{by_name, candidates, chosen, enter, file_in, is_drop_in, shown_drop_in, shown_pair};
 
 use std::alloc::{AllocError, Global};
 use std::collections::BTreeMap;
@@ -32,8 +32,8 @@ pub fn push_candidates(
     folder: &str,
     names: Vec<String>,
 ) -> Result<(), AllocError>
-    ensures { OnOk result (map shown found.new.items
-        ≡ map shown found.old.items ++ candidates folder.now (map string_bytes names.items)) }
+    ensures { OnOk result (map shown_drop_in found.new.items
+        ≡ map shown_drop_in found.old.items ++ candidates folder.now (map string_bytes names.items)) }
 {
     for name in names {
         push_candidate(alloc, found, folder, name)?;
@@ -46,10 +46,10 @@ pub fn push_candidates(
 /// one.
 #[tactic(auto, using(crate::proofs::DropInLemmas::paths_are))]
 pub fn choose(alloc: Global, found: Vec<DropIn>) -> Result<Vec<String>, AllocError>
-    ensures { IfOk result (λ paths. map string_bytes paths.items ≡ chosen (map shown found.items)) }
+    ensures { IfOk result (λ paths. map string_bytes paths.items ≡ chosen (map shown_drop_in found.items)) }
 {
     let entered = enter_all(alloc, found)?;
-    paths_of(alloc, entered)
+    entered_paths(alloc, entered)
 }
 
 /// Appends the file called `name` in `folder`, if it is a drop-in.
@@ -60,8 +60,8 @@ fn push_candidate(
     folder: &str,
     name: String,
 ) -> Result<(), AllocError>
-    ensures { OnOk result (map shown found.new.items
-        ≡ map shown found.old.items ++ candidates folder.now (string_bytes name ∷ [])) }
+    ensures { OnOk result (map shown_drop_in found.new.items
+        ≡ map shown_drop_in found.old.items ++ candidates folder.now (string_bytes name ∷ [])) }
 {
     if is_drop_in(name.as_str()) {
         found.push(file_in(alloc, folder, name)?)?;
@@ -70,7 +70,7 @@ fn push_candidate(
 }
 
 fn file_in(alloc: Global, folder: &str, name: String) -> Result<DropIn, AllocError>
-    ensures { IfOk result (λ file. shown file ≡ found_in folder.now (string_bytes name)) }
+    ensures { IfOk result (λ file. shown_drop_in file ≡ file_in folder.now (string_bytes name)) }
 {
     let path = format!(in alloc; "{folder}/{name}")?;
     Ok(DropIn { name, path })
@@ -79,7 +79,7 @@ fn file_in(alloc: Global, folder: &str, name: String) -> Result<DropIn, AllocErr
 /// Returns a map from the names of the drop-ins to their paths. Of several drop-ins with the same name, the map has the
 /// last.
 fn enter_all(alloc: Global, found: Vec<DropIn>) -> Result<BTreeMap<String, String>, AllocError>
-    ensures { IfOk result (λ entered. map shown_entry entered.entries ≡ by_name (map shown found.items)) }
+    ensures { IfOk result (λ entered. map shown_pair entered.entries ≡ by_name (map shown_drop_in found.items)) }
 {
     let mut entered = BTreeMap::new(alloc);
     for file in found {
@@ -90,7 +90,7 @@ fn enter_all(alloc: Global, found: Vec<DropIn>) -> Result<BTreeMap<String, Strin
 
 /// Enters the path of a file under the file's name, in place of any path that is already there.
 fn enter(by_name: &mut BTreeMap<String, String>, file: DropIn) -> Result<(), AllocError>
-    ensures { OnOk result (map shown_entry by_name.new.entries ≡ put (map shown_entry by_name.old.entries) (shown file)) }
+    ensures { OnOk result (map shown_pair by_name.new.entries ≡ enter (map shown_pair by_name.old.entries) (shown_drop_in file)) }
 {
     let DropIn { name, path } = file;
     by_name.insert(name, path)?;
@@ -98,7 +98,10 @@ fn enter(by_name: &mut BTreeMap<String, String>, file: DropIn) -> Result<(), All
 }
 
 /// Returns the paths in a map from names to paths, sorted by name.
-fn paths_of(alloc: Global, entered: BTreeMap<String, String>) -> Result<Vec<String>, AllocError>
+fn entered_paths(
+    alloc: Global,
+    entered: BTreeMap<String, String>,
+) -> Result<Vec<String>, AllocError>
     ensures { IfOk result (λ paths. paths.items ≡ map (λ entry. entry.1) entered.entries) }
 {
     let mut paths = Vec::new(alloc);

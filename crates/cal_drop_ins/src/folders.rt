@@ -3,7 +3,7 @@
 ghost use Rattle.std.specs.Prelude.{◌≡◌, ◌+◌, ◌++◌, ◌∷◌, [], ◌<◌, IfOk, OnOk, if◌then◌else◌, map, length, take, reverse, string_bytes};
 ghost use Rattle.cal_drop_ins.specs.Folders.{folder_stems, folders, is_dash_within, name_folders, own_folder, prefixes_within, type_folder};
 
-use crate::unit_name::{base_of, template_of};
+use crate::unit_name::{stem_base, template_of};
 use std::alloc::{AllocError, Global};
 
 /// Returns the folders that can have drop-ins of a unit, from the least important one to the most important one. Some
@@ -35,7 +35,7 @@ pub fn folder_stems(alloc: Global, stem: &str) -> Result<Vec<&str>, AllocError>
     ensures { IfOk result (λ stems. map (λ stem. stem.now) stems.items ≡ folder_stems stem.now) }
 {
     let mut stems = Vec::new(alloc);
-    push_prefixes(&mut stems, base_of(stem))?;
+    push_prefixes(&mut stems, stem_base(stem))?;
     if let Some(template) = template_of(stem) {
         stems.push(template)?;
     }

@@ -5,11 +5,11 @@ ghost use Rattle.std.specs.Prelude.{◌≡◌, ℕ, List, option_map, reverse};
 ghost use Rattle.std.specs.List.{find};
 ghost use Rattle.std.specs.Map.{lookup};
 ghost use Rattle.std.specs.Str.{bytes_eq};
-ghost use Rattle.cal_drop_ins.specs.DropIns.{Found, by_name};
+ghost use Rattle.cal_drop_ins.specs.DropIns.{FolderFile, by_name};
 
 /// Of several files with the same name, `by_name` has the last. In `drop_ins`, the files go from the least important
 /// folder to the most important one, so the last is the one in the most important folder.
 pub fn last_of_a_name()
-    ensures { (found : List Found) (name : List ℕ) → lookup (bytes_eq name) (by_name found)
+    ensures { (found : List FolderFile) (name : List ℕ) → lookup (bytes_eq name) (by_name found)
         ≡ option_map (λ file. file.path) (find (λ file. bytes_eq name file.name) (reverse found)) }
 {}

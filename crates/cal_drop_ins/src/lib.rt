@@ -11,4 +11,4 @@ mod unit_name;
 pub use drop_ins::{DropIn, choose, is_drop_in, push_candidates};
 pub use folders::{folder_stems, folders_of};
 pub use search_path::{system_path, user_path};
-pub use unit_name::{UnitKind, kind_of, template_of, unit_stem};
+pub use unit_name::{UnitKind, template_of, unit_kind_of, unit_stem};

@@ -2,7 +2,7 @@
 
 ghost use Rattle.std.specs.Prelude.{◌≡◌, option_map};
 ghost use Rattle.std.specs.List.{list_all};
-ghost use Rattle.cal_drop_ins.specs.UnitName.{base_of, is_name_byte, is_stem, kind_of, template_of, unit_stem, without_suffix};
+ghost use Rattle.cal_drop_ins.specs.UnitName.{is_name_byte, is_stem, stem_base, template_of, unit_kind_of, unit_stem, without_suffix};
 
 /// The suffix of a timer's name.
 const SUFFIX: &str = ".timer";
@@ -35,11 +35,11 @@ pub fn unit_stem(name: &str) -> Option<&str>
 }
 
 /// Returns what the name of a unit with this stem stands for.
-#[tactic(auto, unfolding(crate::specs::UnitName::kind_of))]
-pub fn kind_of(stem: &str) -> UnitKind
-    ensures { result ≡ kind_of stem.now }
+#[tactic(auto, unfolding(crate::specs::UnitName::unit_kind_of))]
+pub fn unit_kind_of(stem: &str) -> UnitKind
+    ensures { result ≡ unit_kind_of stem.now }
 {
-    let base = base_of(stem);
+    let base = stem_base(stem);
     if base.len() == stem.len() {
         return UnitKind::Plain;
     }
@@ -55,7 +55,7 @@ pub fn kind_of(stem: &str) -> UnitKind
 pub fn template_of(stem: &str) -> Option<&str>
     ensures { option_map (λ template. template.now) result ≡ template_of stem.now }
 {
-    let base = base_of(stem);
+    let base = stem_base(stem);
     if base.len() + 1 < stem.len() {
         return Some(&stem[..base.len() + 1]);
     }
@@ -63,8 +63,8 @@ pub fn template_of(stem: &str) -> Option<&str>
 }
 
 /// Returns the part of a stem before its first `@`, or the whole stem if it has no `@`.
-pub(crate) fn base_of(stem: &str) -> &str
-    ensures { result.now ≡ base_of stem.now }
+pub(crate) fn stem_base(stem: &str) -> &str
+    ensures { result.now ≡ stem_base stem.now }
 {
     match stem.split_once('@') {
         Some((base, _)) => base,
@@ -87,7 +87,7 @@ fn is_stem(stem: &str) -> bool
     ensures { result ≡ is_stem stem.now }
 {
     stem.len() <= MAX_NAME - SUFFIX.len()
-        && !base_of(stem).is_empty()
+        && !stem_base(stem).is_empty()
         && has_valid_bytes(stem.as_bytes())
 }
 

@@ -17,7 +17,7 @@ mod refused;
 #[cfg(test)]
 mod searches;
 #[cfg(test)]
-mod settings;
+mod section_assignments;
 pub mod shared;
 #[cfg(test)]
 mod spans;

@@ -15,7 +15,9 @@ use crate::shared::{EXCEPT_FILE, SUMMER_TIME, TIMER_FILE, ensure, zone_file};
 use crate::timers::{EXCEPT_EXCEPTIONS, EXCEPT_LINES, UNIT_LINES, expect_lists, expect_timer};
 use cal_base::{Port, Rules, Zone, ZoneTable, place, read_whole};
 use cal_elapse::{Listed, Merge, Pending, Rising};
-use cal_read::{Setting, Settings, UnitText, find_faults, read_settings, read_texts};
+use cal_read::{
+    Assignments, NumberedText, OwnedAssignment, find_faults, read_assignments, read_texts,
+};
 use cal_spec::{fault_span, read_expr};
 use std::alloc::{AllocError, Global};
 use std::test::Fail;
@@ -162,11 +164,11 @@ fn timer_files(rt: HostRuntime) -> Result<(), Fail> {
 #[test]
 fn several_texts(rt: HostRuntime) -> Result<(), Fail> {
     let files = [
-        UnitText {
+        NumberedText {
             first: 1,
             text: "[Timer]\nOnCalendar=daily",
         },
-        UnitText {
+        NumberedText {
             first: 1,
             text: "[Timer]\nX-ExceptOnCalendar=Sat \\\n12:00",
         },
@@ -179,7 +181,7 @@ fn several_texts(rt: HostRuntime) -> Result<(), Fail> {
 
 #[test]
 fn all_faults(rt: HostRuntime) -> Result<(), Fail> {
-    let files = [UnitText {
+    let files = [NumberedText {
         first: 1,
         text: "[Timer]\nOnCalendar=Sat,Sun 25:00\nOnCalendar=Mon \\\n12:00\nX-ExceptOnCalendar=7",
     }];
@@ -187,25 +189,28 @@ fn all_faults(rt: HostRuntime) -> Result<(), Fail> {
     ensure(found.len() == 2, "not two faults")
 }
 
-const SETTINGS: &str = "[Timer]\nOnCalendar=Mon \\\n12:00\nPersistent=yes\n";
+const ASSIGNMENTS: &str = "[Timer]\nOnCalendar=Mon \\\n12:00\nPersistent=yes\n";
 
-/// Expects `setting` to have the value of the first setting in [`SETTINGS`].
-fn expect_first(setting: &Option<Setting>) -> Result<(), Fail> {
-    match setting {
-        Some(setting) => ensure(setting.value.as_str() == "Mon  12:00", "another setting"),
-        None => Err("no setting".into()),
+/// Expects `assignment` to have the value of the first assignment in [`ASSIGNMENTS`].
+fn expect_first(assignment: &Option<OwnedAssignment>) -> Result<(), Fail> {
+    match assignment {
+        Some(assignment) => ensure(
+            assignment.value.as_str() == "Mon  12:00",
+            "another assignment",
+        ),
+        None => Err("no assignment".into()),
     }
 }
 
-/// Checks that a setting isn't skipped if allocation fails: the next call that succeeds returns it.
+/// Checks that an assignment isn't skipped if allocation fails: the next call that succeeds returns it.
 #[test]
-fn the_next_setting(rt: HostRuntime) -> Result<(), Fail> {
-    let mut settings = Settings::new("Timer", 1, SETTINGS);
-    match settings.next(rt.alloc()) {
-        Ok(setting) => expect_first(&setting),
+fn the_next_assignment(rt: HostRuntime) -> Result<(), Fail> {
+    let mut assignments = Assignments::new("Timer", 1, ASSIGNMENTS);
+    match assignments.next(rt.alloc()) {
+        Ok(assignment) => expect_first(&assignment),
         Err(fault) => {
-            if let Ok(setting) = settings.next(rt.alloc()) {
-                expect_first(&setting)?;
+            if let Ok(assignment) = assignments.next(rt.alloc()) {
+                expect_first(&assignment)?;
             }
             Err(fault.into())
         }
@@ -213,9 +218,9 @@ fn the_next_setting(rt: HostRuntime) -> Result<(), Fail> {
 }
 
 #[test]
-fn all_settings(rt: HostRuntime) -> Result<(), Fail> {
-    let all = read_settings(rt.alloc(), "Timer", 1, SETTINGS)?;
-    ensure(all.len() == 2, "not two settings")
+fn all_assignments(rt: HostRuntime) -> Result<(), Fail> {
+    let all = read_assignments(rt.alloc(), "Timer", 1, ASSIGNMENTS)?;
+    ensure(all.len() == 2, "not two assignments")
 }
 
 #[test]

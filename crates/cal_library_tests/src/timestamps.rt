@@ -2,7 +2,7 @@
 //! invalid ones with their errors. The values are worked out by hand.
 
 use crate::shared::{ensure, instant};
-use cal_base::{Instant, SpanFault, Zone, ZoneTable};
+use cal_base::{Setting, SpanFault, Zone, ZoneTable};
 use cal_read::StampFault::{self, *};
 use cal_read::read_stamp;
 use std::alloc::Global;
@@ -27,24 +27,16 @@ struct Table {
 
 /// The present in seconds of Unix time, the offset of the local zone in seconds east of UTC (0 for UTC itself), and
 /// what timestamps resolve to with this present and this local zone.
-struct Setting {
+struct ZonedTable {
     now: i64,
     east: i32,
     table: Table,
 }
 
-/// What the moment of a timestamp depends on: the present, the local zone and the named zones.
-#[derive(Clone, Copy)]
-struct Place<'a> {
-    now: Instant,
-    local: Zone<'a>,
-    table: &'a ZoneTable,
-}
-
-/// Valid and invalid timestamps of many forms, in three settings: at +08:00, in UTC, and in UTC when the present is one
+/// Valid and invalid timestamps of many forms, in three tables: at +08:00, in UTC, and in UTC when the present is one
 /// minute after the start of 1970.
-static EACH_FORM: [Setting; 3] = [
-    Setting {
+static EACH_FORM: [ZonedTable; 3] = [
+    ZonedTable {
         now: PRESENT,
         east: 28_800,
         table: Table {
@@ -64,7 +56,7 @@ static EACH_FORM: [Setting; 3] = [
             ],
         },
     },
-    Setting {
+    ZonedTable {
         now: PRESENT,
         east: 0,
         table: Table {
@@ -80,7 +72,7 @@ static EACH_FORM: [Setting; 3] = [
             ],
         },
     },
-    Setting {
+    ZonedTable {
         now: 60,
         east: 0,
         table: Table {
@@ -91,27 +83,27 @@ static EACH_FORM: [Setting; 3] = [
 ];
 
 /// Parses a timestamp and returns the microseconds of its moment.
-fn micros(place: Place<'_>, text: &str) -> Result<i64, StampFault> {
-    let moment = read_stamp(text, place.now, place.local, place.table)?;
+fn micros(setting: Setting<'_>, text: &str) -> Result<i64, StampFault> {
+    let moment = read_stamp(text, setting.now, setting.local, setting.zones)?;
     Ok(moment.micros())
 }
 
 /// Expects each timestamp to resolve to the microseconds next to it.
-fn expect_micros(place: Place<'_>, moments: &str) -> Result<(), Fail> {
+fn expect_micros(setting: Setting<'_>, moments: &str) -> Result<(), Fail> {
     if moments.is_empty() {
         return Ok(());
     }
     for line in moments.split('|') {
         let (text, expected) = line.split_once(" -> ").ok_or("no arrow")?;
-        ensure(micros(place, text) == Ok(expected.parse()?), text)?;
+        ensure(micros(setting, text) == Ok(expected.parse()?), text)?;
     }
     Ok(())
 }
 
 /// Expects each timestamp to be rejected with this error.
-fn expect_fault(place: Place<'_>, fault: StampFault, texts: &str) -> Result<(), Fail> {
+fn expect_fault(setting: Setting<'_>, fault: StampFault, texts: &str) -> Result<(), Fail> {
     for text in texts.split('|') {
-        ensure(micros(place, text) == Err(fault), text)?;
+        ensure(micros(setting, text) == Err(fault), text)?;
     }
     Ok(())
 }
@@ -119,24 +111,24 @@ fn expect_fault(place: Place<'_>, fault: StampFault, texts: &str) -> Result<(), 
 /// Expects the valid timestamps of the table to resolve to their moments, and the invalid ones to be rejected with
 /// their errors.
 fn expect_moments(now: i64, local: Zone<'_>, zones: &ZoneTable, table: &Table) -> Result<(), Fail> {
-    let place = Place {
+    let setting = Setting {
         now: instant(now)?,
         local,
-        table: zones,
+        zones,
     };
-    expect_micros(place, table.moments)?;
+    expect_micros(setting, table.moments)?;
     for (fault, texts) in table.refusals {
-        expect_fault(place, *fault, texts)?;
+        expect_fault(setting, *fault, texts)?;
     }
     Ok(())
 }
 
-/// Like `expect_moments`, for each setting, with no named zones.
-fn expect_settings(alloc: Global, settings: &[Setting]) -> Result<(), Fail> {
+/// Like `expect_moments`, for each table, with no named zones.
+fn expect_zoned_tables(alloc: Global, rows: &[ZonedTable]) -> Result<(), Fail> {
     let zones = ZoneTable::new(alloc);
-    for setting in settings {
-        let local = zone_east(setting.east)?;
-        expect_moments(setting.now, local, &zones, &setting.table)?;
+    for row in rows {
+        let local = zone_east(row.east)?;
+        expect_moments(row.now, local, &zones, &row.table)?;
     }
     Ok(())
 }
@@ -159,5 +151,5 @@ fn zone_east(seconds: i32) -> Result<Zone<'static>, Fail> {
 
 #[test]
 fn each_form(rt: HostRuntime) -> Result<(), Fail> {
-    expect_settings(rt.alloc(), &EACH_FORM)
+    expect_zoned_tables(rt.alloc(), &EACH_FORM)
 }

@@ -7,14 +7,14 @@ use Rattle.cal_timer.specs.headline.Assignments.{assignments_in}
 use Rattle.cal_timer.specs.headline.TimerText.{without_mark}
 use Rattle.cal_read.specs.TimerFaults.{all_faults, faults_of, in_file}
 use Rattle.cal_read.specs.TimerTexts.{assignments_at}
-use Rattle.cal_read.specs.declared.texts.UnitText.{UnitText}
-use Rattle.cal_read.proofs.SettingsLemmas.{settings_of_timer}
+use Rattle.cal_read.specs.declared.texts.NumberedText.{NumberedText}
+use Rattle.cal_read.proofs.SectionAssignmentsLemmas.{assignments_of_timer}
 use Rattle.cal_lint.specs.Findings.{timer_faults}
 
-pub faults_of_one : (file : UnitText) → file.first ≡ 1 → faults_of expr_in [] 0 (file ∷ []) ≡ timer_faults file.text.now
+pub faults_of_one : (file : NumberedText) → file.first ≡ 1 → faults_of expr_in [] 0 (file ∷ []) ≡ timer_faults file.text.now
 unfolding faults_of
 faults_of_one file e =
     append-nil (map (in_file 0) (all_faults expr_in [] (assignments_at file)))
     ∙ ap (λ all. map (in_file 0) (all_faults expr_in [] all))
     (ap (λ n. assignments_in false (logical_lines n (without_mark file.text.now))) e
-    ∙ sym (settings_of_timer false (logical_lines 1 (without_mark file.text.now))))
+    ∙ sym (assignments_of_timer false (logical_lines 1 (without_mark file.text.now))))

@@ -11,13 +11,13 @@ use Rattle.cal_lint.specs.declared.doubts.Doubt.{Doubt}
 use Rattle.cal_lint.specs.declared.doubts.Doubt.TheVariants.{HourRange, HourList, MonthDay}
 
 -- the number of a part that is a single number, or None for any other part
-abbrev pub number_of : ℕ → Option ℕ → Option ℕ → Option ℕ
-number_of start None None = Some start
-number_of start end step = None
+abbrev pub part_number : ℕ → Option ℕ → Option ℕ → Option ℕ
+part_number start None None = Some start
+part_number start end step = None
 
 abbrev pub only_number : List Part → Option ℕ
 only_number [] = None
-only_number (p ∷ []) = number_of p.start p.end p.step
+only_number (p ∷ []) = part_number p.start p.end p.step
 only_number (p ∷ q ∷ ps) = None
 
 -- the number of a component that is a single number, or None for any other component
@@ -48,7 +48,7 @@ are_zero_and_later hour first second = false
 abbrev pub is_hour_list : ℕ → List Part → Bool
 is_hour_list hour [] = false
 is_hour_list hour (p ∷ []) = false
-is_hour_list hour (p ∷ q ∷ []) = are_zero_and_later hour (number_of p.start p.end p.step) (number_of q.start q.end q.step)
+is_hour_list hour (p ∷ q ∷ []) = are_zero_and_later hour (part_number p.start p.end p.step) (part_number q.start q.end q.step)
 is_hour_list hour (p ∷ q ∷ r ∷ ps) = false
 
 -- whether these minutes, written after this hour, look like a range of hours, for the doubt `HourRange`, or like a list

@@ -1,4 +1,4 @@
--- All problems of a timer's settings, in the order of their lines: systemd.timer(5), Options. An exception is an
+-- All problems of a timer's assignments, in the order of their lines: systemd.timer(5), Options. An exception is an
 -- expression after this project's key `X-ExceptOnCalendar=`. When an exception elapses, the timer doesn't.
 use Rattle.std.specs.Prelude.{ℕ, ◌==◌, Bool, false, not, ◌&&◌, ◌||◌, if◌then◌else◌, List, [], ◌∷◌, ◌++◌, codes, map, Option, None, Some, Result, Ok, Err}
 use Rattle.std.specs.List.{find, flat_map, list_any}
@@ -10,15 +10,15 @@ use Rattle.cal_timer.specs.TimerFault.{line_of}
 use Rattle.cal_timer.specs.headline.Assignments.{Assignment}
 use Rattle.cal_timer.specs.headline.TimerText.{is_exception, is_expression, without_mark}
 use Rattle.cal_timer.specs.declared.fault.TimerFault.{TimerFault}
-use Rattle.cal_read.specs.Settings.{settings_in}
+use Rattle.cal_read.specs.SectionAssignments.{section_assignments}
 use Rattle.cal_read.specs.TimerFaults.{all_faults, in_file}
 use Rattle.cal_read.specs.declared.texts.FileFault.{FileFault}
 use Rattle.cal_lint.specs.Doubts.{doubt_in}
 use Rattle.cal_lint.specs.Systemd252.{rejection_in}
 use Rattle.cal_lint.specs.UnknownKeys.{is_unknown_key}
 use Rattle.cal_lint.specs.declared.problems.Finding.{Finding}
-use Rattle.cal_lint.specs.declared.problems.Kind.{Kind}
-use Rattle.cal_lint.specs.declared.problems.Kind.TheVariants.{Error, Warning}
+use Rattle.cal_lint.specs.declared.problems.ProblemKind.{ProblemKind}
+use Rattle.cal_lint.specs.declared.problems.ProblemKind.TheVariants.{Error, Warning}
 use Rattle.cal_lint.specs.declared.problems.Problem.{Problem}
 use Rattle.cal_lint.specs.declared.problems.Problem.TheVariants.{Invalid, UnknownKey, Rejected, Doubtful}
 
@@ -26,8 +26,8 @@ use Rattle.cal_lint.specs.declared.problems.Problem.TheVariants.{Invalid, Unknow
 abbrev pub is_percent : ℕ → Bool
 is_percent b = b == 37
 
--- whether the setting is an expression or an exception without specifiers; a value with specifiers isn't checked, since
--- systemd replaces them when it loads the unit
+-- whether the assignment is an expression or an exception without specifiers; a value with specifiers isn't checked,
+-- since systemd replaces them when it loads the unit
 abbrev pub is_checked : Assignment → Bool
 is_checked a = (is_expression a || is_exception a) && not (list_any is_percent a.value)
 
@@ -59,41 +59,41 @@ abbrev pub value_problems : Option TimerFault → List ℕ → List Problem
 value_problems (Some fault) value = Invalid fault ∷ []
 value_problems None value = advice value
 
--- the problems of a setting; `faults` are all errors of the timer that has this setting
+-- the problems of an assignment; `faults` are all errors of the timer that has this assignment
 abbrev pub problems_of : List FileFault → Assignment → List Problem
 problems_of faults a =
     if is_unknown_key a.key then UnknownKey ∷ []
     else (if is_checked a then value_problems (fault_on faults a.number) a.value else [])
 
-abbrev pub kind_of : Problem → Kind
-kind_of (Invalid fault) = Error
-kind_of UnknownKey = Error
-kind_of (Rejected rejection) = Error
-kind_of (Doubtful doubt) = Warning
+abbrev pub problem_kind_of : Problem → ProblemKind
+problem_kind_of (Invalid fault) = Error
+problem_kind_of UnknownKey = Error
+problem_kind_of (Rejected rejection) = Error
+problem_kind_of (Doubtful doubt) = Warning
 
--- what contracts say about a finding: its line, its kind and its problem
-pub record Report : Type 0 where
+-- what contracts see of a finding: its line, its kind and its problem
+pub record FoundProblem : Type 0 where
   pub line : ℕ
-  pub kind : Kind
+  pub kind : ProblemKind
   pub problem : Problem
 
-abbrev pub report_at : ℕ → Problem → Report
-report_at number problem = record { line = number; kind = kind_of problem; problem = problem }
+abbrev pub problem_at : ℕ → Problem → FoundProblem
+problem_at number problem = record { line = number; kind = problem_kind_of problem; problem = problem }
 
-abbrev pub shown_finding : Finding → Report
+abbrev pub shown_finding : Finding → FoundProblem
 shown_finding finding = record { line = finding.line; kind = finding.kind; problem = finding.problem }
 
-abbrev pub reports_of : List FileFault → Assignment → List Report
-reports_of faults a = map (report_at a.number) (problems_of faults a)
+abbrev pub found_problems : List FileFault → Assignment → List FoundProblem
+found_problems faults a = map (problem_at a.number) (problems_of faults a)
 
--- the settings in the sections `Timer` of a unit file, whose lines are numbered from 1
-abbrev pub timer_settings : List ℕ → List Assignment
-timer_settings text = settings_in (codes "Timer") false (logical_lines 1 (without_mark text))
+-- the assignments in the sections `Timer` of a unit file, whose lines are numbered from 1
+abbrev pub timer_assignments : List ℕ → List Assignment
+timer_assignments text = section_assignments (codes "Timer") false (logical_lines 1 (without_mark text))
 
--- all errors in the settings of a unit file, as `find_faults` returns them
+-- all errors in the assignments of a unit file, as `find_faults` returns them
 abbrev pub timer_faults : List ℕ → List FileFault
-timer_faults text = map (in_file 0) (all_faults expr_in [] (timer_settings text))
+timer_faults text = map (in_file 0) (all_faults expr_in [] (timer_assignments text))
 
--- the problems of all settings, in order
-abbrev pub findings_in : List ℕ → List Report
-findings_in text = flat_map (reports_of (timer_faults text)) (timer_settings text)
+-- the problems of all assignments, in order
+abbrev pub findings_in : List ℕ → List FoundProblem
+findings_in text = flat_map (found_problems (timer_faults text)) (timer_assignments text)

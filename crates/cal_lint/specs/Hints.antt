@@ -7,7 +7,7 @@ use Rattle.std.specs.Str.{str_eq_ignore_ascii_case}
 use Rattle.cal_text.specs.headline.Separators.{is_equals}
 use Rattle.cal_span.specs.SpanValue.{span_of}
 use Rattle.cal_lint.specs.declared.hints.Mistake.{Mistake}
-use Rattle.cal_lint.specs.declared.hints.Mistake.TheVariants.{Setting, Comment, Now, Span}
+use Rattle.cal_lint.specs.declared.hints.Mistake.TheVariants.{Assignment, Comment, Now, Span}
 
 -- whether the byte begins a comment: `#` or `;`
 abbrev pub is_comment_mark : ℕ → Bool
@@ -21,7 +21,7 @@ is_span text = list_any is_ascii_alphabetic text && is_ok (span_of text)
 -- the first mistake that concerns the whole text, if there is one; the text is an invalid expression
 unfoldable pub mistake_in : List ℕ → Option Mistake
 mistake_in text =
-    if list_any is_equals text then Some Setting
+    if list_any is_equals text then Some Assignment
     else (if list_any is_comment_mark text then Some Comment
     else (if str_eq_ignore_ascii_case text (codes "now") then Some Now
     else (if is_span text then Some Span else None)))

@@ -105,14 +105,14 @@ has_large_step part = is_above max_second_step (step_in (slice_split is_slash pa
 -- Days
 
 -- the end of a part, or its start if it has no end
-abbrev pub last_of : Part → ℕ
-last_of p = unwrap_or p.end p.start
+abbrev pub end_or_start : Part → ℕ
+end_or_start p = unwrap_or p.end p.start
 
 -- whether a part has a number above its bound: `greatest` for the first part, and 3 less for each further part. A month
 -- can have three days less than 31, so the first bound is 28; systemd 252 subtracts 3 again for each further part.
 abbrev pub has_late_part : ℕ → List Part → Bool
 has_late_part greatest [] = false
-has_late_part greatest (p ∷ ps) = nat_lt greatest (last_of p) || has_late_part (greatest - 3) ps
+has_late_part greatest (p ∷ ps) = nat_lt greatest (end_or_start p) || has_late_part (greatest - 3) ps
 
 abbrev pub late_among : Option (List Part) → Bool
 late_among None = false

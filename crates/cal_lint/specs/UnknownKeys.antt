@@ -9,8 +9,8 @@ use Rattle.cal_timer.specs.headline.TimerText.{exception_key}
 
 -- the keys of the section `Timer` that systemd 252 knows, in the order of the manual, and then this project's key for
 -- exceptions
-abbrev pub timer_keys : List (List ℕ)
-timer_keys =
+abbrev pub known_keys : List (List ℕ)
+known_keys =
     codes "OnActiveSec" ∷ codes "OnBootSec" ∷ codes "OnStartupSec" ∷ codes "OnUnitActiveSec" ∷ codes "OnUnitInactiveSec"
     ∷ codes "OnCalendar" ∷ codes "AccuracySec" ∷ codes "RandomizedDelaySec" ∷ codes "FixedRandomDelay" ∷ codes "OnClockChange"
     ∷ codes "OnTimezoneChange" ∷ codes "Unit" ∷ codes "Persistent" ∷ codes "WakeSystem" ∷ codes "RemainAfterElapse"
@@ -26,7 +26,7 @@ is_like_exception_key key =
 -- as unknown only if they look like a misspelled key for exceptions.
 abbrev pub is_unknown_key : List ℕ → Bool
 is_unknown_key key =
-    not (list_any (bytes_eq key) timer_keys) && (not (starts_with nat_eq key (codes "X-")) || is_like_exception_key key)
+    not (list_any (bytes_eq key) known_keys) && (not (starts_with nat_eq key (codes "X-")) || is_like_exception_key key)
 
 abbrev pub has_unknown_key : Assignment → Bool
 has_unknown_key a = is_unknown_key a.key

@@ -5,7 +5,7 @@ ghost use Rattle.std.specs.List.{find};
 ghost use Rattle.std.specs.Option.{option_copied};
 ghost use Rattle.cal_spec.specs.Reads.{GivesUnlessNoMemory};
 ghost use Rattle.cal_text.specs.headline.Separators.{words};
-ghost use Rattle.cal_lint.specs.Doubts.{doubt_in, is_doubtful, is_hour_list, is_hour_range, is_later_hour, is_month_day, is_range_to, has_month_day, number_of, single, has_hours};
+ghost use Rattle.cal_lint.specs.Doubts.{doubt_in, has_hours, has_month_day, is_doubtful, is_hour_list, is_hour_range, is_later_hour, is_month_day, is_range_to, part_number, single};
 
 use cal_spec::{Expr, Field, Part, SpecFault, read_expr};
 use cal_text::first_word;
@@ -85,14 +85,14 @@ fn single(parts: Option<&[Part]>) -> Option<u16>
     ensures { result ≡ single (option_copied parts.entry) }
 {
     match parts {
-        Some([part]) => number_of(*part),
+        Some([part]) => part_number(*part),
         _ => None,
     }
 }
 
 /// Returns the number of a part that is a single number, or `None` for any other part.
-fn number_of(part: Part) -> Option<u16>
-    ensures { result ≡ number_of part.start part.end part.step }
+fn part_number(part: Part) -> Option<u16>
+    ensures { result ≡ part_number part.start part.end part.step }
 {
     match (part.end, part.step) {
         (None, None) => Some(part.start),
@@ -124,7 +124,7 @@ fn is_hour_list(hour: u16, minutes: &[Part]) -> bool
     ensures { result ≡ is_hour_list hour minutes.now }
 {
     match minutes {
-        [first, second] => match (number_of(*first), number_of(*second)) {
+        [first, second] => match (part_number(*first), part_number(*second)) {
             (Some(first), Some(second)) => first == 0 && is_later_hour(hour, second),
             _ => false,
         },

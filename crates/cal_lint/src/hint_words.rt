@@ -1,6 +1,6 @@
 //! Common mistakes in the words of invalid calendar expressions, and what to write instead of them.
 
-use crate::hints::{Hint, Mistake, is_valid};
+use crate::hints::{Hint, Mistake, is_valid_expression};
 use cal_civil::begins_with_letter;
 use cal_text::are_digits;
 use std::alloc::{AllocError, Global};
@@ -83,7 +83,7 @@ fn push_word(
 
 fn rewrite(alloc: Global, is_first: bool, word: &str) -> Result<Option<Rewritten>, AllocError> {
     if begins_with_letter(word.as_bytes()) {
-        return if is_first && !is_valid(alloc, word)? {
+        return if is_first && !is_valid_expression(alloc, word)? {
             rewrite_name(alloc, word)
         } else {
             Ok(None)

@@ -23,8 +23,8 @@ use std::alloc::{AllocError, Global};
 /// A known mistake that an invalid expression resembles.
 #[derive(Clone, Copy, PartialEq, Eq, Debug)]
 pub enum Mistake {
-    /// A setting, such as `OnCalendar=daily`, in place of its value.
-    Setting,
+    /// An assignment, such as `OnCalendar=daily`, in place of its value.
+    Assignment,
     /// An expression with a comment after it. Comments have lines of their own (systemd.syntax(7)).
     Comment,
     /// `now`, which is a timestamp (systemd.time(7), Parsing Timestamps).
@@ -67,7 +67,7 @@ pub fn find_hint(alloc: Global, text: &str) -> Result<Option<Hint>, AllocError>
     ensures instead { IfOk result (λ found. IfSome found (λ hint. IfSome hint.instead (λ instead.
         is_ok (expr_in (string_bytes instead)) ≡ true))) }
 {
-    if is_valid(alloc, text)? {
+    if is_valid_expression(alloc, text)? {
         return Ok(None);
     }
     let Some(found) = hint_for(alloc, trim_blanks(text))? else {
@@ -79,7 +79,7 @@ pub fn find_hint(alloc: Global, text: &str) -> Result<Option<Hint>, AllocError>
 }
 
 /// Returns whether a text is a valid expression. Fails only if allocation fails.
-pub(crate) fn is_valid(alloc: Global, text: &str) -> Result<bool, AllocError>
+pub(crate) fn is_valid_expression(alloc: Global, text: &str) -> Result<bool, AllocError>
     ensures { IfOk result (λ valid. valid ≡ is_ok (expr_in text.now)) }
 {
     match read_expr(alloc, text) {
@@ -96,7 +96,7 @@ fn keep_valid(alloc: Global, text: Option<String>) -> Result<Option<String>, All
     let Some(text) = text else {
         return Ok(None);
     };
-    if is_valid(alloc, text.as_str())? {
+    if is_valid_expression(alloc, text.as_str())? {
         Ok(Some(text))
     } else {
         Ok(None)
@@ -122,7 +122,7 @@ fn mistake_in(text: &str) -> Option<Mistake>
     ensures { result ≡ mistake_in text.now }
 {
     if text.as_bytes().contains(&b'=') {
-        Some(Mistake::Setting)
+        Some(Mistake::Assignment)
     } else if has_comment_mark(text.as_bytes()) {
         Some(Mistake::Comment)
     } else if text.as_bytes().eq_ignore_ascii_case(b"now") {
@@ -134,14 +134,15 @@ fn mistake_in(text: &str) -> Option<Mistake>
     }
 }
 
-/// Returns a hint with this mistake. If the mistake is a setting in place of its value, the hint suggests the value. If
-/// it is a comment after the expression, the hint suggests the text before the comment. In both cases, mistakes in
-/// single words of the suggestion are corrected, too. If the mistake is neither of these two, there is no suggestion.
+/// Returns a hint with this mistake. If the mistake is an assignment in place of its value, the hint suggests the
+/// value. If it is a comment after the expression, the hint suggests the text before the comment. In both cases,
+/// mistakes in single words of the suggestion are corrected, too. If the mistake is neither of these two, there is no
+/// suggestion.
 fn hint_with(alloc: Global, mistake: Mistake, text: &str) -> Result<Option<Hint>, AllocError>
     ensures { IfOk result (λ found. option_map (λ hint. hint.mistake) found ≡ Some mistake) }
 {
     let instead = match mistake {
-        Mistake::Setting => rewritten(alloc, after_equals(text))?,
+        Mistake::Assignment => rewritten(alloc, after_equals(text))?,
         Mistake::Comment => rewritten(alloc, before_comment(text))?,
         _ => None,
     };

@@ -13,5 +13,5 @@ mod unknown_keys;
 pub use doubts::{Doubt, find_doubt};
 pub use hints::{Hint, Mistake, find_hint};
 pub use older_systemd::{Rejection, systemd_252};
-pub use problems::{Finding, Kind, Problem, findings};
+pub use problems::{Finding, Problem, ProblemKind, findings};
 pub use unknown_keys::find_unknown_keys;

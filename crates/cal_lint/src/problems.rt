@@ -1,4 +1,4 @@
-//! All problems in the settings of a timer unit, as data for programs that print the problems or mark them in an
+//! All problems in the assignments of a timer unit, as data for programs that print the problems or mark them in an
 //! editor.
 //!
 //! An exception is an expression after this project's key `X-ExceptOnCalendar=`. When an exception elapses, the timer
@@ -7,11 +7,11 @@
 ghost use Rattle.std.specs.Prelude.{◌≡◌, ◌+◌, ◌<◌, ◌^◌, ◌++◌, ◌∷◌, [], IfOk, OnOk, length, map};
 ghost use Rattle.std.specs.List.{find, list_any};
 ghost use Rattle.std.specs.Option.{option_map, option_to_list};
-ghost use Rattle.cal_read.specs.Settings.{shown_setting};
+ghost use Rattle.cal_read.specs.SectionAssignments.{shown_owned_assignment};
 ghost use Rattle.cal_timer.specs.TimerView.{shown_assignment};
 ghost use Rattle.cal_lint.specs.Doubts.{doubt_in};
 ghost use Rattle.cal_lint.specs.Systemd252.{rejection_in};
-ghost use Rattle.cal_lint.specs.Findings.{advice, fault_on, findings_in, if_valid, is_checked, is_on, is_percent, kind_of, report_at, reports_of, shown_finding, timer_faults};
+ghost use Rattle.cal_lint.specs.Findings.{advice, fault_on, findings_in, found_problems, if_valid, is_checked, is_on, is_percent, problem_at, problem_kind_of, shown_finding, timer_faults};
 ghost use Rattle.cal_lint.specs.declared.problems.Problem.TheVariants.{Doubtful, Invalid, Rejected};
 
 use crate::doubts::{Doubt, find_doubt};
@@ -19,7 +19,8 @@ use crate::hints::{Hint, Mistake, find_hint};
 use crate::older_systemd::{Rejection, systemd_252};
 use crate::unknown_keys::is_unknown_key;
 use cal_read::{
-    Assignment, FileFault, Setting, Settings, TimerFault, UnitText, find_faults, without_mark,
+    Assignment, Assignments, FileFault, NumberedText, OwnedAssignment, TimerFault, find_faults,
+    without_mark,
 };
 use cal_spec::{Expr, SpecFault, fault_span, read_expr, write_expr};
 use cal_streams::Port;
@@ -27,14 +28,14 @@ use std::alloc::{AllocError, Global};
 
 /// How serious a problem is.
 #[derive(Clone, Copy, PartialEq, Eq, Debug)]
-pub enum Kind {
-    /// This project or systemd 252 rejects the setting, or the key is unknown.
+pub enum ProblemKind {
+    /// This project or systemd 252 rejects the assignment, or the key is unknown.
     Error,
-    /// The setting is accepted, but may not mean what its author thinks.
+    /// The assignment is accepted, but may not mean what its author thinks.
     Warning,
 }
 
-/// What is wrong with a setting.
+/// What is wrong with an assignment.
 #[derive(Clone, Copy, PartialEq, Eq, Debug)]
 pub enum Problem {
     /// The expression or the exception is invalid, or its list is full.
@@ -49,12 +50,12 @@ pub enum Problem {
 
 impl Problem {
     /// Returns whether the problem is an error or only a warning.
-    pub fn kind(self) -> Kind
-        ensures { result ≡ kind_of self }
+    pub fn kind(self) -> ProblemKind
+        ensures { result ≡ problem_kind_of self }
     {
         match self {
-            Problem::Doubtful(_) => Kind::Warning,
-            _ => Kind::Error,
+            Problem::Doubtful(_) => ProblemKind::Warning,
+            _ => ProblemKind::Error,
         }
     }
 }
@@ -62,14 +63,14 @@ impl Problem {
 /// A problem of a unit file, and where it is.
 #[derive(Debug, Drop)]
 pub struct Finding {
-    /// The number of the setting's line, from 1. A continued line has the number of its first physical line.
+    /// The number of the assignment's line, from 1. A continued line has the number of its first physical line.
     pub line: u32,
     /// The byte of the line, counted from 1, at which the problem begins. This is the first byte of the unknown key, of
     /// the word at fault in an invalid expression (see [`fault_span`]), or otherwise of the value. The column is 1 if
     /// the problem is in the value and the line doesn't contain the whole value, which happens only if the line is
     /// continued.
     pub column: u32,
-    pub kind: Kind,
+    pub kind: ProblemKind,
     pub problem: Problem,
     /// The known mistake that an invalid expression resembles, if there is one.
     pub mistake: Option<Mistake>,
@@ -77,7 +78,7 @@ pub struct Finding {
     pub suggestion: Option<String>,
 }
 
-/// Returns all problems of the settings in the sections `Timer` of a unit file (systemd.timer(5), Options), in the
+/// Returns all problems of the assignments in the sections `Timer` of a unit file (systemd.timer(5), Options), in the
 /// order of their lines. The first line has the number 1. `text` must have fewer than 2^32 - 1 bytes.
 ///
 /// The problems are unknown keys, as [`crate::find_unknown_keys`] defines them; invalid lines, as [`find_faults`]
@@ -88,52 +89,52 @@ pub fn findings(alloc: Global, text: &str) -> Result<Vec<Finding>, AllocError>
     requires { 1 + length text.now < 2 ^ 32 }
     ensures { IfOk result (λ found. map shown_finding found.items ≡ findings_in text.now) }
 {
-    let faults = faults_of(alloc, text)?;
+    let faults = timer_faults(alloc, text)?;
     let lines: Vec<&str> = without_mark(text).lines().collect(alloc)?;
     let mut found = Vec::new(alloc);
-    let mut settings = Settings::new("Timer", 1, without_mark(text));
-    while let Some(setting) = settings.next(alloc)? {
+    let mut assignments = Assignments::new("Timer", 1, without_mark(text));
+    while let Some(assignment) = assignments.next(alloc)? {
         add_findings(
             alloc,
             &mut found,
             &faults,
-            &setting,
-            line_of(&lines, setting.number),
+            &assignment,
+            physical_line(&lines, assignment.number),
         )?;
     }
     Ok(found)
 }
 
 /// Returns all errors in the lines of a text whose first line has the number 1.
-fn faults_of(alloc: Global, text: &str) -> Result<Vec<FileFault>, AllocError>
+fn timer_faults(alloc: Global, text: &str) -> Result<Vec<FileFault>, AllocError>
     requires { 1 + length text.now < 2 ^ 32 }
     ensures { IfOk result (λ found. found.items ≡ timer_faults text.now) }
 {
-    find_faults(alloc, &[UnitText { first: 1, text }])
+    find_faults(alloc, &[NumberedText { first: 1, text }])
 }
 
-/// Appends the problems of a setting. `line` is the setting's first physical line.
+/// Appends the problems of an assignment. `line` is the assignment's first physical line.
 fn add_findings(
     alloc: Global,
     found: &mut Vec<Finding>,
     faults: &[FileFault],
-    setting: &Setting,
+    assignment: &OwnedAssignment,
     line: &str,
 ) -> Result<(), AllocError>
     ensures { OnOk result (map shown_finding found.new.items
-        ≡ map shown_finding found.old.items ++ reports_of faults.now (shown_setting setting.now)) }
+        ≡ map shown_finding found.old.items ++ found_problems faults.now (shown_owned_assignment assignment.now)) }
 {
-    if is_unknown_key(setting.key.as_str()) {
-        let column = key_column(line, setting.key.as_str());
-        found.push(plain_finding(setting.number, column, Problem::UnknownKey))?;
+    if is_unknown_key(assignment.key.as_str()) {
+        let column = key_column(line, assignment.key.as_str());
+        found.push(plain_finding(assignment.number, column, Problem::UnknownKey))?;
         return Ok(());
     }
-    if !is_checked(setting) {
+    if !is_checked(assignment) {
         return Ok(());
     }
-    match fault_on(faults, setting.number) {
-        Some(fault) => add_invalid(alloc, found, setting, line, fault),
-        None => add_advice(alloc, found, setting, line),
+    match fault_on(faults, assignment.number) {
+        Some(fault) => add_invalid(alloc, found, assignment, line, fault),
+        None => add_advice(alloc, found, assignment, line),
     }
 }
 
@@ -141,20 +142,20 @@ fn add_findings(
 fn add_invalid(
     alloc: Global,
     found: &mut Vec<Finding>,
-    setting: &Setting,
+    assignment: &OwnedAssignment,
     line: &str,
     fault: TimerFault,
 ) -> Result<(), AllocError>
     ensures { OnOk result (map shown_finding found.new.items
-        ≡ map shown_finding found.old.items ++ report_at setting.now.number (Invalid fault) ∷ []) }
+        ≡ map shown_finding found.old.items ++ problem_at assignment.now.number (Invalid fault) ∷ []) }
 {
-    let value = setting.value.as_str();
+    let value = assignment.value.as_str();
     let start = fault_start(alloc, value)?;
     let (mistake, suggestion) = advice_for(alloc, fault, value)?;
     found.push(Finding {
-        line: setting.number,
+        line: assignment.number,
         column: value_column(line, value, start),
-        kind: Kind::Error,
+        kind: ProblemKind::Error,
         problem: Problem::Invalid(fault),
         mistake,
         suggestion,
@@ -162,23 +163,23 @@ fn add_invalid(
     Ok(())
 }
 
-/// If the setting's value is a valid expression, appends the reason why systemd 252 rejects it and the doubt about its
-/// meaning, each only if there is one.
+/// If the assignment's value is a valid expression, appends the reason why systemd 252 rejects it and the doubt about
+/// its meaning, each only if there is one.
 fn add_advice(
     alloc: Global,
     found: &mut Vec<Finding>,
-    setting: &Setting,
+    assignment: &OwnedAssignment,
     line: &str,
 ) -> Result<(), AllocError>
     ensures { OnOk result (map shown_finding found.new.items ≡ map shown_finding found.old.items
-        ++ map (report_at setting.now.number) (advice (shown_setting setting.now).value)) }
+        ++ map (problem_at assignment.now.number) (advice (shown_owned_assignment assignment.now).value)) }
 {
-    let value = setting.value.as_str();
+    let value = assignment.value.as_str();
     let column = value_column(line, value, 0);
     let rejected = rejection_of(alloc, value)?;
     let doubt = doubt_of(alloc, value)?;
-    push_rejection(alloc, found, setting.number, column, rejected, value)?;
-    push_doubt(found, setting.number, column, doubt)
+    push_rejection(alloc, found, assignment.number, column, rejected, value)?;
+    push_doubt(found, assignment.number, column, doubt)
 }
 
 /// Appends the reason in `rejected`, if there is one. Suggests the normal form of the expression if systemd 252 accepts
@@ -192,7 +193,7 @@ fn push_rejection(
     value: &str,
 ) -> Result<(), AllocError>
     ensures { OnOk result (map shown_finding found.new.items
-        ≡ map shown_finding found.old.items ++ map (report_at line) (option_to_list (option_map Rejected rejected))) }
+        ≡ map shown_finding found.old.items ++ map (problem_at line) (option_to_list (option_map Rejected rejected))) }
 {
     if let Some(rejection) = rejected {
         let suggestion = accepted_form(alloc, value)?;
@@ -210,7 +211,7 @@ fn push_doubt(
     doubt: Option<Doubt>,
 ) -> Result<(), AllocError>
     ensures { OnOk result (map shown_finding found.new.items
-        ≡ map shown_finding found.old.items ++ map (report_at line) (option_to_list (option_map Doubtful doubt))) }
+        ≡ map shown_finding found.old.items ++ map (problem_at line) (option_to_list (option_map Doubtful doubt))) }
 {
     if let Some(doubt) = doubt {
         found.push(plain_finding(line, column, Problem::Doubtful(doubt)))?;
@@ -242,7 +243,7 @@ fn normal_form(alloc: Global, expr: &Expr) -> Result<String, AllocError> {
 
 /// Returns a finding whose `mistake` is `None`.
 fn finding_with(line: u32, column: u32, problem: Problem, suggestion: Option<String>) -> Finding
-    ensures { shown_finding result ≡ report_at line problem }
+    ensures { shown_finding result ≡ problem_at line problem }
 {
     Finding {
         line,
@@ -256,7 +257,7 @@ fn finding_with(line: u32, column: u32, problem: Problem, suggestion: Option<Str
 
 /// Returns a finding whose `mistake` and `suggestion` are `None`.
 fn plain_finding(line: u32, column: u32, problem: Problem) -> Finding
-    ensures { shown_finding result ≡ report_at line problem }
+    ensures { shown_finding result ≡ problem_at line problem }
 {
     finding_with(line, column, problem, None)
 }
@@ -301,17 +302,17 @@ fn advice_for(
     }
 }
 
-/// Returns whether the setting is an expression or an exception without specifiers. A specifier begins with `%`.
-fn is_checked(setting: &Setting) -> bool
-    ensures { result ≡ is_checked (shown_setting setting.now) }
+/// Returns whether the assignment is an expression or an exception without specifiers. A specifier begins with `%`.
+fn is_checked(assignment: &OwnedAssignment) -> bool
+    ensures { result ≡ is_checked (shown_owned_assignment assignment.now) }
 {
-    let assignment = Assignment {
-        number: setting.number,
-        key: setting.key.as_str(),
-        value: setting.value.as_str(),
+    let borrowed = Assignment {
+        number: assignment.number,
+        key: assignment.key.as_str(),
+        value: assignment.value.as_str(),
     };
-    (assignment.is_expression() || assignment.is_exception())
-        && !setting.value.as_bytes().contains(&b'%')
+    (borrowed.is_expression() || borrowed.is_exception())
+        && !assignment.value.as_bytes().contains(&b'%')
 }
 
 /// Returns the first error in the line with this number, if there is one.
@@ -348,7 +349,7 @@ fn fault_start(alloc: Global, value: &str) -> Result<usize, AllocError> {
 }
 
 /// Returns the physical line with this number, counted from 1, or an empty text if there are fewer lines.
-fn line_of<'t>(lines: &[&'t str], number: u32) -> &'t str {
+fn physical_line<'t>(lines: &[&'t str], number: u32) -> &'t str {
     match lines.get((number as usize).saturating_sub(1)) {
         Some(line) => *line,
         None => "",

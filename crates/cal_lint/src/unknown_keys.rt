@@ -5,11 +5,11 @@ ghost use Rattle.std.specs.List.{starts_with};
 ghost use Rattle.std.specs.Str.{str_eq_ignore_ascii_case};
 ghost use Rattle.cal_lines.specs.headline.Lines.{logical_lines};
 ghost use Rattle.cal_timer.specs.headline.TimerText.{without_mark};
-ghost use Rattle.cal_read.specs.Settings.{settings_in, shown_setting};
+ghost use Rattle.cal_read.specs.SectionAssignments.{section_assignments, shown_owned_assignment};
 ghost use Rattle.cal_lint.specs.UnknownKeys.{has_unknown_key, is_like_exception_key, is_unknown_key};
 
 use cal_bytes::is_among;
-use cal_read::{Setting, Settings, without_mark};
+use cal_read::{Assignments, OwnedAssignment, without_mark};
 use std::alloc::{AllocError, Global};
 
 /// The keys of the section `Timer` that systemd 252 knows (systemd.timer(5), Options), and then `X-ExceptOnCalendar`,
@@ -33,25 +33,29 @@ const KNOWN_KEYS: [&[u8]; 16] = [
     b"X-ExceptOnCalendar",
 ];
 
-/// Returns the settings with unknown keys in the sections `Timer` of a unit file, in order. A key is unknown if neither
-/// systemd 252 (systemd.timer(5), Options) nor this project knows it. The first line of `text` has the number `first`;
-/// `first` plus the number of bytes must be below 2^32.
+/// Returns the assignments with unknown keys in the sections `Timer` of a unit file, in order. A key is unknown if
+/// neither systemd 252 (systemd.timer(5), Options) nor this project knows it. The first line of `text` has the number
+/// `first`; `first` plus the number of bytes must be below 2^32.
 ///
 /// systemd ignores keys that begin with `X-` (systemd.unit(5)). So they don't count as unknown, unless they look like a
 /// misspelled `X-ExceptOnCalendar`, this project's key for exceptions: they begin with `X-Except` or end with
 /// `OnCalendar`, ignoring case.
 ///
 /// Fails only if allocation fails.
-pub fn find_unknown_keys(alloc: Global, first: u32, text: &str) -> Result<Vec<Setting>, AllocError>
+pub fn find_unknown_keys(
+    alloc: Global,
+    first: u32,
+    text: &str,
+) -> Result<Vec<OwnedAssignment>, AllocError>
     requires { first + length text.now < 2 ^ 32 }
-    ensures { IfOk result (λ found. map shown_setting found.items ≡ filter has_unknown_key
-        (settings_in (codes "Timer") false (logical_lines first (without_mark text.now)))) }
+    ensures { IfOk result (λ found. map shown_owned_assignment found.items ≡ filter has_unknown_key
+        (section_assignments (codes "Timer") false (logical_lines first (without_mark text.now)))) }
 {
     let mut found = Vec::new(alloc);
-    let mut settings = Settings::new("Timer", first, without_mark(text));
-    while let Some(setting) = settings.next(alloc)? {
-        if is_unknown_key(setting.key.as_str()) {
-            found.push(setting)?;
+    let mut assignments = Assignments::new("Timer", first, without_mark(text));
+    while let Some(assignment) = assignments.next(alloc)? {
+        if is_unknown_key(assignment.key.as_str()) {
+            found.push(assignment)?;
         }
     }
     Ok(found)

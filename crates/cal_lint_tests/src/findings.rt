@@ -1,7 +1,7 @@
 //! Tests of `findings`: all problems of a unit file.
 
 use crate::ensure;
-use cal_lint::{Doubt, Finding, Kind, Mistake, Problem, Rejection, findings};
+use cal_lint::{Doubt, Finding, Mistake, Problem, ProblemKind, Rejection, findings};
 use cal_read::TimerFault;
 use cal_spec::SpecFault;
 use std::test::Fail;
@@ -21,7 +21,7 @@ OnCalendar=Mon \\
 OnCalendar=
 ";
 
-/// A finding's line, column and problem, and a word of the setting, which names the row if the test fails.
+/// A finding's line, column and problem, and a word of the assignment, which names the row if the test fails.
 type Row = (u32, u32, Problem, &'static str);
 
 static FOUND: [Row; 6] = [
@@ -63,7 +63,7 @@ fn a_hint(rt: HostRuntime) -> Result<(), Fail> {
     let [finding] = found.as_slice() else {
         return ensure(false, "one finding");
     };
-    ensure(finding.kind == Kind::Error, "kind")?;
+    ensure(finding.kind == ProblemKind::Error, "kind")?;
     ensure(finding.mistake == Some(Mistake::TwelveHours), "mistake")?;
     match &finding.suggestion {
         Some(text) => ensure(text.as_str() == "09:00", "suggestion"),

@@ -9,8 +9,8 @@ use std::test::Fail;
 type Row = (&'static str, Mistake, &'static str);
 
 static WHOLE_TEXTS: [Row; 11] = [
-    ("OnCalendar=daily", Mistake::Setting, "daily"),
-    ("OnCalendar = Mon 9", Mistake::Setting, "Mon 09:00"),
+    ("OnCalendar=daily", Mistake::Assignment, "daily"),
+    ("OnCalendar = Mon 9", Mistake::Assignment, "Mon 09:00"),
     ("daily # every day", Mistake::Comment, "daily"),
     ("now", Mistake::Now, ""),
     (" 1h 30min ", Mistake::Span, ""),

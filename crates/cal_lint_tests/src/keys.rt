@@ -2,7 +2,7 @@
 
 use crate::ensure;
 use cal_lint::find_unknown_keys;
-use cal_read::Setting;
+use cal_read::OwnedAssignment;
 use std::test::Fail;
 
 /// A unit file with all known keys of timers, and with unknown ones.
@@ -50,16 +50,16 @@ static UNKNOWN: [(u32, &str); 7] = [
     (29, ""),
 ];
 
-fn is_at(setting: &Setting, number: u32, key: &str) -> bool {
-    setting.number == number && setting.key.as_str() == key
+fn is_at(assignment: &OwnedAssignment, number: u32, key: &str) -> bool {
+    assignment.number == number && assignment.key.as_str() == key
 }
 
 #[test]
 fn unknown_keys(rt: HostRuntime) -> Result<(), Fail> {
     let found = find_unknown_keys(rt.alloc(), 1, UNIT)?;
     ensure(found.len() == UNKNOWN.len(), "number of keys")?;
-    for (setting, (number, key)) in found.iter().zip(UNKNOWN) {
-        ensure(is_at(setting, number, key), key)?;
+    for (assignment, (number, key)) in found.iter().zip(UNKNOWN) {
+        ensure(is_at(assignment, number, key), key)?;
     }
     Ok(())
 }

@@ -4,50 +4,49 @@ use Rattle.std.specs.Str.Lines.{lines}
 use Rattle.std.proofs.Math.Seq.{drop-length}
 use Rattle.std.proofs.lemmas.List.Concat.{flat_map-append}
 use Rattle.std.proofs.lemmas.List.Elements.{All-push}
-use Rattle.cal_read.specs.TimerTexts as joined
-use Rattle.cal_read.specs.TimerTexts.{assignments_at}
-use Rattle.cal_read.specs.declared.texts.UnitText as read
+use Rattle.cal_read.specs.TimerTexts.{assignments_at, assignments_of}
+use Rattle.cal_read.specs.declared.texts.NumberedText.{NumberedText}
 use Rattle.cal_timer.specs.headline.Assignments.{Assignment}
-use Rattle.cal_units.specs.Files.{shown_text}
+use Rattle.cal_units.specs.Files.{shown_unit_text}
 use Rattle.cal_units.specs.declared.files.UnitText.{UnitText}
 use Rattle.cal_load.specs.Loaded.{assignments_from, bytes_in}
 
 -- the assignments in the files from index `i` on are those in the file with index `i`, whose text is `text`, followed
 -- by those in the later files
-assignments_here : (text : read.UnitText) (files : List UnitText) (i : ℕ) (file : UnitText) (next : ℕ)
+assignments_here : (text : NumberedText) (files : List UnitText) (i : ℕ) (file : UnitText) (next : ℕ)
     → i < length files → file ≡ get_or files i file → text.text.now ≡ file.bytes.items → next ≡ text.first + length (lines text.text.now)
-    → assignments_at text ++ assignments_from next (bytes_in (map shown_text (drop (i + 1) files)))
-    ≡ assignments_from text.first (bytes_in (map shown_text (drop i files)))
+    → assignments_at text ++ assignments_from next (bytes_in (map shown_unit_text (drop (i + 1) files)))
+    ≡ assignments_from text.first (bytes_in (map shown_unit_text (drop i files)))
 unfolding assignments_from
 assignments_here text files i file next h at same number = rw (drop-cons files i file h, ← at, add-one, number, same) refl
 
-pub texts_more : (texts more : List read.UnitText) (text : read.UnitText) (files : List UnitText) (i : ℕ) (file : UnitText) (first next : ℕ) (all : List Assignment)
+pub texts_more : (texts more : List NumberedText) (text : NumberedText) (files : List UnitText) (i : ℕ) (file : UnitText) (first next : ℕ) (all : List Assignment)
     → i < length files → file ≡ get_or files i file → text.text.now ≡ file.bytes.items → text.first ≡ first
     → next ≡ text.first + length (lines text.text.now) → more ≡ texts ++ text ∷ []
-    → joined.assignments_of texts ++ assignments_from first (bytes_in (map shown_text (drop i files))) ≡ all
-    → joined.assignments_of more ++ assignments_from next (bytes_in (map shown_text (drop (i + 1) files))) ≡ all
+    → assignments_of texts ++ assignments_from first (bytes_in (map shown_unit_text (drop i files))) ≡ all
+    → assignments_of more ++ assignments_from next (bytes_in (map shown_unit_text (drop (i + 1) files))) ≡ all
 texts_more texts more text files i file first next all h at same from number pushed before =
-    ap (λ list. joined.assignments_of list ++ assignments_from next (bytes_in (map shown_text (drop (i + 1) files)))) pushed
-    ∙ ap (λ list. list ++ assignments_from next (bytes_in (map shown_text (drop (i + 1) files))))
-    (flat_map-append assignments_at texts (text ∷ []) ∙ ap (λ last. joined.assignments_of texts ++ last) (append-nil (assignments_at text)))
-    ∙ append_assoc (joined.assignments_of texts) (assignments_at text) (assignments_from next (bytes_in (map shown_text (drop (i + 1) files))))
-    ∙ ap (λ list. joined.assignments_of texts ++ list) (assignments_here text files i file next h at same number)
-    ∙ ap (λ n. joined.assignments_of texts ++ assignments_from n (bytes_in (map shown_text (drop i files)))) from
+    ap (λ list. assignments_of list ++ assignments_from next (bytes_in (map shown_unit_text (drop (i + 1) files)))) pushed
+    ∙ ap (λ list. list ++ assignments_from next (bytes_in (map shown_unit_text (drop (i + 1) files))))
+    (flat_map-append assignments_at texts (text ∷ []) ∙ ap (λ last. assignments_of texts ++ last) (append-nil (assignments_at text)))
+    ∙ append_assoc (assignments_of texts) (assignments_at text) (assignments_from next (bytes_in (map shown_unit_text (drop (i + 1) files))))
+    ∙ ap (λ list. assignments_of texts ++ list) (assignments_here text files i file next h at same number)
+    ∙ ap (λ n. assignments_of texts ++ assignments_from n (bytes_in (map shown_unit_text (drop i files)))) from
     ∙ before
 
 no_files : (first : ℕ) → assignments_from first [] ≡ []
 unfolding assignments_from
 no_files first = refl
 
-pub texts_all : (texts : List read.UnitText) (first : ℕ) (files : List UnitText) (i : ℕ) (all : List Assignment) → i ≡ length files
-    → joined.assignments_of texts ++ assignments_from first (bytes_in (map shown_text (drop i files))) ≡ all
-    → joined.assignments_of texts ≡ all
+pub texts_all : (texts : List NumberedText) (first : ℕ) (files : List UnitText) (i : ℕ) (all : List Assignment) → i ≡ length files
+    → assignments_of texts ++ assignments_from first (bytes_in (map shown_unit_text (drop i files))) ≡ all
+    → assignments_of texts ≡ all
 texts_all texts first files i all e before =
-    sym (append-nil (joined.assignments_of texts))
-    ∙ ap (λ list. joined.assignments_of texts ++ list) (sym (ap (λ rest. assignments_from first (bytes_in (map shown_text rest))) (ap (λ n. drop n files) e ∙ drop-length files) ∙ no_files first))
+    sym (append-nil (assignments_of texts))
+    ∙ ap (λ list. assignments_of texts ++ list) (sym (ap (λ rest. assignments_from first (bytes_in (map shown_unit_text rest))) (ap (λ n. drop n files) e ∙ drop-length files) ∙ no_files first))
     ∙ before
 
-pub numbered_more : (texts more : List read.UnitText) (text : read.UnitText) → more ≡ texts ++ text ∷ []
+pub numbered_more : (texts more : List NumberedText) (text : NumberedText) → more ≡ texts ++ text ∷ []
     → All (λ text. text.first + length text.text.now < 2 ^ 32) texts → text.first + length text.text.now < 2 ^ 32
     → All (λ text. text.first + length text.text.now < 2 ^ 32) more
 numbered_more texts more text pushed before here = rw pushed (All-push (λ text. text.first + length text.text.now < 2 ^ 32) texts text before here)

@@ -1,4 +1,4 @@
 pub mod Expressions
-pub mod Found
 pub mod Loaded
-pub mod Place
+pub mod LoadedTarget
+pub mod Position

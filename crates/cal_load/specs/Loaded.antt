@@ -17,26 +17,26 @@ use Rattle.cal_timer.specs.TimerEntries.{TimerLine, lists_of}
 use Rattle.cal_timer.specs.TimerView.{shown}
 use Rattle.cal_timer.specs.declared.fault.TimerFault.TheVariants.{NothingToDo}
 use Rattle.cal_units.specs.Aliases.{Alias, stems_of}
-use Rattle.cal_units.specs.Files.{UnitText, file_at, files_at, shown_text}
+use Rattle.cal_units.specs.Files.{UnitText, file_at, files_at, shown_unit_text}
 use Rattle.cal_units.specs.Machine.{Machine, disk_of}
-use Rattle.cal_units.specs.Units.{Unit, unit_in}
+use Rattle.cal_units.specs.Units.{Unit, unit_on}
 use Rattle.cal_units.specs.Units.Unit.{Unfound, TemplateOnly, MaskedBy, FoundAt, Endless}
 use Rattle.cal_zone.specs.headline.ZoneTable.{ZoneMap, zone_named}
 use Rattle.cal_load.specs.declared.calendar.Calendar as calendars
 use Rattle.cal_load.specs.declared.loaded.LoadedTimer.{LoadedTimer}
 
 -- the paths of a unit's files: its own file, and then its drop-ins, in the order in which they are read
-abbrev pub paths_of : Machine → List (List ℕ) → List Alias → Unit → List (List ℕ)
-paths_of machine path aliases Unfound = []
-paths_of machine path aliases TemplateOnly = []
-paths_of machine path aliases (MaskedBy file) = []
-paths_of machine path aliases (FoundAt file followed own) =
+abbrev pub unit_file_paths : Machine → List (List ℕ) → List Alias → Unit → List (List ℕ)
+unit_file_paths machine path aliases Unfound = []
+unit_file_paths machine path aliases TemplateOnly = []
+unit_file_paths machine path aliases (MaskedBy file) = []
+unit_file_paths machine path aliases (FoundAt file followed own) =
     file ∷ drop_ins (disk_of machine) path (stems_of aliases followed own)
-paths_of machine path aliases Endless = []
+unit_file_paths machine path aliases Endless = []
 
 -- the files of the unit with this stem; `aliases` are the aliases on the machine
 abbrev pub unit_files : Machine → List (List ℕ) → List Alias → List ℕ → List UnitText
-unit_files machine path aliases stem = files_at machine (paths_of machine path aliases (unit_in machine path stem))
+unit_files machine path aliases stem = files_at machine (unit_file_paths machine path aliases (unit_on machine path stem))
 
 -- The assignments in the sections `Timer` of files. The first line of the first file has the number `first`, and the
 -- numbers continue from file to file.
@@ -48,8 +48,8 @@ assignments_from first (text ∷ texts) =
 abbrev pub bytes_in : List UnitText → List (List ℕ)
 bytes_in files = map (λ file. file.bytes) files
 
-abbrev pub assignments_of : List UnitText → List Assignment
-assignments_of files = assignments_from 1 (bytes_in files)
+abbrev pub assignments_of_files : List UnitText → List Assignment
+assignments_of_files files = assignments_from 1 (bytes_in files)
 
 -- none of these assignments has an error, and the calendar has their expressions and exceptions, or nothing if there
 -- are no expressions
@@ -59,7 +59,7 @@ IsCalendarBy assignments (calendars.TheVariants.Timer timer) = lists_of expr_in 
 IsCalendarBy assignments (calendars.TheVariants.Expressions list) = ⊥
 
 abbrev pub IsCalendarOf : List UnitText → calendars.Calendar → Type 0
-IsCalendarOf files calendar = IsCalendarBy (assignments_of files) calendar
+IsCalendarOf files calendar = IsCalendarBy (assignments_of_files files) calendar
 
 abbrev pub expressions_in : calendars.Calendar → List (TimerLine Fields)
 expressions_in calendars.TheVariants.Nothing = []
@@ -72,8 +72,8 @@ exceptions_in (calendars.TheVariants.Timer timer) = timer.exceptions
 exceptions_in (calendars.TheVariants.Expressions list) = []
 
 -- the names of the zones that these expressions name
-abbrev pub zones_in : List (TimerLine Fields) → List (List ℕ)
-zones_in entries = flat_map (λ entry. option_to_list (name_in entry.expr.zone)) entries
+abbrev pub zone_names_in : List (TimerLine Fields) → List (List ℕ)
+zone_names_in entries = flat_map (λ entry. option_to_list (name_in entry.expr.zone)) entries
 
 -- the table has UTC and a zone for each of these names, and no other zones
 abbrev pub HasNames : ZoneMap → List (List ℕ) → Type 0
@@ -82,22 +82,22 @@ HasNames table names = (name : List ℕ) → is_some (zone_named table name) ≡
 -- the table has UTC and the zones that the calendar names, as they are in the machine's zone files, and no other zones
 abbrev pub HasZones : Machine → calendars.Calendar → ZoneMap → Type 0
 HasZones machine calendar table =
-    HasNames table (zones_in (expressions_in calendar) ++ zones_in (exceptions_in calendar)) × HasZonesOf machine table
+    HasNames table (zone_names_in (expressions_in calendar) ++ zone_names_in (exceptions_in calendar)) × HasZonesOf machine table
 
 -- the timer was read from these files of a machine
-pub record IsReadFrom (machine : Machine) (files : List UnitText) (timer : LoadedTimer) : Type 0 where
-  pub has_files : map shown_text timer.files.items ≡ files
+pub record IsTimerReadFrom (machine : Machine) (files : List UnitText) (timer : LoadedTimer) : Type 0 where
+  pub has_files : map shown_unit_text timer.files.items ≡ files
   pub has_calendar : IsCalendarOf files timer.calendar
   pub has_zones : HasZones machine timer.calendar timer.zones
 
 -- the timer has the name of the unit with this stem, and was read from the unit's own file and its drop-ins
 abbrev pub IsUnitOn : Machine → List (List ℕ) → List Alias → List ℕ → LoadedTimer → Type 0
 IsUnitOn machine path aliases stem timer =
-    (string_bytes timer.name ≡ stem ++ codes ".timer") × IsReadFrom machine (unit_files machine path aliases stem) timer
+    (string_bytes timer.name ≡ stem ++ codes ".timer") × IsTimerReadFrom machine (unit_files machine path aliases stem) timer
 
 -- the timer was read from a single file, and its name is the path of this file
 abbrev pub IsFileOn : Machine → LoadedTimer → Type 0
-IsFileOn machine timer = IsReadFrom machine (file_at machine (string_bytes timer.name)) timer
+IsFileOn machine timer = IsTimerReadFrom machine (file_at machine (string_bytes timer.name)) timer
 
 -- the timer is a unit of the machine (`IsUnitOn`) or a single file (`IsFileOn`)
 abbrev pub IsTimerOn : Machine → List (List ℕ) → List Alias → LoadedTimer → Type 0

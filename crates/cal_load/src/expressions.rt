@@ -7,10 +7,10 @@ ghost use Rattle.cal_load.specs.Expressions.{AreOf, IsMadeOf, IsTimerOf};
 
 use crate::calendar::Calendar;
 use crate::loaded::{Loaded, LoadedTimer};
-use crate::zones::{first_with_zone, zones_of};
+use crate::zones::{first_with_zone, load_named_zones};
 use cal_machine_zones::{FileReason, ZonesFault};
 use cal_spec::{SpecFault, read_expr};
-use cal_targets::{LoadFault, TargetReason, push_fault};
+use cal_targets::{TargetLoadFault, TargetReason, push_fault};
 use cal_timer::TimerLine;
 use cal_units::Tree;
 use cal_zone::ZoneTable;
@@ -29,7 +29,7 @@ pub fn load_expressions<T: Tree>(
 {
     let mut lines = Vec::new(alloc);
     for expression in expressions {
-        if let Err(fault) = push_line(alloc, &mut lines, expression) {
+        if let Err(fault) = push_expression(alloc, &mut lines, expression) {
             return only_fault(alloc, expression, fault);
         }
     }
@@ -37,7 +37,7 @@ pub fn load_expressions<T: Tree>(
 }
 
 /// Returns a result without timers, with this error for the target.
-fn only_fault(alloc: Global, target: &str, fault: LoadFault) -> Result<Loaded, AllocError>
+fn only_fault(alloc: Global, target: &str, fault: TargetLoadFault) -> Result<Loaded, AllocError>
     ensures { IfOk result (λ loaded. loaded.timers.items ≡ []) }
 {
     let mut loaded = Loaded::new(alloc);
@@ -46,14 +46,18 @@ fn only_fault(alloc: Global, target: &str, fault: LoadFault) -> Result<Loaded, A
 }
 
 /// Appends an expression. Expressions are numbered from 1.
-fn push_line(alloc: Global, lines: &mut Vec<TimerLine>, expression: &str) -> Result<(), LoadFault>
+fn push_expression(
+    alloc: Global,
+    lines: &mut Vec<TimerLine>,
+    expression: &str,
+) -> Result<(), TargetLoadFault>
     ensures { OnOk result ((texts : List (List ℕ)) → AreOf texts (map shown lines.old.items)
         → AreOf (texts ++ expression.now ∷ []) (map shown lines.new.items)) }
 {
     let expr = match read_expr(alloc, expression) {
         Ok(expr) => expr,
-        Err(SpecFault::NoMemory) => return Err(LoadFault::NoMemory),
-        Err(fault) => return Err(LoadFault::Target(TargetReason::Expression(fault))),
+        Err(SpecFault::NoMemory) => return Err(TargetLoadFault::NoMemory),
+        Err(fault) => return Err(TargetLoadFault::Target(TargetReason::Expression(fault))),
     };
     let text = String::from_str(alloc, expression)?;
     let number = u32::try_from(lines.len())
@@ -75,8 +79,8 @@ fn with_zones<T: Tree>(
     ensures { IfOk result (λ loaded. (machine : Machine) → T.shows tree.now machine
         → All (IsMadeOf machine (map (λ text. text.now) expressions.now)) loaded.timers.items) }
 {
-    match zones_of(alloc, tree, lines.as_slice(), &[]) {
-        Ok(zones) => only_timer(alloc, joined(alloc, expressions)?, lines, zones),
+    match load_named_zones(alloc, tree, lines.as_slice(), &[]) {
+        Ok(zones) => only_timer(alloc, join_with_commas(alloc, expressions)?, lines, zones),
         Err(ZonesFault::At(zone, reason)) => only_zone_fault(alloc, lines, zone, reason),
         // Of the other errors, only the one for running out of memory can occur. The rest are about the local zone,
         // which isn't looked up here.
@@ -118,12 +122,12 @@ fn only_zone_fault(
         Some(line) => String::from_str(alloc, line.text.as_str())?,
         None => String::new(alloc),
     };
-    let fault = LoadFault::Target(TargetReason::ExpressionZone(zone, reason));
+    let fault = TargetLoadFault::Target(TargetReason::ExpressionZone(zone, reason));
     only_fault(alloc, target.as_str(), fault)
 }
 
 /// Returns the expressions, separated by commas.
-fn joined(alloc: Global, expressions: &[&str]) -> Result<String, AllocError> {
+fn join_with_commas(alloc: Global, expressions: &[&str]) -> Result<String, AllocError> {
     let mut name = String::new(alloc);
     for expression in expressions {
         if !name.is_empty() {

@@ -3,11 +3,11 @@
 ghost use Rattle.std.specs.Prelude.{◌≡◌, ◌+◌, ◌++◌, [], IfSome, OnOk, map, slice_get};
 ghost use Rattle.cal_timer.specs.TimerView.{shown};
 ghost use Rattle.cal_load.specs.Loaded.{exceptions_in, expressions_in};
-ghost use Rattle.cal_load.specs.Found.{timers_in};
-ghost use Rattle.cal_load.specs.Place.{IsLastUntil, IsPlace};
+ghost use Rattle.cal_load.specs.LoadedTarget.{timers_in};
+ghost use Rattle.cal_load.specs.Position.{IsLastUntil, IsPosition};
 
 use crate::calendar::Calendar;
-use cal_targets::{LoadFault, TargetFault, push_fault};
+use cal_targets::{TargetFault, TargetLoadFault, push_fault};
 use cal_timer::TimerLine;
 use cal_units::UnitText;
 use cal_zone::ZoneTable;
@@ -48,26 +48,26 @@ impl LoadedTimer {
 
     /// Returns the path of the file that has the line with this continued number, and the line's number in that file,
     /// counted from 1. Returns `None` if no file begins at or before the line.
-    pub fn place(&self, number: u32) -> Option<(&str, u32)>
-        ensures { IfSome result (λ place.
-            IsPlace self.now.files.items self.now.first_lines.items number place.0.now place.1) }
+    pub fn position(&self, number: u32) -> Option<(&str, u32)>
+        ensures { IfSome result (λ position.
+            IsPosition self.now.files.items self.now.first_lines.items number position.0.now position.1) }
     {
-        place_in(self.files.as_slice(), self.first_lines.as_slice(), number)
+        position_in(self.files.as_slice(), self.first_lines.as_slice(), number)
     }
 }
 
 /// Finds the last file that begins at or before the line with this continued number. Returns the path of this file, and
 /// the number of the line in this file.
-pub(crate) fn place_in<'f>(
+pub(crate) fn position_in<'f>(
     files: &'f [UnitText],
     first_lines: &[u32],
     number: u32,
 ) -> Option<(&'f str, u32)>
-    ensures { IfSome result (λ place. IsPlace files.now first_lines.now number place.0.now place.1) }
+    ensures { IfSome result (λ position. IsPosition files.now first_lines.now number position.0.now position.1) }
 {
     let index = last_until(first_lines, number)?;
     let line = line_from(first_lines[index], number)?;
-    let file = file_at(files, index)?;
+    let file = file_with_index(files, index)?;
     Some((file.path.as_str(), line))
 }
 
@@ -80,7 +80,7 @@ fn line_from(first: u32, number: u32) -> Option<u32>
     before.checked_add(1)
 }
 
-fn file_at(files: &[UnitText], index: usize) -> Option<&UnitText>
+fn file_with_index(files: &[UnitText], index: usize) -> Option<&UnitText>
     ensures { IfSome result (λ file. slice_get files.now index ≡ Some file.now) }
 {
     files.get(index)
@@ -112,7 +112,7 @@ pub struct Loaded {
 
 /// What a name of a unit, or the path of a file, stands for.
 #[derive(Drop)]
-pub(crate) enum Found {
+pub(crate) enum LoadedTarget {
     Timer(LoadedTimer),
     Masked,
 }
@@ -133,13 +133,13 @@ impl Loaded {
         &mut self,
         alloc: Global,
         name: &str,
-        found: Result<Found, LoadFault>,
+        found: Result<LoadedTarget, TargetLoadFault>,
     ) -> Result<(), AllocError>
         ensures { OnOk result (self.new.timers.items ≡ self.old.timers.items ++ timers_in found) }
     {
         match found {
-            Ok(Found::Timer(timer)) => self.timers.push(timer)?,
-            Ok(Found::Masked) => self.masked.push(String::from_str(alloc, name)?)?,
+            Ok(LoadedTarget::Timer(timer)) => self.timers.push(timer)?,
+            Ok(LoadedTarget::Masked) => self.masked.push(String::from_str(alloc, name)?)?,
             Err(fault) => push_fault(alloc, &mut self.faults, name, fault)?,
         }
         Ok(())

@@ -2,12 +2,12 @@
 
 ghost use Rattle.std.specs.Prelude.{◌≡◌, ◌+◌, ◌<◌, ◌^◌, All, IfOk, length, map};
 ghost use Rattle.std.specs.Str.Lines.{lines};
-ghost use Rattle.cal_read.specs.TimerTexts as joined;
-ghost use Rattle.cal_units.specs.Files.{shown_text};
-ghost use Rattle.cal_load.specs.Loaded.{assignments_of};
+ghost use Rattle.cal_read.specs.TimerTexts.{assignments_of};
+ghost use Rattle.cal_units.specs.Files.{shown_unit_text};
+ghost use Rattle.cal_load.specs.Loaded.{assignments_of_files};
 
-use cal_read::UnitText as Text;
-use cal_targets::LoadFault;
+use cal_read::NumberedText;
+use cal_targets::TargetLoadFault;
 use cal_units::{Reason, UnitText};
 use std::alloc::{AllocError, Global};
 
@@ -16,14 +16,17 @@ use std::alloc::{AllocError, Global};
 ///
 /// Fails with `TargetReason::NotUtf8` for the first file that is not UTF-8, and with [`Reason::TooLarge`] for the first
 /// file that is too large for line numbers below 2^32.
-pub(crate) fn texts_of(alloc: Global, files: &[UnitText]) -> Result<Vec<Text<'_>>, LoadFault>
+pub(crate) fn numbered_texts(
+    alloc: Global,
+    files: &[UnitText],
+) -> Result<Vec<NumberedText<'_>>, TargetLoadFault>
     ensures numbered { IfOk result (λ texts. All (λ text. text.first + length text.text.now < 2 ^ 32) texts.items) }
-    ensures read { IfOk result (λ list. joined.assignments_of list.items ≡ assignments_of (map shown_text files.now)) }
+    ensures read { IfOk result (λ list. assignments_of list.items ≡ assignments_of_files (map shown_unit_text files.now)) }
 {
     let mut texts = Vec::new(alloc);
     let mut first = 1;
     for file in files {
-        let text = text_of(alloc, file, first)?;
+        let text = numbered_text(alloc, file, first)?;
         first = next_line(alloc, file, text)?;
         texts.push(text)?;
     }
@@ -31,30 +34,34 @@ pub(crate) fn texts_of(alloc: Global, files: &[UnitText]) -> Result<Vec<Text<'_>
 }
 
 /// Returns the text of a file whose first line has the number `first`.
-fn text_of(alloc: Global, file: &UnitText, first: u32) -> Result<Text<'_>, LoadFault>
+fn numbered_text(
+    alloc: Global,
+    file: &UnitText,
+    first: u32,
+) -> Result<NumberedText<'_>, TargetLoadFault>
     ensures numbered { IfOk result (λ text. text.first + length text.text.now < 2 ^ 32) }
     ensures number { IfOk result (λ text. text.first ≡ first) }
     ensures text { IfOk result (λ text. text.text.now ≡ file.now.bytes.items) }
 {
     let Ok(text) = str::from_utf8(file.bytes.as_slice()) else {
-        return Err(LoadFault::not_utf8(alloc, file.path.as_str()));
+        return Err(TargetLoadFault::not_utf8(alloc, file.path.as_str()));
     };
     if text.len() > (u32::MAX - first) as usize {
-        return Err(LoadFault::at(alloc, file.path.as_str(), Reason::TooLarge));
+        return Err(TargetLoadFault::at(alloc, file.path.as_str(), Reason::TooLarge));
     }
-    Ok(Text { first, text })
+    Ok(NumberedText { first, text })
 }
 
 /// Returns the number of the line after the text of a file.
-fn next_line(alloc: Global, file: &UnitText, text: Text<'_>) -> Result<u32, LoadFault>
+fn next_line(alloc: Global, file: &UnitText, text: NumberedText<'_>) -> Result<u32, TargetLoadFault>
     ensures { IfOk result (λ next. next ≡ text.entry.first + length (lines text.entry.text.now)) }
 {
     match u32::try_from(line_count(text.text)) {
         Ok(count) => match text.first.checked_add(count) {
             Some(next) => Ok(next),
-            None => Err(LoadFault::at(alloc, file.path.as_str(), Reason::TooLarge)),
+            None => Err(TargetLoadFault::at(alloc, file.path.as_str(), Reason::TooLarge)),
         },
-        Err(_) => Err(LoadFault::at(alloc, file.path.as_str(), Reason::TooLarge)),
+        Err(_) => Err(TargetLoadFault::at(alloc, file.path.as_str(), Reason::TooLarge)),
     }
 }
 
@@ -65,6 +72,9 @@ fn line_count(text: &str) -> usize
 }
 
 /// Returns the number of each text's first line.
-pub(crate) fn first_lines(alloc: Global, texts: &[Text<'_>]) -> Result<Vec<u32>, AllocError> {
+pub(crate) fn first_lines(
+    alloc: Global,
+    texts: &[NumberedText<'_>],
+) -> Result<Vec<u32>, AllocError> {
     texts.iter().map(|text| text.first).collect(alloc)
 }

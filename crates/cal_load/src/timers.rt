@@ -3,15 +3,15 @@
 ghost use Rattle.std.specs.Prelude.{ℕ, List, All, IfOk, OnOk, map, string_bytes};
 ghost use Rattle.cal_units.specs.Aliases.{Alias as Known, shown_alias};
 ghost use Rattle.cal_units.specs.Machine.{Machine};
-ghost use Rattle.cal_load.specs.Found.{IsFileFound, IsFound};
 ghost use Rattle.cal_load.specs.Loaded.{IsTimerOn};
+ghost use Rattle.cal_load.specs.LoadedTarget.{IsLoadedFile, IsLoadedTarget};
 
-use crate::loaded::{Found, Loaded};
-use crate::unit::{read_file, read_unit};
+use crate::loaded::{Loaded, LoadedTarget};
+use crate::unit::{read_timer_file, read_unit};
 use cal_drop_ins::unit_stem;
 use cal_targets::{
-    Kind, LoadFault, TargetReason, Wanted, files_in, is_path, kind_at, names_in_path, path_in,
-    push_fault, without_slashes,
+    PathKind, TargetLoadFault, TargetReason, Wanted, files_in, is_path, kind_at, names_in_path,
+    path_in, push_fault, without_slashes,
 };
 use cal_units::{Alias, Tree};
 use std::alloc::{AllocError, Global};
@@ -89,8 +89,8 @@ fn load_listed<T: Tree>(
     loaded.push(alloc, name, found)
 }
 
-fn is_absent(found: &Result<Found, LoadFault>) -> bool {
-    matches!(found, Err(LoadFault::Target(TargetReason::NotFound)))
+fn is_absent(found: &Result<LoadedTarget, TargetLoadFault>) -> bool {
+    matches!(found, Err(TargetLoadFault::Target(TargetReason::NotFound)))
 }
 
 fn load_target<T: Tree>(
@@ -119,13 +119,13 @@ fn read_named<T: Tree>(
     path: &[String],
     aliases: &[Alias],
     name: &str,
-) -> Result<Found, LoadFault>
+) -> Result<LoadedTarget, TargetLoadFault>
     ensures { IfOk result (λ found. (machine : Machine) → T.shows tree.now machine
-        → IsFound machine (map string_bytes path.now) (map shown_alias aliases.now) found) }
+        → IsLoadedTarget machine (map string_bytes path.now) (map shown_alias aliases.now) found) }
 {
     match unit_stem(name) {
         Some(stem) => read_unit(alloc, tree, path, aliases, stem),
-        None => Err(LoadFault::Target(TargetReason::NotFound)),
+        None => Err(TargetLoadFault::Target(TargetReason::NotFound)),
     }
 }
 
@@ -141,7 +141,7 @@ fn load_path<T: Tree>(
         → All (IsTimerOn machine path aliases) loaded.new.timers.items) }
 {
     match kind_at(alloc, tree, target) {
-        Ok(Kind::Folder) => load_folder(alloc, tree, target, loaded),
+        Ok(PathKind::Folder) => load_folder(alloc, tree, target, loaded),
         Ok(kind) => loaded.push(alloc, target, read_kind(alloc, tree, target, kind)),
         Err(fault) => push_fault(alloc, &mut loaded.faults, target, fault),
     }
@@ -170,18 +170,25 @@ fn load_folder<T: Tree>(
 }
 
 /// Reads the timer in the file at a path.
-fn read_path<T: Tree>(alloc: Global, tree: &T, path: &str) -> Result<Found, LoadFault>
-    ensures { IfOk result (λ found. (machine : Machine) → T.shows tree.now machine → IsFileFound machine found) }
+fn read_path<T: Tree>(alloc: Global, tree: &T, path: &str) -> Result<LoadedTarget, TargetLoadFault>
+    ensures { IfOk result (λ found. (machine : Machine) → T.shows tree.now machine → IsLoadedFile machine found) }
 {
     let kind = kind_at(alloc, tree, path)?;
     read_kind(alloc, tree, path, kind)
 }
 
-fn read_kind<T: Tree>(alloc: Global, tree: &T, path: &str, kind: Kind) -> Result<Found, LoadFault>
-    ensures { IfOk result (λ found. (machine : Machine) → T.shows tree.now machine → IsFileFound machine found) }
+fn read_kind<T: Tree>(
+    alloc: Global,
+    tree: &T,
+    path: &str,
+    kind: PathKind,
+) -> Result<LoadedTarget, TargetLoadFault>
+    ensures { IfOk result (λ found. (machine : Machine) → T.shows tree.now machine → IsLoadedFile machine found) }
 {
     match kind {
-        Kind::Masked => Ok(Found::Masked),
-        Kind::File | Kind::Folder => Ok(Found::Timer(read_file(alloc, tree, path)?)),
+        PathKind::Masked => Ok(LoadedTarget::Masked),
+        PathKind::File | PathKind::Folder => Ok(LoadedTarget::Timer(read_timer_file(
+            alloc, tree, path,
+        )?)),
     }
 }

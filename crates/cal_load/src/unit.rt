@@ -2,27 +2,27 @@
 
 ghost use Rattle.std.specs.Prelude.{◌≡◌, ◌+◌, ◌<◌, ◌^◌, ◌∷◌, ◌++◌, All, IfOk, codes, length, map, string_bytes};
 ghost use Rattle.cal_drop_ins.specs.DropIns.{drop_ins};
-ghost use Rattle.cal_read.specs.TimerTexts as joined;
+ghost use Rattle.cal_read.specs.TimerTexts.{assignments_of};
 ghost use Rattle.cal_units.specs.Aliases.{shown_alias, unit_stems};
-ghost use Rattle.cal_units.specs.Files.{files_at, shown_text};
+ghost use Rattle.cal_units.specs.Files.{files_at, shown_unit_text};
 ghost use Rattle.cal_units.specs.Machine.{Machine, disk_of};
-ghost use Rattle.cal_load.specs.Found.{IsUnitFound};
-ghost use Rattle.cal_load.specs.Loaded.{IsCalendarBy, IsCalendarOf, IsFileOn, IsReadFrom};
+ghost use Rattle.cal_load.specs.Loaded.{IsCalendarBy, IsCalendarOf, IsFileOn, IsTimerReadFrom};
+ghost use Rattle.cal_load.specs.LoadedTarget.{IsLoadedUnit};
 
 use crate::calendar::Calendar;
-use crate::loaded::{Found, LoadedTimer, place_in};
+use crate::loaded::{LoadedTarget, LoadedTimer, position_in};
 use crate::notes::{can_start, notes_of, shown_notes};
-use crate::texts::{first_lines, texts_of};
-use crate::zones::{first_with_zone, zones_of};
+use crate::texts::{first_lines, numbered_texts};
+use crate::zones::{first_with_zone, load_named_zones};
 use cal_machine_zones::{FileReason, ZonesFault};
-use cal_read::{FileFault, TimerFault, UnitText as Text, read_texts};
-use cal_targets::{LoadFault, TargetReason};
+use cal_read::{FileFault, NumberedText, TimerFault, read_texts};
+use cal_targets::{TargetLoadFault, TargetReason};
 use cal_units::{Alias, Tree, Unit, UnitFile, UnitText, find_unit, find_unit_drop_ins, read_files};
 use std::alloc::{AllocError, Global};
 
 /// What the files of a timer say.
 #[derive(Drop)]
-struct Parsed {
+struct ParsedFiles {
     first_lines: Vec<u32>,
     calendar: Calendar,
     notes: Vec<String>,
@@ -35,19 +35,19 @@ pub(crate) fn read_unit<T: Tree>(
     path: &[String],
     aliases: &[Alias],
     stem: &str,
-) -> Result<Found, LoadFault>
+) -> Result<LoadedTarget, TargetLoadFault>
     ensures { IfOk result (λ found. (machine : Machine) → T.shows tree.now machine
-        → IsUnitFound machine (map string_bytes path.now) (map shown_alias aliases.now) stem.now found) }
+        → IsLoadedUnit machine (map string_bytes path.now) (map shown_alias aliases.now) stem.now found) }
 {
     let file = match find_unit(alloc, tree, path, stem)? {
-        Unit::NotFound => return Err(LoadFault::Target(TargetReason::NotFound)),
-        Unit::Template => return Err(LoadFault::Target(TargetReason::Template)),
-        Unit::Masked(_) => return Ok(Found::Masked),
+        Unit::NotFound => return Err(TargetLoadFault::Target(TargetReason::NotFound)),
+        Unit::Template => return Err(TargetLoadFault::Target(TargetReason::Template)),
+        Unit::Masked(_) => return Ok(LoadedTarget::Masked),
         Unit::Found(file) => file,
     };
     let files = unit_files(alloc, tree, path, aliases, &file)?;
     let name = format!(in alloc; "{stem}.timer")?;
-    Ok(Found::Timer(timer_of(alloc, tree, name, files)?))
+    Ok(LoadedTarget::Timer(timer_from_files(alloc, tree, name, files)?))
 }
 
 /// Reads the file of a unit and its drop-ins. Fails with [`TargetReason::NotFound`] if its own file is a link to
@@ -58,50 +58,50 @@ fn unit_files<T: Tree>(
     path: &[String],
     aliases: &[Alias],
     file: &UnitFile,
-) -> Result<Vec<UnitText>, LoadFault>
+) -> Result<Vec<UnitText>, TargetLoadFault>
     ensures { IfOk result (λ files. (machine : Machine) → T.shows tree.now machine
-        → map shown_text files.items ≡ files_at machine (string_bytes file.now.path
+        → map shown_unit_text files.items ≡ files_at machine (string_bytes file.now.path
         ∷ drop_ins (disk_of machine) (map string_bytes path.now) (unit_stems (map shown_alias aliases.now) file.now))) }
 {
     let found = find_unit_drop_ins(alloc, tree, path, aliases, file)?;
     let files = read_files(alloc, tree, file.path.as_str(), found.paths.as_slice())?;
     match files.first() {
         Some(first) if first.path == file.path => Ok(files),
-        _ => Err(LoadFault::Target(TargetReason::NotFound)),
+        _ => Err(TargetLoadFault::Target(TargetReason::NotFound)),
     }
 }
 
 /// Reads the timer in the file at a path, without drop-ins.
-pub(crate) fn read_file<T: Tree>(
+pub(crate) fn read_timer_file<T: Tree>(
     alloc: Global,
     tree: &T,
     path: &str,
-) -> Result<LoadedTimer, LoadFault>
+) -> Result<LoadedTimer, TargetLoadFault>
     ensures { IfOk result (λ timer. (machine : Machine) → T.shows tree.now machine → IsFileOn machine timer) }
 {
     let files = read_files(alloc, tree, path, &[])?;
     let name = String::from_str(alloc, path)?;
-    timer_of(alloc, tree, name, files)
+    timer_from_files(alloc, tree, name, files)
 }
 
 /// Returns the timer that these files make up.
-fn timer_of<T: Tree>(
+fn timer_from_files<T: Tree>(
     alloc: Global,
     tree: &T,
     name: String,
     files: Vec<UnitText>,
-) -> Result<LoadedTimer, LoadFault>
+) -> Result<LoadedTimer, TargetLoadFault>
     ensures name { IfOk result (λ timer. timer.name ≡ name) }
     ensures read { IfOk result (λ timer. (machine : Machine) → T.shows tree.now machine
-        → IsReadFrom machine (map shown_text files.items) timer) }
+        → IsTimerReadFrom machine (map shown_unit_text files.items) timer) }
 {
-    let parsed = parse(alloc, files.as_slice())?;
+    let parsed = parse_files(alloc, files.as_slice())?;
     let calendar = &parsed.calendar;
-    let zones = match zones_of(alloc, tree, calendar.lines(), calendar.exceptions()) {
+    let zones = match load_named_zones(alloc, tree, calendar.lines(), calendar.exceptions()) {
         Ok(zones) => zones,
         Err(fault) => return Err(zone_fault(alloc, files.as_slice(), &parsed, fault)),
     };
-    let Parsed {
+    let ParsedFiles {
         first_lines,
         calendar,
         notes,
@@ -116,29 +116,29 @@ fn timer_of<T: Tree>(
     })
 }
 
-fn parse(alloc: Global, files: &[UnitText]) -> Result<Parsed, LoadFault>
-    ensures { IfOk result (λ parsed. IsCalendarOf (map shown_text files.now) parsed.calendar) }
+fn parse_files(alloc: Global, files: &[UnitText]) -> Result<ParsedFiles, TargetLoadFault>
+    ensures { IfOk result (λ parsed. IsCalendarOf (map shown_unit_text files.now) parsed.calendar) }
 {
-    let texts = texts_of(alloc, files)?;
+    let texts = numbered_texts(alloc, files)?;
     let notes = notes_of(alloc, texts.as_slice())?;
     let starts = can_start(notes.as_slice());
-    Ok(Parsed {
+    Ok(ParsedFiles {
         first_lines: first_lines(alloc, texts.as_slice())?,
-        calendar: read_calendar(alloc, files, texts.as_slice(), starts)?,
+        calendar: read_timer_calendar(alloc, files, texts.as_slice(), starts)?,
         notes: shown_notes(alloc, notes.as_slice())?,
     })
 }
 
 /// Reads the expressions and exceptions in `texts`, which are the texts of `files`. `starts` says whether other
 /// settings start the unit.
-fn read_calendar(
+fn read_timer_calendar(
     alloc: Global,
     files: &[UnitText],
-    texts: &[Text<'_>],
+    texts: &[NumberedText<'_>],
     starts: bool,
-) -> Result<Calendar, LoadFault>
+) -> Result<Calendar, TargetLoadFault>
     requires { All (λ text. text.first + length text.text.now < 2 ^ 32) texts.now }
-    ensures { IfOk result (λ calendar. IsCalendarBy (joined.assignments_of texts.now) calendar) }
+    ensures { IfOk result (λ calendar. IsCalendarBy (assignments_of texts.now) calendar) }
 {
     match read_texts(alloc, texts) {
         Ok(timer) => Ok(Calendar::Timer(timer)),
@@ -156,15 +156,15 @@ fn read_calendar(
 fn text_fault(
     alloc: Global,
     files: &[UnitText],
-    texts: &[Text<'_>],
+    texts: &[NumberedText<'_>],
     found: FileFault,
-) -> LoadFault {
+) -> TargetLoadFault {
     match found.fault {
-        TimerFault::NoMemory => LoadFault::NoMemory,
-        TimerFault::NothingToDo => LoadFault::Target(TargetReason::NothingToDo),
+        TimerFault::NoMemory => TargetLoadFault::NoMemory,
+        TimerFault::NothingToDo => TargetLoadFault::Target(TargetReason::NothingToDo),
         fault => match line_fault(alloc, files, texts, found.file, fault) {
-            Ok(reason) => LoadFault::Target(reason),
-            Err(_) => LoadFault::NoMemory,
+            Ok(reason) => TargetLoadFault::Target(reason),
+            Err(_) => TargetLoadFault::NoMemory,
         },
     }
 }
@@ -174,7 +174,7 @@ fn text_fault(
 fn line_fault(
     alloc: Global,
     files: &[UnitText],
-    texts: &[Text<'_>],
+    texts: &[NumberedText<'_>],
     index: Option<usize>,
     fault: TimerFault,
 ) -> Result<TargetReason, AllocError> {
@@ -187,12 +187,12 @@ fn line_fault(
         .saturating_sub(first)
         .saturating_add(1);
     let path = String::from_str(alloc, path)?;
-    Ok(TargetReason::Line(path, line, with_line(fault, line)))
+    Ok(TargetReason::Line(path, line, with_line_number(fault, line)))
 }
 
 /// Replaces the line number in an error about an invalid line, or about too many expressions, by `line`. Returns any
 /// other error unchanged.
-fn with_line(fault: TimerFault, line: u32) -> TimerFault {
+fn with_line_number(fault: TimerFault, line: u32) -> TimerFault {
     match fault {
         TimerFault::BadLine(_, reason) => TimerFault::BadLine(line, reason),
         TimerFault::TooMany(_) => TimerFault::TooMany(line),
@@ -201,22 +201,27 @@ fn with_line(fault: TimerFault, line: u32) -> TimerFault {
 }
 
 /// Returns the error for a timer whose zones can't be loaded.
-fn zone_fault(alloc: Global, files: &[UnitText], parsed: &Parsed, fault: ZonesFault) -> LoadFault {
+fn zone_fault(
+    alloc: Global,
+    files: &[UnitText],
+    parsed: &ParsedFiles,
+    fault: ZonesFault,
+) -> TargetLoadFault {
     match fault {
         ZonesFault::At(zone, reason) => match unread_zone(alloc, files, parsed, zone, reason) {
-            Ok(reason) => LoadFault::Target(reason),
-            Err(_) => LoadFault::NoMemory,
+            Ok(reason) => TargetLoadFault::Target(reason),
+            Err(_) => TargetLoadFault::NoMemory,
         },
         // Of the other errors, only the one for running out of memory can occur. The rest are about the local zone,
         // which isn't looked up here.
-        _ => LoadFault::NoMemory,
+        _ => TargetLoadFault::NoMemory,
     }
 }
 
 fn unread_zone(
     alloc: Global,
     files: &[UnitText],
-    parsed: &Parsed,
+    parsed: &ParsedFiles,
     zone: String,
     reason: FileReason,
 ) -> Result<TargetReason, AllocError> {
@@ -226,7 +231,7 @@ fn unread_zone(
         zone.as_str(),
     ));
     let number = line.map_or(1, |line| line.number);
-    match place_in(files, parsed.first_lines.as_slice(), number) {
+    match position_in(files, parsed.first_lines.as_slice(), number) {
         Some((path, line)) => {
             let path = String::from_str(alloc, path)?;
             Ok(TargetReason::Zone(path, line, zone, reason))

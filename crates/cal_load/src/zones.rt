@@ -5,7 +5,7 @@ ghost use Rattle.std.specs.Option.{option_to_list};
 ghost use Rattle.cal_machine_zones.specs.ZoneFiles.{HasZonesOf};
 ghost use Rattle.cal_timer.specs.TimerView.{shown};
 ghost use Rattle.cal_units.specs.Machine.{Machine};
-ghost use Rattle.cal_load.specs.Loaded.{HasNames, zones_in};
+ghost use Rattle.cal_load.specs.Loaded.{HasNames, zone_names_in};
 
 use cal_machine_zones::{ZonesFault, load_zones};
 use cal_timer::TimerLine;
@@ -16,36 +16,44 @@ use std::alloc::{AllocError, Global};
 /// The folder of the zone files, from which [`load_zones`] reads them.
 const ZONE_FOLDER: &str = "/usr/share/zoneinfo/";
 
-/// Returns the zones that the expressions and the exceptions name.
-pub(crate) fn zones_of<T: Tree>(
+/// Loads the zones that the expressions and the exceptions name.
+pub(crate) fn load_named_zones<T: Tree>(
     alloc: Global,
     tree: &T,
     lines: &[TimerLine],
     exceptions: &[TimerLine],
 ) -> Result<ZoneTable, ZonesFault>
     ensures names { IfOk result (λ table.
-        HasNames table (zones_in (map shown lines.now) ++ zones_in (map shown exceptions.now))) }
+        HasNames table (zone_names_in (map shown lines.now) ++ zone_names_in (map shown exceptions.now))) }
     ensures zones { IfOk result (λ table. (machine : Machine) → T.shows tree.now machine → HasZonesOf machine table) }
 {
     let mut names = Vec::new(alloc);
-    push_names(alloc, &mut names, lines)?;
-    push_names(alloc, &mut names, exceptions)?;
+    push_zone_names(alloc, &mut names, lines)?;
+    push_zone_names(alloc, &mut names, exceptions)?;
     load_zones(alloc, tree, names.as_slice())
 }
 
 /// Appends the names of the zones that the lines name.
-fn push_names(alloc: Global, names: &mut Vec<String>, lines: &[TimerLine]) -> Result<(), AllocError>
+fn push_zone_names(
+    alloc: Global,
+    names: &mut Vec<String>,
+    lines: &[TimerLine],
+) -> Result<(), AllocError>
     ensures { OnOk result (map string_bytes names.new.items
-        ≡ map string_bytes names.old.items ++ zones_in (map shown lines.now)) }
+        ≡ map string_bytes names.old.items ++ zone_names_in (map shown lines.now)) }
 {
     for line in lines {
-        push_name(alloc, names, line.expr.zone_name())?;
+        push_zone_name(alloc, names, line.expr.zone_name())?;
     }
     Ok(())
 }
 
 /// Appends a name, if there is one.
-fn push_name(alloc: Global, names: &mut Vec<String>, name: Option<&str>) -> Result<(), AllocError>
+fn push_zone_name(
+    alloc: Global,
+    names: &mut Vec<String>,
+    name: Option<&str>,
+) -> Result<(), AllocError>
     ensures { OnOk result (map string_bytes names.new.items
         ≡ map string_bytes names.old.items ++ option_to_list (option_copied name.entry)) }
 {

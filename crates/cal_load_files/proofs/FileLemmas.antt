@@ -2,7 +2,7 @@
 use Rattle.std.proofs.Common.{◌≡◌, ℕ, List, [], ◌∷◌, ◌++◌, All, Option, Some, None, map, refl}
 use Rattle.std.specs.Option.{option_map, option_to_list}
 use Rattle.std.proofs.lemmas.List.Elements.{All-append, All-cons, All-head, All-nil, All-same, All-tail}
-use Rattle.cal_units.specs.Files.{IsStoredOn, UnitText, file_at, files_at, shown_text}
+use Rattle.cal_units.specs.Files.{IsStoredOn, UnitText, file_at, files_at, shown_unit_text}
 use Rattle.cal_units.specs.Machine.{Machine}
 use Rattle.cal_units.specs.declared.files.UnitText as texts
 
@@ -21,17 +21,17 @@ all_shown machine (path ∷ paths) =
     All-append (IsShownOn machine) (file_at machine path) (files_at machine paths)
     (one_shown machine path (machine.file path) refl) (all_shown machine paths)
 
-all_stored : (machine : Machine) (files : List texts.UnitText) → All (IsShownOn machine) (map shown_text files) → All (IsStoredOn machine) files
+all_stored : (machine : Machine) (files : List texts.UnitText) → All (IsShownOn machine) (map shown_unit_text files) → All (IsStoredOn machine) files
 all_stored machine [] h = All-nil (IsStoredOn machine)
 all_stored machine (file ∷ files) h =
-    All-cons (IsStoredOn machine) file files (All-head (IsShownOn machine) (shown_text file) (map shown_text files) h)
-    (all_stored machine files (All-tail (IsShownOn machine) (shown_text file) (map shown_text files) h))
+    All-cons (IsStoredOn machine) file files (All-head (IsShownOn machine) (shown_unit_text file) (map shown_unit_text files) h)
+    (all_stored machine files (All-tail (IsShownOn machine) (shown_unit_text file) (map shown_unit_text files) h))
 
 -- Suppose that `more` is `before`, followed by the files that the machine has at `paths`. If all files in `before` are
 -- files of the machine, so are all files in `more`.
 pub stored_more : (machine : Machine) (paths : List (List ℕ)) (before more files : List texts.UnitText) → more ≡ before ++ files
-    → map shown_text files ≡ files_at machine paths → All (IsStoredOn machine) before → All (IsStoredOn machine) more
+    → map shown_unit_text files ≡ files_at machine paths → All (IsStoredOn machine) before → All (IsStoredOn machine) more
 stored_more machine paths before more files pushed read held =
     All-same (IsStoredOn machine) more (before ++ files) pushed
     (All-append (IsStoredOn machine) before files held
-    (all_stored machine files (All-same (IsShownOn machine) (map shown_text files) (files_at machine paths) read (all_shown machine paths))))
+    (all_stored machine files (All-same (IsShownOn machine) (map shown_unit_text files) (files_at machine paths) read (all_shown machine paths))))

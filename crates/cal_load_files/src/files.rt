@@ -6,8 +6,8 @@ ghost use Rattle.cal_units.specs.Files.{IsStoredOn};
 
 use cal_drop_ins::unit_stem;
 use cal_targets::{
-    Kind, LoadFault, TargetFault, TargetReason, Wanted, files_in, is_path, kind_at, names_in_path,
-    path_in, push_fault, without_slashes,
+    PathKind, TargetFault, TargetLoadFault, TargetReason, Wanted, files_in, is_path, kind_at,
+    names_in_path, path_in, push_fault, without_slashes,
 };
 use cal_units::{Alias, Tree, Unit, UnitFile, UnitText, find_unit, find_unit_drop_ins, read_files};
 use std::alloc::{AllocError, Global};
@@ -115,8 +115,8 @@ impl Reading {
         ensures { OnOk result ((machine : Machine) → T.shows tree.now machine
             → All (IsStoredOn machine) self.old.loaded.files.items → All (IsStoredOn machine) self.new.loaded.files.items) }
     {
-        match find_named(alloc, tree, path, name) {
-            Err(LoadFault::Target(TargetReason::NotFound)) => Ok(()),
+        match find_unit_file(alloc, tree, path, name) {
+            Err(TargetLoadFault::Target(TargetReason::NotFound)) => Ok(()),
             found => self.take_unit(alloc, tree, path, aliases, name, found),
         }
     }
@@ -142,7 +142,7 @@ impl Reading {
             path,
             aliases,
             target,
-            find_named(alloc, tree, path, target),
+            find_unit_file(alloc, tree, path, target),
         )
     }
 
@@ -154,7 +154,7 @@ impl Reading {
         path: &[String],
         aliases: &[Alias],
         target: &str,
-        found: Result<Option<UnitFile>, LoadFault>,
+        found: Result<Option<UnitFile>, TargetLoadFault>,
     ) -> Result<(), AllocError>
         ensures { OnOk result ((machine : Machine) → T.shows tree.now machine
             → All (IsStoredOn machine) self.old.loaded.files.items → All (IsStoredOn machine) self.new.loaded.files.items) }
@@ -176,7 +176,7 @@ impl Reading {
         alloc: Global,
         tree: &T,
         target: &str,
-        paths: Result<Vec<String>, LoadFault>,
+        paths: Result<Vec<String>, TargetLoadFault>,
     ) -> Result<(), AllocError>
         ensures { OnOk result ((machine : Machine) → T.shows tree.now machine
             → All (IsStoredOn machine) self.old.loaded.files.items → All (IsStoredOn machine) self.new.loaded.files.items) }
@@ -209,20 +209,20 @@ impl Reading {
         let found = read_files(alloc, tree, path.as_str(), &[]);
         self.seen.insert(path)?;
         match found {
-            Ok(files) => push_files(&mut self.loaded.files, files),
+            Ok(files) => append_files(&mut self.loaded.files, files),
             Err(fault) => {
                 push_fault(
                     alloc,
                     &mut self.loaded.faults,
                     target,
-                    LoadFault::from(fault),
+                    TargetLoadFault::from(fault),
                 )
             }
         }
     }
 }
 
-fn push_files(all: &mut Vec<UnitText>, files: Vec<UnitText>) -> Result<(), AllocError>
+fn append_files(all: &mut Vec<UnitText>, files: Vec<UnitText>) -> Result<(), AllocError>
     ensures { OnOk result (all.new.items ≡ all.old.items ++ files.items) }
 {
     for file in files {
@@ -232,14 +232,22 @@ fn push_files(all: &mut Vec<UnitText>, files: Vec<UnitText>) -> Result<(), Alloc
 }
 
 /// Returns the paths of the files that a path stands for.
-fn paths_at<T: Tree>(alloc: Global, tree: &T, target: &str) -> Result<Vec<String>, LoadFault> {
+fn paths_at<T: Tree>(
+    alloc: Global,
+    tree: &T,
+    target: &str,
+) -> Result<Vec<String>, TargetLoadFault> {
     match kind_at(alloc, tree, target)? {
-        Kind::Folder => folder_paths(alloc, tree, target),
-        Kind::File | Kind::Masked => Ok(vec![in alloc; String::from_str(alloc, target)?]?),
+        PathKind::Folder => folder_paths(alloc, tree, target),
+        PathKind::File | PathKind::Masked => Ok(vec![in alloc; String::from_str(alloc, target)?]?),
     }
 }
 
-fn folder_paths<T: Tree>(alloc: Global, tree: &T, folder: &str) -> Result<Vec<String>, LoadFault> {
+fn folder_paths<T: Tree>(
+    alloc: Global,
+    tree: &T,
+    folder: &str,
+) -> Result<Vec<String>, TargetLoadFault> {
     let mut paths = Vec::new(alloc);
     for name in files_in(alloc, tree, folder, Wanted::Texts)? {
         paths.push(path_in(alloc, folder, name.as_str())?)?;
@@ -254,24 +262,24 @@ fn drop_ins_of<T: Tree>(
     path: &[String],
     aliases: &[Alias],
     file: &UnitFile,
-) -> Result<Vec<String>, LoadFault> {
+) -> Result<Vec<String>, TargetLoadFault> {
     let found = find_unit_drop_ins(alloc, tree, path, aliases, file)?;
     Ok(found.paths)
 }
 
-/// Finds the unit with this name. Returns `None` if it is masked.
-fn find_named<T: Tree>(
+/// Finds the file of the unit with this name. Returns `None` if the unit is masked.
+fn find_unit_file<T: Tree>(
     alloc: Global,
     tree: &T,
     path: &[String],
     name: &str,
-) -> Result<Option<UnitFile>, LoadFault> {
+) -> Result<Option<UnitFile>, TargetLoadFault> {
     let Some(stem) = unit_stem(name) else {
-        return Err(LoadFault::Target(TargetReason::NotFound));
+        return Err(TargetLoadFault::Target(TargetReason::NotFound));
     };
     match find_unit(alloc, tree, path, stem)? {
-        Unit::NotFound => Err(LoadFault::Target(TargetReason::NotFound)),
-        Unit::Template => Err(LoadFault::Target(TargetReason::Template)),
+        Unit::NotFound => Err(TargetLoadFault::Target(TargetReason::NotFound)),
+        Unit::Template => Err(TargetLoadFault::Target(TargetReason::Template)),
         Unit::Masked(_) => Ok(None),
         Unit::Found(file) => Ok(Some(file)),
     }

@@ -53,12 +53,12 @@ pub(crate) fn push_files(
 
 fn push_lines(alloc: Global, text: &mut String, timer: &LoadedTimer) -> Result<(), AllocError> {
     for line in timer.lines() {
-        let (path, number) = timer.place(line.number).unwrap_or(("-", line.number));
+        let (path, number) = timer.position(line.number).unwrap_or(("-", line.number));
         let expression = line.text.as_str();
         text.push_str(format!(in alloc; " {path}:{number} {expression},")?.as_str())?;
     }
     for line in timer.exceptions() {
-        let (path, number) = timer.place(line.number).unwrap_or(("-", line.number));
+        let (path, number) = timer.position(line.number).unwrap_or(("-", line.number));
         let expression = line.text.as_str();
         text.push_str(format!(in alloc; " {path}:{number} except {expression},")?.as_str())?;
     }

@@ -21,7 +21,7 @@ use Rattle.cal_zone.specs.ZoneFile.{IsFileZone, file_limit}
 use Rattle.cal_zone.specs.AddedZones.{is_taken}
 use Rattle.cal_zone.specs.headline.ZoneTable.{ZoneMap, zone_named}
 use Rattle.cal_zone.proofs.ZoneMapLemmas.{zone_named-here, zone_named-elsewhere}
-use Rattle.cal_machine_zones.specs.ZoneFiles.{HasZonesOf, IsAdded, IsFirstError, IsLoadError, IsZoneOn}
+use Rattle.cal_machine_zones.specs.ZoneFiles.{HasZonesOf, IsFirstError, IsLoadError, IsZoneAdded, IsZoneOn}
 use Rattle.cal_machine_zones.specs.declared.fault.ZonesFault.{ZonesFault}
 
 -- every table has the name UTC, so a name that a table doesn't have isn't UTC
@@ -84,11 +84,11 @@ held_if machine old name zone other utc on held true is =
 held_if machine old name zone other utc on held false is =
     rw (zone_named-elsewhere old name other zone (λ e. both_ways _ is ((bytes_eq-Decides other name).1 e))) held
 
-pub added_names : (old new : ZoneMap) (name : List ℕ) (IsZone : TimeZone → Type 0) (other : List ℕ) → IsAdded old new name IsZone
+pub added_names : (old new : ZoneMap) (name : List ℕ) (IsZone : TimeZone → Type 0) (other : List ℕ) → IsZoneAdded old new name IsZone
     → is_some (zone_named new other) ≡ (is_some (zone_named old other) || bytes_eq other name)
 added_names old new name IsZone other a = rw (a.added) (named_if old name a.zone other a.other (bytes_eq other name) refl)
 
-pub added_zones : (machine : Machine) (old new : ZoneMap) (name : List ℕ) (IsZone : TimeZone → Type 0) (a : IsAdded old new name IsZone)
+pub added_zones : (machine : Machine) (old new : ZoneMap) (name : List ℕ) (IsZone : TimeZone → Type 0) (a : IsZoneAdded old new name IsZone)
     → IsZoneOn machine name a.zone → HasZonesOf machine old → HasZonesOf machine new
 added_zones machine old new name IsZone a on held other utc =
     rw (a.added) (held_if machine old name a.zone other a.other on (held other utc) (bytes_eq other name) refl)
@@ -100,20 +100,20 @@ usable_of : (machine : Machine) (other : List ℕ) (o : Option TimeZone) → is_
 usable_of machine other None there on = absurd (false≢true there)
 usable_of machine other (Some zone) there on = (zone, on)
 
--- if the table has the zones of all names before the index `place`, the error of loading the name at this index is the
--- first error
-pub error_at : (machine : Machine) (names : List (String Global)) (place : ℕ) (name : List ℕ) (after : List (List ℕ)) (table : ZoneMap) (fault : ZonesFault)
-    → map string_bytes (drop place names) ≡ name ∷ after → IsLoadError machine name fault
-    → ((other : List ℕ) → is_some (zone_named table other) ≡ (is_utc_name other || list_any (bytes_eq other) (map string_bytes (take place names))))
+-- if the table has the zones of all names before this index, the error of loading the name at the index is the first
+-- error
+pub error_at : (machine : Machine) (names : List (String Global)) (index : ℕ) (name : List ℕ) (after : List (List ℕ)) (table : ZoneMap) (fault : ZonesFault)
+    → map string_bytes (drop index names) ≡ name ∷ after → IsLoadError machine name fault
+    → ((other : List ℕ) → is_some (zone_named table other) ≡ (is_utc_name other || list_any (bytes_eq other) (map string_bytes (take index names))))
     → HasZonesOf machine table → IsFirstError machine (map string_bytes names) fault
-error_at machine names place name after table fault at error known zones =
+error_at machine names index name after table fault at error known zones =
     record {
-      place = place;
+      index = index;
       name = name;
       after = after;
-      is_at = drop-map string_bytes place names ∙ at;
+      is_at = drop-map string_bytes index names ∙ at;
       is_error = error;
       earlier = λ other any utc.
           usable_of machine other (zone_named table other)
-          (known other ∙ either_of _ _ utc (ap (list_any (bytes_eq other)) (sym (take-map string_bytes place names)) ∙ any)) (zones other utc);
+          (known other ∙ either_of _ _ utc (ap (list_any (bytes_eq other)) (sym (take-map string_bytes index names)) ∙ any)) (zones other utc);
     }

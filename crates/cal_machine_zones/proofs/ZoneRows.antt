@@ -4,8 +4,8 @@ use Rattle.cal_civil.specs.ReadOffset.{offset_in}
 use Rattle.cal_civil.specs.headline.ZoneName.{is_utc_name, is_zone_name}
 use Rattle.cal_units.specs.Machine.Entry.{Missing, File, Link}
 use Rattle.cal_units.specs.Units.{after_prefix}
-use Rattle.cal_machine_zones.specs.LocalZone.{argument_zone, link_zone, variable_zone}
-use Rattle.cal_machine_zones.specs.LocalZone.LocalZone.{InUtc, ByRule, OfName, UnclearIn}
+use Rattle.cal_machine_zones.specs.MachineLocalZone.{argument_zone, link_zone, variable_zone}
+use Rattle.cal_machine_zones.specs.MachineLocalZone.MachineLocalZone.{ByRule, InUtc, OfName, UnclearIn}
 use Rattle.cal_machine_zones.specs.declared.fault.Origin.TheVariants as origins
 
 -- values of the option: `utc`, a rule, a name, and a text that is none of these

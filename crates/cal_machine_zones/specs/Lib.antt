@@ -1,2 +1,2 @@
-pub mod LocalZone
+pub mod MachineLocalZone
 pub mod ZoneFiles

@@ -11,7 +11,7 @@ use Rattle.cal_zone.specs.headline.ZoneTable.{ZoneMap, zone_named}
 use Rattle.cal_zone.specs.declared.zone_fault.ZoneFault.{ZoneFault}
 use Rattle.cal_zone.specs.declared.zone_fault.ZoneFault.TheVariants as zones
 use Rattle.cal_zone.specs.declared.zone_files.LoadFault.TheVariants as loads
-use Rattle.cal_machine_zones.specs.LocalZone.{zone_folder}
+use Rattle.cal_machine_zones.specs.MachineLocalZone.{zone_folder}
 use Rattle.cal_machine_zones.specs.declared.fault.FileReason.{FileReason}
 use Rattle.cal_machine_zones.specs.declared.fault.FileReason.TheVariants as reasons
 use Rattle.cal_machine_zones.specs.declared.fault.ZonesFault.{ZonesFault}
@@ -31,7 +31,7 @@ HasZonesOf machine table =
 
 -- whether the only change from `old` to `new` is that a zone for which `IsZone` holds is inserted under `name`, which
 -- isn't UTC
-pub record IsAdded (old new : ZoneMap) (name : List ℕ) (IsZone : TimeZone → Type 0) : Type 0 where
+pub record IsZoneAdded (old new : ZoneMap) (name : List ℕ) (IsZone : TimeZone → Type 0) : Type 0 where
   pub zone : TimeZone
   pub is_zone : IsZone zone
   pub other : is_utc_name name ≡ false
@@ -48,20 +48,20 @@ IsLoadError machine name (faults.Unread origin) = ⊥
 IsLoadError machine name (faults.At path reason) = (string_bytes path ≡ zone_path name) × IsReasonOn machine name reason
 IsLoadError machine name faults.NoMemory = ⊤
 
--- whether the error is about the name at the index `place`, and the files for all names before it, except UTC, are
--- valid zone files
+-- whether the error is about the name at this index, and the files for all names before it, except UTC, are valid zone
+-- files
 pub record IsFirstError (machine : Machine) (names : List (List ℕ)) (fault : ZonesFault) : Type 0 where
-  pub place : ℕ
+  pub index : ℕ
   pub name : List ℕ
   pub after : List (List ℕ)
-  pub is_at : drop place names ≡ name ∷ after
+  pub is_at : drop index names ≡ name ∷ after
   pub is_error : IsLoadError machine name fault
-  pub earlier : (other : List ℕ) → list_any (bytes_eq other) (take place names) ≡ true → is_utc_name other ≡ false
+  pub earlier : (other : List ℕ) → list_any (bytes_eq other) (take index names) ≡ true → is_utc_name other ≡ false
       → (zone : TimeZone) × IsZoneOn machine other zone
 
 -- whether the machine has a zone file for this name that is rejected with this error
-abbrev pub IsRejected : (Machine → Type 0) → List ℕ → ZoneFault → Type 0
-IsRejected Shows name fault =
+abbrev pub IsFileRejected : (Machine → Type 0) → List ℕ → ZoneFault → Type 0
+IsFileRejected Shows name fault =
     (machine : Machine) → Shows machine → MatchOption (machine.file (zone_path name)) ⊥ (λ bytes. IsFileFault name bytes fault)
 
 -- Whether this error of `load_zone` can be the reason why the zone of this name can't be loaded. `NoMemory` can't be,
@@ -70,8 +70,8 @@ IsRejected Shows name fault =
 abbrev pub IsNotLoaded : (Machine → Type 0) → List ℕ → ZoneFault → Type 0
 IsNotLoaded Shows name zones.BadName = is_zone_name name ≡ false
 IsNotLoaded Shows name zones.BadRule = ⊥
-IsNotLoaded Shows name zones.BadFile = IsRejected Shows name zones.BadFile
-IsNotLoaded Shows name zones.TooLarge = IsRejected Shows name zones.TooLarge
+IsNotLoaded Shows name zones.BadFile = IsFileRejected Shows name zones.BadFile
+IsNotLoaded Shows name zones.TooLarge = IsFileRejected Shows name zones.TooLarge
 IsNotLoaded Shows name zones.NoMemory = ⊥
 IsNotLoaded Shows name zones.NameTaken = ⊥
 

@@ -2,16 +2,16 @@
 
 ghost use Rattle.std.specs.Prelude.{◌≡◌, IfErr, IfOk, option_map};
 ghost use Rattle.cal_units.specs.Machine.{Machine, shown_entry};
-ghost use Rattle.cal_machine_zones.specs.LocalZone.{HasOffset, HasZoneOffset, IsLocalFault, IsMachineFault, IsTold, IsUnclearFault, IsUnread, link_zone, localtime, local_zone, machine_zone, shown_told, unread_fault};
+ghost use Rattle.cal_machine_zones.specs.MachineLocalZone.{HasOffset, HasZoneOffset, IsLocalFault, IsMachineFault, IsTold, IsUnclearFault, IsUnread, link_zone, localtime, machine_local_zone, machine_zone, shown_told, unread_fault};
 
 use crate::fault::{Origin, ZonesFault};
-use crate::texts::{LOCALTIME, Told, argument_zone, link_zone, variable_zone};
+use crate::texts::{LOCALTIME, ToldZone, argument_zone, link_zone, variable_zone};
 use cal_units::{Tree, TreeFault};
 use std::alloc::Global;
 
 /// The local zone of a machine.
 #[derive(Debug, Drop)]
-pub enum LocalZone {
+pub enum MachineLocalZone {
     /// UTC.
     Utc,
     /// A UTC offset in seconds, from -93,540 to 93,540.
@@ -42,9 +42,9 @@ pub fn find_local_zone<T: Tree>(
     alloc: Global,
     tree: &T,
     argument: Option<&str>,
-) -> Result<LocalZone, ZonesFault>
+) -> Result<MachineLocalZone, ZonesFault>
     ensures zone { (machine : Machine) → T.shows tree.now machine
-        → IsTold (local_zone machine (option_map (λ text. text.now) argument.entry)) result }
+        → IsTold (machine_local_zone machine (option_map (λ text. text.now) argument.entry)) result }
     ensures offset { IfOk result HasZoneOffset }
     ensures fault { IfErr result (IsLocalFault (T.may_fail tree.now) (option_map (λ text. text.now) argument.entry)) }
 {
@@ -54,7 +54,7 @@ pub fn find_local_zone<T: Tree>(
     }
 }
 
-fn find_machine_zone<T: Tree>(alloc: Global, tree: &T) -> Result<LocalZone, ZonesFault>
+fn find_machine_zone<T: Tree>(alloc: Global, tree: &T) -> Result<MachineLocalZone, ZonesFault>
     ensures zone { (machine : Machine) → T.shows tree.now machine → IsTold (machine_zone machine) result }
     ensures offset { IfOk result HasZoneOffset }
     ensures fault { IfErr result (IsMachineFault (T.may_fail tree.now)) }
@@ -72,7 +72,7 @@ fn find_machine_zone<T: Tree>(alloc: Global, tree: &T) -> Result<LocalZone, Zone
     }
 }
 
-fn find_link_zone<T: Tree>(alloc: Global, tree: &T) -> Result<LocalZone, ZonesFault>
+fn find_link_zone<T: Tree>(alloc: Global, tree: &T) -> Result<MachineLocalZone, ZonesFault>
     ensures zone { (machine : Machine) → T.shows tree.now machine
         → IsTold (link_zone (machine.entry localtime)) result }
     ensures offset { IfOk result HasZoneOffset }
@@ -94,19 +94,22 @@ fn unread(origin: Origin, fault: TreeFault) -> ZonesFault
     }
 }
 
-/// Converts `told` to a [`LocalZone`] with copies of the texts in `told`. Fails with [`ZonesFault::Unclear`] for
-/// [`Told::Unclear`].
-fn to_owned(alloc: Global, told: Told<'_>) -> Result<LocalZone, ZonesFault>
+/// Converts `told` to a [`MachineLocalZone`] with copies of the texts in `told`. Fails with [`ZonesFault::Unclear`] for
+/// [`ToldZone::Unclear`].
+fn to_owned(alloc: Global, told: ToldZone<'_>) -> Result<MachineLocalZone, ZonesFault>
     requires { HasOffset told }
     ensures zone { IsTold (shown_told told.entry) result }
     ensures offset { IfOk result HasZoneOffset }
     ensures fault { IfErr result (IsUnclearFault (shown_told told.entry)) }
 {
     match told {
-        Told::Utc => Ok(LocalZone::Utc),
-        Told::Offset(seconds) => Ok(LocalZone::Offset(seconds)),
-        Told::Rule(rule) => Ok(LocalZone::Rule(String::from_str(alloc, rule)?)),
-        Told::Named(name) => Ok(LocalZone::Named(String::from_str(alloc, name.as_str())?)),
-        Told::Unclear(origin) => Err(ZonesFault::Unclear(origin)),
+        ToldZone::Utc => Ok(MachineLocalZone::Utc),
+        ToldZone::Offset(seconds) => Ok(MachineLocalZone::Offset(seconds)),
+        ToldZone::Rule(rule) => Ok(MachineLocalZone::Rule(String::from_str(alloc, rule)?)),
+        ToldZone::Named(name) => Ok(MachineLocalZone::Named(String::from_str(
+            alloc,
+            name.as_str(),
+        )?)),
+        ToldZone::Unclear(origin) => Err(ZonesFault::Unclear(origin)),
     }
 }

@@ -6,6 +6,6 @@ mod fault;
 mod load;
 mod texts;
 
-pub use clock::{LocalZone, find_local_zone};
+pub use clock::{MachineLocalZone, find_local_zone};
 pub use fault::{FileReason, Origin, ZonesFault};
 pub use load::load_zones;

@@ -6,7 +6,7 @@ ghost use Rattle.std.specs.Str.{bytes_eq};
 ghost use Rattle.cal_civil.specs.headline.ZoneName.{is_utc_name};
 ghost use Rattle.cal_units.specs.Machine.{Machine};
 ghost use Rattle.cal_zone.specs.headline.ZoneTable.{zone_named};
-ghost use Rattle.cal_machine_zones.specs.ZoneFiles.{HasZonesOf, IsAdded, IsFirstError, IsLoadError, IsNameFault, IsNamesFault, IsZoneOn, zone_path};
+ghost use Rattle.cal_machine_zones.specs.ZoneFiles.{HasZonesOf, IsFirstError, IsLoadError, IsNameFault, IsNamesFault, IsZoneAdded, IsZoneOn, zone_path};
 
 use crate::fault::{FileReason, ZonesFault};
 use cal_units::{Tree, TreeFault};
@@ -70,7 +70,7 @@ fn add_zone<T: Tree>(
     name: &str,
 ) -> Result<(), ZonesFault>
     requires { is_some (zone_named table.old name.now) ≡ false }
-    ensures added { OnOk result (IsAdded table.old table.new name.now
+    ensures added { OnOk result (IsZoneAdded table.old table.new name.now
         (λ zone. (machine : Machine) → T.shows tree.now machine → IsZoneOn machine name.now zone)) }
     ensures fault { IfErr result (λ fault. (machine : Machine) → T.shows tree.now machine
         → IsLoadError machine name.now fault) }

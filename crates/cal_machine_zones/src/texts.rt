@@ -4,7 +4,7 @@ ghost use Rattle.std.specs.Prelude.{◌≡◌, IfSome, is_some, option_map};
 ghost use Rattle.jiff.specs.Words.{read_whole};
 ghost use Rattle.cal_units.specs.Machine.{shown_entry};
 ghost use Rattle.cal_units.specs.Units.{after_prefix};
-ghost use Rattle.cal_machine_zones.specs.LocalZone.{HasOffset, argument_zone, file_zone, link_name, link_zone, name_or_offset, name_zone, offset_zone, shown_told, target_zone, variable_zone, without_folder};
+ghost use Rattle.cal_machine_zones.specs.MachineLocalZone.{HasOffset, argument_zone, file_zone, link_name, link_zone, name_or_offset, name_zone, offset_zone, shown_told, target_zone, variable_zone, without_folder};
 
 use crate::fault::Origin;
 use cal_civil::{is_utc_name, read_offset};
@@ -17,7 +17,7 @@ pub(crate) const LOCALTIME: &str = "/etc/localtime";
 
 /// What an origin says about the local zone. Rules and names are parts of the origin's text.
 #[derive(Clone, Copy, Debug)]
-pub(crate) enum Told<'t> {
+pub(crate) enum ToldZone<'t> {
     Utc,
     /// A UTC offset in seconds.
     Offset(i32),
@@ -30,43 +30,43 @@ pub(crate) enum Told<'t> {
 }
 
 /// Returns the zone that an option's value names: `UTC`, ignoring case; `posix:` and a POSIX rule, which isn't checked;
-/// a name; or `+hh:mm` or `-hh:mm`. Returns [`Told::Unclear`] for any other value.
-pub(crate) fn argument_zone(text: &str) -> Told<'_>
+/// a name; or `+hh:mm` or `-hh:mm`. Returns [`ToldZone::Unclear`] for any other value.
+pub(crate) fn argument_zone(text: &str) -> ToldZone<'_>
     ensures zone { shown_told result ≡ argument_zone text.now }
     ensures offset { HasOffset result }
 {
     if is_utc_name(text) {
-        return Told::Utc;
+        return ToldZone::Utc;
     }
     match after_prefix("posix:", text) {
-        Some(rule) => Told::Rule(rule),
+        Some(rule) => ToldZone::Rule(rule),
         None => name_or_offset(text),
     }
 }
 
-fn name_or_offset(text: &str) -> Told<'_>
+fn name_or_offset(text: &str) -> ToldZone<'_>
     ensures zone { shown_told result ≡ name_or_offset text.now }
     ensures offset { HasOffset result }
 {
     match ZoneName::new(text) {
-        Some(name) => Told::Named(name),
+        Some(name) => ToldZone::Named(name),
         None => offset_zone(text),
     }
 }
 
-fn offset_zone(text: &str) -> Told<'_>
+fn offset_zone(text: &str) -> ToldZone<'_>
     ensures zone { shown_told result ≡ offset_zone text.now }
     ensures offset { HasOffset result }
 {
     match read_offset(text.as_bytes()) {
-        Some(seconds) => Told::Offset(seconds),
-        None => Told::Unclear(Origin::Argument),
+        Some(seconds) => ToldZone::Offset(seconds),
+        None => ToldZone::Unclear(Origin::Argument),
     }
 }
 
 /// Returns the zone that the value of `TZ` names (tzset(3)). Returns `None` if the value is `/etc/localtime` or
 /// `:/etc/localtime`, because then the link at this path says which zone is the local zone.
-pub(crate) fn variable_zone(alloc: Global, text: &str) -> Option<Told<'_>>
+pub(crate) fn variable_zone(alloc: Global, text: &str) -> Option<ToldZone<'_>>
     ensures zone { option_map shown_told result ≡ variable_zone text.now }
     ensures offset { IfSome result HasOffset }
 {
@@ -74,7 +74,7 @@ pub(crate) fn variable_zone(alloc: Global, text: &str) -> Option<Told<'_>>
         return file_zone(file);
     }
     if is_rule(alloc, text) {
-        return Some(Told::Rule(text));
+        return Some(ToldZone::Rule(text));
     }
     file_zone(text)
 }
@@ -85,7 +85,7 @@ fn is_rule(alloc: Global, text: &str) -> bool
     Rules::posix(alloc, text).is_ok()
 }
 
-fn file_zone(file: &str) -> Option<Told<'_>>
+fn file_zone(file: &str) -> Option<ToldZone<'_>>
     ensures zone { option_map shown_told result ≡ file_zone file.now }
     ensures offset { IfSome result HasOffset }
 {
@@ -93,7 +93,7 @@ fn file_zone(file: &str) -> Option<Told<'_>>
         return None;
     }
     if file.is_empty() {
-        return Some(Told::Utc);
+        return Some(ToldZone::Utc);
     }
     Some(name_zone(Origin::Variable, without_folder(file)))
 }
@@ -109,39 +109,39 @@ fn without_folder(file: &str) -> &str
     }
 }
 
-fn name_zone(origin: Origin, name: &str) -> Told<'_>
+fn name_zone(origin: Origin, name: &str) -> ToldZone<'_>
     ensures zone { shown_told result ≡ name_zone origin name.now }
     ensures offset { HasOffset result }
 {
     if is_utc_name(name) {
-        return Told::Utc;
+        return ToldZone::Utc;
     }
     match ZoneName::new(name) {
-        Some(name) => Told::Named(name),
-        None => Told::Unclear(origin),
+        Some(name) => ToldZone::Named(name),
+        None => ToldZone::Unclear(origin),
     }
 }
 
 /// Returns the zone for what is at `/etc/localtime` (localtime(5)): UTC if nothing is there, or the zone to whose file
-/// a link leads. Returns [`Told::Unclear`] for anything else.
-pub(crate) fn link_zone(entry: &Entry) -> Told<'_>
+/// a link leads. Returns [`ToldZone::Unclear`] for anything else.
+pub(crate) fn link_zone(entry: &Entry) -> ToldZone<'_>
     ensures zone { shown_told result ≡ link_zone (shown_entry entry.now) }
     ensures offset { HasOffset result }
 {
     match entry {
-        Entry::Missing => Told::Utc,
+        Entry::Missing => ToldZone::Utc,
         Entry::Link(target) => target_zone(target.as_str()),
-        _ => Told::Unclear(Origin::Link),
+        _ => ToldZone::Unclear(Origin::Link),
     }
 }
 
-fn target_zone(target: &str) -> Told<'_>
+fn target_zone(target: &str) -> ToldZone<'_>
     ensures zone { shown_told result ≡ target_zone target.now }
     ensures offset { HasOffset result }
 {
     match link_name(target) {
         Some(name) => name_zone(Origin::Link, name),
-        None => Told::Unclear(Origin::Link),
+        None => ToldZone::Unclear(Origin::Link),
     }
 }
 

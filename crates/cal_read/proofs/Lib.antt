@@ -1,4 +1,4 @@
-pub mod SettingsLemmas
+pub mod SectionAssignmentsLemmas
 pub mod TimerFaultsLemmas
 pub mod TimerTextsLemmas
 pub use Rattle.cal_stamp.proofs.StampCivilRuleLemmas

@@ -14,7 +14,7 @@ use Rattle.cal_read.specs.TimerFaults.{all_faults, count_with, counted_faults, c
 use Rattle.cal_read.specs.declared.faults.Counts.{Counts}
 use Rattle.cal_timer.specs.declared.fault.TimerFault.{TimerFault}
 use Rattle.cal_read.specs.declared.texts.FileFault.{FileFault}
-use Rattle.cal_read.specs.declared.texts.UnitText.{UnitText}
+use Rattle.cal_read.specs.declared.texts.NumberedText.{NumberedText}
 use Rattle.std.proofs.lemmas.List.{map-append}
 use Rattle.std.proofs.Math.Seq.{drop-length, take-append_seam}
 use Rattle.std.proofs.lemmas.List.Concat.{flat_map-append}
@@ -74,7 +74,7 @@ counts_over_are counts before (a ∷ after) h =
     subst (λ (all : List Assignment). AreCounts (counts_over (counts_with counts a) after) all) (append_assoc before (a ∷ []) after)
     (counts_over_are (counts_with counts a) (before ++ a ∷ []) after (counts_more counts before a h))
 
-files_by : {E : Type 0} (read : List ℕ → Result E SpecFault) (counts : Counts) (before : List Assignment) (k : ℕ) (files : List UnitText) → AreCounts counts before → counted_files read counts k files ≡ faults_of read before k files
+files_by : {E : Type 0} (read : List ℕ → Result E SpecFault) (counts : Counts) (before : List Assignment) (k : ℕ) (files : List NumberedText) → AreCounts counts before → counted_files read counts k files ≡ faults_of read before k files
 unfolding counted_files faults_of
 files_by read counts before k [] h = refl
 files_by read counts before k (file ∷ files) h =
@@ -83,11 +83,11 @@ files_by read counts before k (file ∷ files) h =
     (files_by read (counts_over counts (assignments_at file)) (before ++ assignments_at file) (k + 1) files (counts_over_are counts before (assignments_at file) h))
 
 -- for all texts together, counting gives the same errors as keeping the lists
-pub files_counted : {E : Type 0} (read : List ℕ → Result E SpecFault) (files : List UnitText) → counted_files read (record { expressions = 0; exceptions = 0 }) 0 files ≡ faults_of read [] 0 files
+pub files_counted : {E : Type 0} (read : List ℕ → Result E SpecFault) (files : List NumberedText) → counted_files read (record { expressions = 0; exceptions = 0 }) 0 files ≡ faults_of read [] 0 files
 files_counted read files = files_by read (record { expressions = 0; exceptions = 0 }) [] 0 files counts_none
 
 -- the errors from the text with index `i` on are the errors of this text, followed by those of the remaining texts
-pub files_more : {E : Type 0} (read : List ℕ → Result E SpecFault) (counts : Counts) (files : List UnitText) (i : ℕ) (d : UnitText) → i < length files
+pub files_more : {E : Type 0} (read : List ℕ → Result E SpecFault) (counts : Counts) (files : List NumberedText) (i : ℕ) (d : NumberedText) → i < length files
     → counted_files read counts i (drop i files) ≡ map (in_file i) (counted_faults read counts (assignments_at (get_or files i d))) ++ counted_files read (counts_over counts (assignments_at (get_or files i d))) (i + 1) (drop (i + 1) files)
 unfolding counted_files
 files_more read counts files i d h = rw (drop-cons files i d) (rw add-one refl)
@@ -98,9 +98,9 @@ no_files read counts k = refl
 
 -- the errors of a list of assignments are the error of the first assignment, if it has one, followed by the errors of
 -- the others
-pub setting_more : {E : Type 0} (read : List ℕ → Result E SpecFault) (counts : Counts) (a : Assignment) (after : List Assignment) → counted_faults read counts (a ∷ after) ≡ option_to_list (fault_at read counts a) ++ counted_faults read (counts_with counts a) after
+pub assignment_more : {E : Type 0} (read : List ℕ → Result E SpecFault) (counts : Counts) (a : Assignment) (after : List Assignment) → counted_faults read counts (a ∷ after) ≡ option_to_list (fault_at read counts a) ++ counted_faults read (counts_with counts a) after
 unfolding counted_faults
-setting_more read counts a after = refl
+assignment_more read counts a after = refl
 
 pub counts_step : (counts : Counts) (a : Assignment) (after : List Assignment) → counts_over counts (a ∷ after) ≡ counts_over (counts_with counts a) after
 unfolding counts_over
@@ -112,7 +112,7 @@ pub step_faults : {E : Type 0} (read : List ℕ → Result E SpecFault) (k : ℕ
     → all ≡ a ∷ after → fault ≡ fault_at read counts a → now ≡ counts_with counts a → more ≡ found ++ map (in_file k) (option_to_list fault)
     → more ++ map (in_file k) (counted_faults read now after) ≡ found ++ map (in_file k) (counted_faults read counts all)
 step_faults read k found more counts now all a after fault e f g h =
-    rw (e, g, h, f, setting_more read counts a after)
+    rw (e, g, h, f, assignment_more read counts a after)
     (append_assoc found (map (in_file k) (option_to_list (fault_at read counts a))) (map (in_file k) (counted_faults read (counts_with counts a) after))
     ∙ ap (λ rest. found ++ rest) (sym (map-append (in_file k) (option_to_list (fault_at read counts a)) (counted_faults read (counts_with counts a) after))))
 
@@ -127,14 +127,14 @@ pub ended_counts : (counts : Counts) (all : List Assignment) → all ≡ [] → 
 unfolding counts_over
 ended_counts counts all e = rw e refl
 
-pub step_files : {E : Type 0} (read : List ℕ → Result E SpecFault) (found more : List FileFault) (counts now : Counts) (files : List UnitText) (i : ℕ) (d : UnitText) → i < length files
+pub step_files : {E : Type 0} (read : List ℕ → Result E SpecFault) (found more : List FileFault) (counts now : Counts) (files : List NumberedText) (i : ℕ) (d : NumberedText) → i < length files
     → more ≡ found ++ map (in_file i) (counted_faults read counts (assignments_at (get_or files i d))) → now ≡ counts_over counts (assignments_at (get_or files i d))
     → more ++ counted_files read now (i + 1) (drop (i + 1) files) ≡ found ++ counted_files read counts i (drop i files)
 step_files read found more counts now files i d h e f =
     rw (e, f, files_more read counts files i d h)
     (append_assoc found (map (in_file i) (counted_faults read counts (assignments_at (get_or files i d)))) (counted_files read (counts_over counts (assignments_at (get_or files i d))) (i + 1) (drop (i + 1) files)))
 
-pub ended_files : {E : Type 0} (read : List ℕ → Result E SpecFault) (found : List FileFault) (counts : Counts) (files : List UnitText) (i : ℕ) → i ≡ length files → found ≡ found ++ counted_files read counts i (drop i files)
+pub ended_files : {E : Type 0} (read : List ℕ → Result E SpecFault) (found : List FileFault) (counts : Counts) (files : List NumberedText) (i : ℕ) → i ≡ length files → found ≡ found ++ counted_files read counts i (drop i files)
 ended_files read found counts files i e = rw (e, drop-length files, no_files read counts (length files)) (sym (append-nil found))
 
 -- the first element of `all_faults` is the error that `first_fault` returns (the induction step)
@@ -163,7 +163,7 @@ without_file k [] = refl
 without_file k (fault ∷ faults) = ap (λ rest. fault ∷ rest) (without_file k faults)
 
 -- the errors of several texts are those of all their assignments
-pub texts_are_all : {E : Type 0} (read : List ℕ → Result E SpecFault) (before : List Assignment) (k : ℕ) (files : List UnitText)
+pub texts_are_all : {E : Type 0} (read : List ℕ → Result E SpecFault) (before : List Assignment) (k : ℕ) (files : List NumberedText)
     → map (λ (found : FileFault). found.fault) (faults_of read before k files) ≡ all_faults read before (assignments_of files)
 unfolding faults_of all_faults
 texts_are_all read before k [] = refl
@@ -175,24 +175,24 @@ texts_are_all read before k (file ∷ files) =
 
 -- The lemmas from here on say that the first element of `faults_of` is the first error of several texts, with the index
 -- of its text.
-one_more : (done : List UnitText) (file : UnitText) → assignments_of (done ++ file ∷ []) ≡ assignments_of done ++ assignments_at file
+one_more : (done : List NumberedText) (file : NumberedText) → assignments_of (done ++ file ∷ []) ≡ assignments_of done ++ assignments_at file
 one_more done file = flat_map-append assignments_at done (file ∷ []) ∙ ap (λ last. assignments_of done ++ last) (append-nil (assignments_at file))
 
-after_none : {E : Type 0} (read : List ℕ → Result E SpecFault) (done : List UnitText) (file : UnitText) → all_faults read [] (assignments_of done) ≡ []
+after_none : {E : Type 0} (read : List ℕ → Result E SpecFault) (done : List NumberedText) (file : NumberedText) → all_faults read [] (assignments_of done) ≡ []
     → all_faults read [] (assignments_of (done ++ file ∷ [])) ≡ all_faults read (assignments_of done) (assignments_at file)
 after_none read done file none =
     ap (λ all. all_faults read [] all) (one_more done file)
     ∙ all_append read [] (assignments_of done) (assignments_at file)
     ∙ ap (λ front. front ++ all_faults read (assignments_of done) (assignments_at file)) none
 
-up_to : (done : List UnitText) (k : ℕ) (file : UnitText) (files : List UnitText) → k ≡ length done → take (k + 1) (done ++ file ∷ files) ≡ done ++ file ∷ []
+up_to : (done : List NumberedText) (k : ℕ) (file : NumberedText) (files : List NumberedText) → k ≡ length done → take (k + 1) (done ++ file ∷ files) ≡ done ++ file ∷ []
 up_to done k file files e =
     let size : k + 1 ≡ length (done ++ file ∷ []) = omega (arith, length-append done (file ∷ []), e) in
     ap (λ n. take n (done ++ file ∷ files)) size
     ∙ ap (λ all. take (length (done ++ file ∷ [])) all) (sym (append_assoc done (file ∷ []) files))
     ∙ take-append_seam (done ++ file ∷ []) files
 
-first_by : {E : Type 0} (read : List ℕ → Result E SpecFault) (done : List UnitText) (k : ℕ) (file : UnitText) (files : List UnitText) (found : FileFault) (faults : List TimerFault)
+first_by : {E : Type 0} (read : List ℕ → Result E SpecFault) (done : List NumberedText) (k : ℕ) (file : NumberedText) (files : List NumberedText) (found : FileFault) (faults : List TimerFault)
     → all_faults read (assignments_of done) (assignments_at file) ≡ faults → all_faults read [] (assignments_of done) ≡ [] → k ≡ length done
     → (faults ≡ [] → slice_get (faults_of read (assignments_of done ++ assignments_at file) (k + 1) files) 0 ≡ Some found → IsFirstOf read (done ++ file ∷ files) found.file found.fault)
     → slice_get (map (in_file k) faults ++ faults_of read (assignments_of done ++ assignments_at file) (k + 1) files) 0 ≡ Some found
@@ -210,16 +210,16 @@ first_by read done k file files found (f ∷ fs) here none e later is =
           ∙ ap (λ all. slice_get all 0) (after_none read done file none ∙ here),
     )
 
-first_from : {E : Type 0} (read : List ℕ → Result E SpecFault) (done : List UnitText) (k : ℕ) (files : List UnitText) (found : FileFault) → all_faults read [] (assignments_of done) ≡ [] → k ≡ length done
+first_from : {E : Type 0} (read : List ℕ → Result E SpecFault) (done : List NumberedText) (k : ℕ) (files : List NumberedText) (found : FileFault) → all_faults read [] (assignments_of done) ≡ [] → k ≡ length done
     → slice_get (faults_of read (assignments_of done) k files) 0 ≡ Some found → IsFirstOf read (done ++ files) found.file found.fault
 unfolding faults_of
 first_from read done k [] found none e is = absurd (cc)
 first_from read done k (file ∷ files) found none e is =
     first_by read done k file files found (all_faults read (assignments_of done) (assignments_at file)) refl none e (λ empty later.
-    subst (λ (all : List UnitText). IsFirstOf read all found.file found.fault) (append_assoc done (file ∷ []) files)
+    subst (λ (all : List NumberedText). IsFirstOf read all found.file found.fault) (append_assoc done (file ∷ []) files)
     (first_from read (done ++ file ∷ []) (k + 1) files found (after_none read done file none ∙ empty) (omega (arith, length-append done (file ∷ []), e))
     (ap (λ before. slice_get (faults_of read before (k + 1) files) 0) (one_more done file) ∙ later))) is
 
-pub first_of_texts : {E : Type 0} (read : List ℕ → Result E SpecFault) (files : List UnitText) (found : FileFault) → slice_get (faults_of read [] 0 files) 0 ≡ Some found → IsFirstOf read files found.file found.fault
+pub first_of_texts : {E : Type 0} (read : List ℕ → Result E SpecFault) (files : List NumberedText) (found : FileFault) → slice_get (faults_of read [] 0 files) 0 ≡ Some found → IsFirstOf read files found.file found.fault
 unfolding all_faults
 first_of_texts read files found is = first_from read [] 0 files found refl refl is

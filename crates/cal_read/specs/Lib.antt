@@ -1,4 +1,4 @@
-pub mod Settings
+pub mod SectionAssignments
 pub mod TimerFaults
 pub mod TimerTexts
 pub use Rattle.cal_stamp.specs.Stamp

@@ -13,7 +13,7 @@ use Rattle.cal_read.specs.declared.faults.Counts.{Counts}
 use Rattle.cal_timer.specs.declared.fault.TimerFault.{TimerFault}
 use Rattle.cal_timer.specs.declared.fault.TimerFault.TheVariants.{TooMany}
 use Rattle.cal_read.specs.declared.texts.FileFault.{FileFault}
-use Rattle.cal_read.specs.declared.texts.UnitText.{UnitText}
+use Rattle.cal_read.specs.declared.texts.NumberedText.{NumberedText}
 
 -- all errors of the assignments that come after those in `before`
 unfoldable pub all_faults : {E : Type 0} → (List ℕ → Result E SpecFault) → List Assignment → List Assignment → List TimerFault
@@ -25,7 +25,7 @@ abbrev pub in_file : ℕ → TimerFault → FileFault
 in_file k fault = record { file = Some k; fault = fault }
 
 -- all errors of several texts, if the assignments in `before` come before these texts; the first text has the index `k`
-unfoldable pub faults_of : {E : Type 0} → (List ℕ → Result E SpecFault) → List Assignment → ℕ → List UnitText → List FileFault
+unfoldable pub faults_of : {E : Type 0} → (List ℕ → Result E SpecFault) → List Assignment → ℕ → List NumberedText → List FileFault
 faults_of read before k [] = []
 faults_of read before k (file ∷ files) =
     map (in_file k) (all_faults read before (assignments_at file)) ++ faults_of read (before ++ assignments_at file) (k + 1) files
@@ -68,7 +68,7 @@ counts_over counts [] = counts
 counts_over counts (a ∷ after) = counts_over (counts_with counts a) after
 
 -- all errors of several texts, given the lengths of the lists before these texts; the first text has the index `k`
-unfoldable pub counted_files : {E : Type 0} → (List ℕ → Result E SpecFault) → Counts → ℕ → List UnitText → List FileFault
+unfoldable pub counted_files : {E : Type 0} → (List ℕ → Result E SpecFault) → Counts → ℕ → List NumberedText → List FileFault
 counted_files read counts k [] = []
 counted_files read counts k (file ∷ files) =
     map (in_file k) (counted_faults read counts (assignments_at file)) ++ counted_files read (counts_over counts (assignments_at file)) (k + 1) files

@@ -7,22 +7,22 @@ use Rattle.cal_lines.specs.headline.Lines.{logical_lines}
 use Rattle.cal_timer.specs.headline.Assignments.{Assignment, assignments_in}
 use Rattle.cal_timer.specs.headline.TimerText.{without_mark}
 use Rattle.cal_timer.specs.TimerEntries.{first_fault}
-use Rattle.cal_read.specs.declared.texts.UnitText.{UnitText}
+use Rattle.cal_read.specs.declared.texts.NumberedText.{NumberedText}
 use Rattle.cal_timer.specs.declared.fault.TimerFault.{TimerFault}
 use Rattle.cal_timer.specs.declared.fault.TimerFault.TheVariants.{NothingToDo}
 
 -- the assignments of one text
-abbrev pub assignments_at : UnitText → List Assignment
+abbrev pub assignments_at : NumberedText → List Assignment
 assignments_at file = assignments_in false (logical_lines file.first (without_mark file.text.now))
 
 -- the assignments of several texts, in order
-abbrev pub assignments_of : List UnitText → List Assignment
+abbrev pub assignments_of : List NumberedText → List Assignment
 assignments_of = flat_map assignments_at
 
 -- `fault` is the error of reading these texts as one timer. If an index is given, `fault` is the first error in the
 -- text with this index, and the texts before this text have no errors. If the index is None, none of the texts has an
 -- error, and `fault` is `NothingToDo`, the error of a timer whose list of expressions is empty.
-abbrev pub IsFirstOf : {E : Type 0} → (List ℕ → Result E SpecFault) → List UnitText → Option ℕ → TimerFault → Type 0
+abbrev pub IsFirstOf : {E : Type 0} → (List ℕ → Result E SpecFault) → List NumberedText → Option ℕ → TimerFault → Type 0
 IsFirstOf read files None fault = (first_fault read [] (assignments_of files) ≡ None) × (fault ≡ NothingToDo)
 IsFirstOf read files (Some k) fault =
     (k < length files) × (first_fault read [] (assignments_of (take k files)) ≡ None)

@@ -9,7 +9,7 @@ ghost use Rattle.cal_read.specs.TimerFaults.{count_with, counted_faults, counts_
 ghost use Rattle.cal_timer.specs.headline.TimerText.{max_expressions};
 ghost use Rattle.cal_read.specs.TimerTexts.{assignments_at};
 
-use crate::{FileFault, Settings, UnitText};
+use crate::{Assignments, FileFault, NumberedText};
 use cal_spec::{SpecFault, read_expr};
 use cal_timer::{Assignment, MAX_EXPRESSIONS, TimerFault, without_mark};
 use std::alloc::{AllocError, Global};
@@ -96,44 +96,44 @@ fn fault_beside(
     }
 }
 
-/// Appends the error `fault`, if there is one, to the list `found`. `place` is the index of the text that has the
+/// Appends the error `fault`, if there is one, to the list `found`. `index` is the index of the text that has the
 /// error, and is stored with it.
 fn push_fault(
     found: &mut Vec<FileFault>,
-    place: usize,
+    index: usize,
     fault: Option<TimerFault>,
 ) -> Result<(), AllocError>
-    ensures { OnOk result (found.new.items ≡ found.old.items ++ map (in_file place) (option_to_list fault)) }
+    ensures { OnOk result (found.new.items ≡ found.old.items ++ map (in_file index) (option_to_list fault)) }
 {
     if let Some(fault) = fault {
         found.push(FileFault {
-            file: Some(place),
+            file: Some(index),
             fault,
         })?;
     }
     Ok(())
 }
 
-/// Appends the errors of the text with the index `place` to `found`, and returns the lengths that the lists of
+/// Appends the errors of the text with the index `index` to `found`, and returns the lengths that the lists of
 /// expressions and exceptions have after this text. `counts` are the lengths before the text.
 fn take_faults(
     alloc: Global,
     found: &mut Vec<FileFault>,
     counts: Counts,
-    place: usize,
-    file: &UnitText<'_>,
+    index: usize,
+    file: &NumberedText<'_>,
 ) -> Result<Counts, AllocError>
     requires { file.now.first + length file.now.text.now < 2 ^ 32 }
     ensures faults { OnOk result (found.new.items
-        ≡ found.old.items ++ map (in_file place) (counted_faults expr_in counts (assignments_at file.now))) }
+        ≡ found.old.items ++ map (in_file index) (counted_faults expr_in counts (assignments_at file.now))) }
     ensures counts { IfOk result (λ after. after ≡ counts_over counts (assignments_at file.now)) }
 {
     let mut counts = counts;
-    let mut settings = Settings::new("Timer", file.first, without_mark(file.text));
-    while let Some(setting) = settings.next(alloc)? {
-        let assignment = setting.assignment();
+    let mut assignments = Assignments::new("Timer", file.first, without_mark(file.text));
+    while let Some(owned) = assignments.next(alloc)? {
+        let assignment = owned.as_assignment();
         let fault = fault_at(alloc, counts, assignment)?;
-        push_fault(found, place, fault)?;
+        push_fault(found, index, fault)?;
         counts = counts.with(assignment);
     }
     Ok(counts)
@@ -145,7 +145,7 @@ fn take_faults(
 /// expressions and exceptions, too, count as elements until the list is cleared. [`TimerFault::NothingToDo`] is not
 /// among these errors. If this function returns any errors, [`crate::read_texts`] fails with the first one, unless
 /// allocation fails. `find_faults` itself fails only if allocation fails.
-pub fn find_faults(alloc: Global, files: &[UnitText<'_>]) -> Result<Vec<FileFault>, AllocError>
+pub fn find_faults(alloc: Global, files: &[NumberedText<'_>]) -> Result<Vec<FileFault>, AllocError>
     requires { All (λ file. file.first + length file.text.now < 2 ^ 32) files.now }
     ensures { IfOk result (λ found. found.items ≡ faults_of expr_in [] 0 files.now) }
 {

@@ -4,7 +4,7 @@
 
 mod faults;
 pub mod laws;
-mod settings;
+mod section_assignments;
 mod texts;
 
 pub use cal_stamp::{StampFault, laws as stamp_laws, read_stamp, read_stamp_in};
@@ -13,5 +13,5 @@ pub use cal_timer::{
     read_assignment, read_timer, section, without_mark,
 };
 pub use faults::find_faults;
-pub use settings::{Setting, Settings, read_settings};
-pub use texts::{FileFault, UnitText, read_texts};
+pub use section_assignments::{Assignments, OwnedAssignment, read_assignments};
+pub use texts::{FileFault, NumberedText, read_texts};

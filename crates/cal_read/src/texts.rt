@@ -11,7 +11,7 @@ use std::alloc::Global;
 
 /// The text of a unit file or of a drop-in.
 #[derive(Clone, Copy)]
-pub struct UnitText<'t> {
+pub struct NumberedText<'t> {
     /// The number of the first line. Usually 1; a caller that needs different line numbers in different texts can
     /// continue the count from text to text.
     pub first: u32,
@@ -32,18 +32,18 @@ pub struct FileFault {
 /// Reads a timer from the texts of a unit file and of its drop-ins, in this order, and returns its calendar expressions
 /// and its exceptions.
 ///
-/// The settings of each text follow those of the texts before it, so a drop-in can clear a list that the unit file
+/// The assignments of each text follow those of the texts before it, so a drop-in can clear a list that the unit file
 /// filled. A section ends at the end of its text.
 ///
 /// Fails with the error of the first invalid line, [`TimerFault::TooMany`] or [`TimerFault::BadLine`], or with
 /// [`TimerFault::NothingToDo`] if all lines are valid and the list of expressions is empty after the last line. Fails
 /// with [`TimerFault::NoMemory`] only if allocation fails. [`FileFault::file`] says which text an error belongs to.
-pub fn read_texts(alloc: Global, files: &[UnitText<'_>]) -> Result<Timer, FileFault>
+pub fn read_texts(alloc: Global, files: &[NumberedText<'_>]) -> Result<Timer, FileFault>
     requires { All (λ file. file.first + length file.text.now < 2 ^ 32) files.now }
     ensures lists { MatchResult result
         (λ timer. lists_of expr_in (assignments_of files.now) ≡ Ok timer)
         (λ found. found.fault ≢ TimerFault.NoMemory → lists_of expr_in (assignments_of files.now) ≡ Err found.fault) }
-    ensures place { IfErr result (λ found. found.fault ≢ TimerFault.NoMemory
+    ensures file { IfErr result (λ found. found.fault ≢ TimerFault.NoMemory
         → IsFirstOf expr_in files.now found.file found.fault) }
 {
     let mut lists = TimerLists::new(alloc);

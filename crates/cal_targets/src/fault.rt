@@ -6,75 +6,77 @@ use std::alloc::{AllocError, AllocFailed, Global};
 
 /// Why a target can't be loaded.
 #[derive(Debug, Drop)]
-pub enum LoadFault {
+pub enum TargetLoadFault {
     /// This target can't be loaded. Others still can.
     Target(TargetReason),
     /// Out of memory.
     NoMemory,
 }
 
-impl From<AllocError> for LoadFault {
-    fn from(_refused: AllocError) -> LoadFault {
-        LoadFault::NoMemory
+impl From<AllocError> for TargetLoadFault {
+    fn from(_refused: AllocError) -> TargetLoadFault {
+        TargetLoadFault::NoMemory
     }
 }
 
-impl<T: Drop> From<AllocFailed<T>> for LoadFault {
-    fn from(_refused: AllocFailed<T>) -> LoadFault {
-        LoadFault::NoMemory
+impl<T: Drop> From<AllocFailed<T>> for TargetLoadFault {
+    fn from(_refused: AllocFailed<T>) -> TargetLoadFault {
+        TargetLoadFault::NoMemory
     }
 }
 
-impl From<UnitFault> for LoadFault {
-    fn from(fault: UnitFault) -> LoadFault {
+impl From<UnitFault> for TargetLoadFault {
+    fn from(fault: UnitFault) -> TargetLoadFault {
         match fault {
-            UnitFault::At(path, reason) => LoadFault::Target(TargetReason::Path(path, reason)),
-            UnitFault::NoMemory => LoadFault::NoMemory,
+            UnitFault::At(path, reason) => TargetLoadFault::Target(TargetReason::Path(
+                path, reason,
+            )),
+            UnitFault::NoMemory => TargetLoadFault::NoMemory,
         }
     }
 }
 
-impl LoadFault {
+impl TargetLoadFault {
     /// Returns the error that a path can't be used, for this reason.
-    pub fn at(alloc: Global, path: &str, reason: Reason) -> LoadFault {
+    pub fn at(alloc: Global, path: &str, reason: Reason) -> TargetLoadFault {
         match String::from_str(alloc, path) {
-            Ok(path) => LoadFault::Target(TargetReason::Path(path, reason)),
-            Err(_) => LoadFault::NoMemory,
+            Ok(path) => TargetLoadFault::Target(TargetReason::Path(path, reason)),
+            Err(_) => TargetLoadFault::NoMemory,
         }
     }
 
     /// Returns the error for a file that is not UTF-8.
-    pub fn not_utf8(alloc: Global, path: &str) -> LoadFault {
+    pub fn not_utf8(alloc: Global, path: &str) -> TargetLoadFault {
         match String::from_str(alloc, path) {
-            Ok(path) => LoadFault::Target(TargetReason::NotUtf8(path)),
-            Err(_) => LoadFault::NoMemory,
+            Ok(path) => TargetLoadFault::Target(TargetReason::NotUtf8(path)),
+            Err(_) => TargetLoadFault::NoMemory,
         }
     }
 
     /// Converts the error that a method of a `Tree` returned for this path.
-    pub fn of_tree(alloc: Global, path: &str, fault: TreeFault) -> LoadFault {
+    pub fn of_tree(alloc: Global, path: &str, fault: TreeFault) -> TargetLoadFault {
         match fault {
-            TreeFault::ReadFailed => LoadFault::at(alloc, path, Reason::ReadFailed),
-            TreeFault::NotUtf8 => LoadFault::at(alloc, path, Reason::NotUtf8),
-            TreeFault::NoMemory => LoadFault::NoMemory,
+            TreeFault::ReadFailed => TargetLoadFault::at(alloc, path, Reason::ReadFailed),
+            TreeFault::NotUtf8 => TargetLoadFault::at(alloc, path, Reason::NotUtf8),
+            TreeFault::NoMemory => TargetLoadFault::NoMemory,
         }
     }
 }
 
 /// Adds the target to `faults`, with the reason why it can't be loaded. Fails if allocation fails, and if `fault` is
-/// [`LoadFault::NoMemory`].
+/// [`TargetLoadFault::NoMemory`].
 pub fn push_fault(
     alloc: Global,
     faults: &mut Vec<TargetFault>,
     target: &str,
-    fault: LoadFault,
+    fault: TargetLoadFault,
 ) -> Result<(), AllocError> {
     match fault {
-        LoadFault::Target(reason) => {
+        TargetLoadFault::Target(reason) => {
             let target = String::from_str(alloc, target)?;
             faults.push(TargetFault { target, reason })?;
             Ok(())
         }
-        LoadFault::NoMemory => Err(AllocError),
+        TargetLoadFault::NoMemory => Err(AllocError),
     }
 }

@@ -6,7 +6,7 @@ mod names;
 mod paths;
 mod target_fault;
 
-pub use fault::{LoadFault, push_fault};
+pub use fault::{TargetLoadFault, push_fault};
 pub use names::{Wanted, files_in, names_in_path};
-pub use paths::{Kind, is_path, kind_at, path_in, without_slashes};
+pub use paths::{PathKind, is_path, kind_at, path_in, without_slashes};
 pub use target_fault::{TargetFault, TargetReason};

@@ -1,8 +1,8 @@
 //! The names of timers in folders.
 
-use crate::fault::{LoadFault, push_fault};
+use crate::fault::{TargetLoadFault, push_fault};
 use crate::target_fault::TargetFault;
-use cal_drop_ins::{UnitKind, kind_of, unit_stem};
+use cal_drop_ins::{UnitKind, unit_kind_of, unit_stem};
 use cal_units::{Names, Tree};
 use std::alloc::{AllocError, Global};
 use std::collections::BTreeSet;
@@ -31,7 +31,7 @@ fn push_units<T: Tree>(
     tree: &T,
     folder: &str,
     found: &mut BTreeSet<String>,
-) -> Result<(), LoadFault> {
+) -> Result<(), TargetLoadFault> {
     for name in names_in(alloc, tree, folder)? {
         if is_unit_file(name.as_str()) {
             found.insert(name)?;
@@ -46,7 +46,7 @@ pub fn files_in<T: Tree>(
     tree: &T,
     folder: &str,
     wanted: Wanted,
-) -> Result<BTreeSet<String>, LoadFault> {
+) -> Result<BTreeSet<String>, TargetLoadFault> {
     let mut found = BTreeSet::new(alloc);
     for name in names_in(alloc, tree, folder)? {
         if wanted.has(name.as_str()) {
@@ -74,10 +74,14 @@ impl Wanted {
     }
 }
 
-fn names_in<T: Tree>(alloc: Global, tree: &T, folder: &str) -> Result<Vec<String>, LoadFault> {
+fn names_in<T: Tree>(
+    alloc: Global,
+    tree: &T,
+    folder: &str,
+) -> Result<Vec<String>, TargetLoadFault> {
     match tree.names(alloc, folder) {
         Ok(Names { names, unnamed: _ }) => Ok(names),
-        Err(fault) => Err(LoadFault::of_tree(alloc, folder, fault)),
+        Err(fault) => Err(TargetLoadFault::of_tree(alloc, folder, fault)),
     }
 }
 
@@ -94,7 +98,7 @@ fn is_unit_file(name: &str) -> bool {
 
 fn is_template_file(name: &str) -> bool {
     match unit_stem(name) {
-        Some(stem) => kind_of(stem) == UnitKind::Template,
+        Some(stem) => unit_kind_of(stem) == UnitKind::Template,
         None => false,
     }
 }

@@ -1,13 +1,13 @@
 //! Targets that are paths: folders and files.
 
-use crate::fault::LoadFault;
+use crate::fault::TargetLoadFault;
 use crate::target_fault::TargetReason;
 use cal_units::{Entry, Tree, TreeFault};
 use std::alloc::{AllocError, Global};
 
 /// What is at a path that the user gave.
 #[derive(Clone, Copy, PartialEq, Eq, Debug)]
-pub enum Kind {
+pub enum PathKind {
     File,
     /// An empty file, or a link to `/dev/null`.
     Masked,
@@ -21,14 +21,14 @@ pub fn is_path(target: &str) -> bool {
 
 /// Returns what is at a path. A link whose target can't be opened as a file is treated as a folder. Fails with
 /// [`TargetReason::NotFound`] if nothing is at the path, or only a link to nothing.
-pub fn kind_at<T: Tree>(alloc: Global, tree: &T, path: &str) -> Result<Kind, LoadFault> {
+pub fn kind_at<T: Tree>(alloc: Global, tree: &T, path: &str) -> Result<PathKind, TargetLoadFault> {
     match tree.look(alloc, path) {
-        Ok(Entry::Missing) => Err(LoadFault::Target(TargetReason::NotFound)),
-        Ok(Entry::Empty) => Ok(Kind::Masked),
-        Ok(Entry::File) => Ok(Kind::File),
-        Ok(Entry::Folder) => Ok(Kind::Folder),
+        Ok(Entry::Missing) => Err(TargetLoadFault::Target(TargetReason::NotFound)),
+        Ok(Entry::Empty) => Ok(PathKind::Masked),
+        Ok(Entry::File) => Ok(PathKind::File),
+        Ok(Entry::Folder) => Ok(PathKind::Folder),
         Ok(Entry::Link(target)) => kind_of_link(alloc, tree, path, target.as_str()),
-        Err(fault) => Err(LoadFault::of_tree(alloc, path, fault)),
+        Err(fault) => Err(TargetLoadFault::of_tree(alloc, path, fault)),
     }
 }
 
@@ -38,15 +38,15 @@ fn kind_of_link<T: Tree>(
     tree: &T,
     path: &str,
     target: &str,
-) -> Result<Kind, LoadFault> {
+) -> Result<PathKind, TargetLoadFault> {
     if target == "/dev/null" {
-        return Ok(Kind::Masked);
+        return Ok(PathKind::Masked);
     }
     match tree.open(path) {
-        Ok(Some(_)) => Ok(Kind::File),
-        Ok(None) => Err(LoadFault::Target(TargetReason::NotFound)),
-        Err(TreeFault::ReadFailed) => Ok(Kind::Folder),
-        Err(fault) => Err(LoadFault::of_tree(alloc, path, fault)),
+        Ok(Some(_)) => Ok(PathKind::File),
+        Ok(None) => Err(TargetLoadFault::Target(TargetReason::NotFound)),
+        Err(TreeFault::ReadFailed) => Ok(PathKind::Folder),
+        Err(fault) => Err(TargetLoadFault::of_tree(alloc, path, fault)),
     }
 }
 

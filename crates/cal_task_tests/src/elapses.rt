@@ -3,7 +3,7 @@
 use crate::shared::{NOON, berlin, clocked, ensure, instants, loaded, loaded_of, posix, timer};
 use cal_load::{Calendar, LoadedTimer};
 use cal_plan::PlanFault;
-use cal_tasks::{Clocked, elapses_of};
+use cal_tasks::{Clocked, first_elapses};
 use cal_zone::ZoneTable;
 use std::alloc::Global;
 use std::test::Fail;
@@ -48,7 +48,7 @@ fn expect_elapses_of(
     about: &str,
 ) -> Result<(), Fail> {
     let expected = instants(alloc, expected)?;
-    match elapses_of(alloc, at, timer, count) {
+    match first_elapses(alloc, at, timer, count) {
         Ok(found) => ensure(found.as_slice() == expected.as_slice(), about),
         Err(_) => Err(about.into()),
     }
@@ -99,6 +99,6 @@ fn no_such_zone(rt: HostRuntime) -> Result<(), Fail> {
     let alloc = rt.alloc();
     let rules = berlin(alloc)?;
     let timer = loaded(alloc, TOKYO)?;
-    let found = elapses_of(alloc, clocked(&rules, NOON)?, &timer, 1);
+    let found = first_elapses(alloc, clocked(&rules, NOON)?, &timer, 1);
     ensure(found.err() == Some(PlanFault::NoSuchZone(2)), TOKYO)
 }

@@ -32,11 +32,11 @@ abbrev pub begin_with_weekday : List (List ℕ) → Bool
 begin_with_weekday [] = false
 begin_with_weekday (word ∷ more) = is_some (day_named (leading_letters word))
 
-abbrev pub has_date : Fields → Bool
-has_date fields = is_some fields.year || is_some fields.month || is_some fields.day
+abbrev pub is_dated : Fields → Bool
+is_dated fields = is_some fields.year || is_some fields.month || is_some fields.day
 
 abbrev pub fields_unless_dated : Fields → Option Fields
-fields_unless_dated fields = if has_date fields then None else Some fields
+fields_unless_dated fields = if is_dated fields then None else Some fields
 
 abbrev pub fields_without_date : Result Fields SpecFault → Option Fields
 fields_without_date (Err fault) = None
@@ -49,12 +49,12 @@ weekday_time_in text = if begin_with_weekday (words text) then fields_without_da
 
 -- the first instant after `after` at which an expression elapses in its zone; None if it doesn't elapse after `after`,
 -- or if its zone isn't known
-abbrev pub first_in : ℤ → Fields → Option TimeZone → Option ℤ
-first_in after fields None = None
-first_in after fields (Some tz) = slice_get (elapses_after (timed fields tz ∷ []) after) 0
+abbrev pub first_elapse_in_zone : ℤ → Fields → Option TimeZone → Option ℤ
+first_elapse_in_zone after fields None = None
+first_elapse_in_zone after fields (Some tz) = slice_get (elapses_after (timed fields tz ∷ []) after) 0
 
 abbrev pub first_elapse : Setting → ℤ → Fields → Option ℤ
-first_elapse at after fields = first_in after fields (zone_for at fields.zone)
+first_elapse at after fields = first_elapse_in_zone after fields (zone_for at fields.zone)
 
 abbrev pub first_if_some : Setting → ℤ → Option Fields → Option ℤ
 first_if_some at after None = None
@@ -76,8 +76,8 @@ or_second moment (Some secs) = Ok secs
 
 -- The instant that a text stands for. If the text is a weekday with a time and elapses after `after`, this is its first
 -- elapse after `after`. Any other text is parsed as a timestamp.
-abbrev pub instant_in : ℤ → Setting → ℤ → List ℕ → Result ℤ StampFault
-instant_in now at after text = or_second (moment_in now at text) (next_weekday_time at after text)
+abbrev pub when_in : ℤ → Setting → ℤ → List ℕ → Result ℤ StampFault
+when_in now at after text = or_second (moment_in now at text) (next_weekday_time at after text)
 
 -- the result of a call is this instant or this error, unless memory ran out
 abbrev pub IsUnlessNoMemory : Result ℤ StampFault → Result Instant WhenFault → Type 0

@@ -18,7 +18,7 @@ use std::alloc::Global;
 ///
 /// Fails with [`PlanFault::NoSuchZone`] if an expression or an exception names a zone that wasn't loaded, and with
 /// [`PlanFault::NoMemory`] if allocation fails.
-pub fn elapses_of(
+pub fn first_elapses(
     alloc: Global,
     at: Clocked<'_>,
     timer: &LoadedTimer,
@@ -28,12 +28,12 @@ pub fn elapses_of(
         (λ elapses. map (λ instant. instant.secs) elapses.items ≡ take count (elapses_in at.entry at.entry.now.secs timer.now))
         (λ fault. fault ≢ NoMemory → IsUnzoned (unzoned_line at.entry timer.now) fault) }
 {
-    let mut elapses = elapses_after(alloc, at, at.now, timer)?;
+    let mut elapses = elapses_in(alloc, at, at.now, timer)?;
     Ok(take_first(alloc, &mut elapses, count)?)
 }
 
-/// Creates the iterator over the elapses of a timer after `base`. Fails like [`elapses_of`].
-pub(crate) fn elapses_after<'a>(
+/// Creates the iterator over the elapses of a timer after `base`. Fails like [`first_elapses`].
+pub(crate) fn elapses_in<'a>(
     alloc: Global,
     at: Clocked<'a>,
     base: Instant,

@@ -15,7 +15,7 @@ ghost use Rattle.cal_tasks.specs.IdleLines.{elapses_of_line, idle_as, idle_lines
 ghost use Rattle.cal_tasks.specs.LoadedElapses.{lists_of_loaded, setting_for, unzoned_line};
 
 use crate::clocked::Clocked;
-use crate::elapses::{elapses_after, setting_for, take_first};
+use crate::elapses::{elapses_in, setting_for, take_first};
 use cal_elapse::Elapses;
 use cal_load::LoadedTimer;
 use cal_plan::{Instants, PlanFault, merge_of, zone_for};
@@ -39,7 +39,7 @@ pub enum IdleKind {
 /// An expression or an exception that is reported as having no effect.
 #[derive(Clone, Copy, PartialEq, Eq, Debug)]
 pub struct IdleLine {
-    /// The number of the line with the expression or exception. [`LoadedTimer::place`] finds the file of this line.
+    /// The number of the line with the expression or exception. [`LoadedTimer::position`] finds the file of this line.
     pub number: u32,
     pub kind: IdleKind,
 }
@@ -61,7 +61,7 @@ pub fn idle_lines(
         (λ fault. fault ≢ NoMemory → IsUnzoned (unzoned_line at.entry timer.now) fault) }
 {
     // This fails if a zone is missing. The iterator itself isn't used.
-    let _ = elapses_after(alloc, at, at.now, timer)?;
+    let _ = elapses_in(alloc, at, at.now, timer)?;
     let setting = setting_for(at, timer);
     let found = idle_among(alloc, setting, timer.lines(), timer.exceptions())?;
     Ok(found)

@@ -15,7 +15,7 @@ mod when;
 pub use cal_compare::{Difference, NextOfAll, TimerElapse};
 pub use clock_note::{ClockChange, ClockNote};
 pub use clocked::Clocked;
-pub use elapses::elapses_of;
+pub use elapses::first_elapses;
 pub use idle::{IdleKind, IdleLine, idle_lines};
 pub use several::{difference_of, elapses_between, next_of_timers};
 pub use skipped::clock_notes;

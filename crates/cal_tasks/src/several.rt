@@ -11,7 +11,7 @@ ghost use Rattle.cal_plan.specs.declared.plan_fault.PlanFault.TheVariants.{NoMem
 ghost use Rattle.cal_tasks.specs.LoadedElapses.{elapses_in, first_unzoned_line, unzoned_line};
 
 use crate::clocked::Clocked;
-use crate::elapses::elapses_after;
+use crate::elapses::elapses_in;
 use cal_compare::{
     Difference, NextOfAll, TimerElapse, base_before, between, first_only, next_of_all,
 };
@@ -39,7 +39,7 @@ pub fn next_of_timers(
     ensures fault { IfErr result (λ fault. fault ≢ NoMemory
         → IsUnzoned (first_unzoned_line at.entry timers.now) fault) }
 {
-    let mut elapses = elapses_of_each(alloc, at, at.now, timers)?;
+    let mut elapses = elapses_of_timers(alloc, at, at.now, timers)?;
     Ok(next_of_all(alloc, elapses.as_mut_slice())?)
 }
 
@@ -62,7 +62,7 @@ pub fn elapses_between(
     ensures fault { IfErr result (λ fault. fault ≢ NoMemory
         → IsUnzoned (first_unzoned_line at.entry timers.now) fault) }
 {
-    let mut elapses = elapses_of_each(alloc, at, base_before(from), timers)?;
+    let mut elapses = elapses_of_timers(alloc, at, base_before(from), timers)?;
     Ok(between(alloc, elapses.as_mut_slice(), from, before)?)
 }
 
@@ -108,13 +108,13 @@ fn first_only_of(
         (λ fault. fault ≢ NoMemory
         → IsUnzoned (option_or (unzoned_line at.entry one.now) (unzoned_line at.entry other.now)) fault) }
 {
-    let these = elapses_after(alloc, at, at.now, one)?;
-    let those = elapses_after(alloc, at, at.now, other)?;
+    let these = elapses_in(alloc, at, at.now, one)?;
+    let those = elapses_in(alloc, at, at.now, other)?;
     Ok(first_only(alloc, these, those)?)
 }
 
 /// Creates one iterator for each timer, over the timer's elapses after `base`.
-fn elapses_of_each<'a>(
+fn elapses_of_timers<'a>(
     alloc: Global,
     at: Clocked<'a>,
     base: Instant,
@@ -126,7 +126,7 @@ fn elapses_of_each<'a>(
 {
     let mut all = Vec::new(alloc);
     for timer in timers {
-        let elapses = elapses_after(alloc, at, base, timer)?;
+        let elapses = elapses_in(alloc, at, base, timer)?;
         all.reserve(1)?;
         all.push_reserved(elapses);
     }

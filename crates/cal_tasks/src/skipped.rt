@@ -52,7 +52,7 @@ pub fn clock_notes(
         notes.items) }
     ensures few { IfOk result (λ notes. length notes.items ≤ max_notes) }
 {
-    let last = last_instant(at.now, elapses);
+    let last = last_or_now(at.now, elapses);
     let mut notes = notes_of_lines(alloc, setting_for(at, timer), timer.lines(), last)?;
     notes.sort_unstable();
     notes.dedup();
@@ -61,7 +61,7 @@ pub fn clock_notes(
 }
 
 /// Returns the last of `elapses`, or `now` if there are none.
-fn last_instant(now: Instant, elapses: &[Instant]) -> Instant {
+fn last_or_now(now: Instant, elapses: &[Instant]) -> Instant {
     match elapses {
         [.., last] => *last,
         [] => now,

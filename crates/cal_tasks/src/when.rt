@@ -4,7 +4,7 @@ ghost use Rattle.std.specs.Prelude.{◌≡◌, IfOk, option_map};
 ghost use Rattle.cal_zone.specs.Setting.{setting_seen};
 ghost use Rattle.cal_spec.specs.WeekdayNames.{leading_letters};
 ghost use Rattle.cal_text.specs.headline.Separators.{words};
-ghost use Rattle.cal_tasks.specs.When.{IsUnlessNoMemory, begin_with_weekday, fields_unless_dated, first_elapse, first_if_some, has_date, instant_in, next_weekday_time, setting_without_names, weekday_time_in};
+ghost use Rattle.cal_tasks.specs.When.{IsUnlessNoMemory, begin_with_weekday, fields_unless_dated, first_elapse, first_if_some, is_dated, next_weekday_time, setting_without_names, weekday_time_in, when_in};
 
 use crate::clocked::Clocked;
 use cal_elapse::Elapses;
@@ -54,7 +54,7 @@ pub fn read_when(
     after: Instant,
     text: &str,
 ) -> Result<Instant, WhenFault>
-    ensures { IsUnlessNoMemory (instant_in at.entry.now.secs (setting_without_names at.entry) after.secs text.now) result }
+    ensures { IsUnlessNoMemory (when_in at.entry.now.secs (setting_without_names at.entry) after.secs text.now) result }
 {
     let zones = ZoneTable::new(alloc);
     let setting = Setting {
@@ -142,11 +142,11 @@ fn read_weekday_time(alloc: Global, text: &str) -> Result<Option<Expr>, AllocErr
 fn expr_unless_dated(expr: Expr) -> Option<Expr>
     ensures { result ≡ fields_unless_dated expr }
 {
-    if has_date(&expr) { None } else { Some(expr) }
+    if is_dated(&expr) { None } else { Some(expr) }
 }
 
-fn has_date(expr: &Expr) -> bool
-    ensures { result ≡ has_date expr.now }
+fn is_dated(expr: &Expr) -> bool
+    ensures { result ≡ is_dated expr.now }
 {
     expr.field(Field::Year).is_some()
         || expr.field(Field::Month).is_some()

@@ -100,7 +100,7 @@ impl<'a, R: Files + Env + AllocGlobal + Clone + Drop> Tree for Machine<'a, R> {
         let entries = match fs::read_dir(self.rt, path.as_str()) {
             Ok(entries) => entries,
             Err(error) if is_missing(&error) => return Ok(found),
-            Err(error) => return Err(fault_of(&error)),
+            Err(error) => return Err(tree_fault_of(&error)),
         };
         for entry in entries {
             push_entry(alloc, &mut found, entry)?;
@@ -113,7 +113,7 @@ impl<'a, R: Files + Env + AllocGlobal + Clone + Drop> Tree for Machine<'a, R> {
         let metadata = match fs::symlink_metadata(self.rt, path.as_str()) {
             Ok(metadata) => metadata,
             Err(error) if is_missing(&error) => return Ok(Entry::Missing),
-            Err(error) => return Err(fault_of(&error)),
+            Err(error) => return Err(tree_fault_of(&error)),
         };
         if metadata.is_symlink() {
             return look_at_link(self.rt, alloc, path.as_str());
@@ -137,7 +137,7 @@ impl<'a, R: Files + Env + AllocGlobal + Clone + Drop> Tree for Machine<'a, R> {
         match fs::open(self.rt, path.as_str()) {
             Ok(file) => Ok(Some(Port::new(file))),
             Err(error) if is_missing(&error) => Ok(None),
-            Err(error) => Err(fault_of(&error)),
+            Err(error) => Err(tree_fault_of(&error)),
         }
     }
 
@@ -164,7 +164,7 @@ fn push_entry<R: Files + Drop>(
         Err(error) if error.kind() == ErrorKind::InvalidFilename => {
             found.unnamed = found.unnamed.saturating_add(1);
         }
-        Err(error) => return Err(fault_of(&error)),
+        Err(error) => return Err(tree_fault_of(&error)),
     }
     Ok(())
 }
@@ -179,7 +179,7 @@ fn look_at_link<R: Files + AllocGlobal>(
             Some(target) => Ok(Entry::Link(String::from_str(alloc, target)?)),
             None => Err(TreeFault::NotUtf8),
         },
-        Err(error) => Err(fault_of(&error)),
+        Err(error) => Err(tree_fault_of(&error)),
     }
 }
 
@@ -187,7 +187,7 @@ fn is_missing(error: &Error) -> bool {
     matches!(error.kind(), ErrorKind::NotFound | ErrorKind::NotADirectory)
 }
 
-fn fault_of(error: &Error) -> TreeFault {
+fn tree_fault_of(error: &Error) -> TreeFault {
     match error.kind() {
         ErrorKind::OutOfMemory => TreeFault::NoMemory,
         _ => TreeFault::ReadFailed,

@@ -46,7 +46,7 @@ fn main(rt: HostRuntime) -> ExitCode {
         Err(_) => return end(&rt, "", NOT_UTF_8, USAGE),
     };
     match Question::of(rt.alloc(), arguments.as_slice()) {
-        Ok(question) => run(&rt, &question),
+        Ok(question) => answer_and_print(&rt, &question),
         Err(CommandFault::Help(text)) => end(&rt, text.as_str(), "", 0),
         Err(CommandFault::Usage(text)) => end(&rt, "", text.as_str(), USAGE),
         Err(CommandFault::NoMemory) => end(&rt, "", OUT_OF_MEMORY, FAILED),
@@ -60,7 +60,7 @@ fn given_arguments<R: Env + AllocGlobal>(rt: &R) -> io::Result<Vec<String>> {
 
 /// Answers a question about this machine, or about the part of it below the root that the question names, and prints
 /// the answer.
-fn run(rt: &HostRuntime, question: &Question) -> ExitCode {
+fn answer_and_print(rt: &HostRuntime, question: &Question) -> ExitCode {
     let root = question.root.as_str();
     let bare = Machine {
         rt,

@@ -11,8 +11,8 @@ abbrev pub max_count : ℕ
 max_count = 1_000_000
 
 -- `count` is a valid value of `--count`
-abbrev pub IsCount : ℕ → Type 0
-IsCount count = (1 ≤ count) × (count ≤ max_count)
+abbrev pub IsElapseCount : ℕ → Type 0
+IsElapseCount count = (1 ≤ count) × (count ≤ max_count)
 
 -- whether the verb accepts this number of targets, which are the arguments other than the verb, the options and their
 -- values; the start and the end of the range of `between` count as targets, too

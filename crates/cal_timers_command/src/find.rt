@@ -6,7 +6,7 @@ ghost use Rattle.cal_timers_command.specs.Questions.{HasText};
 use crate::command_fault::CommandFault;
 use crate::command_line::{FIRST, SECOND, TARGET, parse};
 use crate::question::{Question, Verb};
-use crate::values::{count_of, now_of, root_of, zone_of};
+use crate::values::{count_of, now_of, root_of, zone_value};
 use crate::verb_first::with_verb_first;
 use clap::ArgMatches;
 use std::alloc::{AllocError, Global};
@@ -65,7 +65,7 @@ fn question_of(alloc: Global, verb: Verb, values: &ArgMatches<'_>) -> Result<Que
     Ok(Question {
         verb,
         targets,
-        zone: zone_of(alloc, values)?,
+        zone: zone_value(alloc, values)?,
         count,
         now,
         root: root_of(alloc, values)?,

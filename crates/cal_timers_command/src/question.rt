@@ -3,7 +3,7 @@
 ghost use Rattle.std.specs.Prelude.{◌≡◌, true, vec_len};
 ghost use Rattle.std.specs.Option.{ForSome};
 ghost use Rattle.cal_zone.specs.Instant.{IsInstant};
-ghost use Rattle.cal_timers_command.specs.Questions.{IsCount, fits_verb};
+ghost use Rattle.cal_timers_command.specs.Questions.{IsElapseCount, fits_verb};
 
 /// A verb: what a question asks for.
 #[derive(Clone, Copy, PartialEq, Eq, Debug)]
@@ -52,7 +52,7 @@ pub struct Question {
     /// Whether to print JSON.
     pub is_json: bool,
     ghost fits: { fits_verb verb (vec_len targets) ≡ true },
-    ghost counted: { ForSome count IsCount },
+    ghost counted: { ForSome count IsElapseCount },
     ghost timed: { ForSome now IsInstant },
 }
 

@@ -3,7 +3,7 @@
 ghost use Rattle.std.specs.Prelude.{◌≡◌, ◌≤◌, IfErr, IfOk, IfSome};
 ghost use Rattle.std.specs.Option.{ForSome};
 ghost use Rattle.cal_zone.specs.Instant.{IsInstant};
-ghost use Rattle.cal_timers_command.specs.Questions.{HasText, IsCount};
+ghost use Rattle.cal_timers_command.specs.Questions.{HasText, IsElapseCount};
 
 use crate::command_fault::CommandFault;
 use crate::value_option::{COUNT, NOW, ROOT, ValueOption, ZONE};
@@ -17,7 +17,7 @@ const MAX_COUNT: u64 = 1_000_000;
 /// Returns the value of `--count`, a number from 1 to [`MAX_COUNT`], or `None` if the option isn't given. Fails with
 /// [`CommandFault::Usage`] for any other value. The number must be written in digits only.
 pub(crate) fn count_of(alloc: Global, values: &ArgMatches<'_>) -> Result<Option<u32>, CommandFault>
-    ensures range { IfOk result (λ count. ForSome count IsCount) }
+    ensures range { IfOk result (λ count. ForSome count IsElapseCount) }
     ensures fault { IfErr result HasText }
 {
     let Some(text) = values.get_str(COUNT.name) else {
@@ -39,14 +39,14 @@ pub(crate) fn now_of(alloc: Global, values: &ArgMatches<'_>) -> Result<Option<i6
     let Some(text) = values.get_str(NOW.name) else {
         return Ok(None);
     };
-    match instant_in(text) {
+    match read_counted_instant(text) {
         Some(instant) => Ok(Some(instant.secs())),
         None => Err(bad_value(alloc, NOW, text, "expected @0 to @7258211998")),
     }
 }
 
 /// Returns the value of `--zone`, or `UTC` if `--utc` is given, or `None` if neither option is given.
-pub(crate) fn zone_of(
+pub(crate) fn zone_value(
     alloc: Global,
     values: &ArgMatches<'_>,
 ) -> Result<Option<String>, CommandFault>
@@ -84,7 +84,7 @@ fn text_of(
     }
 }
 
-fn instant_in(text: &str) -> Option<Instant> {
+fn read_counted_instant(text: &str) -> Option<Instant> {
     let number = number_between(text.strip_prefix('@')?, 0, Instant::LAST as u64)?;
     Instant::new(number as i64)
 }

@@ -8,7 +8,7 @@ use std::convert::AsStr;
 
 /// The kind of an argument that isn't the value of the option before it.
 #[derive(Clone, Copy)]
-enum Kind {
+enum ArgumentKind {
     /// An option whose value is the next argument.
     NeedsValue,
     /// `--help`, `--version` or a short form of these.
@@ -30,14 +30,14 @@ pub(crate) fn with_verb_first<'a, S: AsStr>(
     alloc: Global,
     arguments: &'a [S],
 ) -> Result<Vec<&'a str>, AllocError> {
-    let place = find_verb(arguments);
+    let verb_index = find_verb(arguments);
     let mut texts = Vec::new(alloc);
-    match place.and_then(|index| arguments.get(index)) {
+    match verb_index.and_then(|index| arguments.get(index)) {
         Some(verb) => texts.push(verb.as_str())?,
         None => texts.push("list")?,
     }
     for (index, argument) in arguments.iter().enumerate() {
-        if place != Some(index) {
+        if verb_index != Some(index) {
             texts.push(argument.as_str())?;
         }
     }
@@ -50,42 +50,42 @@ fn find_verb<S: AsStr>(arguments: &[S]) -> Option<usize> {
     let mut is_value = false;
     for (index, argument) in arguments.iter().enumerate() {
         let kind = if is_value {
-            Kind::Option
+            ArgumentKind::Option
         } else {
-            kind_of(argument.as_str())
+            argument_kind(argument.as_str())
         };
         is_value = false;
         match kind {
-            Kind::NeedsValue => is_value = true,
-            Kind::Option => {}
-            Kind::Help => return Some(index),
-            Kind::End => return None,
-            Kind::Word if is_verb(argument.as_str()) => return Some(index),
-            Kind::Word => return None,
+            ArgumentKind::NeedsValue => is_value = true,
+            ArgumentKind::Option => {}
+            ArgumentKind::Help => return Some(index),
+            ArgumentKind::End => return None,
+            ArgumentKind::Word if is_verb(argument.as_str()) => return Some(index),
+            ArgumentKind::Word => return None,
         }
     }
     None
 }
 
-fn kind_of(argument: &str) -> Kind {
+fn argument_kind(argument: &str) -> ArgumentKind {
     match argument {
-        "-h" | "--help" | "-V" | "--version" => return Kind::Help,
-        "--" => return Kind::End,
-        "-n" => return Kind::NeedsValue,
+        "-h" | "--help" | "-V" | "--version" => return ArgumentKind::Help,
+        "--" => return ArgumentKind::End,
+        "-n" => return ArgumentKind::NeedsValue,
         _ => {}
     }
     if let Some(name) = argument.strip_prefix("--") {
         return if takes_value(name) {
-            Kind::NeedsValue
+            ArgumentKind::NeedsValue
         } else {
-            Kind::Option
+            ArgumentKind::Option
         };
     }
     // A single `-` is not an option.
     if argument.starts_with('-') && argument.len() > 1 {
-        Kind::Option
+        ArgumentKind::Option
     } else {
-        Kind::Word
+        ArgumentKind::Word
     }
 }
 

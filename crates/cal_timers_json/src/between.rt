@@ -61,7 +61,7 @@ fn between_row<'a>(
 {
     let local = local_text(alloc, zone, elapse.instant)?;
     Ok(BetweenRow {
-        unit: name_of(timers, elapse.timer),
+        unit: timer_name(timers, elapse.timer),
         local,
         unix: elapse.instant.secs(),
     })
@@ -69,7 +69,7 @@ fn between_row<'a>(
 
 /// Returns the name of the timer with this index. Callers pass only indices of timers; for any other index, the name is
 /// empty.
-fn name_of(timers: &[LoadedTimer], index: usize) -> &str {
+fn timer_name(timers: &[LoadedTimer], index: usize) -> &str {
     match timers.get(index) {
         Some(timer) => timer.name.as_str(),
         None => "",

@@ -96,7 +96,7 @@ fn show_row<'a>(
     let timer = shown.timer;
     Ok(ShowRow {
         unit: timer.name.as_str(),
-        files: paths_of(alloc, timer)?,
+        files: file_paths(alloc, timer)?,
         expressions: line_rows(alloc, timer, timer.lines())?,
         exceptions: line_rows(alloc, timer, timer.exceptions())?,
         elapses: elapse_rows(alloc, at, shown.elapses)?,
@@ -105,7 +105,7 @@ fn show_row<'a>(
     })
 }
 
-fn paths_of<'a>(alloc: Global, timer: &'a LoadedTimer) -> Result<Vec<&'a str>, AllocError> {
+fn file_paths<'a>(alloc: Global, timer: &'a LoadedTimer) -> Result<Vec<&'a str>, AllocError> {
     let mut paths = Vec::new(alloc);
     for file in &timer.files {
         paths.push(file.path.as_str())?;
@@ -137,7 +137,7 @@ fn line_row<'a>(
     ensures { IfOk result (λ row. string_bytes row.normal ≡ expr_text line.now.expr) }
 {
     let normal = normal_text(alloc, &line.expr)?;
-    let (file, number) = match timer.place(line.number) {
+    let (file, number) = match timer.position(line.number) {
         Some((file, number)) => (Some(file), Some(number)),
         None => (None, None),
     };
@@ -183,13 +183,13 @@ fn clock_rows(alloc: Global, clock: &[ClockNote]) -> Result<Vec<ClockRow>, Alloc
         let local = clock_text(alloc, note.local)?;
         rows.push(ClockRow {
             local,
-            change: name_of(note.change),
+            change: change_name(note.change),
         })?;
     }
     Ok(rows)
 }
 
-fn name_of(change: ClockChange) -> &'static str {
+fn change_name(change: ClockChange) -> &'static str {
     match change {
         ClockChange::Skipped => "skipped",
         ClockChange::Repeated => "repeated",

@@ -3,13 +3,13 @@
 ghost use Rattle.std.specs.Prelude.{◌≡◌, ◌++◌, OnOk, length, string_bytes, true};
 ghost use Rattle.std.specs.Char.{is_control};
 ghost use Rattle.std.specs.Str.{chars};
-ghost use Rattle.cal_timers_text.specs.Shown.{code_text, shown};
+ghost use Rattle.cal_timers_text.specs.PrintableText.{code_text, printable_text};
 
 use std::alloc::AllocError;
 
 /// Appends a text, with each control character replaced by `\x` and its code in two hexadecimal digits.
-pub(crate) fn push_shown(out: &mut String, text: &str) -> Result<(), AllocError>
-    ensures { OnOk result (string_bytes out.new ≡ string_bytes out.old ++ shown text.now) }
+pub(crate) fn push_printable(out: &mut String, text: &str) -> Result<(), AllocError>
+    ensures { OnOk result (string_bytes out.new ≡ string_bytes out.old ++ printable_text text.now) }
 {
     for sign in text.chars() {
         if sign.is_control() {
@@ -29,7 +29,7 @@ fn push_code(out: &mut String, sign: char) -> Result<(), AllocError>
     write!(out, "\\x{code:02x}")
 }
 
-/// Returns the number of characters that [`push_shown`] appends for this text.
+/// Returns the number of characters that [`push_printable`] appends for this text.
 pub(crate) fn shown_width(text: &str) -> usize {
     let mut width: usize = 0;
     for sign in text.chars() {

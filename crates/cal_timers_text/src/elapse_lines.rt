@@ -1,7 +1,7 @@
 //! The output of `between` and `same`: the elapses of timers in a range, and the first instants at which two timers
 //! differ.
 
-use crate::cells::{push_blanks, push_shown};
+use crate::cells::{push_blanks, push_printable};
 use crate::times::{instant_width, push_instant};
 use cal_load::LoadedTimer;
 use cal_tasks::{Difference, TimerElapse};
@@ -21,7 +21,7 @@ pub fn between_text(
     let width = widest(&mut formatter, elapses);
     for elapse in elapses {
         if let Some(timer) = timers.get(elapse.timer) {
-            push_elapse(
+            push_timer_elapse(
                 &mut out,
                 &mut formatter,
                 width,
@@ -43,7 +43,7 @@ fn widest(formatter: &mut InstantFormatter<'_>, elapses: &[TimerElapse]) -> usiz
 }
 
 /// Appends a line: an instant, padded to `width` characters, two blanks, and a name.
-fn push_elapse(
+fn push_timer_elapse(
     out: &mut String,
     formatter: &mut InstantFormatter<'_>,
     width: usize,
@@ -53,7 +53,7 @@ fn push_elapse(
     let own_width = instant_width(formatter, instant);
     push_instant(out, formatter, instant)?;
     push_blanks(out, width.saturating_sub(own_width).saturating_add(2))?;
-    push_shown(out, name)?;
+    push_printable(out, name)?;
     out.push('\n')
 }
 
@@ -87,7 +87,7 @@ fn push_only(
         return Ok(());
     };
     out.push_str("only ")?;
-    push_shown(out, name)?;
+    push_printable(out, name)?;
     out.push_str(": ")?;
     push_instant(out, formatter, instant)?;
     out.push('\n')

@@ -1,6 +1,6 @@
 //! Error lines about timers that can't be loaded, and about a local zone that can't be used.
 
-use crate::cells::push_shown;
+use crate::cells::push_printable;
 use cal_machine_zones::{FileReason, Origin, ZonesFault};
 use cal_targets::{TargetFault, TargetReason};
 use cal_timer::TimerFault;
@@ -92,7 +92,7 @@ fn reason_words(reason: Reason) -> &'static str {
 
 /// Appends what is at fault, a colon and a blank, and the message.
 fn push_fault(out: &mut String, subject: &str, message: &str) -> Result<(), AllocError> {
-    push_shown(out, subject)?;
+    push_printable(out, subject)?;
     out.push_str(": ")?;
     out.push_str(message)
 }
@@ -103,13 +103,13 @@ fn push_line_fault(
     line: u32,
     fault: &TimerFault,
 ) -> Result<(), AllocError> {
-    push_line(out, path, line)?;
+    push_position(out, path, line)?;
     out.push_str(fault.words())
 }
 
 /// Appends a path and the number of a line, each with a colon after it, and a blank.
-fn push_line(out: &mut String, path: &str, line: u32) -> Result<(), AllocError> {
-    push_shown(out, path)?;
+fn push_position(out: &mut String, path: &str, line: u32) -> Result<(), AllocError> {
+    push_printable(out, path)?;
     write!(out, ":{line}: ")
 }
 
@@ -120,7 +120,7 @@ fn push_zone_line(
     zone: &str,
     reason: FileReason,
 ) -> Result<(), AllocError> {
-    push_line(out, path, line)?;
+    push_position(out, path, line)?;
     push_zone_fault(out, zone, reason)
 }
 
@@ -130,7 +130,7 @@ fn push_expression_zone(
     zone: &str,
     reason: FileReason,
 ) -> Result<(), AllocError> {
-    push_shown(out, expression)?;
+    push_printable(out, expression)?;
     out.push_str(": ")?;
     push_zone_fault(out, zone, reason)
 }
@@ -140,7 +140,7 @@ fn push_zone_fault(out: &mut String, zone: &str, reason: FileReason) -> Result<(
     match reason {
         FileReason::NotFound => {
             out.push_str("no zone file ")?;
-            push_shown(out, zone)
+            push_printable(out, zone)
         }
         FileReason::Load(fault) => push_fault(out, zone, fault.words()),
     }

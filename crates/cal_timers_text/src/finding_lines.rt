@@ -1,9 +1,9 @@
 //! The output of `lint`: problems of timers, with the lines of the files that have them.
 
-use crate::cells::{push_blanks, push_shown, push_times, shown_width};
+use crate::cells::{push_blanks, push_printable, push_times, shown_width};
 use crate::messages::{idle_words, push_message};
 use crate::style::{Emphasis, Style};
-use cal_lint::{Finding, Kind, Problem};
+use cal_lint::{Finding, Problem, ProblemKind};
 use cal_load::LoadedTimer;
 use cal_tasks::IdleLine;
 use cal_text::{first_word, trim_blanks_end};
@@ -40,10 +40,10 @@ pub fn idle_text(
 ) -> Result<String, AllocError> {
     let mut out = String::new(alloc);
     let (path, line) = timer
-        .place(idle.number)
+        .position(idle.number)
         .unwrap_or((timer.name.as_str(), idle.number));
     push_place(&mut out, path, line, None)?;
-    push_kind(&mut out, Kind::Warning, style)?;
+    push_kind(&mut out, ProblemKind::Warning, style)?;
     out.push_str(idle_words(idle.kind))?;
     out.push('\n')?;
     Ok(out)
@@ -56,30 +56,30 @@ fn push_place(
     line: u32,
     column: Option<u32>,
 ) -> Result<(), AllocError> {
-    push_shown(out, path)?;
+    push_printable(out, path)?;
     match column {
         Some(column) => write!(out, ":{line}:{column}: "),
         None => write!(out, ":{line}: "),
     }
 }
 
-fn push_kind(out: &mut String, kind: Kind, style: Style) -> Result<(), AllocError> {
+fn push_kind(out: &mut String, kind: ProblemKind, style: Style) -> Result<(), AllocError> {
     match kind {
-        Kind::Error => {
+        ProblemKind::Error => {
             style.begin(out, Emphasis::Error)?;
             out.push_str("error:")?;
             style.end(out)?;
             out.push(' ')
         }
-        Kind::Warning => out.push_str("warning: "),
+        ProblemKind::Warning => out.push_str("warning: "),
     }
 }
 
 /// Appends the line of the file that has the problem, a line with a caret if the column of the problem is known, and a
 /// line with what to write instead if that is known.
 fn push_excerpt(out: &mut String, text: &str, finding: &Finding) -> Result<(), AllocError> {
-    let line = line_of(text, finding.line);
-    push_shown(out, line)?;
+    let line = physical_line(text, finding.line);
+    push_printable(out, line)?;
     out.push('\n')?;
     if let Some((before, word)) = word_at_fault(line, finding) {
         push_caret(out, before, word)?;
@@ -92,7 +92,7 @@ fn push_excerpt(out: &mut String, text: &str, finding: &Finding) -> Result<(), A
 
 fn push_suggestion(out: &mut String, suggestion: &str) -> Result<(), AllocError> {
     out.push_str("  write instead: ")?;
-    push_shown(out, suggestion)?;
+    push_printable(out, suggestion)?;
     out.push('\n')
 }
 
@@ -106,7 +106,7 @@ fn push_caret(out: &mut String, before: &str, word: &str) -> Result<(), AllocErr
 }
 
 /// Returns the physical line with this number, counted from 1, or an empty text if there is no such line.
-fn line_of(text: &str, number: u32) -> &str {
+fn physical_line(text: &str, number: u32) -> &str {
     without_mark(text)
         .lines()
         .nth((number as usize).saturating_sub(1))

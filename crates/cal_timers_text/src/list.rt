@@ -1,6 +1,6 @@
 //! The output of `list`: a table of timers.
 
-use crate::cells::{push_cut, push_padded, push_shown, width_of};
+use crate::cells::{push_cut, push_padded, push_printable, width_of};
 use crate::style::{Emphasis, Style};
 use crate::times::{push_instant, push_left};
 use cal_load::{Calendar, Loaded, LoadedTimer};
@@ -128,7 +128,7 @@ fn never_row(alloc: Global, timer: &LoadedTimer) -> Result<Row, AllocError> {
 /// Returns a row with the name of a unit and a note, but without a next elapse.
 fn plain_row(alloc: Global, unit: &str, note: &str) -> Result<Row, AllocError> {
     let mut name = String::new(alloc);
-    push_shown(&mut name, unit)?;
+    push_printable(&mut name, unit)?;
     Ok(Row {
         next: String::from_str(alloc, NO_ELAPSE)?,
         left: String::from_str(alloc, NO_ELAPSE)?,
@@ -143,7 +143,7 @@ fn push_notes(out: &mut String, notes: &[String]) -> Result<(), AllocError> {
         if !out.is_empty() {
             out.push_str("  ")?;
         }
-        push_shown(out, note.as_str())?;
+        push_printable(out, note.as_str())?;
     }
     Ok(())
 }

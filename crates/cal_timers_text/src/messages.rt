@@ -51,7 +51,7 @@ fn push_invalid(
 /// Returns what an invalid expression looks like, or what is wrong with it, as the end of a message.
 pub fn mistake_words(mistake: Mistake) -> &'static str {
     match mistake {
-        Mistake::Setting => "a setting, not only its value",
+        Mistake::Assignment => "a setting, not only its value",
         Mistake::Comment => "a comment has to be on a line of its own",
         Mistake::Now => "'now' is a timestamp",
         Mistake::Span => "a time span, which belongs in a setting such as OnUnitActiveSec=",

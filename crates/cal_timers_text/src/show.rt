@@ -1,6 +1,6 @@
 //! The output of `show` and `next`: one timer in detail.
 
-use crate::cells::{push_padded, push_shown};
+use crate::cells::{push_padded, push_printable};
 use crate::style::{Emphasis, Style};
 use crate::times::{instant_width, normal_text, push_instant, push_left};
 use cal_load::{Calendar, LoadedTimer};
@@ -36,7 +36,7 @@ pub fn show_text(
 
 fn push_name(out: &mut String, name: &str, style: Style) -> Result<(), AllocError> {
     style.begin(out, Emphasis::Heading)?;
-    push_shown(out, name)?;
+    push_printable(out, name)?;
     style.end(out)?;
     out.push('\n')
 }
@@ -51,7 +51,7 @@ fn push_settings(alloc: Global, out: &mut String, timer: &LoadedTimer) -> Result
 fn push_files(out: &mut String, files: &[UnitText]) -> Result<(), AllocError> {
     let mut label = "  File:";
     for file in files {
-        push_field(out, label, file.path.as_str())?;
+        push_labeled_line(out, label, file.path.as_str())?;
         label = "";
     }
     Ok(())
@@ -66,7 +66,7 @@ fn push_lines(
     let mut label = first_label;
     for line in lines {
         let normal = normal_text(alloc, &line.expr)?;
-        push_field(out, label, normal.as_str())?;
+        push_labeled_line(out, label, normal.as_str())?;
         label = "";
     }
     Ok(())
@@ -75,23 +75,23 @@ fn push_lines(
 fn push_also(out: &mut String, notes: &[String]) -> Result<(), AllocError> {
     let mut label = "  Also:";
     for note in notes {
-        push_field(out, label, note.as_str())?;
+        push_labeled_line(out, label, note.as_str())?;
         label = "";
     }
     Ok(())
 }
 
 /// Appends a line with a label, which may be empty, and a value.
-fn push_field(out: &mut String, label: &str, value: &str) -> Result<(), AllocError> {
+fn push_labeled_line(out: &mut String, label: &str, value: &str) -> Result<(), AllocError> {
     push_padded(out, label, LABEL_WIDTH)?;
-    push_shown(out, value)?;
+    push_printable(out, value)?;
     out.push('\n')
 }
 
 fn push_elapses(out: &mut String, at: Clocked<'_>, elapses: &[Instant]) -> Result<(), AllocError> {
     let mut label = "  Next:";
     if elapses.is_empty() {
-        return push_field(out, label, "never");
+        return push_labeled_line(out, label, "never");
     }
     let mut formatter = InstantFormatter::new(at.local);
     let width = widest(&mut formatter, elapses);

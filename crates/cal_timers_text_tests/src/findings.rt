@@ -2,7 +2,7 @@
 
 use crate::expect;
 use crate::timers::Made;
-use cal_lint::{Doubt, Finding, Kind, Problem, findings};
+use cal_lint::{Doubt, Finding, Problem, ProblemKind, findings};
 use cal_tasks::{IdleKind, IdleLine};
 use cal_timers_text::{Style, finding_text, idle_text};
 use std::test::Fail;
@@ -84,7 +84,7 @@ fn characters_before_the_word(rt: HostRuntime) -> Result<(), Fail> {
     let mut finding = Finding {
         line: 1,
         column: 6,
-        kind: Kind::Warning,
+        kind: ProblemKind::Warning,
         problem: Problem::Doubtful(Doubt::MonthDay),
         mistake: None,
         suggestion: None,
@@ -97,7 +97,7 @@ fn characters_before_the_word(rt: HostRuntime) -> Result<(), Fail> {
       ^~~~
 ",
     )?;
-    finding.kind = Kind::Error;
+    finding.kind = ProblemKind::Error;
     finding.problem = Problem::UnknownKey;
     finding.column = 1;
     let found = finding_text(rt.alloc(), "b", "key", &finding, style)?;
@@ -113,7 +113,7 @@ fn places_that_are_not_there(rt: HostRuntime) -> Result<(), Fail> {
     let mut finding = Finding {
         line: 1,
         column: 2,
-        kind: Kind::Error,
+        kind: ProblemKind::Error,
         problem: Problem::UnknownKey,
         mistake: None,
         suggestion: None,

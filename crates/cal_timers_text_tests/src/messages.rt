@@ -77,7 +77,7 @@ fn problems(rt: HostRuntime) -> Result<(), Fail> {
 }
 
 static MISTAKES: [(Mistake, &str); 12] = [
-    (Mistake::Setting, "a setting, not only its value"),
+    (Mistake::Assignment, "a setting, not only its value"),
     (Mistake::Comment, "a comment has to be on a line of its own"),
     (Mistake::Now, "'now' is a timestamp"),
     (

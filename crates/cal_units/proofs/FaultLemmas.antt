@@ -5,8 +5,8 @@ use Rattle.std.specs.Prelude.{IfErr, String}
 use Rattle.std.specs.declared.alloc.Global.{Global}
 use Rattle.std.proofs.lemmas.List.{drop-map, take-map}
 use Rattle.std.proofs.lemmas.List.Elements.{All-push, All-same}
-use Rattle.cal_drop_ins.specs.DropIns.{Found, candidates}
-use Rattle.cal_units.specs.Faults.{IfAt, IsAliasFault, IsDropInReason, IsLinkFault, IsLinkReason, IsListedFault, IsOverfull, drop_ins_in, fault_of, max_drop_ins}
+use Rattle.cal_drop_ins.specs.DropIns.{FolderFile, candidates}
+use Rattle.cal_units.specs.Faults.{IfAt, IsAliasFault, IsDropInReason, IsLinkFault, IsLinkReason, IsListedFault, IsOverfull, drop_ins_in, fault_if_err, max_drop_ins}
 use Rattle.cal_units.specs.Machine.{Machine}
 use Rattle.cal_units.specs.declared.aliases.Alias as links
 use Rattle.cal_units.specs.declared.fault.Reason.{Reason}
@@ -33,24 +33,24 @@ pub drop_in_weaker : (MayFail P Q : List ℕ → Type 0) → ((folder : List ℕ
 drop_in_weaker MayFail P Q f (faults.At path reason) h = drop_in_reason_weaker MayFail P Q f (string_bytes path) reason h
 drop_in_weaker MayFail P Q f faults.NoMemory h = tt
 
--- `folder` is the folder at the index `place`, and `found` are the drop-ins in the folders before it. If these are not
--- too many, but there are too many together with the drop-ins in `folder`, then `folder` is the first folder at which
--- there are too many.
-pub overfull : (machine : Machine) (folders : List (String Global)) (place : ℕ) (folder : List ℕ) (after : List (List ℕ)) (found : List Found)
-    → map string_bytes (drop place folders) ≡ folder ∷ after
-    → found ≡ drop_ins_in machine (map string_bytes (take place folders))
+-- `folder` is the folder at this index, and `found` are the drop-ins in the folders before it. If these are not too
+-- many, but there are too many together with the drop-ins in `folder`, then `folder` is the first folder at which there
+-- are too many.
+pub overfull : (machine : Machine) (folders : List (String Global)) (index : ℕ) (folder : List ℕ) (after : List (List ℕ)) (found : List FolderFile)
+    → map string_bytes (drop index folders) ≡ folder ∷ after
+    → found ≡ drop_ins_in machine (map string_bytes (take index folders))
     → length found ≤ max_drop_ins
     → max_drop_ins < length (found ++ candidates folder (machine.names folder))
     → IsOverfull machine (map string_bytes folders) folder
-overfull machine folders place folder after found at is fits more =
-    let e : found ≡ drop_ins_in machine (take place (map string_bytes folders)) =
-    is ∙ ap (drop_ins_in machine) (sym (take-map string_bytes place folders)) in
+overfull machine folders index folder after found at is fits more =
+    let e : found ≡ drop_ins_in machine (take index (map string_bytes folders)) =
+    is ∙ ap (drop_ins_in machine) (sym (take-map string_bytes index folders)) in
     record {
-      place = place;
+      index = index;
       after = after;
-      is_at = drop-map string_bytes place folders ∙ at;
-      fits = subst (λ (xs : List Found). length xs ≤ max_drop_ins) e fits;
-      is_more = subst (λ (xs : List Found). max_drop_ins < length (xs ++ candidates folder (machine.names folder))) e more;
+      is_at = drop-map string_bytes index folders ∙ at;
+      fits = subst (λ (xs : List FolderFile). length xs ≤ max_drop_ins) e fits;
+      is_more = subst (λ (xs : List FolderFile). max_drop_ins < length (xs ++ candidates folder (machine.names folder))) e more;
     }
 
 alias_is_listed : (MayFail : List ℕ → Type 0) (Shows : Machine → Type 0) (path : List (List ℕ)) (fault : UnitFault) → fault ≢ faults.NoMemory → IsAliasFault MayFail Shows path fault → IsListedFault MayFail Shows path fault
@@ -60,7 +60,7 @@ alias_is_listed MayFail Shows path faults.NoMemory some h = absurd (some refl)
 -- Suppose that `after` is `before`, followed by the error if looking for one more alias failed. If each error in
 -- `before` can occur when aliases are looked for, so can each error in `after`.
 pub listed_more : (MayFail : List ℕ → Type 0) (Shows : Machine → Type 0) (path : List (List ℕ)) (found : Result (Option links.Alias) UnitFault) (before after : List UnitFault)
-    → after ≡ before ++ fault_of found
+    → after ≡ before ++ fault_if_err found
     → IfErr found (λ fault. fault ≢ faults.NoMemory)
     → IfErr found (IsAliasFault MayFail Shows path)
     → All (IsListedFault MayFail Shows path) before

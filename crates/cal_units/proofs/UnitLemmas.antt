@@ -2,10 +2,10 @@
 -- with one link fewer to follow and this alias added to the aliases so far.
 use Rattle.std.proofs.Common.{◌≡◌, ℕ, suc, List, [], ◌∷◌, ◌++◌, refl}
 use Rattle.cal_units.specs.Machine.{Machine}
-use Rattle.cal_units.specs.Units.{follow, place_in}
-use Rattle.cal_units.specs.Units.Place.{AliasOf}
+use Rattle.cal_units.specs.Units.{follow, location_in}
+use Rattle.cal_units.specs.Units.Location.{AliasOf}
 
 pub follow_alias : (machine : Machine) (path : List (List ℕ)) (n k : ℕ) (aliases : List (List ℕ)) (stem other : List ℕ)
-    → n ≡ suc k → place_in machine path stem ≡ AliasOf other
+    → n ≡ suc k → location_in machine path stem ≡ AliasOf other
     → follow machine path k (aliases ++ stem ∷ []) other ≡ follow machine path n aliases stem
-follow_alias machine path n k aliases stem other e place = rw (e, place) refl
+follow_alias machine path n k aliases stem other e location = rw (e, location) refl

@@ -3,11 +3,11 @@ use Rattle.std.proofs.Common.{◌≡◌, ℕ, List, [], ◌∷◌, codes, map, r
 use Rattle.std.specs.Map.{lookup}
 use Rattle.std.specs.Option.{unwrap_or}
 use Rattle.std.specs.Str.{bytes_eq}
-use Rattle.cal_drop_ins.specs.UnitName.{is_stem, kind_of, template_of, unit_stem, without_suffix}
+use Rattle.cal_drop_ins.specs.UnitName.{is_stem, template_of, unit_kind_of, unit_stem, without_suffix}
 use Rattle.cal_units.specs.Aliases.{aliases_in, stems_of}
 use Rattle.cal_units.specs.Machine.{Entry, Machine}
 use Rattle.cal_units.specs.Machine.Entry.{Missing, Empty, File, Folder, Link}
-use Rattle.cal_units.specs.Units.{Unit, after_prefix, alias_of, file_stem, stem_in, unit_in, unit_paths}
+use Rattle.cal_units.specs.Units.{Unit, after_prefix, alias_of, file_stem, stem_in, unit_on, unit_paths}
 use Rattle.cal_units.specs.Units.Unit.{Unfound, TemplateOnly, MaskedBy, FoundAt, Endless}
 
 -- what is at the paths of a machine
@@ -46,7 +46,7 @@ machine =
 
 -- the unit with this stem on the machine, which has two folders of units
 abbrev unit : List ℕ → Unit
-unit stem = unit_in machine (codes "/etc" ∷ codes "/lib" ∷ []) stem
+unit stem = unit_on machine (codes "/etc" ∷ codes "/lib" ∷ []) stem
 
 -- The folder `/etc/a.timer` isn't a file of `a`. `b` is an alias of `a`, and `c` is an alias of `b`, so the unit has
 -- three names. `m` is masked by a link to `/dev/null`, and `e` by an empty file.
@@ -54,21 +54,21 @@ plain_units : map unit (codes "a" ∷ codes "b" ∷ codes "c" ∷ codes "m" ∷ 
     ≡ FoundAt (codes "/lib/a.timer") [] (codes "a") ∷ FoundAt (codes "/lib/a.timer") (codes "b" ∷ []) (codes "a")
     ∷ FoundAt (codes "/lib/a.timer") (codes "c" ∷ codes "b" ∷ []) (codes "a") ∷ MaskedBy (codes "/etc/m.timer")
     ∷ MaskedBy (codes "/lib/e.timer") ∷ Unfound ∷ []
-unfolding unit_paths template_of alias_of stem_in after_prefix file_stem unit_stem without_suffix is_stem kind_of
+unfolding unit_paths template_of alias_of stem_in after_prefix file_stem unit_stem without_suffix is_stem unit_kind_of
 plain_units = refl
 
 -- For the instance `t@y`, its own file counts, although its template's file is in a more important folder. `t@x` has no
 -- file of its own.
 instances : map unit (codes "t@" ∷ codes "t@x" ∷ codes "t@y" ∷ [])
     ≡ TemplateOnly ∷ FoundAt (codes "/etc/t@.timer") [] (codes "t@x") ∷ FoundAt (codes "/lib/t@y.timer") [] (codes "t@y") ∷ []
-unfolding unit_paths template_of alias_of stem_in after_prefix file_stem unit_stem without_suffix is_stem kind_of
+unfolding unit_paths template_of alias_of stem_in after_prefix file_stem unit_stem without_suffix is_stem unit_kind_of
 instances = refl
 
 -- `l` is a link to a file outside the search path, `s` is a link to a file of the same name, and `p` and `q` are links
 -- that form a loop.
 links : map unit (codes "l" ∷ codes "s" ∷ codes "p" ∷ [])
     ≡ FoundAt (codes "/etc/l.timer") [] (codes "l") ∷ FoundAt (codes "/etc/s.timer") [] (codes "s") ∷ Endless ∷ []
-unfolding unit_paths template_of alias_of stem_in after_prefix file_stem unit_stem without_suffix is_stem kind_of
+unfolding unit_paths template_of alias_of stem_in after_prefix file_stem unit_stem without_suffix is_stem unit_kind_of
 links = refl
 
 -- `b`, `r` and `c` are aliases of `a`. The links `m`, `l` and `s` are not aliases, nor are the links `p` and `q`, which
@@ -76,7 +76,7 @@ links = refl
 aliases : aliases_in machine (codes "/etc" ∷ codes "/lib" ∷ [])
     ≡ record { stem = codes "b"; unit = codes "a" } ∷ record { stem = codes "r"; unit = codes "a" }
     ∷ record { stem = codes "c"; unit = codes "a" } ∷ []
-unfolding unit_paths template_of alias_of stem_in after_prefix file_stem unit_stem without_suffix is_stem kind_of
+unfolding unit_paths template_of alias_of stem_in after_prefix file_stem unit_stem without_suffix is_stem unit_kind_of
 aliases = refl
 
 -- If the unit `a` is found by its alias `b`, the stems are `b` and `c`, which are its aliases, then `b` again, and last

@@ -5,7 +5,7 @@ use Rattle.std.specs.List.{filter_map, flat_map}
 use Rattle.std.specs.Str.{bytes_eq}
 use Rattle.cal_units.specs.Machine.{Entry, Machine}
 use Rattle.cal_units.specs.Machine.Entry.{Missing, Empty, File, Folder, Link}
-use Rattle.cal_units.specs.Units.{Unit, file_stem, unit_in, unit_path}
+use Rattle.cal_units.specs.Units.{Unit, file_stem, unit_on, unit_path}
 use Rattle.cal_units.specs.Units.Unit.{Unfound, TemplateOnly, MaskedBy, FoundAt, Endless}
 use Rattle.cal_units.specs.declared.aliases.Alias as links
 use Rattle.cal_units.specs.declared.unit.UnitFile as files
@@ -37,7 +37,7 @@ alias_of_unit stem Endless = None
 -- the alias with this stem; None if there is no link at the stem's path in the folder, or if the link isn't an alias
 abbrev pub alias_at : Machine → List (List ℕ) → List ℕ → List ℕ → Option Alias
 alias_at machine path folder stem =
-    if is_link (machine.entry (unit_path stem folder)) then alias_of_unit stem (unit_in machine path stem) else None
+    if is_link (machine.entry (unit_path stem folder)) then alias_of_unit stem (unit_on machine path stem) else None
 
 abbrev pub alias_if_named : Machine → List (List ℕ) → List ℕ → Option (List ℕ) → Option Alias
 alias_if_named machine path folder None = None

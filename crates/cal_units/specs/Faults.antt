@@ -3,10 +3,10 @@
 -- always run out.
 use Rattle.std.specs.Prelude.{◌≡◌, ◌<◌, ◌≤◌, ⊤, ℕ, List, [], ◌∷◌, ◌++◌, None, MatchOption, Result, Ok, Err, drop, length, string_bytes, take}
 use Rattle.std.specs.List.{flat_map}
-use Rattle.cal_drop_ins.specs.DropIns.{Found, candidates}
+use Rattle.cal_drop_ins.specs.DropIns.{FolderFile, candidates}
 use Rattle.cal_units.specs.Machine.{Entry, Machine}
 use Rattle.cal_units.specs.Machine.Entry.{Missing, Empty, File, Folder, Link}
-use Rattle.cal_units.specs.Units.{unit_in}
+use Rattle.cal_units.specs.Units.{unit_on}
 use Rattle.cal_units.specs.Units.Unit.{Endless}
 use Rattle.cal_units.specs.declared.fault.Reason.{Reason}
 use Rattle.cal_units.specs.declared.fault.Reason.TheVariants as reasons
@@ -54,7 +54,7 @@ IsLinkFault MayFail TooMany fault = IfAt (IsLinkReason MayFail TooMany) fault
 
 -- whether too many links lead from the unit with this stem on every machine of which `Shows` is true
 abbrev pub IsEndless : (Machine → Type 0) → List (List ℕ) → List ℕ → Type 0
-IsEndless Shows path stem = (machine : Machine) → Shows machine → unit_in machine path stem ≡ Endless
+IsEndless Shows path stem = (machine : Machine) → Shows machine → unit_on machine path stem ≡ Endless
 
 -- whether finding the unit with this stem can end with this error
 abbrev pub IsUnitFault : (List ℕ → Type 0) → (Machine → Type 0) → List (List ℕ) → List ℕ → UnitFault → Type 0
@@ -77,16 +77,16 @@ abbrev pub max_drop_ins : ℕ
 max_drop_ins = 10000
 
 -- the drop-ins in the folders, including those that are hidden by others of the same name
-abbrev pub drop_ins_in : Machine → List (List ℕ) → List Found
+abbrev pub drop_ins_in : Machine → List (List ℕ) → List FolderFile
 drop_ins_in machine folders = flat_map (λ folder. candidates folder (machine.names folder)) folders
 
 -- whether the folder is the first one at which there are too many drop-ins, counting those in the folders before it
 pub record IsOverfull (machine : Machine) (folders : List (List ℕ)) (folder : List ℕ) : Type 0 where
-  pub place : ℕ
+  pub index : ℕ
   pub after : List (List ℕ)
-  pub is_at : drop place folders ≡ folder ∷ after
-  pub fits : length (drop_ins_in machine (take place folders)) ≤ max_drop_ins
-  pub is_more : max_drop_ins < length (drop_ins_in machine (take place folders) ++ candidates folder (machine.names folder))
+  pub is_at : drop index folders ≡ folder ∷ after
+  pub fits : length (drop_ins_in machine (take index folders)) ≤ max_drop_ins
+  pub is_more : max_drop_ins < length (drop_ins_in machine (take index folders) ++ candidates folder (machine.names folder))
 
 -- whether listing drop-ins can fail at this path for this reason; there can be too many drop-ins at a folder if
 -- `TooMany` is true of this folder
@@ -125,10 +125,10 @@ IsFileReason MayFail Shows path reasons.TooLarge =
 IsFileReason MayFail Shows path reason = IsReadReason MayFail path reason
 
 -- whether reading the files of a unit can end with this error
-abbrev pub IsFileFault : (List ℕ → Type 0) → (Machine → Type 0) → UnitFault → Type 0
-IsFileFault MayFail Shows fault = IfAt (IsFileReason MayFail Shows) fault
+abbrev pub IsUnitFileFault : (List ℕ → Type 0) → (Machine → Type 0) → UnitFault → Type 0
+IsUnitFileFault MayFail Shows fault = IfAt (IsFileReason MayFail Shows) fault
 
 -- the error, if there is one
-abbrev pub fault_of : {T : Type 0} → Result T UnitFault → List UnitFault
-fault_of (Ok found) = []
-fault_of (Err fault) = fault ∷ []
+abbrev pub fault_if_err : {T : Type 0} → Result T UnitFault → List UnitFault
+fault_if_err (Ok found) = []
+fault_if_err (Err fault) = fault ∷ []

@@ -16,8 +16,8 @@ file_at machine path = option_to_list (option_map (λ bytes. record { path = pat
 abbrev pub files_at : Machine → List (List ℕ) → List UnitText
 files_at machine paths = flat_map (file_at machine) paths
 
-abbrev pub shown_text : texts.UnitText → UnitText
-shown_text file = record { path = string_bytes file.path; bytes = file.bytes.items }
+abbrev pub shown_unit_text : texts.UnitText → UnitText
+shown_unit_text file = record { path = string_bytes file.path; bytes = file.bytes.items }
 
 -- the machine has this file: these bytes at this path
 abbrev pub IsStoredOn : Machine → texts.UnitText → Type 0

@@ -5,14 +5,14 @@ ghost use Rattle.std.specs.Prelude.{◌≡◌, ◌≢◌, ◌++◌, ◌∷◌, [
 ghost use Rattle.std.specs.List.{filter_map};
 ghost use Rattle.std.specs.Option.{option_to_list};
 ghost use Rattle.cal_units.specs.Aliases.{alias_at, alias_named, alias_of_unit, alias_unless_own, aliases_below, aliases_in, is_link, shown_alias};
-ghost use Rattle.cal_units.specs.Faults.{IsAliasFault, IsListedFault, fault_of};
+ghost use Rattle.cal_units.specs.Faults.{IsAliasFault, IsListedFault, fault_if_err};
 ghost use Rattle.cal_units.specs.Machine.{Machine, shown_entry};
 ghost use Rattle.cal_units.specs.Units.{shown_unit};
 ghost use Rattle.cal_units.specs.declared.fault.UnitFault.TheVariants.{NoMemory};
 
 use crate::fault::UnitFault;
 use crate::links::file_stem;
-use crate::places::{look, unit_path};
+use crate::locations::{look, unit_path};
 use crate::tree::{Entry, Names, Tree};
 use crate::unit::{Unit, find_unit};
 use std::alloc::{AllocError, Global};
@@ -116,7 +116,7 @@ impl Aliases {
         ensures found { OnOk result (self.new.faults.items ≡ []
             → (self.old.faults.items ≡ []) × MatchResult alias (λ alias. map shown_alias self.new.aliases.items
             ≡ map shown_alias self.old.aliases.items ++ option_to_list (option_map shown_alias alias)) (λ _. ⊥)) }
-        ensures faults { OnOk result (self.new.faults.items ≡ self.old.faults.items ++ fault_of alias) }
+        ensures faults { OnOk result (self.new.faults.items ≡ self.old.faults.items ++ fault_if_err alias) }
         ensures memory { OnOk result (IfErr alias (λ fault. fault ≢ NoMemory)) }
     {
         match alias {

@@ -2,7 +2,7 @@
 
 ghost use Rattle.std.specs.Prelude.{◌≡◌, ◌<◌, ◌≤◌, ◌++◌, ◌∷◌, [], IfErr, IfOk, OnOk, length, map, not, filter, reverse, if◌then◌else◌, string_bytes};
 ghost use Rattle.std.specs.List.{flat_map};
-ghost use Rattle.cal_drop_ins.specs.DropIns.{candidates, drop_ins, shown};
+ghost use Rattle.cal_drop_ins.specs.DropIns.{candidates, drop_ins, shown_drop_in};
 ghost use Rattle.cal_drop_ins.specs.Folders.{folders};
 ghost use Rattle.cal_units.specs.Faults.{IfAt, IsDropInFault, IsDropInReason, IsReadFault, max_drop_ins};
 ghost use Rattle.cal_units.specs.Machine.{Machine, disk_of, is_null, shown_entry};
@@ -69,7 +69,7 @@ fn find_candidates<T: Tree>(
     unnamed: &mut Vec<String>,
 ) -> Result<Vec<DropIn>, UnitFault>
     ensures known { IfOk result (λ found. (machine : Machine) → T.shows tree.now machine
-        → map shown found.items
+        → map shown_drop_in found.items
         ≡ flat_map (λ folder. candidates folder (machine.names folder)) (map string_bytes folders.now)) }
     ensures fault { IfErr result (IsDropInFault (T.may_fail tree.now) (T.shows tree.now) (map string_bytes folders.now)) }
 {
@@ -89,11 +89,11 @@ fn push_folder<T: Tree>(
     unnamed: &mut Vec<String>,
 ) -> Result<(), UnitFault>
     ensures known { OnOk result ((machine : Machine) → T.shows tree.now machine
-        → map shown found.new.items ≡ map shown found.old.items ++ candidates folder.now (machine.names folder.now)) }
+        → map shown_drop_in found.new.items ≡ map shown_drop_in found.old.items ++ candidates folder.now (machine.names folder.now)) }
     ensures fits { OnOk result (length found.new.items ≤ max_drop_ins) }
     ensures fault { IfErr result (IfAt (IsDropInReason (T.may_fail tree.now) (λ other. (other ≡ folder.now)
         × ((machine : Machine) → T.shows tree.now machine
-        → max_drop_ins < length (map shown found.old.items ++ candidates folder.now (machine.names folder.now)))))) }
+        → max_drop_ins < length (map shown_drop_in found.old.items ++ candidates folder.now (machine.names folder.now)))))) }
 {
     let listed = match tree.names(alloc, folder) {
         Ok(listed) => listed,

@@ -1,12 +1,12 @@
 //! Reading the files of a unit.
 
 ghost use Rattle.std.specs.Prelude.{◌≡◌, ◌++◌, ◌∷◌, [], IfErr, IfOk, None, OnOk, map, option_map, string_bytes};
-ghost use Rattle.cal_units.specs.Faults.{IsFileFault};
-ghost use Rattle.cal_units.specs.Files.{file_at, files_at, shown_text};
+ghost use Rattle.cal_units.specs.Faults.{IsUnitFileFault};
+ghost use Rattle.cal_units.specs.Files.{file_at, files_at, shown_unit_text};
 ghost use Rattle.cal_units.specs.Machine.{Machine};
 
 use crate::fault::{Reason, UnitFault};
-use crate::places::look;
+use crate::locations::look;
 use crate::tree::{Entry, Tree, TreeFault};
 use cal_streams::{WholeFault, read_whole};
 use std::alloc::Global;
@@ -38,8 +38,8 @@ pub fn read_files<T: Tree>(
     drop_ins: &[String],
 ) -> Result<Vec<UnitText>, UnitFault>
     ensures known { IfOk result (λ files. (machine : Machine) → T.shows tree.now machine
-        → map shown_text files.items ≡ files_at machine (path.now ∷ map string_bytes drop_ins.now)) }
-    ensures fault { IfErr result (IsFileFault (T.may_fail tree.now) (T.shows tree.now)) }
+        → map shown_unit_text files.items ≡ files_at machine (path.now ∷ map string_bytes drop_ins.now)) }
+    ensures fault { IfErr result (IsUnitFileFault (T.may_fail tree.now) (T.shows tree.now)) }
 {
     let mut files = Vec::new(alloc);
     push_file(alloc, tree, &mut files, path)?;
@@ -57,8 +57,8 @@ fn push_file<T: Tree>(
     path: &str,
 ) -> Result<(), UnitFault>
     ensures known { OnOk result ((machine : Machine) → T.shows tree.now machine
-        → map shown_text files.new.items ≡ map shown_text files.old.items ++ file_at machine path.now) }
-    ensures fault { IfErr result (IsFileFault (T.may_fail tree.now) (T.shows tree.now)) }
+        → map shown_unit_text files.new.items ≡ map shown_unit_text files.old.items ++ file_at machine path.now) }
+    ensures fault { IfErr result (IsUnitFileFault (T.may_fail tree.now) (T.shows tree.now)) }
 {
     let Some(bytes) = read_file(alloc, tree, path)? else {
         return check_link(alloc, tree, path);
@@ -72,7 +72,7 @@ fn push_file<T: Tree>(
 fn read_file<T: Tree>(alloc: Global, tree: &T, path: &str) -> Result<Option<Vec<u8>>, UnitFault>
     ensures known { IfOk result (λ bytes. (machine : Machine) → T.shows tree.now machine
         → option_map (λ bytes. bytes.items) bytes ≡ machine.file path.now) }
-    ensures fault { IfErr result (IsFileFault (T.may_fail tree.now) (T.shows tree.now)) }
+    ensures fault { IfErr result (IsUnitFileFault (T.may_fail tree.now) (T.shows tree.now)) }
 {
     let mut file = match tree.open(path) {
         Ok(Some(file)) => file,
@@ -91,7 +91,7 @@ fn read_file<T: Tree>(alloc: Global, tree: &T, path: &str) -> Result<Option<Vec<
 /// Returns why the file at a path can't be opened or read.
 fn unreadable<T: Tree>(alloc: Global, tree: &T, path: &str) -> UnitFault
     requires { T.may_fail tree.now path.now }
-    ensures { IsFileFault (T.may_fail tree.now) (T.shows tree.now) result }
+    ensures { IsUnitFileFault (T.may_fail tree.now) (T.shows tree.now) result }
 {
     match tree.look(alloc, path) {
         Ok(Entry::Folder) => UnitFault::at(alloc, path, Reason::IsFolder),
@@ -103,7 +103,7 @@ fn unreadable<T: Tree>(alloc: Global, tree: &T, path: &str) -> UnitFault
 /// [`Reason::Vanished`] if there is neither a link nor a folder.
 fn check_link<T: Tree>(alloc: Global, tree: &T, path: &str) -> Result<(), UnitFault>
     requires { (machine : Machine) → T.shows tree.now machine → machine.file path.now ≡ None }
-    ensures { IfErr result (IsFileFault (T.may_fail tree.now) (T.shows tree.now)) }
+    ensures { IfErr result (IsUnitFileFault (T.may_fail tree.now) (T.shows tree.now)) }
 {
     match look(alloc, tree, path)? {
         Entry::Link(_) => Ok(()),

@@ -6,7 +6,7 @@ mod drop_ins;
 mod fault;
 mod files;
 mod links;
-mod places;
+mod locations;
 mod stems;
 mod tree;
 mod unit;

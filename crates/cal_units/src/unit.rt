@@ -4,13 +4,13 @@
 ghost use Rattle.std.specs.Prelude.{◌≡◌, ◌++◌, ◌∷◌, [], IfErr, IfOk, map, string_bytes};
 ghost use Rattle.cal_units.specs.Faults.{IsLinkFault, IsUnitFault};
 ghost use Rattle.cal_units.specs.Machine.{Machine};
-ghost use Rattle.cal_units.specs.Units.{follow, is_template, named_unit, shown_unit, unit_in};
+ghost use Rattle.cal_units.specs.Units.{follow, is_template, named_unit, shown_unit, unit_on};
 ghost use Rattle.cal_units.specs.Units.Unit.{Endless};
 
 use crate::fault::{Reason, UnitFault};
-use crate::places::{Place, find_place};
+use crate::locations::{Location, find_location};
 use crate::tree::Tree;
-use cal_drop_ins::{UnitKind, kind_of};
+use cal_drop_ins::{UnitKind, unit_kind_of};
 use std::alloc::Global;
 
 /// The maximum number of links from unit to unit.
@@ -59,24 +59,24 @@ pub fn find_unit<T: Tree>(
     stem: &str,
 ) -> Result<Unit, UnitFault>
     ensures known { IfOk result (λ unit. (machine : Machine) → T.shows tree.now machine
-        → shown_unit unit ≡ unit_in machine (map string_bytes path.now) stem.now) }
+        → shown_unit unit ≡ unit_on machine (map string_bytes path.now) stem.now) }
     ensures fault { IfErr result (IsUnitFault (T.may_fail tree.now) (T.shows tree.now)
         (map string_bytes path.now) stem.now) }
 {
     if is_template(stem) {
         return Ok(Unit::Template);
     }
-    find_named(alloc, tree, path, stem)
+    find_named_unit(alloc, tree, path, stem)
 }
 
 fn is_template(stem: &str) -> bool
     ensures { result ≡ is_template stem.now }
 {
-    matches!(kind_of(stem), UnitKind::Template)
+    matches!(unit_kind_of(stem), UnitKind::Template)
 }
 
 /// Finds a unit that isn't a template.
-fn find_named<T: Tree>(
+fn find_named_unit<T: Tree>(
     alloc: Global,
     tree: &T,
     path: &[String],
@@ -109,16 +109,16 @@ fn follow<T: Tree>(
     if count == 0 {
         return Err(UnitFault::At(stem, Reason::TooManyLinks));
     }
-    let place = find_place(alloc, tree, path, stem.as_str())?;
-    match place {
-        Place::Nowhere => Ok(Unit::NotFound),
-        Place::MaskedAt(path) => Ok(Unit::Masked(path)),
-        Place::FileAt(path) => Ok(Unit::Found(UnitFile {
+    let location = find_location(alloc, tree, path, stem.as_str())?;
+    match location {
+        Location::Nowhere => Ok(Unit::NotFound),
+        Location::MaskedAt(path) => Ok(Unit::Masked(path)),
+        Location::FileAt(path) => Ok(Unit::Found(UnitFile {
             path,
             aliases,
             stem,
         })),
-        Place::AliasOf(other) => {
+        Location::AliasOf(other) => {
             aliases.push(stem)?;
             follow(alloc, tree, path, count - 1, aliases, other)
         }

@@ -2,7 +2,7 @@
 //! `X-ExceptOnCalendar=`; when it elapses, the timer doesn't.
 
 use super::counts::{DAILY, EXCEPTION, RESET, counted_file};
-use super::texts::unit_texts;
+use super::texts::numbered_texts;
 use crate::shared::ensure;
 use cal_read::{FileFault, TimerFault, find_faults};
 use cal_spec::SpecFault;
@@ -32,7 +32,7 @@ static BAD_LINES: [Row; 5] = [
             (3, 2, SpecFault::NoRepeat),
         ],
     ),
-    // In the next row, an invalid expression is reported although a later setting clears the list.
+    // In the next row, an invalid expression is reported although a later assignment clears the list.
     (
         &[
             "[Timer]\nOnCalendar=25:00",
@@ -43,7 +43,7 @@ static BAD_LINES: [Row; 5] = [
             (1, 3, SpecFault::UnknownShorthand),
         ],
     ),
-    // In the last row, the invalid values are those of other settings, which aren't checked.
+    // In the last row, the invalid values are those of other assignments, which aren't checked.
     (
         &["[Timer]\nOnBootSec=x!\nPersistent=x!\nOnCalendar=daily"],
         &[],
@@ -57,7 +57,7 @@ fn expect_faults(
     expected: &[FileFault],
     about: &str,
 ) -> Result<(), Fail> {
-    let files = unit_texts(alloc, texts)?;
+    let files = numbered_texts(alloc, texts)?;
     let found = find_faults(alloc, &files)?;
     ensure(found.as_slice() == expected, about)
 }

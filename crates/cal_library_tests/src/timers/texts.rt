@@ -6,7 +6,7 @@ ghost use Rattle.std.specs.Prelude.{◌+◌, ◌<◌, ◌^◌, All, IfOk, length
 use super::counts::{DAILY, EXCEPTION, counted_file};
 use super::{Lines, expect_timer};
 use crate::shared::ensure;
-use cal_read::{FileFault, Timer, TimerFault, UnitText, read_texts};
+use cal_read::{FileFault, NumberedText, Timer, TimerFault, read_texts};
 use cal_spec::SpecFault;
 use std::alloc::Global;
 use std::test::Fail;
@@ -132,8 +132,12 @@ static REFUSED: [(&[&str], Option<usize>, TimerFault); 7] = [
     ),
 ];
 
-/// Returns a [`UnitText`] for each text, with its lines numbered from 1. Fails if a text has more than 1,048,576 bytes.
-pub(super) fn unit_texts<'t>(alloc: Global, texts: &[&'t str]) -> Result<Vec<UnitText<'t>>, Fail>
+/// Returns a [`NumberedText`] for each text, with its lines numbered from 1. Fails if a text has more than 1,048,576
+/// bytes.
+pub(super) fn numbered_texts<'t>(
+    alloc: Global,
+    texts: &[&'t str],
+) -> Result<Vec<NumberedText<'t>>, Fail>
     ensures { IfOk result (λ files. All (λ file. file.first + length file.text.now < 2 ^ 32) files.items) }
 {
     let mut files = Vec::new(alloc);
@@ -141,14 +145,14 @@ pub(super) fn unit_texts<'t>(alloc: Global, texts: &[&'t str]) -> Result<Vec<Uni
         if text.len() > Timer::FILE_LIMIT {
             return Err("a text is too long".into());
         }
-        files.push(UnitText { first: 1, text })?;
+        files.push(NumberedText { first: 1, text })?;
     }
     Ok(files)
 }
 
 /// Expects these texts to have these expressions and exceptions.
 fn expect_read(alloc: Global, (texts, expressions, exceptions): &Row) -> Result<(), Fail> {
-    let files = unit_texts(alloc, texts)?;
+    let files = numbered_texts(alloc, texts)?;
     match read_texts(alloc, &files) {
         Ok(timer) => expect_timer(
             &timer,
@@ -162,7 +166,7 @@ fn expect_read(alloc: Global, (texts, expressions, exceptions): &Row) -> Result<
 
 /// Expects these texts to be rejected with this error.
 fn expect_refused(alloc: Global, texts: &[&str], fault: FileFault) -> Result<(), Fail> {
-    let files = unit_texts(alloc, texts)?;
+    let files = numbered_texts(alloc, texts)?;
     if read_texts(alloc, &files).err() == Some(fault) {
         Ok(())
     } else {
@@ -203,11 +207,11 @@ fn one_too_many(rt: HostRuntime) -> Result<(), Fail> {
 #[test]
 fn numbered_lines(rt: HostRuntime) -> Result<(), Fail> {
     let files = [
-        UnitText {
+        NumberedText {
             first: 1,
             text: "[Timer]\nOnCalendar=daily\n",
         },
-        UnitText {
+        NumberedText {
             first: 3,
             text: "[Timer]\nOnCalendar=7",
         },

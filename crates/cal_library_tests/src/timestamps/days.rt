@@ -1,14 +1,14 @@
 //! `today`, `yesterday` and `tomorrow`, and times without a date, which are on the present day.
 
-use super::{PRESENT, Setting, Table, expect_in_utc, expect_moments, expect_settings};
+use super::{PRESENT, Table, ZonedTable, expect_in_utc, expect_moments, expect_zoned_tables};
 use crate::shared::posix;
 use cal_base::{Zone, ZoneTable};
 use cal_read::StampFault::*;
 use std::test::Fail;
 
 /// Yesterday, today and tomorrow, in UTC and at +14:00, where the next day has already begun.
-static RELATIVE_DAYS: [Setting; 2] = [
-    Setting {
+static RELATIVE_DAYS: [ZonedTable; 2] = [
+    ZonedTable {
         now: PRESENT,
         east: 0,
         table: Table {
@@ -18,7 +18,7 @@ today -> 1353628800000000|yesterday -> 1353542400000000|tomorrow -> 135371520000
             refusals: &[],
         },
     },
-    Setting {
+    ZonedTable {
         now: PRESENT,
         east: 50_400,
         table: Table {
@@ -77,8 +77,8 @@ today -> 1730606400000000|yesterday -> 1730520000000000|tomorrow -> 173069640000
 ];
 
 /// The first and the last days of the supported range.
-static FIRST_AND_LAST_DAYS: [Setting; 4] = [
-    Setting {
+static FIRST_AND_LAST_DAYS: [ZonedTable; 4] = [
+    ZonedTable {
         now: 0,
         east: 0,
         table: Table {
@@ -86,7 +86,7 @@ static FIRST_AND_LAST_DAYS: [Setting; 4] = [
             refusals: &[(OutOfRange, "yesterday"), (WrongWeekday, "Wed 0:0")],
         },
     },
-    Setting {
+    ZonedTable {
         now: 0,
         east: 93_599,
         table: Table {
@@ -94,7 +94,7 @@ static FIRST_AND_LAST_DAYS: [Setting; 4] = [
             refusals: &[(OutOfRange, "today|yesterday")],
         },
     },
-    Setting {
+    ZonedTable {
         now: 0,
         east: -93_599,
         table: Table {
@@ -105,7 +105,7 @@ static FIRST_AND_LAST_DAYS: [Setting; 4] = [
             ],
         },
     },
-    Setting {
+    ZonedTable {
         now: 7_258_211_998,
         east: -93_599,
         table: Table {
@@ -119,7 +119,7 @@ today -> 7258125599000000|yesterday -> 7258039199000000|23:59:59.999999 -> 72582
 
 #[test]
 fn relative_days(rt: HostRuntime) -> Result<(), Fail> {
-    expect_settings(rt.alloc(), &RELATIVE_DAYS)
+    expect_zoned_tables(rt.alloc(), &RELATIVE_DAYS)
 }
 
 #[test]
@@ -139,5 +139,5 @@ fn days_of_a_change(rt: HostRuntime) -> Result<(), Fail> {
 
 #[test]
 fn first_and_last_days(rt: HostRuntime) -> Result<(), Fail> {
-    expect_settings(rt.alloc(), &FIRST_AND_LAST_DAYS)
+    expect_zoned_tables(rt.alloc(), &FIRST_AND_LAST_DAYS)
 }

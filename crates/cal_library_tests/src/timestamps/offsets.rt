@@ -1,6 +1,6 @@
 //! Timestamps with a fixed offset in place of a zone name, and parsing printed instants.
 
-use super::{PRESENT, Setting, Table, expect_in_utc, expect_settings};
+use super::{PRESENT, Table, ZonedTable, expect_in_utc, expect_zoned_tables};
 use cal_base::SpanFault;
 use cal_read::StampFault::*;
 use std::test::Fail;
@@ -46,7 +46,7 @@ today -|today UTC +02:00|yesterday +02:00 UTC|tomorrow +02:00 12:00",
 
 /// The first moment, the last one that can be written with an offset, and offsets that shift a local time into the
 /// supported range or out of it.
-static RANGE_ENDS: [Setting; 1] = [Setting {
+static RANGE_ENDS: [ZonedTable; 1] = [ZonedTable {
     now: PRESENT,
     east: 7_200,
     table: Table {
@@ -62,7 +62,7 @@ static RANGE_ENDS: [Setting; 1] = [Setting {
 /// Instants as reports print them: at both occurrences of a repeated local time, one day before and one day after a
 /// skipped local time, and at the ends of the range. A printed instant is not a valid timestamp if its offset has
 /// seconds, or if its local year is 1969 or 2200.
-static LINES_OF_REPORTS: [Setting; 1] = [Setting {
+static LINES_OF_REPORTS: [ZonedTable; 1] = [ZonedTable {
     now: 0,
     east: 19_800,
     table: Table {
@@ -94,10 +94,10 @@ fn offsets(rt: HostRuntime) -> Result<(), Fail> {
 
 #[test]
 fn range_ends(rt: HostRuntime) -> Result<(), Fail> {
-    expect_settings(rt.alloc(), &RANGE_ENDS)
+    expect_zoned_tables(rt.alloc(), &RANGE_ENDS)
 }
 
 #[test]
 fn lines_of_reports(rt: HostRuntime) -> Result<(), Fail> {
-    expect_settings(rt.alloc(), &LINES_OF_REPORTS)
+    expect_zoned_tables(rt.alloc(), &LINES_OF_REPORTS)
 }

@@ -1,6 +1,6 @@
 //! Timestamps with two errors: the leftmost word's error comes first, then `WrongWeekday`, then `OutOfRange`.
 
-use super::{PRESENT, Setting, Table, expect_in_utc, expect_settings};
+use super::{PRESENT, Table, ZonedTable, expect_in_utc, expect_zoned_tables};
 use cal_read::StampFault::*;
 use std::test::Fail;
 
@@ -48,8 +48,8 @@ static WEEKDAYS_AFTER_WORDS: Table = Table {
 };
 
 /// Whether the moment is in the supported range is checked last.
-static RANGE_LAST: [Setting; 2] = [
-    Setting {
+static RANGE_LAST: [ZonedTable; 2] = [
+    ZonedTable {
         now: PRESENT,
         east: 3_600,
         table: Table {
@@ -63,7 +63,7 @@ static RANGE_LAST: [Setting; 2] = [
             ],
         },
     },
-    Setting {
+    ZonedTable {
         now: PRESENT,
         east: -93_599,
         table: Table {
@@ -78,5 +78,5 @@ static RANGE_LAST: [Setting; 2] = [
 fn order(rt: HostRuntime) -> Result<(), Fail> {
     expect_in_utc(rt.alloc(), &EARLIER_WORDS_FIRST)?;
     expect_in_utc(rt.alloc(), &WEEKDAYS_AFTER_WORDS)?;
-    expect_settings(rt.alloc(), &RANGE_LAST)
+    expect_zoned_tables(rt.alloc(), &RANGE_LAST)
 }

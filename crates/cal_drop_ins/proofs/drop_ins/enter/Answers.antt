@@ -1,7 +1,7 @@
 use Rattle.std.proofs.Common.{◌∙◌, ap, map}
-use Rattle.cal_drop_ins.specs.DropIns.{shown_entry}
+use Rattle.cal_drop_ins.specs.DropIns.{shown_pair}
 use Rattle.cal_drop_ins.proofs.DropInLemmas.{shown_insert}
 use Rattle.cal_drop_ins.proofs.drop_ins.enter.Goals as goal
 
 pub returns : goal.returns
-returns c = ap (map shown_entry) c.in_ok-insert.ensures.entries ∙ shown_insert c.args.by_name.now.entries c.args.file.name c.args.file.path
+returns c = ap (map shown_pair) c.in_ok-insert.ensures.entries ∙ shown_insert c.args.by_name.now.entries c.args.file.name c.args.file.path

@@ -1,11 +1,11 @@
 use Rattle.std.proofs.Common.{◌<◌, arith, length}
 use Rattle.std.proofs.lemmas.Str.{IsCharBoundary-after_ascii}
-use Rattle.cal_drop_ins.specs.UnitName.{base_of}
+use Rattle.cal_drop_ins.specs.UnitName.{stem_base}
 use Rattle.cal_drop_ins.proofs.FolderLemmas.{at_sign_is_ascii}
 use Rattle.cal_drop_ins.proofs.unit_name.template_of.Goals as goal
 
 pub range-requires-clause-end_boundary : goal.range-requires-clause-end_boundary
 range-requires-clause-end_boundary c =
-    rw c.base_of-base.ensures
-    (let short : length (base_of c.args.stem.now) < length c.args.stem.now = rw (← c.base_of-base.ensures) (omega arith) in
-    IsCharBoundary-after_ascii c.args.stem.now (length (base_of c.args.stem.now)) c.utf8.stem short (at_sign_is_ascii c.args.stem.now short))
+    rw c.stem_base-base.ensures
+    (let short : length (stem_base c.args.stem.now) < length c.args.stem.now = rw (← c.stem_base-base.ensures) (omega arith) in
+    IsCharBoundary-after_ascii c.args.stem.now (length (stem_base c.args.stem.now)) c.utf8.stem short (at_sign_is_ascii c.args.stem.now short))

@@ -1,12 +1,12 @@
 use Rattle.std.proofs.Common.{◌≡◌, ◌++◌, length, map}
 use Rattle.std.specs.List.{flat_map}
-use Rattle.cal_lint.specs.Findings.{findings_in, reports_of, shown_finding, timer_faults}
+use Rattle.cal_lint.specs.Findings.{findings_in, found_problems, shown_finding, timer_faults}
 use Rattle.cal_lint.proofs.problems.findings.Given as goal
 
--- the problems found so far, followed by those of the remaining settings, are the problems of all settings
+-- the problems found so far, followed by those of the remaining assignments, are the problems of all assignments
 abbrev pub invariant-loop-found : goal.invariant-loop-found
 invariant-loop-found l =
-    map shown_finding l.found.items ++ flat_map (reports_of (timer_faults l.text)) l.settings ≡ findings_in l.text
+    map shown_finding l.found.items ++ flat_map (found_problems (timer_faults l.text)) l.assignments ≡ findings_in l.text
 
 abbrev pub decreases-loop-found : goal.decreases-loop-found
-decreases-loop-found l = length l.settings
+decreases-loop-found l = length l.assignments

@@ -2,16 +2,16 @@ use Rattle.std.proofs.Common.{◌≡◌, ◌++◌, false, length, map, codes}
 use Rattle.std.specs.Prelude.{filter}
 use Rattle.cal_lines.specs.headline.Lines.{logical_lines}
 use Rattle.cal_timer.specs.headline.TimerText.{without_mark}
-use Rattle.cal_read.specs.Settings.{settings_in, shown_setting}
+use Rattle.cal_read.specs.SectionAssignments.{section_assignments, shown_owned_assignment}
 use Rattle.cal_lint.specs.UnknownKeys.{has_unknown_key}
 use Rattle.cal_lint.proofs.unknown_keys.find_unknown_keys.Given as goal
 
--- the settings found so far, followed by those of the remaining settings that have unknown keys, are all settings with
--- unknown keys
+-- the assignments found so far, followed by those of the remaining assignments that have unknown keys, are all
+-- assignments with unknown keys
 abbrev pub invariant-loop-found : goal.invariant-loop-found
 invariant-loop-found l =
-    map shown_setting l.found.items ++ filter has_unknown_key l.settings
-    ≡ filter has_unknown_key (settings_in (codes "Timer") false (logical_lines l.first (without_mark l.text)))
+    map shown_owned_assignment l.found.items ++ filter has_unknown_key l.assignments
+    ≡ filter has_unknown_key (section_assignments (codes "Timer") false (logical_lines l.first (without_mark l.text)))
 
 abbrev pub decreases-loop-found : goal.decreases-loop-found
-decreases-loop-found l = length l.settings
+decreases-loop-found l = length l.assignments

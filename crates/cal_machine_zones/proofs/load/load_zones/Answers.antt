@@ -17,14 +17,14 @@ returns-in-Err-clause-fault g c machine shows =
 pub returns-in-Err-clause-reason : goal.returns-in-Err-clause-reason
 returns-in-Err-clause-reason g c =
     let names = c.args.names.now in
-    let place = c.loop-name.name-index in
+    let index = c.loop-name.name-index in
     let name = c.as_str.result.now in
-    let within : place < length names = omega arith in (
+    let within : index < length names = omega arith in (
       name,
       (
-        place,
+        index,
         rw (length-map names string_bytes) within,
-        get_or-map string_bytes names place c.name-item.result name within ∙ ap string_bytes (sym c.name-item.is) ∙ sym c.as_str.ensures.value,
+        get_or-map string_bytes names index c.name-item.result name within ∙ ap string_bytes (sym c.name-item.is) ∙ sym c.as_str.ensures.value,
       ),
       c.in-Err.ensures.reason,
     )

@@ -7,5 +7,5 @@ returns-clause-first c = first_is_head
 pub returns-clause-texts : goal.returns-clause-texts
 returns-clause-texts c = texts_are_all
 
-pub returns-clause-place : goal.returns-clause-place
-returns-clause-place c = first_of_texts
+pub returns-clause-file : goal.returns-clause-file
+returns-clause-file c = first_of_texts

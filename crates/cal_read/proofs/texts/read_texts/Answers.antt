@@ -20,8 +20,8 @@ returns-in-Err-clause-lists c = λ other.
     let stopped = resumed_more expr_in c.args.files.now c.loop-index.index _ c.without_mark.result.now c.loop-index.lists (Err c.in-Err.fault) here c.without_mark.ensures.mark c.loop-index.invariant (c.in-Err.ensures other) in
     lists_from_fault expr_in _ c.in-Err.fault (resumed_stops expr_in c.args.files.now _ c.in-Err.fault stopped)
 
-pub returns-in-Err-clause-place : goal.returns-in-Err-clause-place
-returns-in-Err-clause-place c = λ other.
+pub returns-in-Err-clause-file : goal.returns-in-Err-clause-file
+returns-in-Err-clause-file c = λ other.
     let here : c.loop-index.index < length c.args.files.now = omega arith in
     let stopped = resumed_more expr_in c.args.files.now c.loop-index.index _ c.without_mark.result.now c.loop-index.lists (Err c.in-Err.fault) here c.without_mark.ensures.mark c.loop-index.invariant (c.in-Err.ensures other) in
     (here, first_from_entries expr_in _ c.loop-index.lists c.loop-index.invariant, first_from_fault expr_in _ c.in-Err.fault stopped)
@@ -38,7 +38,7 @@ returns-in-Err-into_timer-clause-lists c = λ other.
     lists_from_entries expr_in _ c.loop-index.lists (resumed_all expr_in c.args.files.now c.loop-index.index c.loop-index.lists all c.loop-index.invariant)
     ∙ c.in-Err-into_timer.ensures.lists
 
-pub returns-in-Err-into_timer-clause-place : goal.returns-in-Err-into_timer-clause-place
-returns-in-Err-into_timer-clause-place c = λ other.
+pub returns-in-Err-into_timer-clause-file : goal.returns-in-Err-into_timer-clause-file
+returns-in-Err-into_timer-clause-file c = λ other.
     let all : c.loop-index.index ≡ length c.args.files.now = omega arith in
     (first_from_entries expr_in _ c.loop-index.lists (resumed_all expr_in c.args.files.now c.loop-index.index c.loop-index.lists all c.loop-index.invariant), c.in-Err-into_timer.ensures.nothing)

@@ -9,12 +9,12 @@ use Rattle.cal_tasks.proofs.idle.idle_lines.Goals as goal
 pub idle_among-requires-clause-lines : goal.idle_among-requires-clause-lines
 idle_among-requires-clause-lines c =
     lines_zoned (setting_for c.args.at c.args.timer.now) (setting_seen c.setting_for-setting.result) (lists_of_loaded c.args.timer.now.calendar) (map shown c.lines.result.now)
-    c.in_ok-elapses_after.ensures.0 c.setting_for-setting.ensures.seen c.lines.ensures
+    c.in_ok-elapses_in.ensures.0 c.setting_for-setting.ensures.seen c.lines.ensures
 
 pub idle_among-requires-clause-exceptions : goal.idle_among-requires-clause-exceptions
 idle_among-requires-clause-exceptions c =
     exceptions_zoned (setting_for c.args.at c.args.timer.now) (setting_seen c.setting_for-setting.result) (lists_of_loaded c.args.timer.now.calendar) (map shown c.exceptions.result.now)
-    c.in_ok-elapses_after.ensures.0 c.setting_for-setting.ensures.seen c.exceptions.ensures
+    c.in_ok-elapses_in.ensures.0 c.setting_for-setting.ensures.seen c.exceptions.ensures
 
 pub returns : goal.returns
 returns c =

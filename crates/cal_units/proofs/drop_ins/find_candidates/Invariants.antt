@@ -1,6 +1,6 @@
 use Rattle.std.proofs.Common.{◌≡◌, ◌≤◌, length, map, take, string_bytes}
 use Rattle.std.specs.List.{flat_map}
-use Rattle.cal_drop_ins.specs.DropIns.{candidates, shown}
+use Rattle.cal_drop_ins.specs.DropIns.{candidates, shown_drop_in}
 use Rattle.cal_units.specs.Faults.{max_drop_ins}
 use Rattle.cal_units.specs.Machine.{Machine}
 use Rattle.cal_units.proofs.drop_ins.find_candidates.Given as goal
@@ -9,6 +9,6 @@ use Rattle.cal_units.proofs.drop_ins.find_candidates.Given as goal
 abbrev pub invariant-loop-folder : goal.invariant-loop-folder
 invariant-loop-folder g l =
     ((machine : Machine) → g.T.Tree.shows l.tree machine
-    → map shown l.found.items
+    → map shown_drop_in l.found.items
     ≡ flat_map (λ folder. candidates folder (machine.names folder)) (map string_bytes (take l.folder-index l.folders)))
     × (length l.found.items ≤ max_drop_ins)

@@ -1,5 +1,5 @@
 use Rattle.std.proofs.Common.{◌≡◌, ◌∷◌, map, take, string_bytes}
-use Rattle.cal_units.specs.Files.{files_at, shown_text}
+use Rattle.cal_units.specs.Files.{files_at, shown_unit_text}
 use Rattle.cal_units.specs.Machine.{Machine}
 use Rattle.cal_units.proofs.files.read_files.Given as goal
 
@@ -7,4 +7,4 @@ use Rattle.cal_units.proofs.files.read_files.Given as goal
 abbrev pub invariant-loop-drop_in : goal.invariant-loop-drop_in
 invariant-loop-drop_in g l =
     (machine : Machine) → g.T.Tree.shows l.tree machine
-    → map shown_text l.files.items ≡ files_at machine (l.path ∷ map string_bytes (take l.drop_in-index l.drop_ins))
+    → map shown_unit_text l.files.items ≡ files_at machine (l.path ∷ map string_bytes (take l.drop_in-index l.drop_ins))

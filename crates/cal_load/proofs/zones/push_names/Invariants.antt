@@ -1,8 +1,0 @@
-use Rattle.std.proofs.Common.{◌≡◌, ◌++◌, map, take, string_bytes}
-use Rattle.cal_timer.specs.TimerView.{shown}
-use Rattle.cal_load.specs.Loaded.{zones_in}
-use Rattle.cal_load.proofs.zones.push_names.Given as goal
-
-abbrev pub invariant-loop-line : goal.invariant-loop-line
-invariant-loop-line l =
-    map string_bytes l.names.items ≡ map string_bytes l.fn.names.items ++ zones_in (map shown (take l.line-index l.lines))
