@@ -1,5 +1,5 @@
--- The errors of the command line, with each string as the list of its bytes, and their messages: the texts of `clap`, and
--- this project's own messages.
+-- The errors of the command line, with each string as the list of its bytes, and their messages: the texts of `clap`,
+-- and this project's own messages.
 use Rattle.std.specs.Prelude.{ℕ, List, [], codes}
 use Rattle.std.specs.String.{string_bytes}
 use Rattle.cal_command.specs.declared.command_fault.CommandFault as declared_fault

@@ -117,8 +117,8 @@ HasRead arguments answer = (faults_in arguments ≡ []) × (ask_in arguments ≡
 abbrev pub HasRefused : List Text → (ErrorKind → Bool) → Type 0
 HasRefused arguments is_kind = (takes_arguments arguments ≡ false) × (list_any is_kind (faults_in arguments) ≡ true)
 
--- `fault` is right for the arguments: usage or help if `clap` rejects them for such a reason, and the error for the first
--- invalid value if `clap` parses them; the error for a failed allocation is right for all arguments
+-- `fault` is right for the arguments: usage or help if `clap` rejects them for such a reason, and the error for the
+-- first invalid value if `clap` parses them; the error for a failed allocation is right for all arguments
 abbrev pub IsFaultOf : List Text → CommandFault → Type 0
 IsFaultOf arguments (usage text) = HasRefused arguments (λ kind. not (is_of_help kind))
 IsFaultOf arguments (help text) = HasRefused arguments is_of_help
@@ -138,7 +138,7 @@ IsReportedOf kind (help text) = (is_of_help kind ≡ true) × (kind ≢ OutOfMem
 IsReportedOf kind no_memory = ⊤
 IsReportedOf kind _ = ⊥
 
--- `fault` is the one of `answer`, or it is the error for a failed allocation; it is neither usage nor help
+-- `fault` is the error that `answer` is, or it is the error for a failed allocation; it is neither usage nor help
 abbrev pub IsFaultOrNoMemory : CommandFault → Result Ask CommandFault → Type 0
 IsFaultOrNoMemory (usage text) answer = ⊥
 IsFaultOrNoMemory (help text) answer = ⊥

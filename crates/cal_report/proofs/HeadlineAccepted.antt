@@ -1,4 +1,4 @@
--- Lemmas for the law `headline`: if the status is `Fine`, all arguments were accepted, or, for the verb `timer`, the
+-- Lemmas for the law `headline`: if the status is `Fine`, all texts were accepted, or, for the verb `timer`, the
 -- timer file was. A law is the contract of a function that does nothing.
 use Rattle.std.proofs.Common.{◌≡◌, ◌<◌, ◌-◌, ◌++◌, ◌∙◌, ℕ, suc, ℤ, Bool, true, false, not, cond, List, [], ◌∷◌, Option, None, Some, Result, Ok, Err, map, take, drop, filter, length, refl, sym, ap, subst, arith, append_assoc}
 use Rattle.std.proofs.lemmas.List.{take-append-drop}

@@ -90,17 +90,17 @@ pub record AreAcceptedAmong (asked : Request) (texts : List (List ℕ)) (es : Li
   pub each : AllZip (IsReadAs asked) texts found
   pub kept : es ≡ filter_map (λ it. it) found
 
--- the request `asked` with this text as its only argument
+-- the request `asked` with this as its only text
 abbrev pub for_text : Request → List ℕ → Request
 for_text asked text = record asked { texts = text ∷ [] }
 
--- the standard output of the request `asked` with this expression as its only argument
+-- the standard output of the request `asked` with this expression as its only text
 abbrev pub report_of_one : Request → Result (List ℕ) WholeFault → Expression → List ℕ
 report_of_one asked read e = (report (for_text asked e.text) read).out
 
 -- How to continue a prefix `front` of the reports of several expressions. The prefix consists of the complete reports
 -- of the expressions in `before`, each followed by an empty line, and of a prefix `last` of the report of `e`. To
--- continue `last`, proceed as if `e` had been the only argument.
+-- continue `last`, proceed as if `e` had been the only text.
 pub record ResumesAmong (asked : Request) (base : ℤ) (es : List Expression) (read : Result (List ℕ) WholeFault) (front : List ℕ) : Type 0 where
   pub before : List Expression
   pub e : Expression

@@ -1,4 +1,4 @@
--- The answer of each verb to one text: the report of a valid argument, or the error message for an invalid one.
+-- The answer of each verb to one text: the report if the text is valid, and otherwise the error message.
 pub mod CalendarReport
 pub mod TimespanReport
 pub mod TimestampReport
@@ -23,13 +23,13 @@ answer_by TextVerb.Calendar asked base = calendar_answer asked base
 answer_by TextVerb.Timestamp asked base = timestamp_answer asked
 answer_by TextVerb.Timespan asked base = timespan_answer
 
--- the verb that takes arguments of this kind
+-- the verb whose texts are parsed to values of this kind
 abbrev pub verb_of : Parsed → TextVerb
 verb_of (Calendar expr elapses) = TextVerb.Calendar
 verb_of (Timestamp moment) = TextVerb.Timestamp
 verb_of (Timespan span) = TextVerb.Timespan
 
--- the report of a valid argument; `text` is the argument as the user gave it
+-- the report of a valid text, as the user gave it and as it was parsed
 abbrev pub report_text : Request → List ℕ → Parsed → List ℕ
 report_text asked text (Calendar expr elapses) = report_of_elapses asked text expr elapses
 report_text asked text (Timestamp moment) = timestamp_report asked text moment.micros

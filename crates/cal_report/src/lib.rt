@@ -1,4 +1,4 @@
-//! Running a request: parsing its arguments, and writing the reports and the error lines.
+//! Running a request: parsing its texts, and writing the reports and the error lines.
 #![tactic(auto)]
 
 mod context;

@@ -1,4 +1,4 @@
-//! Parsing one argument of the verbs `calendar`, `timestamp` and `timespan`.
+//! Parsing one text: a calendar expression, a timestamp or a time span.
 
 ghost use Rattle.std.specs.Prelude.{◌≡◌, Ok, Err, IfOk, IfErr, IsErrOf};
 ghost use Rattle.cal_report.specs.TextReport.CalendarReport.{calendar_answer};
@@ -17,7 +17,7 @@ use cal_stamp::read_stamp_in;
 use cal_zone::Moment;
 use std::alloc::{AllocError, Global};
 
-/// A parsed argument of one of the verbs `calendar`, `timestamp` and `timespan`.
+/// A parsed text of one of the verbs `calendar`, `timestamp` and `timespan`.
 #[derive(Drop)]
 pub enum Parsed<'a> {
     /// A calendar expression, and the source of its elapses.
@@ -28,9 +28,9 @@ pub enum Parsed<'a> {
     Timespan(Span),
 }
 
-/// Parses `text` as an argument of `verb`.
+/// Parses a text of this verb.
 ///
-/// Everything that the report of this argument needs is allocated here, so that writing the report cannot run out of
+/// Everything that the report of the text needs is allocated here, so that writing the report cannot run out of
 /// memory. Parsing a timestamp or a time span allocates nothing.
 #[tactic(auto, unfolding(crate::specs::TextReport::TimespanReport::timespan_answer, crate::specs::TextReport::TimestampReport::stamp_in, crate::specs::TextReport::TimestampReport::timestamp_answer))]
 pub fn read_text<'a>(

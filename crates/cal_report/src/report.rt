@@ -1,4 +1,4 @@
-//! Running a whole request: the reports of its arguments or of its timer file go to standard output, the error lines go
+//! Running a whole request: the reports of its texts or of its timer file go to standard output, the error lines go
 //! to standard error, and the status says whether anything was rejected (systemd-analyze(1)).
 
 ghost use Rattle.std.specs.Prelude.{ℕ, ℤ, List, Result, Ok, map, ◌≡◌, [], ◌∷◌, false, codes, IfOk, IsErrOf};
@@ -32,8 +32,8 @@ use cal_zone::{Instant, Setting, Zone, ZoneTable};
 use itoa::Buffer;
 use std::alloc::Global;
 
-/// Runs a request (systemd-analyze(1)). Each valid argument gets a report on `out`, and each invalid one an error line
-/// on `err`. For the verb `timer`, the one argument is the path of the timer file, and `input` is its content: the file
+/// Runs a request (systemd-analyze(1)). Each valid text gets a report on `out`, and each invalid one an error line
+/// on `err`. For the verb `timer`, the one text is the path of the timer file, and `input` is its content: the file
 /// gets either a report or an error line. The other verbs don't read `input`.
 ///
 /// The elapses shown are the first `iterations` after the base time. The request states the base time as a timestamp;
@@ -44,9 +44,9 @@ use std::alloc::Global;
 ///
 /// Fails with [`RunFault::OutFailed`] if and only if `out` failed in this call, and with [`RunFault::ErrFailed`] if and
 /// only if `err` did; each writer then has a prefix of what it should have received. Fails with [`RunFault::NoMemory`]
-/// if allocation fails. All allocations for an argument happen before the first byte of its report is written. So if
-/// one of these allocations fails, the earlier arguments are answered completely, and nothing is written for this
-/// argument and the later ones. Requests for timestamps and time spans allocate nothing.
+/// if allocation fails. All allocations for a text happen before the first byte of its report is written. So if
+/// one of these allocations fails, the earlier texts are answered completely, and nothing is written for this
+/// text and the later ones. Requests for timestamps and time spans allocate nothing.
 #[tactic(auto, unfolding(crate::specs::RunReport::report))]
 pub fn run<R: Source, O: Sink, E: Sink>(
     alloc: Global,
@@ -172,7 +172,7 @@ fn read_base(request: &Request, setting: Setting<'_>) -> Result<Instant, StampFa
     Ok(moment.instant())
 }
 
-/// Writes the report or the error line of each argument, in order. Stops at the first argument for which allocation or
+/// Writes the report or the error line of each text, in order. Stops at the first text for which allocation or
 /// a write fails.
 fn answer_all<O: Sink, E: Sink>(
     alloc: Global,
@@ -215,7 +215,7 @@ fn answer_all<O: Sink, E: Sink>(
     Ok(status)
 }
 
-/// Writes the report of one argument, or its error line if it is invalid. `follows_report` says whether `out` already
+/// Writes the report of one text, or its error line if it is invalid. `follows_report` says whether `out` already
 /// has a report; if so, an empty line is written before the new report.
 fn answer_one<O: Sink, E: Sink>(
     alloc: Global,
@@ -282,7 +282,7 @@ fn answer_timer<R: Source, O: Sink, E: Sink>(
     }
 }
 
-/// Writes an error line that begins with `text`: an argument, the path of the timer file, or `--base-time`. `line` is
+/// Writes an error line that begins with `text`: a text, the path of the timer file, or `--base-time`. `line` is
 /// the number of the invalid line of the file, if the error concerns one line. Returns [`Status::Refused`] if the
 /// error line could be written.
 fn report_error<E: Sink>(

@@ -1,4 +1,4 @@
-//! Why an argument of the verbs `calendar`, `timestamp` and `timespan` is rejected.
+//! Why a text is rejected: a calendar expression, a timestamp or a time span.
 
 ghost use Rattle.std.specs.Prelude.{◌≡◌};
 ghost use Rattle.cal_report.specs.TextReport.{text_fault_message};
@@ -7,7 +7,7 @@ use cal_span::SpanFault;
 use cal_spec::SpecFault;
 use cal_stamp::StampFault;
 
-/// Why an argument is rejected.
+/// Why a text is rejected.
 #[derive(Clone, Copy, PartialEq, Eq, Debug)]
 pub enum TextFault {
     /// Not a valid calendar expression.

@@ -1,4 +1,4 @@
-//! Writing the report of an argument of the verbs `calendar`, `timestamp` and `timespan`.
+//! Writing the report of one text: a calendar expression, a timestamp or a time span.
 
 ghost use Rattle.std.specs.Prelude.{◌≡◌, [], ◌∷◌, false};
 ghost use Rattle.cal_bytes.specs.Puts.{Puts};
@@ -18,7 +18,7 @@ use crate::context::Context;
 use crate::parsed::Parsed;
 use cal_bytes::{Sink, WriteFault, put_all};
 
-/// Writes the report of a parsed argument. `follows_report` says whether another report precedes it; if so, an empty
+/// Writes the report of a parsed text. `follows_report` says whether another report precedes it; if so, an empty
 /// line is written first.
 #[tactic(auto, using(cal_bytes::proofs::PutLemmas::puts))]
 pub fn put_report<W: Sink>(

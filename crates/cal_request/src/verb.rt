@@ -36,8 +36,8 @@ impl Verb {
     /// The verbs, in the order in which the help lists them.
     pub const ALL: [Verb; 4] = [Verb::Calendar, Verb::Timestamp, Verb::Timespan, Verb::Timer];
 
-    /// Returns the name of the verb, as it is written in the arguments. The caller chooses the lifetime: the prover
-    /// doesn't shorten `'static`.
+    /// Returns the name of the verb, as it is written in the arguments. The caller chooses the lifetime, since the
+    /// prover can't shorten `'static`.
     pub fn name<'a>(self) -> &'a str
         ensures { result.now ≡ verb_name self }
     {

@@ -73,8 +73,8 @@ texts_fit (Open path) = (refl, refl)
 texts_fit (Run fault) = tt
 
 module _ (stop : declared_stop.Stop) (r : Result Unit RunFault) (expected : Result Report Stop) (out out1 out' err err1 err' : Option (List ℕ)) (s : StopsAs stop expected) (at_out : out1 ≡ out) (at_err : err1 ≡ err) where
-  -- if the work stopped before the run, and the stop was reported as `ReportsOn` says, then what was written agrees with
-  -- `expected`, as `WritesOf` says
+  -- if the work stopped before the run, and the stop was reported as `ReportsOn` says, then what was written agrees
+  -- with `expected`, as `WritesOf` says
   early_written : (outlet : Outlet) → outlet_of stop ≡ outlet → TextsFit outlet (shown_stop stop) (stop_text stop) → ReportsOn outlet (stop_text stop) r out1 out' err1 err' → WritesOf r (shown_stop stop).status expected out out' err err'
   unfolding TextsFit
   early_written OnOut is fits (w, same) =

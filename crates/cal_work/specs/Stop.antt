@@ -125,8 +125,8 @@ outlet_of Clock = OnErr
 outlet_of (Open path) = OnErr
 outlet_of (Run fault) = Later fault
 
--- The next six definitions say whether a stop is due to a failure of standard output, to a failure of standard error, or
--- to a lack of memory. Three of them take the stop's `Outlet`, which names the failure, and three the stop itself.
+-- The next six definitions say whether a stop is due to a failure of standard output, to a failure of standard error,
+-- or to a lack of memory. Three of them take the stop's `Outlet`, which names the failure, and three the stop itself.
 
 abbrev pub is_out_failure : Outlet → Bool
 is_out_failure (Later run.OutFailed) = true

@@ -1,5 +1,5 @@
 -- Lines and phrases that several reports share (systemd-analyze(1), calendar and timestamp): the heading of an
--- expression, an argument as the user gave it, an instant in UTC, and the distance of an instant from the present; and
+-- expression, a text as the user gave it, an instant in UTC, and the distance of an instant from the present; and
 -- the result of a run.
 use Rattle.std.specs.Prelude.{ℕ, ℤ, ◌-ℤ◌, int_lt, unsigned_abs, List, [], ◌∷◌, if◌then◌else◌, codes}
 use Rattle.cal_bytes.specs.headline.Bytes.{joined}
