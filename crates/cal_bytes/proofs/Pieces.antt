@@ -7,7 +7,7 @@ use Rattle.std.proofs.lemmas.List.{append-nil, take-append-drop}
 use Rattle.std.specs.Prelude.{IsErr}
 use Rattle.std.proofs.lemmas.Bool.{false≢true}
 use Rattle.std.specs.Io.KnownBytes.{Appends}
-use Rattle.cal_bytes.specs.Writes.{AppendsFront, Writes, Leaves}
+use Rattle.cal_bytes.specs.rules.Writes.{AppendsFront, Writes, Leaves}
 
 -- if a call appended `xs`, and `ys` is equal to `xs`, it appended `ys`
 appends_respelled : (a b : Option (List ℕ)) (xs ys : List ℕ) → xs ≡ ys → Appends a b xs → Appends a b ys

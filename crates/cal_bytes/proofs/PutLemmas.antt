@@ -5,8 +5,8 @@ use Rattle.std.proofs.KnownBytes.{Appends-nil}
 use Rattle.std.proofs.lemmas.Bool.{false≢true}
 use Rattle.std.proofs.lemmas.List.{append-nil}
 use Rattle.std.specs.Prelude.{IsErr, IsOk}
-use Rattle.cal_bytes.specs.Writes.{Leaves}
-use Rattle.cal_bytes.specs.Puts.{Puts}
+use Rattle.cal_bytes.specs.rules.Writes.{Leaves}
+use Rattle.cal_bytes.specs.rules.Puts.{Puts}
 use Rattle.cal_bytes.specs.declared.bytes.Sink.{Ghosts}
 use Rattle.cal_bytes.proofs.Pieces.{start, step, stop, finish, writes_err, respell}
 

@@ -2,7 +2,7 @@
 use Rattle.std.proofs.Common.{◌≡◌, ℕ, ◌≤◌, List, [], ◌∷◌, ◌++◌, take, replicate, ap, sym, ◌∙◌}
 use Rattle.std.proofs.lemmas.List.{append-nil, append_assoc, take-replicate}
 use Rattle.std.proofs.lemmas.List.Concat.{flat_map-append}
-use Rattle.cal_bytes.specs.headline.Bytes.{joined}
+use Rattle.cal_bytes.specs.rules.Bytes.{joined}
 
 -- if `n` is at most 8, the first `n` bytes of eight copies of `byte` are `n` copies of `byte`
 pub taken : (n byte : ℕ) → n ≤ 8 → take n (replicate 8 byte) ≡ replicate n byte

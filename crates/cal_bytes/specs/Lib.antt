@@ -1,5 +1,2 @@
-pub mod Fill
-pub mod Puts
-pub mod SplitPieces
-pub mod Writes
-pub mod headline
+pub mod computed
+pub mod rules

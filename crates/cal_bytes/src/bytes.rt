@@ -1,6 +1,6 @@
 //! The traits [`Sink`] and [`Source`], through which this project writes and reads bytes.
 
-ghost use Rattle.cal_bytes.specs.Writes.{Offered, Fetched};
+ghost use Rattle.cal_bytes.specs.rules.Writes.{Offered, Fetched};
 ghost use Rattle.std.specs.Prelude.{◌≡◌, ℕ, List, Option, None, Bool, true, false, is_none};
 
 /// A destination for bytes.

@@ -1,6 +1,6 @@
 //! Writing whole texts to a [`Sink`].
 
-ghost use Rattle.cal_bytes.specs.Puts.{Puts};
+ghost use Rattle.cal_bytes.specs.rules.Puts.{Puts};
 ghost use Rattle.std.specs.List.{flat_map};
 ghost use Rattle.std.specs.Prelude.{◌≡◌, false};
 

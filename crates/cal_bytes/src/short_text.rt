@@ -2,7 +2,7 @@
 
 ghost use Rattle.std.specs.Prelude.{◌≡◌, ◌+◌, ◌-◌, ◌≤◌, ◌++◌, length, replicate};
 ghost use Rattle.std.specs.List.{flat_map};
-ghost use Rattle.cal_bytes.specs.Fill.{byte_of};
+ghost use Rattle.cal_bytes.specs.rules.Fill.{byte_of};
 ghost use Rattle.cal_bytes.specs.declared.short_text.TheConstants.{SHORT_TEXT_ROOM};
 
 use arrayvec::ArrayVec;

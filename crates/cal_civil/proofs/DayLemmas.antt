@@ -9,8 +9,8 @@ use Rattle.jiff_core.specs.Calendar.{days_in_month, IsEpochDay, IsYear}
 use Rattle.jiff_core.specs.Date.{epoch_day}
 use Rattle.jiff_core.proofs.DateLemmas.{epoch_day_injective, epoch_day_range}
 use Rattle.jiff_core.proofs.SignedLemmas.{signed_arith}
-use Rattle.cal_civil.specs.headline.Days.{place_among, date_of}
-use Rattle.cal_civil.specs.headline.Local.{civil_date}
+use Rattle.cal_civil.specs.rules.Days.{place_among, date_of}
+use Rattle.cal_civil.specs.rules.LocalSecond.{civil_date}
 
 place_among-within : (z : ℤ) → pos 0 ≤ℤ z → z ≤ℤ pos 7_304_483 → pos (place_among z) ≡ z
 unfolding place_among

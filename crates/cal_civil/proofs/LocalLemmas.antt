@@ -4,8 +4,7 @@ use Rattle.std.proofs.Common.{◌≡◌, ◌<◌, arith, nat_lt, negsuc, pos, un
 use Rattle.std.proofs.lemmas.Int.{ints, to_z-of_z}
 use borrow.Author.Differences.{mag_is}
 use Rattle.jiff_core.proofs.SignedLemmas.{signed_arith}
-use Rattle.cal_civil.specs.LocalSecond.{IsLocalSecond}
-use Rattle.cal_civil.specs.headline.Local.{seconds_in_all, seconds_in_all-is}
+use Rattle.cal_civil.specs.rules.LocalSecond.{IsLocalSecond, seconds_in_all, seconds_in_all-is}
 
 pub local_inside : (local : ℤ) → IsLocalSecond local → unsigned_abs local < seconds_in_all
 local_inside (pos n) h = omega (arith, ints, seconds_in_all-is, h.1)

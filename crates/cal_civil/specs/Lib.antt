@@ -1,3 +1,2 @@
-pub mod LocalSecond
-pub mod ReadOffset
-pub mod headline
+pub mod computed
+pub mod rules

@@ -4,8 +4,7 @@
 //! counts the days from 1970-01-01, which is day 0.
 
 ghost use Rattle.std.specs.Prelude.{◌≡◌, ◌<◌, ◌/◌, ◌%◌, ◌≤ℤ◌, pos, unsigned_abs};
-ghost use Rattle.cal_civil.specs.LocalSecond.{IsLocalSecond};
-ghost use Rattle.cal_civil.specs.headline.Local.{civil_date, seconds_per_day, days_in_all};
+ghost use Rattle.cal_civil.specs.rules.LocalSecond.{IsLocalSecond, civil_date, seconds_per_day, days_in_all};
 
 use jiff_core::civil::Date;
 

@@ -2,14 +2,14 @@
 
 ghost use Rattle.std.specs.Prelude.{◌≡◌, ◌+◌, ◌≤◌, ◌++◌, length};
 ghost use Rattle.cal_bytes.specs.declared.short_text.TheConstants.{SHORT_TEXT_ROOM};
-ghost use Rattle.cal_civil.specs.headline.OffsetText.{offset_text, sign_text};
+ghost use Rattle.cal_civil.specs.rules.OffsetText.{offset_text, sign_text};
 
 use cal_bytes::{Fill, ShortText, padding, push_all};
 use itoa::Buffer;
 
 /// Appends a UTC offset, given in seconds, in the form `+02:00`, or `+00:53:28` if it isn't a whole number of minutes.
 /// At most 40 bytes are appended, and the caller guarantees that `text` has room for them.
-#[tactic(auto, unfolding(crate::specs::headline::OffsetText::offset_text))]
+#[tactic(auto, unfolding(crate::specs::rules::OffsetText::offset_text))]
 pub fn push_offset(text: &mut ShortText, offset: i32)
     requires room { length text.old.items + 40 ≤ SHORT_TEXT_ROOM }
     ensures text { text.new.items ≡ text.old.items ++ offset_text offset }

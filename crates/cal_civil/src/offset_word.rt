@@ -2,7 +2,8 @@
 
 ghost use Rattle.std.specs.Prelude.{◌≡◌, ◌≤◌, IfSome};
 ghost use Rattle.jiff_core.specs.Timestamp.{IsOffsetSeconds};
-ghost use Rattle.cal_civil.specs.ReadOffset.{begins_zone, hour_minute_in, offset_in, two_digits};
+ghost use Rattle.cal_civil.specs.rules.OffsetWord.{begins_zone};
+ghost use Rattle.cal_civil.specs.computed.ReadOffset.{hour_minute_in, offset_in, two_digits};
 
 use crate::begins_with_letter;
 
@@ -17,7 +18,7 @@ pub fn begins_zone(word: &[u8]) -> bool
 
 /// Parses `+hh:mm` or `-hh:mm`, with hh from 00 to 25 and mm from 00 to 59, as a UTC offset in seconds: -93,540 to
 /// 93,540. Returns `None` for any other word.
-#[tactic(auto, unfolding(crate::specs::ReadOffset::offset_in))]
+#[tactic(auto, unfolding(crate::specs::computed::ReadOffset::offset_in))]
 pub fn read_offset(word: &[u8]) -> Option<i32>
     ensures value { result ≡ offset_in word.now }
     ensures range { IfSome result IsOffsetSeconds }
@@ -30,7 +31,7 @@ pub fn read_offset(word: &[u8]) -> Option<i32>
 }
 
 /// Parses `hh:mm`, up to 25:59, and returns it as a number of seconds. Returns `None` for any other text.
-#[tactic(auto, unfolding(crate::specs::ReadOffset::hour_minute_in))]
+#[tactic(auto, unfolding(crate::specs::computed::ReadOffset::hour_minute_in))]
 fn read_hour_minute(text: &[u8]) -> Option<u32>
     ensures value { result ≡ hour_minute_in text.now }
     ensures range { IfSome result (λ seconds. seconds ≤ 93_540) }
@@ -42,7 +43,7 @@ fn read_hour_minute(text: &[u8]) -> Option<u32>
 }
 
 /// Parses two ASCII digits. Returns `None` if a byte isn't a digit, or if the number is greater than `greatest`.
-#[tactic(auto, unfolding(crate::specs::ReadOffset::two_digits))]
+#[tactic(auto, unfolding(crate::specs::computed::ReadOffset::two_digits))]
 fn two_digits(tens: u8, ones: u8, greatest: u32) -> Option<u32>
     ensures value { result ≡ two_digits greatest tens ones }
     ensures range { IfSome result (λ number. number ≤ greatest) }

@@ -1,7 +1,7 @@
 //! The English names of the weekdays, for parsing and printing.
 
 ghost use Rattle.std.specs.Prelude.{◌≡◌, ◌≤◌, length};
-ghost use Rattle.cal_civil.specs.headline.Weekday.{name_of, short_name_of};
+ghost use Rattle.cal_civil.specs.rules.Weekday.{name_of, short_name_of};
 
 use jiff_core::civil::Weekday;
 
@@ -17,7 +17,7 @@ pub const WEEK: [Weekday; 7] = [
 ];
 
 /// Returns the English name of a weekday (systemd.time(7), Calendar Events).
-#[tactic(auto, unfolding(crate::specs::headline::Weekday::name_of))]
+#[tactic(auto, unfolding(crate::specs::rules::Weekday::name_of))]
 pub fn weekday_name(weekday: Weekday) -> &'static [u8]
     ensures { result.now ≡ name_of weekday }
 {
@@ -33,7 +33,7 @@ pub fn weekday_name(weekday: Weekday) -> &'static [u8]
 }
 
 /// Returns the short form of a weekday's name: its first three letters. The programs print this form.
-#[tactic(auto, unfolding(crate::specs::headline::Weekday::name_of))]
+#[tactic(auto, unfolding(crate::specs::rules::Weekday::name_of))]
 pub fn short_weekday_name(weekday: Weekday) -> &'static [u8]
     ensures name { result.now ≡ short_name_of weekday }
     ensures short { length result.now ≤ 3 }

@@ -2,7 +2,7 @@
 
 ghost use Rattle.std.specs.Prelude.{◌≡◌};
 ghost use Rattle.std.specs.List.{list_all};
-ghost use Rattle.cal_civil.specs.headline.ZoneName.{begins_with_letter, is_utc_name, is_zone_byte, is_zone_name};
+ghost use Rattle.cal_civil.specs.rules.ZoneName.{begins_with_letter, is_utc_name, is_zone_byte, is_zone_name};
 
 /// The maximum length of a zone's name, in bytes.
 const MAX_NAME_BYTES: usize = 255;
@@ -10,7 +10,7 @@ const MAX_NAME_BYTES: usize = 255;
 /// Returns whether `text` has the form of a zone's name (systemd.time(7), Calendar Events): an ASCII letter followed by
 /// any number of ASCII letters, digits, `/`, `_`, `+` and `-`, at most 255 bytes in all. This says nothing about
 /// whether there is such a zone.
-#[tactic(auto, unfolding(crate::specs::headline::ZoneName::is_zone_name))]
+#[tactic(auto, unfolding(crate::specs::rules::ZoneName::is_zone_name))]
 pub fn is_zone_name(text: &[u8]) -> bool
     ensures { result ≡ is_zone_name text.now }
 {

@@ -6,10 +6,10 @@ use Rattle.clap.specs.Words.{App, IsAmong, Kinds, Rule, Text, is_simple, is_simp
 use Rattle.clap.specs.declared.error.kind.ErrorKind.{ErrorKind}
 use Rattle.clap.specs.declared.error.kind.ErrorKind.TheVariants.{OutOfMemory}
 use Rattle.clap.proofs.OnLiterals.{clap_on_literals}
-use Rattle.cal_command.specs.Ask.{Ask}
-use Rattle.cal_command.specs.CommandFault.{CommandFault, usage, help, bad_value, no_memory}
-use Rattle.cal_command.specs.CommandLine.{parsed_in, read_options, IsAskOf, IsFaultOf, IsOrNoMemory, IsReportedOf, ask_in, command_app, faults_in, is_of_help, takes_arguments, with_rules}
-use Rattle.cal_command.specs.VerbMatches.{VerbMatches}
+use Rattle.cal_command.specs.rules.Ask.{Ask}
+use Rattle.cal_command.specs.rules.CommandFault.{CommandFault, usage, help, bad_value, no_memory}
+use Rattle.cal_command.specs.rules.CommandLine.{parsed_in, read_options, IsAskOf, IsFaultOf, IsOrNoMemory, IsReportedOf, ask_in, command_app, faults_in, is_of_help, takes_arguments, with_rules}
+use Rattle.cal_command.specs.rules.VerbMatches.{VerbMatches}
 
 -- adding an argument and then others is the same as adding them all
 pub with_rule-rules : (app : App) (rule : Rule) (rules : List Rule) → with_rules (with_rule app rule) rules ≡ with_rules app (rule ∷ rules)

@@ -1,12 +1,12 @@
 -- The examples of `WorkedArguments`, checked by computing the definitions.
 use Rattle.std.proofs.Common.{◌≡◌, ℕ, true, List, Some, Ok, Err, refl}
 use Rattle.clap.proofs.OnLiterals.{clap_on_literals}
-use Rattle.cal_command.specs.CommandFault.{bad_iterations, help, usage}
-use Rattle.cal_command.specs.CommandLine.{IsAskOf, ask_in, faults_in, parsed_in, read_options, takes_arguments}
-use Rattle.cal_command.specs.VerbMatches.{verb_matches_in}
-use Rattle.cal_command.specs.OptionValues.{count_in, local_zone_in, number_between, present_in, zone_item_in, zone_items_in, zones_in}
-use Rattle.cal_civil.specs.headline.ZoneName.{is_utc_name, is_zone_name}
-use Rattle.cal_command.specs.WorkedArguments.{daily_matches, daily_ask, daily_arguments, help_arguments, none_arguments, options_ask, options_arguments, stray_arguments}
+use Rattle.cal_command.specs.rules.CommandFault.{bad_iterations, help, usage}
+use Rattle.cal_command.specs.rules.CommandLine.{IsAskOf, ask_in, faults_in, parsed_in, read_options, takes_arguments}
+use Rattle.cal_command.specs.rules.VerbMatches.{verb_matches_in}
+use Rattle.cal_command.specs.rules.OptionValues.{count_in, local_zone_in, number_between, present_in, zone_item_in, zone_items_in, zones_in}
+use Rattle.cal_civil.specs.rules.ZoneName.{is_utc_name, is_zone_name}
+use Rattle.cal_command.specs.rules.WorkedArguments.{daily_matches, daily_ask, daily_arguments, help_arguments, none_arguments, options_ask, options_arguments, stray_arguments}
 
 pub daily_taken : takes_arguments daily_arguments ≡ true
 unfolding takes_arguments clap_on_literals

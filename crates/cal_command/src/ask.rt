@@ -1,8 +1,8 @@
 //! The result of parsing the command line (systemd-analyze(1)).
 
 ghost use Rattle.std.specs.Prelude.{◌≡◌, ◌<◌, true, string_bytes, vec_len};
-ghost use Rattle.cal_civil.specs.headline.ZoneName.{is_zone_name};
-ghost use Rattle.cal_command.specs.LocalZone.{IsLocalOffset};
+ghost use Rattle.cal_civil.specs.rules.ZoneName.{is_zone_name};
+ghost use Rattle.cal_command.specs.rules.LocalZone.{IsLocalOffset};
 
 use cal_request::Request;
 use cal_zone::Instant;

@@ -3,7 +3,7 @@
 ghost use Rattle.std.specs.Prelude.{◌≡◌, false, map, IfOk};
 ghost use Rattle.clap.specs.Words.{app_of, rule_of, shape_of};
 ghost use Rattle.clap.specs.declared.builder.command.Command.TheViews.{out-Command as fields_of};
-ghost use Rattle.cal_command.specs.CommandLine.{command_app, option_rule, shown_option, texts_rule, verb_shape, with_rules, with_subcommands};
+ghost use Rattle.cal_command.specs.rules.CommandLine.{command_app, option_rule, shown_option, texts_rule, verb_shape, with_rules, with_subcommands};
 
 use crate::value_option::{ValueOption, options_of};
 use crate::verb_help::{STATUSES, VerbHelp, help_of};

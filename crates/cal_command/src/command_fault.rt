@@ -40,7 +40,7 @@ pub enum CommandFault {
 }
 
 impl CommandFault {
-    ghost use Rattle.cal_command.specs.CommandFault.{message_of, shown_fault};
+    ghost use Rattle.cal_command.specs.rules.CommandFault.{message_of, shown_fault};
 
     /// Returns the message for users. For usage and help it is the text of `clap`, including the line feed at its end.
     /// For [`CommandFault::NoMemory`] it is empty.

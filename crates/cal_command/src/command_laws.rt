@@ -3,11 +3,10 @@
 //! Each law is a function with an empty body, whose contract states the law.
 
 ghost use Rattle.std.specs.Prelude.{◌≡◌, ◌⊎◌, ℕ, true, List, Some, Result, Ok, Err};
-ghost use Rattle.cal_command.specs.Ask.{Ask};
-ghost use Rattle.cal_command.specs.CommandFault.{CommandFault, bad_iterations, help, no_memory, usage};
-ghost use Rattle.cal_command.specs.CommandLine.{IsAskOf, ask_in, parsed_in, takes_arguments};
-ghost use Rattle.cal_command.specs.WorkedArguments.{daily_matches, daily_ask, daily_arguments, help_arguments};
-ghost use Rattle.cal_command.specs.WorkedArguments.{none_arguments, options_ask, options_arguments, stray_arguments};
+ghost use Rattle.cal_command.specs.rules.Ask.{Ask};
+ghost use Rattle.cal_command.specs.rules.CommandFault.{CommandFault, bad_iterations, help, no_memory, usage};
+ghost use Rattle.cal_command.specs.rules.CommandLine.{IsAskOf, ask_in, parsed_in, takes_arguments};
+ghost use Rattle.cal_command.specs.rules.WorkedArguments.{daily_matches, daily_ask, daily_arguments, help_arguments, none_arguments, options_ask, options_arguments, stray_arguments};
 
 /// If `clap` accepts the arguments, and allocation doesn't fail, the result is what they ask for or, if values are
 /// invalid, the error for the first invalid value in the order in which the values are checked. The result is neither

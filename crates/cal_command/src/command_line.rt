@@ -2,10 +2,10 @@
 
 ghost use Rattle.std.specs.Prelude.{◌≡◌, ◌<◌, [], length, map, IfOk, IfErr};
 ghost use Rattle.clap.specs.Words.{kind_of, subcommand_rows_of};
-ghost use Rattle.cal_command.specs.Ask.{shown_answer, texts_of};
-ghost use Rattle.cal_command.specs.CommandFault.{shown_fault};
-ghost use Rattle.cal_command.specs.CommandLine.{IsAskOf, IsFaultOf, IsOrNoMemory, IsReportedOf, faults_in, is_of_help, parsed_in, read_options};
-ghost use Rattle.cal_command.specs.VerbMatches.{shown_matches, verb_matches_in};
+ghost use Rattle.cal_command.specs.rules.Ask.{shown_answer, texts_of};
+ghost use Rattle.cal_command.specs.rules.CommandFault.{shown_fault};
+ghost use Rattle.cal_command.specs.rules.CommandLine.{IsAskOf, IsFaultOf, IsOrNoMemory, IsReportedOf, faults_in, is_of_help, parsed_in, read_options};
+ghost use Rattle.cal_command.specs.rules.VerbMatches.{shown_matches, verb_matches_in};
 
 use crate::ask::Ask;
 use crate::clap_command::build_command;
@@ -66,7 +66,7 @@ impl Ask {
 }
 
 /// Checks the values of the options and builds the `Ask`.
-#[tactic(auto, unfolding(crate::specs::CommandLine::read_options))]
+#[tactic(auto, unfolding(crate::specs::rules::CommandLine::read_options))]
 fn read_options(alloc: Global, found: VerbMatches) -> Result<Ask, CommandFault>
     requires { 0 < length found.texts.now }
     ensures { IsOrNoMemory (shown_answer result) (read_options (shown_matches found.entry)) }

@@ -3,9 +3,9 @@
 ghost use Rattle.std.specs.Prelude.{◌≡◌, ◌≤◌, None, IfSome, false, length, option_map, true};
 ghost use Rattle.std.specs.Option.{option_copied};
 ghost use Rattle.clap.specs.Words.{found_of, rows_of, subcommand_rows_of};
-ghost use Rattle.cal_command.specs.Ask.{texts_of};
-ghost use Rattle.cal_command.specs.VerbMatches.{elapse_option, shown_matches, texts_for, texts_kept, verb_matches_for, verb_matches_in, instant_option};
-ghost use Rattle.cal_request.specs.Verb.{is_timer, seeks_elapses};
+ghost use Rattle.cal_command.specs.rules.Ask.{texts_of};
+ghost use Rattle.cal_command.specs.rules.VerbMatches.{elapse_option, shown_matches, texts_for, texts_kept, verb_matches_for, verb_matches_in, instant_option};
+ghost use Rattle.cal_request.specs.rules.Verb.{is_timer, seeks_elapses};
 
 use crate::value_option::ValueOption;
 use crate::verb_matches::VerbMatches;

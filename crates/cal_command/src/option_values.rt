@@ -8,12 +8,12 @@
 ghost use Rattle.std.specs.Prelude.{◌≡◌, ◌≤◌, ◌<◌, ◌==◌, ◌∷◌, [], None, Some, length, map, option_map, IfSome, IfOk, string_bytes, vec_len};
 ghost use Rattle.std.specs.List.{slice_split};
 ghost use Rattle.std.specs.Option.{option_copied, option_map_or};
-ghost use Rattle.cal_bytes.specs.SplitPieces.{left, pieces_after};
-ghost use Rattle.cal_command.specs.Ask.{in_utc, shown_local, texts_of, shown_item};
-ghost use Rattle.cal_command.specs.LocalZone.{IsLocalOffset};
-ghost use Rattle.cal_text.specs.headline.Separators.{is_comma};
-ghost use Rattle.cal_command.specs.OptionValues.{count_in, local_zone_in, number_between, parts_at, present_in, zone_item_in, zones_in};
-ghost use Rattle.cal_request.specs.Verb.{IsCount};
+ghost use Rattle.cal_bytes.specs.computed.SplitPieces.{left, pieces_after};
+ghost use Rattle.cal_command.specs.rules.Ask.{in_utc, shown_local, texts_of, shown_item};
+ghost use Rattle.cal_command.specs.rules.LocalZone.{IsLocalOffset};
+ghost use Rattle.cal_text.specs.rules.Separators.{is_comma};
+ghost use Rattle.cal_command.specs.rules.OptionValues.{count_in, local_zone_in, number_between, parts_at, present_in, zone_item_in, zones_in};
+ghost use Rattle.cal_request.specs.rules.Verb.{IsCount};
 
 use crate::ask::{LocalZone, ZoneItem};
 use cal_civil::{is_utc_name, is_zone_name, read_offset};
@@ -154,7 +154,7 @@ fn first_item(text: &str) -> (&str, Option<&str>)
 
 /// Splits an item `NAME=FILE` at its first `=`. Returns `None` if there is no `=`, if the name doesn't have the form of
 /// a zone's name, or if the path is empty.
-#[tactic(auto, unfolding(crate::specs::OptionValues::zone_item_in))]
+#[tactic(auto, unfolding(crate::specs::rules::OptionValues::zone_item_in))]
 fn zone_item_in(item: &str) -> Option<(ZoneName<'_>, &str)>
     ensures { option_map (λ parts. record { name = parts.0.text.now; path = parts.1.now }) result ≡ zone_item_in item.now }
 {
@@ -185,7 +185,7 @@ fn parts_at(text: &str, separator: char) -> Option<(&str, &str)>
 
 /// Parses a local zone. A rule after `posix:` is only copied. An offset is never mistaken for a name, since names begin
 /// with a letter.
-#[tactic(auto, unfolding(crate::specs::OptionValues::local_zone_in))]
+#[tactic(auto, unfolding(crate::specs::rules::OptionValues::local_zone_in))]
 fn local_zone_in(alloc: Global, text: &str) -> Result<Option<LocalZone>, AllocError>
     ensures value { IfOk result (λ local. option_map shown_local local ≡ local_zone_in text.now) }
     ensures offset { IfOk result (λ local. IfSome local IsLocalOffset) }

@@ -2,7 +2,7 @@
 //! `--iterations` and `--base-time` are options of systemd-analyze(1); the others are this project's own.
 
 ghost use Rattle.std.specs.Prelude.{◌≡◌, map};
-ghost use Rattle.cal_command.specs.CommandLine.{option_rules, shown_option};
+ghost use Rattle.cal_command.specs.rules.CommandLine.{option_rules, shown_option};
 
 use cal_request::Verb;
 

@@ -1,7 +1,7 @@
 //! What `clap` found for a verb.
 
 ghost use Rattle.std.specs.Prelude.{◌≡◌, ◌≤◌, length, true};
-ghost use Rattle.cal_request.specs.Verb.{is_timer};
+ghost use Rattle.cal_request.specs.rules.Verb.{is_timer};
 
 use cal_request::Verb;
 use clap::ArgMatches;

@@ -4,9 +4,9 @@ use Rattle.std.specs.List.Sorted.{IsStrictlySortedBy}
 use Rattle.std.specs.Ordering.{int_cmp}
 use Rattle.cal_rising.proofs.RisingLemmas.{IsUnion-only}
 use Rattle.cal_rising.proofs.WithoutLemmas.{Has-without}
-use Rattle.cal_rising.specs.Merge.{Merge, merged}
-use Rattle.cal_rising.specs.RisingList.{union, without}
-use Rattle.cal_plan.specs.Instants.{AreInstants}
+use Rattle.cal_rising.specs.rules.Merge.{Merge, merged}
+use Rattle.cal_rising.specs.rules.RisingList.{union, without}
+use Rattle.cal_plan.specs.rules.Instants.{AreInstants}
 
 -- the union of only one list is that list, if it is strictly increasing
 pub union_one : (xs : List ℤ) → IsStrictlySortedBy int_cmp xs → union (xs ∷ []) ≡ xs

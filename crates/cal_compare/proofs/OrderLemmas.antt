@@ -1,7 +1,7 @@
 -- A lemma on elapses that are sorted.
 use Rattle.std.proofs.Common.{◌≡◌, IsPermutation, List, map, subst}
 use Rattle.std.proofs.lemmas.List.Sorted.{IsPermutation-map}
-use Rattle.cal_compare.specs.SeveralTimers.{Elapse, elapse_seen}
+use Rattle.cal_compare.specs.rules.SeveralTimers.{Elapse, elapse_seen}
 use Rattle.cal_compare.specs.declared.timer_elapse.TimerElapse.{TimerElapse}
 
 -- elapses in another order are still the same elapses

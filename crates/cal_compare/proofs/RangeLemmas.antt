@@ -8,7 +8,7 @@ use Rattle.std.specs.List.Sorted.{IsStrictlySortedBy}
 use Rattle.std.specs.Ordering.{int_cmp}
 use Rattle.std.specs.declared.cmp.Ordering.TheVariants.{Less}
 use Rattle.cal_text.proofs.General.{list-first, lt_from_less}
-use Rattle.cal_compare.specs.SeveralTimers.{Elapse, in_range, range_of_one}
+use Rattle.cal_compare.specs.rules.SeveralTimers.{Elapse, in_range, range_of_one}
 
 -- leaving out the first elapse, if it is outside the range, doesn't change which elapses are in the range
 left_out : (from before : ℤ) (timer : ℕ) (x : ℤ) (xs : List ℤ) → in_range from before x ≡ false

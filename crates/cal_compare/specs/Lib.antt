@@ -1,2 +1,1 @@
-pub mod Difference
-pub mod SeveralTimers
+pub mod rules

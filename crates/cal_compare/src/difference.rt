@@ -1,11 +1,11 @@
 //! The first instants at which only one of two timers elapses.
 
 ghost use Rattle.std.specs.Prelude.{◌≡◌, ◌≢◌, None, IfOk, MatchResult, option_map};
-ghost use Rattle.cal_zone.specs.Setting.{setting_seen};
-ghost use Rattle.cal_plan.specs.ZoneFor.{IsUnzoned, unzoned};
-ghost use Rattle.cal_plan.specs.TimerElapses.{elapses_of_lists};
+ghost use Rattle.cal_zone.specs.rules.Setting.{setting_seen};
+ghost use Rattle.cal_plan.specs.rules.ZoneFor.{IsUnzoned, unzoned};
+ghost use Rattle.cal_plan.specs.rules.TimerElapses.{elapses_of_lists};
 ghost use Rattle.cal_plan.specs.declared.plan_fault.PlanFault.TheVariants.{NoMemory as PlanNoMemory};
-ghost use Rattle.cal_compare.specs.Difference.{IsDifference, IsUnzonedInEither, first_only_in};
+ghost use Rattle.cal_compare.specs.rules.Difference.{IsDifference, IsUnzonedInEither, first_only_in};
 ghost use Rattle.cal_compare.specs.declared.compare_fault.CompareFault.TheVariants.{NoMemory as CompareNoMemory};
 
 use crate::compare_fault::CompareFault;

@@ -1,7 +1,7 @@
 //! Finding which of several timers elapses next.
 
 ghost use Rattle.std.specs.Prelude.{◌≡◌, IfOk, map, IsPermutation, IsSorted};
-ghost use Rattle.cal_compare.specs.SeveralTimers.{by_instant, elapse_seen, ended, next_of_each};
+ghost use Rattle.cal_compare.specs.rules.SeveralTimers.{by_instant, elapse_seen, ended, next_of_each};
 
 use crate::order::sort_elapses;
 use crate::timer_elapse::TimerElapse;

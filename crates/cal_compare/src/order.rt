@@ -1,7 +1,7 @@
 //! The order of elapses.
 
 ghost use Rattle.std.specs.Prelude.{IsPermutation, IsSorted};
-ghost use Rattle.cal_compare.specs.SeveralTimers.{by_instant};
+ghost use Rattle.cal_compare.specs.rules.SeveralTimers.{by_instant};
 
 use crate::timer_elapse::TimerElapse;
 

@@ -2,7 +2,7 @@
 
 ghost use Rattle.std.specs.Prelude.{◌≡◌, ◌++◌, ◌-ℤ◌, pos, IfOk, OnOk, map, IsPermutation, IsSorted};
 ghost use Rattle.std.specs.Int.{int_max};
-ghost use Rattle.cal_compare.specs.SeveralTimers.{by_instant, elapse_seen, range_of_each, range_of_one};
+ghost use Rattle.cal_compare.specs.rules.SeveralTimers.{by_instant, elapse_seen, range_of_each, range_of_one};
 
 use crate::order::sort_elapses;
 use crate::timer_elapse::TimerElapse;

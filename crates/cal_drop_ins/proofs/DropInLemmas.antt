@@ -22,7 +22,7 @@ use Rattle.std.proofs.lemmas.Bool.{false_from_ne_true}
 use Rattle.std.proofs.lemmas.Map.Text.{is_eq-slice_cmp}
 use Rattle.std.proofs.lemmas.Slice.Eq.{bytes_eq-Decides}
 use Rattle.cal_drop_ins.specs.declared.drop_ins.DropIn.{DropIn}
-use Rattle.cal_drop_ins.specs.DropIns.{FolderFile, by_name, candidates, chosen, enter, file_in, is_drop_in, shown_drop_in, shown_pair}
+use Rattle.cal_drop_ins.specs.rules.DropIns.{FolderFile, by_name, candidates, chosen, enter, file_in, is_drop_in, shown_drop_in, shown_pair}
 
 put_by : (o : Ordering) (e : String Global × String Global) (es more : List (String Global × String Global)) (k : String Global) (v : String Global) (rest : List (List ℕ × List ℕ))
     → map shown_pair more ≡ rest

@@ -4,9 +4,9 @@
 use Rattle.std.proofs.Common.{◌≡◌, ℕ, List, [], ◌∷◌, ◌++◌, codes, filter, map, refl, Some, None}
 use Rattle.std.specs.List.{list_any}
 use Rattle.std.specs.Str.{bytes_eq}
-use Rattle.cal_drop_ins.specs.DropIns.{Disk, by_name, candidates, chosen, drop_ins, is_drop_in}
-use Rattle.cal_drop_ins.specs.Folders.{folder_stems, folders, prefixes_within}
-use Rattle.cal_drop_ins.specs.UnitName.{is_stem, template_of, unit_kind_of, unit_stem, without_suffix}
+use Rattle.cal_drop_ins.specs.rules.DropIns.{Disk, by_name, candidates, chosen, drop_ins, is_drop_in}
+use Rattle.cal_drop_ins.specs.rules.Folders.{folder_stems, folders, prefixes_within}
+use Rattle.cal_drop_ins.specs.rules.UnitName.{is_stem, template_of, unit_kind_of, unit_stem, without_suffix}
 use Rattle.cal_drop_ins.specs.declared.unit_name.UnitKind.TheVariants.{Plain, Template, Instance}
 
 -- a file: its folder and its name

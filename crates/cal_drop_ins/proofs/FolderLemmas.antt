@@ -6,8 +6,8 @@ use Rattle.std.specs.List.{position_or_len}
 use Rattle.std.proofs.lemmas.List.{length-take, map-append, reverse-append}
 use Rattle.std.proofs.lemmas.List.Sums.{passes_at_first}
 use Rattle.std.proofs.lemmas.Bool.Decides.{nat_tests}
-use Rattle.cal_drop_ins.specs.Folders.{is_dash_within, prefixes_within}
-use Rattle.cal_drop_ins.specs.UnitName.{is_at_sign, stem_base}
+use Rattle.cal_drop_ins.specs.rules.Folders.{is_dash_within, prefixes_within}
+use Rattle.cal_drop_ins.specs.rules.UnitName.{is_at_sign, stem_base}
 
 pub prefixes_none : (base : List ℕ) → prefixes_within base 0 ≡ []
 unfolding prefixes_within

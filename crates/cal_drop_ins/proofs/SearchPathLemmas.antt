@@ -1,7 +1,7 @@
 -- The folders of a user's manager, each below the root, form the list `user_path`. Two of them, `config` and `share`,
 -- are in the user's home.
 use Rattle.std.proofs.Common.{◌≡◌, ◌++◌, ◌∷◌, [], ℕ, List, codes, map, refl}
-use Rattle.cal_drop_ins.specs.SearchPath.{user_path}
+use Rattle.cal_drop_ins.specs.rules.SearchPath.{user_path}
 
 pub user_folders_are : (root home config share : List ℕ) → config ≡ home ++ codes "/.config/systemd/user" → share ≡ home ++ codes "/.local/share/systemd/user"
     → map (λ folder. root ++ folder)

@@ -5,7 +5,7 @@ use Rattle.std.specs.Prelude.{nat_eq}
 use Rattle.std.specs.Str.{IsCharBoundary}
 use Rattle.std.specs.Str.Pattern.{FindsTextSuffix, StripsSuffix}
 use Rattle.std.proofs.lemmas.Str.Pattern.{ends_text}
-use Rattle.cal_drop_ins.specs.UnitName.{suffix, without_suffix}
+use Rattle.cal_drop_ins.specs.rules.UnitName.{suffix, without_suffix}
 
 pub stripped : (name stem : List ℕ) → StripsSuffix (FindsTextSuffix suffix) name stem → stem ≡ without_suffix name
 unfolding without_suffix

@@ -1,4 +1,1 @@
-pub mod DropIns
-pub mod Folders
-pub mod SearchPath
-pub mod UnitName
+pub mod rules

@@ -1,7 +1,7 @@
 //! Which drop-ins of a unit are read, and in which order (systemd.unit(5), Description).
 
 ghost use Rattle.std.specs.Prelude.{◌≡◌, ◌++◌, ◌∷◌, [], IfOk, OnOk, map, string_bytes};
-ghost use Rattle.cal_drop_ins.specs.DropIns.{by_name, candidates, chosen, enter, file_in, is_drop_in, shown_drop_in, shown_pair};
+ghost use Rattle.cal_drop_ins.specs.rules.DropIns.{by_name, candidates, chosen, enter, file_in, is_drop_in, shown_drop_in, shown_pair};
 
 use std::alloc::{AllocError, Global};
 use std::collections::BTreeMap;
@@ -17,7 +17,7 @@ pub struct DropIn {
 
 /// Returns whether a file called `name` in a drop-in folder is a drop-in: the name ends in `.conf` and doesn't begin
 /// with a dot.
-#[tactic(auto, unfolding(crate::specs::DropIns::is_drop_in))]
+#[tactic(auto, unfolding(crate::specs::rules::DropIns::is_drop_in))]
 pub fn is_drop_in(name: &str) -> bool
     ensures { result ≡ is_drop_in name.now }
 {
@@ -53,7 +53,7 @@ pub fn choose(alloc: Global, found: Vec<DropIn>) -> Result<Vec<String>, AllocErr
 }
 
 /// Appends the file called `name` in `folder`, if it is a drop-in.
-#[tactic(auto, unfolding(crate::specs::DropIns::candidates))]
+#[tactic(auto, unfolding(crate::specs::rules::DropIns::candidates))]
 fn push_candidate(
     alloc: Global,
     found: &mut Vec<DropIn>,

@@ -1,7 +1,7 @@
 //! The drop-in folders of a unit (systemd.unit(5), Description).
 
 ghost use Rattle.std.specs.Prelude.{◌≡◌, ◌+◌, ◌++◌, ◌∷◌, [], ◌<◌, IfOk, OnOk, if◌then◌else◌, map, length, take, reverse, string_bytes};
-ghost use Rattle.cal_drop_ins.specs.Folders.{folder_stems, folders, is_dash_within, name_folders, own_folder, prefixes_within, type_folder};
+ghost use Rattle.cal_drop_ins.specs.rules.Folders.{folder_stems, folders, is_dash_within, name_folders, own_folder, prefixes_within, type_folder};
 
 use crate::unit_name::{stem_base, template_of};
 use std::alloc::{AllocError, Global};
@@ -11,7 +11,7 @@ use std::alloc::{AllocError, Global};
 ///
 /// `path` is the search path, the most important folder first. `stems` are the unit's names without `.timer`: its
 /// aliases, and last its own name.
-#[tactic(auto, unfolding(crate::specs::Folders::folders))]
+#[tactic(auto, unfolding(crate::specs::rules::Folders::folders))]
 pub fn folders_of(alloc: Global, path: &[String], stems: &[&str]) -> Result<Vec<String>, AllocError>
     ensures { IfOk result (λ found. map string_bytes found.items
         ≡ folders (reverse (map string_bytes path.now)) (map (λ stem. stem.now) stems.now)) }
@@ -30,7 +30,7 @@ pub fn folders_of(alloc: Global, path: &[String], stems: &[&str]) -> Result<Vec<
 /// First come prefixes of the part before the first `@`, or of the whole stem if it has no `@`: all prefixes that end
 /// with a dash, the shortest first, except this part itself and a dash alone. Then come the stem of the template, if
 /// the unit is an instance, and the stem itself.
-#[tactic(auto, unfolding(crate::specs::Folders::folder_stems))]
+#[tactic(auto, unfolding(crate::specs::rules::Folders::folder_stems))]
 pub fn folder_stems(alloc: Global, stem: &str) -> Result<Vec<&str>, AllocError>
     ensures { IfOk result (λ stems. map (λ stem. stem.now) stems.items ≡ folder_stems stem.now) }
 {

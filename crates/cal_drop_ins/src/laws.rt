@@ -5,7 +5,7 @@ ghost use Rattle.std.specs.Prelude.{◌≡◌, ℕ, List, option_map, reverse};
 ghost use Rattle.std.specs.List.{find};
 ghost use Rattle.std.specs.Map.{lookup};
 ghost use Rattle.std.specs.Str.{bytes_eq};
-ghost use Rattle.cal_drop_ins.specs.DropIns.{FolderFile, by_name};
+ghost use Rattle.cal_drop_ins.specs.rules.DropIns.{FolderFile, by_name};
 
 /// Of several files with the same name, `by_name` has the last. In `drop_ins`, the files go from the least important
 /// folder to the most important one, so the last is the one in the most important folder.

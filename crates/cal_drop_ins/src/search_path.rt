@@ -2,7 +2,7 @@
 //! running manager uses, such as `/run/systemd/transient`.
 
 ghost use Rattle.std.specs.Prelude.{◌≡◌, ◌++◌, IfOk, map, string_bytes};
-ghost use Rattle.cal_drop_ins.specs.SearchPath.{system_path, user_path};
+ghost use Rattle.cal_drop_ins.specs.rules.SearchPath.{system_path, user_path};
 
 use std::alloc::{AllocError, Global};
 

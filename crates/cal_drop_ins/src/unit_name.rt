@@ -2,7 +2,7 @@
 
 ghost use Rattle.std.specs.Prelude.{◌≡◌, option_map};
 ghost use Rattle.std.specs.List.{list_all};
-ghost use Rattle.cal_drop_ins.specs.UnitName.{is_name_byte, is_stem, stem_base, template_of, unit_kind_of, unit_stem, without_suffix};
+ghost use Rattle.cal_drop_ins.specs.rules.UnitName.{is_name_byte, is_stem, stem_base, template_of, unit_kind_of, unit_stem, without_suffix};
 
 /// The suffix of a timer's name.
 const SUFFIX: &str = ".timer";
@@ -26,7 +26,7 @@ pub enum UnitKind {
 ///
 /// Returns `None` if the name isn't valid: the stem is empty, begins with `@`, or has a byte that is neither a letter
 /// nor a digit nor one of `:-_.\@`, or the stem with the suffix has more than 255 bytes.
-#[tactic(auto, unfolding(crate::specs::UnitName::unit_stem))]
+#[tactic(auto, unfolding(crate::specs::rules::UnitName::unit_stem))]
 pub fn unit_stem(name: &str) -> Option<&str>
     ensures { option_map (λ stem. stem.now) result ≡ unit_stem name.now }
 {
@@ -35,7 +35,7 @@ pub fn unit_stem(name: &str) -> Option<&str>
 }
 
 /// Returns what the name of a unit with this stem stands for.
-#[tactic(auto, unfolding(crate::specs::UnitName::unit_kind_of))]
+#[tactic(auto, unfolding(crate::specs::rules::UnitName::unit_kind_of))]
 pub fn unit_kind_of(stem: &str) -> UnitKind
     ensures { result ≡ unit_kind_of stem.now }
 {
@@ -51,7 +51,7 @@ pub fn unit_kind_of(stem: &str) -> UnitKind
 
 /// Returns the stem of an instance's template, such as `backup@` for `backup@home`. Returns `None` if the stem isn't
 /// that of an instance.
-#[tactic(auto, unfolding(crate::specs::UnitName::template_of))]
+#[tactic(auto, unfolding(crate::specs::rules::UnitName::template_of))]
 pub fn template_of(stem: &str) -> Option<&str>
     ensures { option_map (λ template. template.now) result ≡ template_of stem.now }
 {
@@ -72,7 +72,7 @@ pub(crate) fn stem_base(stem: &str) -> &str
     }
 }
 
-#[tactic(auto, unfolding(crate::specs::UnitName::without_suffix))]
+#[tactic(auto, unfolding(crate::specs::rules::UnitName::without_suffix))]
 fn without_suffix(name: &str) -> &str
     ensures { result.now ≡ without_suffix name.now }
 {
@@ -82,7 +82,7 @@ fn without_suffix(name: &str) -> &str
     }
 }
 
-#[tactic(auto, unfolding(crate::specs::UnitName::is_stem))]
+#[tactic(auto, unfolding(crate::specs::rules::UnitName::is_stem))]
 fn is_stem(stem: &str) -> bool
     ensures { result ≡ is_stem stem.now }
 {

@@ -3,9 +3,9 @@
 use Rattle.std.proofs.Common.{◌≡◌, ℕ, List, arith, bit_or, get_or, length}
 use Rattle.std.proofs.lemmas.Bool.{or_right}
 use Rattle.std.proofs.Math.ListN.{get_or-eq_default}
-use Rattle.cal_elapse.specs.Bits.{is_bit, is_bit_in}
-use Rattle.cal_elapse.specs.Covered.{AreAmong, HasAll}
-use Rattle.cal_elapse.specs.Masks.{sets_in}
+use Rattle.cal_elapse.specs.computed.Bits.{is_bit, is_bit_in}
+use Rattle.cal_elapse.specs.rules.Covered.{AreAmong, HasAll}
+use Rattle.cal_elapse.specs.computed.Masks.{sets_in}
 use Rattle.cal_elapse.specs.declared.masks.Masks.{Masks}
 use Rattle.cal_elapse.proofs.BitLemmas.{is_bit-none, is_bit-or}
 use Rattle.cal_text.proofs.General.{both_follow}

@@ -6,8 +6,8 @@ use Rattle.std.proofs.lemmas.Bool.{cases_lt, le-ltb, lt-ltb}
 use Rattle.std.proofs.lemmas.Bool.Decides.{nat_tests}
 use Rattle.std.proofs.lemmas.Nat.{shr_le, shr-shr}
 use Rattle.std.proofs.lemmas.Nat.Bits.{bit_at-lt, bit_at-trailing_zeros, bit_at-zero, bit_at_above, bit_at_and, bit_at_cat_high, bit_at_cat_low, bit_at_or, bit_at_mask_above, bit_at_mask_below, bit_at_mask_inside, bit_at_ones, bit_at_ones_above, ones_shl, ones_shr, bit_at-pow_other, bit_at-pow_same, same_from_bits_below}
-use Rattle.cal_elapse.specs.Bits.{is_bit}
-use Rattle.cal_elapse.specs.Search.{IsFirstPassing, NonePasses}
+use Rattle.cal_elapse.specs.computed.Bits.{is_bit}
+use Rattle.cal_elapse.specs.rules.Search.{IsFirstPassing, NonePasses}
 use Rattle.cal_text.proofs.General.{IsLowestBit}
 use Rattle.std.proofs.Math.Nat.{pow-suc, div-add-mod', mod-lt}
 

@@ -5,7 +5,7 @@
 use Rattle.std.proofs.Common.{◌≡◌, ℕ, ◌+◌, ◌*◌, ◌/◌, ◌%◌, ◌<◌, ◌≤◌, Bool, true, false, ◌&&◌, Option, Some, ap, subst, inl, inr, ◌∙◌, refl, arith, add-mul, one-mul, mul-le-mul_right}
 use Rattle.std.proofs.lemmas.Bool.{cases_lt, and_from, and_left, and_right}
 use Rattle.std.proofs.lemmas.Nat.{div-add-mod', div_below, le-div, mod_below}
-use Rattle.cal_elapse.specs.Search.{IsFirstPassing, NonePasses}
+use Rattle.cal_elapse.specs.rules.Search.{IsFirstPassing, NonePasses}
 
 quotient_part : (size a t : ℕ) → 0 < size → a * size ≤ t → t < (a + 1) * size → t / size ≡ a
 quotient_part size a t positive low high = omega (arith, le-div a t size positive low, div_below t size (a + 1) positive high)

@@ -4,9 +4,9 @@ use Rattle.std.specs.List.{position, position_or_len}
 use Rattle.std.proofs.lemmas.Bool.{cases_eq, cases_lt, eq-eqb, ne_eqb, not-true, not-false}
 use Rattle.std.proofs.lemmas.List.{get_or-drop}
 use Rattle.std.proofs.lemmas.List.Sums.{prefix_len_passes, prefix_len_stops}
-use Rattle.cal_elapse.specs.Bits.{is_bit, is_bit_in, is_set}
-use Rattle.cal_elapse.specs.Ring.{is_held}
-use Rattle.cal_elapse.specs.Search.{IsFirstPassing}
+use Rattle.cal_elapse.specs.computed.Bits.{is_bit, is_bit_in, is_set}
+use Rattle.cal_elapse.specs.computed.Ring.{is_held}
+use Rattle.cal_elapse.specs.rules.Search.{IsFirstPassing}
 use Rattle.cal_elapse.proofs.BitLemmas.{is_bit-none}
 
 -- The first word that isn't 0

@@ -1,7 +1,7 @@
 -- Lemmas about how many of several consecutive numbers pass a test.
 use Rattle.std.proofs.Common.{◌≡◌, ℕ, zero, suc, ◌+◌, ◌-◌, subst, ◌<◌, ◌≤◌, cond, Bool, true, refl, ap, ◌∙◌, arith}
-use Rattle.cal_elapse.specs.Search.{NonePasses}
-use Rattle.cal_elapse.specs.Window.{count_from}
+use Rattle.cal_elapse.specs.rules.Search.{NonePasses}
+use Rattle.cal_elapse.specs.computed.Window.{count_from}
 
 one_at_most : (b : Bool) → cond b 1 0 ≤ 1
 one_at_most b = grind arith

@@ -5,15 +5,15 @@ use Rattle.std.proofs.lemmas.Bool.{false≢true}
 use Rattle.std.proofs.lemmas.Int.{ints}
 use Rattle.jiff.specs.Types.{TimeZone}
 use Rattle.std.specs.Set.{is_member}
-use Rattle.cal_spec.specs.headline.Fields.{Fields}
-use Rattle.cal_spec.specs.headline.Match.{Sets, date_in, matches, time_in}
-use Rattle.cal_spec.specs.headline.Members.{sets_of}
-use Rattle.cal_rising.specs.headline.Elements.{Has}
+use Rattle.cal_spec.specs.rules.Fields.{Fields}
+use Rattle.cal_spec.specs.rules.Match.{Sets, date_in, matches, time_in}
+use Rattle.cal_spec.specs.rules.Members.{sets_of}
+use Rattle.cal_rising.specs.rules.Elements.{Has}
 use Rattle.cal_text.proofs.General.{list-no_first, both_follow}
 use Rattle.cal_rising.proofs.WithoutLemmas.{Has-is_member, is_member-Has}
-use Rattle.cal_elapse.specs.Covered.{AreAmong, AreKept, IsCovered}
-use Rattle.cal_elapse.specs.ElapsesAfter.{elapses_after, elapses_except}
-use Rattle.cal_elapse.specs.headline.Elapses.{IsElapse, IsPlace, Timed, timed}
+use Rattle.cal_elapse.specs.rules.Covered.{AreAmong, AreKept, IsCovered}
+use Rattle.cal_elapse.specs.rules.ElapsesAfter.{elapses_after, elapses_except}
+use Rattle.cal_elapse.specs.rules.Elapses.{IsElapse, IsPlace, Timed, timed}
 use Rattle.cal_elapse.proofs.ElapsesLemmas.{AreAbove-elapses_after, AreElapses-elapses_except, AreElapses-only, first-none}
 
 -- if `others` has every value that `sets` has (`AreAmong`), a local second that matches `sets` also matches `others`

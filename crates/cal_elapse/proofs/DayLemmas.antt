@@ -4,9 +4,9 @@ use Rattle.std.proofs.lemmas.Bool.{cases_lt, and_right}
 use Rattle.std.proofs.lemmas.Bool.Decides.{nat_tests}
 use Rattle.std.proofs.lemmas.Nat.{one_shl}
 use Rattle.std.proofs.lemmas.Nat.Bits.{bit_at_ones, bit_at_ones_above}
-use Rattle.cal_elapse.specs.Bits.{is_bit}
-use Rattle.cal_elapse.specs.Masks.{day_place, sets_in}
-use Rattle.cal_elapse.specs.Months.{day_in, first_day, length_of, month_in}
+use Rattle.cal_elapse.specs.computed.Bits.{is_bit}
+use Rattle.cal_elapse.specs.computed.Masks.{day_place, sets_in}
+use Rattle.cal_elapse.specs.rules.Months.{day_in, first_day, length_of, month_in}
 use Rattle.cal_elapse.specs.declared.masks.Masks.{Masks}
 use Rattle.cal_elapse.proofs.BitLemmas.{is_bit-and, is_bit-one, is_bit-shifted, is_bit-zero}
 use Rattle.cal_elapse.proofs.MonthLemmas.{day_in-month, length_bounds}

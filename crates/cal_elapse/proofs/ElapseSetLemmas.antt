@@ -3,22 +3,21 @@ use Rattle.std.proofs.Common.{◌≡◌, ◌↔◌, Bool, true, false, [], ◌�
 use Rattle.std.proofs.lemmas.Bool.{false≢true}
 use Rattle.jiff.proofs.SpanFacts.{signed_arith}
 use Rattle.std.specs.Set.{is_member}
-use Rattle.cal_zone.specs.Instant.{IsInstant}
-use Rattle.cal_civil.specs.LocalSecond.{IsLocalSecond}
-use Rattle.cal_civil.specs.headline.Local.{seconds_in_all-is}
-use Rattle.cal_zone.specs.PlaceAt.{IsLocalAt}
-use Rattle.cal_zone.specs.headline.Place.{place_of}
-use Rattle.cal_zone.specs.headline.Zone.{zone_of}
+use Rattle.cal_zone.specs.rules.Instant.{IsInstant}
+use Rattle.cal_civil.specs.rules.LocalSecond.{IsLocalSecond, seconds_in_all-is}
+use Rattle.cal_zone.specs.computed.PlaceAt.{IsLocalAt}
+use Rattle.cal_zone.specs.rules.Place.{place_of}
+use Rattle.cal_zone.specs.rules.Zone.{zone_of}
 use Rattle.cal_zone.specs.declared.zone.Zone.{Zone}
 use Rattle.cal_zone.proofs.PlaceLemmas.{one_local_second, within}
-use Rattle.cal_spec.specs.headline.Match.{matches}
+use Rattle.cal_spec.specs.rules.Match.{matches}
 use Rattle.std.specs.Cmp.{both_ways}
 use Rattle.cal_rising.proofs.WithoutLemmas.{Has-is_member, is_member-Has}
-use Rattle.cal_elapse.specs.ElapsesAfter.{elapses_after}
-use Rattle.cal_elapse.specs.headline.Elapses.{IsPlace}
-use Rattle.cal_elapse.specs.Masks.{sets_in}
-use Rattle.cal_elapse.specs.RemainingElapses.{remaining_elapses}
-use Rattle.cal_elapse.specs.Window.{timed_by, timed_of}
+use Rattle.cal_elapse.specs.rules.ElapsesAfter.{elapses_after}
+use Rattle.cal_elapse.specs.rules.Elapses.{IsPlace}
+use Rattle.cal_elapse.specs.computed.Masks.{sets_in}
+use Rattle.cal_elapse.specs.computed.RemainingElapses.{remaining_elapses}
+use Rattle.cal_elapse.specs.computed.Window.{timed_by, timed_of}
 use Rattle.cal_elapse.specs.declared.masks.Masks.{Masks}
 use Rattle.cal_elapse.specs.declared.window.Window.{Window}
 use Rattle.cal_elapse.proofs.ElapsesLemmas.{AreAbove-elapses_after}

@@ -7,12 +7,12 @@ use Rattle.std.proofs.lemmas.Int.{ints}
 use Rattle.std.proofs.lemmas.Map.Keys.{sorted_tail}
 use Rattle.std.specs.Ordering.{int_cmp}
 use Rattle.std.specs.List.Sorted.{IsStrictlySortedBy}
-use Rattle.cal_civil.specs.headline.Local.{seconds_in_all}
-use Rattle.cal_elapse.specs.ElapsesAfter.{places, elapses_after, elapses_except, each_after}
-use Rattle.cal_elapse.specs.headline.Elapses.{Timed, IsPlace, IsElapse, AreAbove, AreElapses}
-use Rattle.cal_rising.specs.Rises.{rises-without}
-use Rattle.cal_rising.specs.RisingList.{HasAny, union, without}
-use Rattle.cal_rising.specs.headline.Elements.{Has}
+use Rattle.cal_civil.specs.rules.LocalSecond.{seconds_in_all}
+use Rattle.cal_elapse.specs.rules.ElapsesAfter.{places, elapses_after, elapses_except, each_after}
+use Rattle.cal_elapse.specs.rules.Elapses.{Timed, IsPlace, IsElapse, AreAbove, AreElapses}
+use Rattle.cal_rising.specs.computed.Rises.{rises-without}
+use Rattle.cal_rising.specs.rules.RisingList.{HasAny, union, without}
+use Rattle.cal_rising.specs.rules.Elements.{Has}
 use Rattle.cal_text.proofs.General.{int_lt_trans, rises-drop}
 use Rattle.cal_rising.proofs.RisingLemmas.{above_first, later_members, same_rising, Has-union, rises-union}
 use Rattle.cal_rising.proofs.WithoutLemmas.{Has-without, without-none}

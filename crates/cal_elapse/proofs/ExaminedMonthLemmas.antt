@@ -1,14 +1,14 @@
 -- The matching days of a month as bits, and the number of months that a search examines.
 use Rattle.std.proofs.Common.{◌≡◌, ℕ, zero, suc, ◌+◌, ◌-◌, ◌*◌, ◌/◌, ◌%◌, ◌<◌, ◌≤◌, cond, Bool, true, false, Option, None, Some, ap, subst, sym, ◌∙◌, arith}
 use Rattle.std.proofs.lemmas.Bool.{true_from_ne_false}
-use Rattle.cal_civil.specs.headline.Local.{civil_date}
-use Rattle.cal_elapse.specs.Bits.{is_bit}
-use Rattle.cal_elapse.specs.Search.{count_from, IsFirstPassing, NonePasses}
-use Rattle.cal_elapse.specs.ExaminedMonths.{examined_from, examined_months}
-use Rattle.cal_elapse.specs.Months.{day_in, first_day, first_day-suc, length_of, month_in, month_of}
+use Rattle.cal_civil.specs.rules.LocalSecond.{civil_date}
+use Rattle.cal_elapse.specs.computed.Bits.{is_bit}
+use Rattle.cal_elapse.specs.rules.Search.{count_from, IsFirstPassing, NonePasses}
+use Rattle.cal_elapse.specs.rules.ExaminedMonths.{examined_from, examined_months}
+use Rattle.cal_elapse.specs.rules.Months.{day_in, first_day, first_day-suc, length_of, month_in, month_of}
 use Rattle.cal_elapse.proofs.CountLemmas.{count_from-most, count_from-none, count_from-one}
 use Rattle.cal_elapse.proofs.MonthLemmas.{first_day-end, length_bounds, located, month_low, month_of-is, months_none, no_day}
-use Rattle.cal_spec.specs.headline.Match.{Sets}
+use Rattle.cal_spec.specs.rules.Match.{Sets}
 
 -- unless the expression matches both the year and the month number of month `n`, no day of that month matches
 pub none_of_month : (sets : Sets) (n first length from : ℕ) → n < 2_760 → first ≡ first_day n → length ≡ length_of n → first ≤ from → month_in sets n ≡ false

@@ -3,11 +3,11 @@ use Rattle.std.proofs.Common.{◌≡◌, ◌≢◌, ◌⊎◌, ◌↔◌, ◌<�
 use Rattle.std.proofs.Math.ListN.{length-set}
 use Rattle.std.proofs.lemmas.Bool.{cases_eq, cases_lt, or_cases, or_left, or_right}
 use Rattle.std.proofs.lemmas.Int.{ints}
-use Rattle.cal_zone.specs.Instant.{IsInstant}
-use Rattle.cal_rising.specs.headline.Elements.{Has}
-use Rattle.cal_elapse.specs.Bits.{is_bit, is_bit_in}
-use Rattle.cal_elapse.specs.Ring.{IsNear, IsOneOf, IsRoundFrom, cells_behind, instants_in, is_held, no_second}
-use Rattle.cal_elapse.specs.Search.{IsFirstPassing}
+use Rattle.cal_zone.specs.rules.Instant.{IsInstant}
+use Rattle.cal_rising.specs.rules.Elements.{Has}
+use Rattle.cal_elapse.specs.computed.Bits.{is_bit, is_bit_in}
+use Rattle.cal_elapse.specs.computed.Ring.{IsNear, IsOneOf, IsRoundFrom, cells_behind, instants_in, is_held, no_second}
+use Rattle.cal_elapse.specs.rules.Search.{IsFirstPassing}
 use Rattle.cal_elapse.proofs.BitLemmas.{is_bit-above, is_bit-or, is_bit-shifted, is_bit-up, is_bit-up_none}
 use Rattle.cal_elapse.proofs.CellLemmas.{in_word}
 use Rattle.cal_elapse.proofs.RingLemmas.{Has-instants, IsIn, first_found, found_kept, kept_some, member, none_found, none_kept, same_second}

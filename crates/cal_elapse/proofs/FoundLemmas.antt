@@ -1,9 +1,8 @@
 -- The result of a search, as a natural number and as an integer.
 use Rattle.std.proofs.Common.{◌≡◌, ◌≤ℤ◌, arith, true, Bool, IfSome, None, Option, Some, negsuc, option_map, pos, unsigned_abs, ℕ, ℤ}
 use Rattle.std.proofs.lemmas.Int.{ints}
-use Rattle.cal_civil.specs.LocalSecond.{IsLocalSecond}
-use Rattle.cal_civil.specs.headline.Local.{seconds_in_all, seconds_in_all-is}
-use Rattle.cal_elapse.specs.Search.{IsFirstLocal, IsFirstPassing}
+use Rattle.cal_civil.specs.rules.LocalSecond.{IsLocalSecond, seconds_in_all, seconds_in_all-is}
+use Rattle.cal_elapse.specs.rules.Search.{IsFirstLocal, IsFirstPassing}
 
 pub first_passing : (passes : ℕ → Bool) (from : ℕ) (found : Option ℤ) → IsFirstLocal passes (pos from) found → IsFirstPassing passes from seconds_in_all (option_map unsigned_abs found)
 first_passing passes from None none = grind (arith, ints)

@@ -3,13 +3,13 @@ use Rattle.std.proofs.Common.{◌≡◌, List, [], ◌∷◌, map, inl, inr, Som
 use Rattle.std.proofs.lemmas.Int.{ints}
 use Rattle.jiff.proofs.SpanFacts.{signed_arith}
 use Rattle.jiff.specs.Types.{TimeZone}
-use Rattle.cal_zone.specs.Instant.{IsInstant}
-use Rattle.cal_civil.specs.headline.Local.{seconds_in_all-is}
+use Rattle.cal_zone.specs.rules.Instant.{IsInstant}
+use Rattle.cal_civil.specs.rules.LocalSecond.{seconds_in_all-is}
 use Rattle.cal_zone.proofs.PlaceLemmas.{within}
-use Rattle.cal_spec.specs.headline.Fields.{Fields}
-use Rattle.cal_elapse.specs.ElapsesAfter.{elapses_except}
-use Rattle.cal_elapse.specs.headline.Elapses.{IsElapse, IsPlace, timed, Timed}
-use Rattle.cal_rising.specs.headline.Elements.{Has}
+use Rattle.cal_spec.specs.rules.Fields.{Fields}
+use Rattle.cal_elapse.specs.rules.ElapsesAfter.{elapses_except}
+use Rattle.cal_elapse.specs.rules.Elapses.{IsElapse, IsPlace, timed, Timed}
+use Rattle.cal_rising.specs.rules.Elements.{Has}
 use Rattle.cal_elapse.proofs.ElapsesLemmas.{AreElapses-elapses_except}
 
 place_in : (fields : Fields) (tz : TimeZone) (i : ℤ) → pos 0 ≤ℤ i → IsPlace (timed fields tz) i → IsInstant i

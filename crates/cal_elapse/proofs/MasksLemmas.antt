@@ -5,13 +5,13 @@ use Rattle.std.specs.List.{AllByRecursion, list_any}
 use Rattle.std.proofs.Math.ListN.{get_or-eq_default}
 use Rattle.std.proofs.lemmas.Bool.{cases_lt, eqb-true, or_cases, false_from_ne_true}
 use Rattle.std.proofs.lemmas.Bool.Decides.{nat_tests}
-use Rattle.cal_elapse.specs.Bits.{is_bit, is_bit_in}
-use Rattle.cal_elapse.specs.Masks.{day_place}
+use Rattle.cal_elapse.specs.computed.Bits.{is_bit, is_bit_in}
+use Rattle.cal_elapse.specs.computed.Masks.{day_place}
 use Rattle.cal_elapse.proofs.BitLemmas.{is_bit-none}
-use Rattle.cal_spec.specs.headline.Members.{component_has, star_has, part_has, part_matches}
-use Rattle.cal_spec.specs.headline.Slot.{least, greatest, day_slot}
-use Rattle.cal_spec.specs.ValidFields.{IsValidComponent}
-use Rattle.cal_spec.specs.headline.ValidParts.{EndsAfter, IsValidPart, IsEndWithin, IsStep, IsWithin}
+use Rattle.cal_spec.specs.rules.Members.{component_has, star_has, part_has, part_matches}
+use Rattle.cal_spec.specs.rules.Slot.{least, greatest, day_slot}
+use Rattle.cal_spec.specs.computed.ValidFields.{IsValidComponent}
+use Rattle.cal_spec.specs.rules.ValidParts.{EndsAfter, IsValidPart, IsEndWithin, IsStep, IsWithin}
 use Rattle.cal_spec.specs.declared.field.Part.{Part}
 use Rattle.cal_spec.specs.declared.slot.Slot.{Slot}
 use Rattle.cal_spec.specs.declared.slot.Slot.TheVariants.{DayFromEnd}

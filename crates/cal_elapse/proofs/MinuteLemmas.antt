@@ -3,14 +3,14 @@
 use Rattle.std.proofs.Common.{IfSome, IsSome, ◌≡◌, ◌≢◌, ◌∙◌, ℕ, ◌+◌, ◌-◌, ◌*◌, ◌/◌, ◌%◌, ◌^◌, ◌<◌, ◌≤◌, Bool, true, false, ◌&&◌, Option, Some, ℤ, option_map, pos, unsigned_abs, w64, sym, subst, refl, arith, ltb-true, nat_lt}
 use Rattle.std.proofs.lemmas.Bool.{and_from, and_parts, false_from_ne_true, lt-ltb}
 use Rattle.std.specs.Int.{trailing_zeros}
-use Rattle.cal_civil.specs.headline.Local.{seconds_in_all, seconds_in_all-is}
-use Rattle.cal_spec.specs.headline.Match.{Sets, matches, time_in}
-use Rattle.cal_elapse.specs.Bits.{is_bit}
-use Rattle.cal_elapse.specs.RemainingMatches.{AreRemaining, HasMoreInHour, HasMoreInMinute, IsNextInHour, IsNextInMinute, IsRestOfMinute, NoneLeftInMinute, minute_matches}
-use Rattle.cal_elapse.specs.ExaminedMonths.{IsSearch}
-use Rattle.cal_elapse.specs.Masks.{sets_in}
-use Rattle.cal_elapse.specs.Months.{day_in, minute_in}
-use Rattle.cal_elapse.specs.Search.{IsFirstLocal, IsFirstPassing}
+use Rattle.cal_civil.specs.rules.LocalSecond.{seconds_in_all, seconds_in_all-is}
+use Rattle.cal_spec.specs.rules.Match.{Sets, matches, time_in}
+use Rattle.cal_elapse.specs.computed.Bits.{is_bit}
+use Rattle.cal_elapse.specs.computed.RemainingMatches.{AreRemaining, HasMoreInHour, HasMoreInMinute, IsNextInHour, IsNextInMinute, IsRestOfMinute, NoneLeftInMinute, minute_matches}
+use Rattle.cal_elapse.specs.rules.ExaminedMonths.{IsSearch}
+use Rattle.cal_elapse.specs.computed.Masks.{sets_in}
+use Rattle.cal_elapse.specs.rules.Months.{day_in, minute_in}
+use Rattle.cal_elapse.specs.rules.Search.{IsFirstLocal, IsFirstPassing}
 use Rattle.cal_elapse.specs.declared.masks.Masks.{Masks}
 use Rattle.cal_elapse.proofs.BitLemmas.{first_bit, is_bit-none, is_bit-shifted}
 use Rattle.cal_elapse.proofs.CarryLemmas.{Splits, first_later, first_then, split_at}

@@ -10,13 +10,13 @@ use Rattle.jiff.proofs.SpanFacts.{signed_arith}
 use Rattle.jiff_core.specs.Calendar.{days_from_civil, days_in_month, weekday_number}
 use Rattle.jiff_core.proofs.CalendarLemmas.{days_from_civil-day_count, days_in_month_bounds, weekday_number-parts}
 use Rattle.jiff_core.proofs.MarchLemmas.{day_count-early}
-use Rattle.cal_civil.specs.headline.Days.{date_of}
+use Rattle.cal_civil.specs.rules.Days.{date_of}
 use Rattle.cal_civil.proofs.DayLemmas.{date_of-epoch_day, epoch_day-date_of}
-use Rattle.cal_civil.specs.headline.Local.{civil_date}
+use Rattle.cal_civil.specs.rules.LocalSecond.{civil_date}
 use Rattle.cal_zone.proofs.YearLemmas.{year-from_1970, year-to_2199, days_from_civil-1970}
-use Rattle.cal_spec.specs.headline.Match.{Sets, date_in}
-use Rattle.cal_elapse.specs.Months.{day_in, first_day, first_day-suc, first_day-zero, length_of, month_in, month_of, number_of, year_of}
-use Rattle.cal_elapse.specs.Search.{NonePasses}
+use Rattle.cal_spec.specs.rules.Match.{Sets, date_in}
+use Rattle.cal_elapse.specs.rules.Months.{day_in, first_day, first_day-suc, first_day-zero, length_of, month_in, month_of, number_of, year_of}
+use Rattle.cal_elapse.specs.rules.Search.{NonePasses}
 
 first_of_2200 : days_from_civil (pos 2_200) 1 1 ≡ pos 84_006
 first_of_2200 =

@@ -2,11 +2,11 @@
 -- more searches are made.
 use Rattle.std.proofs.Common.{◌≡◌, ◌∙◌, ℕ, ◌+◌, ◌<◌, ◌≤◌, Bool, true, Option, max, unwrap_or, IsSome, ◌-◌, arith, inl, inr, option_map, refl, subst, sym, unsigned_abs, ℤ, ◌⊎◌}
 use Rattle.std.proofs.lemmas.Bool.{cases_lt}
-use Rattle.cal_spec.specs.headline.Match.{Sets, matches}
-use Rattle.cal_elapse.specs.Search.{count_from, IsFirstPassing, NonePasses}
-use Rattle.cal_elapse.specs.ExaminedMonths.{IsSearch}
-use Rattle.cal_elapse.specs.MostMonths.{IsExamined, IsMost, IsMostAfter}
-use Rattle.cal_civil.specs.headline.Local.{seconds_in_all}
+use Rattle.cal_spec.specs.rules.Match.{Sets, matches}
+use Rattle.cal_elapse.specs.rules.Search.{count_from, IsFirstPassing, NonePasses}
+use Rattle.cal_elapse.specs.rules.ExaminedMonths.{IsSearch}
+use Rattle.cal_elapse.specs.rules.MostMonths.{IsExamined, IsMost, IsMostAfter}
+use Rattle.cal_civil.specs.rules.LocalSecond.{seconds_in_all}
 use Rattle.cal_elapse.specs.declared.search.Found.{Found}
 use Rattle.cal_elapse.proofs.CountLemmas.{count_from-nothing, count_from-to}
 use Rattle.cal_elapse.proofs.FoundLemmas.{first_passing}

@@ -5,12 +5,12 @@ use Rattle.std.specs.List.{list_any}
 use Rattle.std.proofs.lemmas.List.Folds.{list_any_more}
 use Rattle.std.proofs.lemmas.Bool.{cases_lt, le-ltb, lt-ltb}
 use Rattle.std.proofs.lemmas.Bool.Decides.{nat_tests}
-use Rattle.cal_elapse.specs.Masks.{AreSlotValues, last_number, slot_of}
-use Rattle.cal_spec.specs.Expr.{component, members_of}
-use Rattle.cal_spec.specs.headline.Fields.{Fields}
-use Rattle.cal_spec.specs.headline.Members.{component_has, is_between, part_has, part_matches, sets_of}
-use Rattle.cal_spec.specs.Parts.{is_from_end}
-use Rattle.cal_spec.specs.headline.Slot.{greatest}
+use Rattle.cal_elapse.specs.computed.Masks.{AreSlotValues, last_number, slot_of}
+use Rattle.cal_spec.specs.computed.Expr.{component, members_of}
+use Rattle.cal_spec.specs.rules.Fields.{Fields}
+use Rattle.cal_spec.specs.rules.Members.{component_has, is_between, part_has, part_matches, sets_of}
+use Rattle.cal_spec.specs.computed.Parts.{is_from_end}
+use Rattle.cal_spec.specs.rules.Slot.{greatest}
 use Rattle.cal_spec.specs.declared.field.Field.{Field}
 use Rattle.cal_spec.specs.declared.field.Part.{Part}
 use Rattle.cal_spec.specs.declared.slot.Slot.{Slot}

@@ -2,22 +2,21 @@
 use Rattle.std.proofs.Common.{◌≡◌, ℕ, ◌+◌, ◌-◌, ◌≤◌, Bool, List, Option, Some, ℤ, pos, ◌+ℤ◌, ◌≤ℤ◌, sym, ap, subst, arith, true, [], negsuc, max, unsigned_abs}
 use Rattle.std.proofs.lemmas.Int.{ints}
 use Rattle.jiff.proofs.SpanFacts.{signed_arith}
-use Rattle.cal_zone.specs.Instant.{IsInstant}
-use Rattle.cal_spec.specs.headline.Fields.{Fields}
-use Rattle.cal_spec.specs.headline.Members.{sets_of}
-use Rattle.cal_elapse.specs.headline.Elapses.{timed, Timed}
-use Rattle.cal_civil.specs.LocalSecond.{IsLocalSecond}
-use Rattle.cal_civil.specs.headline.Local.{seconds_in_all, seconds_in_all-is}
-use Rattle.cal_zone.specs.headline.Place.{place_of}
-use Rattle.cal_zone.specs.headline.Zone.{zone_of}
+use Rattle.cal_zone.specs.rules.Instant.{IsInstant}
+use Rattle.cal_spec.specs.rules.Fields.{Fields}
+use Rattle.cal_spec.specs.rules.Members.{sets_of}
+use Rattle.cal_elapse.specs.rules.Elapses.{timed, Timed}
+use Rattle.cal_civil.specs.rules.LocalSecond.{IsLocalSecond, seconds_in_all, seconds_in_all-is}
+use Rattle.cal_zone.specs.rules.Place.{place_of}
+use Rattle.cal_zone.specs.rules.Zone.{zone_of}
 use Rattle.cal_zone.specs.declared.zone.Zone.{Zone}
-use Rattle.cal_elapse.specs.ExaminedMonths.{IsSearch}
-use Rattle.cal_elapse.specs.Masks.{sets_in}
-use Rattle.cal_elapse.specs.MostMonths.{IsMost}
-use Rattle.cal_elapse.specs.RemainingElapses.{remaining_elapses}
-use Rattle.cal_rising.specs.headline.Elements.{Has}
-use Rattle.cal_elapse.specs.Search.{IsFirstLocal, NonePasses}
-use Rattle.cal_elapse.specs.Window.{IsMatchAhead, IsPlacedTo, IsReady, Windowed, bound_of, count_from, start_of, timed_by, timed_of, with_place}
+use Rattle.cal_elapse.specs.rules.ExaminedMonths.{IsSearch}
+use Rattle.cal_elapse.specs.computed.Masks.{sets_in}
+use Rattle.cal_elapse.specs.rules.MostMonths.{IsMost}
+use Rattle.cal_elapse.specs.computed.RemainingElapses.{remaining_elapses}
+use Rattle.cal_rising.specs.rules.Elements.{Has}
+use Rattle.cal_elapse.specs.rules.Search.{IsFirstLocal, NonePasses}
+use Rattle.cal_elapse.specs.computed.Window.{IsMatchAhead, IsPlacedTo, IsReady, Windowed, bound_of, count_from, start_of, timed_by, timed_of, with_place}
 use Rattle.cal_elapse.specs.declared.masks.Masks.{Masks}
 use Rattle.cal_elapse.specs.declared.search.Found.{Found}
 use Rattle.cal_elapse.specs.declared.search.searcher.Searcher.{Searcher}
@@ -27,7 +26,7 @@ use Rattle.cal_civil.proofs.LocalLemmas.{local_inside}
 use Rattle.cal_elapse.proofs.FoundLemmas.{first_match, first_passing}
 use Rattle.cal_elapse.proofs.MostMonthsLemmas.{most_more, most_next, most_start, search_examined}
 use Rattle.cal_elapse.proofs.WindowLemmas.{timed_by-near, windowed_on, windowed_put, windowed_start}
-use Rattle.cal_spec.specs.headline.Match.{matches}
+use Rattle.cal_spec.specs.rules.Match.{matches}
 
 -- `answer` is the first match at or after `from`, or `None` if there is no such match
 pub record IsNext (e : Timed) (from : ℕ) (answer : Option ℤ) : Type 0 where

@@ -6,22 +6,21 @@ use Rattle.jiff.specs.Types.{TimeZone}
 use Rattle.std.specs.Ordering.{int_cmp}
 use Rattle.std.specs.List.Sorted.{IsStrictlySortedBy}
 use Rattle.cal_text.proofs.General.{list-first, list-no_first, pos_unsigned_abs}
-use Rattle.cal_rising.specs.headline.Elements.{Has}
-use Rattle.cal_spec.specs.headline.Match.{matches}
+use Rattle.cal_rising.specs.rules.Elements.{Has}
+use Rattle.cal_spec.specs.rules.Match.{matches}
 use Rattle.cal_zone.proofs.PlaceLemmas.{within}
-use Rattle.cal_civil.specs.headline.Local.{seconds_in_all, seconds_in_all-is}
-use Rattle.cal_zone.specs.LocalOffsetRange.{AreAtOffset}
-use Rattle.cal_zone.specs.headline.Zone.{zone_of}
-use Rattle.cal_zone.specs.Instant.{IsInstant}
-use Rattle.cal_civil.specs.LocalSecond.{IsLocalSecond}
-use Rattle.cal_elapse.specs.Bits.{is_bit}
-use Rattle.cal_elapse.specs.Ring.{IsNear, IsOneOf}
-use Rattle.cal_elapse.specs.Search.{count_from}
-use Rattle.cal_elapse.specs.headline.Elapses.{Timed}
-use Rattle.cal_elapse.specs.RemainingMatches.{IsRestOfMinute}
-use Rattle.cal_elapse.specs.Masks.{sets_in}
-use Rattle.cal_elapse.specs.MostMonths.{IsMost, IsMostAfter}
-use Rattle.cal_elapse.specs.Window.{IsMatchAhead, IsPlacedTo, Windowed, start_of, timed_by, timed_of}
+use Rattle.cal_civil.specs.rules.LocalSecond.{seconds_in_all, seconds_in_all-is, IsLocalSecond}
+use Rattle.cal_zone.specs.computed.LocalOffsetRange.{AreAtOffset}
+use Rattle.cal_zone.specs.rules.Zone.{zone_of}
+use Rattle.cal_zone.specs.rules.Instant.{IsInstant}
+use Rattle.cal_elapse.specs.computed.Bits.{is_bit}
+use Rattle.cal_elapse.specs.computed.Ring.{IsNear, IsOneOf}
+use Rattle.cal_elapse.specs.rules.Search.{count_from}
+use Rattle.cal_elapse.specs.rules.Elapses.{Timed}
+use Rattle.cal_elapse.specs.computed.RemainingMatches.{IsRestOfMinute}
+use Rattle.cal_elapse.specs.computed.Masks.{sets_in}
+use Rattle.cal_elapse.specs.rules.MostMonths.{IsMost, IsMostAfter}
+use Rattle.cal_elapse.specs.computed.Window.{IsMatchAhead, IsPlacedTo, Windowed, start_of, timed_by, timed_of}
 use Rattle.cal_elapse.specs.declared.masks.Masks.{Masks}
 use Rattle.cal_elapse.specs.declared.search.searcher.Searcher.{Searcher}
 use Rattle.cal_elapse.specs.declared.window.Window.{Window}

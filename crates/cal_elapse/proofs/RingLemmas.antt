@@ -10,12 +10,12 @@ use Rattle.std.specs.List.Sorted.{IsStrictlySortedBy}
 use Rattle.std.specs.BTreeSet.{insert_key}
 use Rattle.std.specs.List.{AllByRecursion}
 use Rattle.std.specs.declared.cmp.Ordering.TheVariants.{Less}
-use Rattle.cal_zone.specs.Instant.{IsInstant}
-use Rattle.cal_elapse.specs.Bits.{is_bit, is_bit_in}
+use Rattle.cal_zone.specs.rules.Instant.{IsInstant}
+use Rattle.cal_elapse.specs.computed.Bits.{is_bit, is_bit_in}
 use Rattle.cal_elapse.proofs.BitLemmas.{is_bit-zero}
-use Rattle.cal_elapse.specs.Ring.{IsNear, cells_in_all, cells_in_all-is, instants_in, is_held, least_kept, no_second, rising_from, IsRound, IsRoundFrom}
-use Rattle.cal_rising.specs.headline.Elements.{Has}
-use Rattle.cal_elapse.specs.Search.{IsFirstPassing}
+use Rattle.cal_elapse.specs.computed.Ring.{IsNear, cells_in_all, cells_in_all-is, instants_in, is_held, least_kept, no_second, rising_from, IsRound, IsRoundFrom}
+use Rattle.cal_rising.specs.rules.Elements.{Has}
+use Rattle.cal_elapse.specs.rules.Search.{IsFirstPassing}
 use Rattle.cal_elapse.proofs.ElapsesLemmas.{first-least, first-none}
 use Rattle.cal_text.proofs.General.{list-first, list-no_first, lt_from_pos, rises-drop}
 use Rattle.cal_rising.proofs.RisingLemmas.{Has-insert_key, rises-insert_key, later_members, same_rising}

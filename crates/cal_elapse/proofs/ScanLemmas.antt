@@ -5,7 +5,7 @@ use lib.Bits.{bit_or}
 use lib.Lanes.{chunk, fold_l}
 use Rattle.std.proofs.lemmas.Bool.{cond-true, eq-eqb, lt-ltb, ne_eqb}
 use Rattle.std.proofs.lemmas.Simd.{get_or-chunk, length-chunk}
-use Rattle.cal_elapse.specs.Bits.{is_set}
+use Rattle.cal_elapse.specs.computed.Bits.{is_set}
 use Rattle.std.proofs.lemmas.Nat.{le_or_l, le_or_r}
 
 -- the bitwise OR of `a` and all the numbers in `xs` is at least `a`

@@ -3,15 +3,15 @@ use Rattle.std.proofs.Common.{◌≡◌, ℕ, ◌+◌, ◌*◌, ◌/◌, ◌%◌
 use Rattle.std.proofs.lemmas.Bool.{and_parts, cases_lt}
 use Rattle.std.proofs.lemmas.Bool.Decides.{nat_tests}
 use Rattle.std.proofs.lemmas.Int.{ints}
-use Rattle.cal_civil.specs.headline.Local.{civil_date, seconds_in_all, seconds_in_all-is}
-use Rattle.cal_spec.specs.headline.Match.{Sets, date_in, time_in, matches}
+use Rattle.cal_civil.specs.rules.LocalSecond.{civil_date, seconds_in_all, seconds_in_all-is}
+use Rattle.cal_spec.specs.rules.Match.{Sets, date_in, time_in, matches}
 use Rattle.cal_elapse.proofs.CarryLemmas.{Splits, first_here, first_later, first_then, first_within, none_by_high, none_by_low, none_later, split_at}
 use Rattle.cal_elapse.proofs.FoundLemmas.{first_local}
 use Rattle.cal_elapse.proofs.ExaminedMonthLemmas.{examined_today}
-use Rattle.cal_elapse.specs.ExaminedMonths.{IsSearch}
-use Rattle.cal_elapse.specs.Months.{day_in}
-use Rattle.cal_elapse.specs.SearchSteps.{day_to_start, second_on}
-use Rattle.cal_elapse.specs.Search.{IsFirstLocal, IsFirstPassing, NonePasses}
+use Rattle.cal_elapse.specs.rules.ExaminedMonths.{IsSearch}
+use Rattle.cal_elapse.specs.rules.Months.{day_in}
+use Rattle.cal_elapse.specs.computed.SearchSteps.{day_to_start, second_on}
+use Rattle.cal_elapse.specs.rules.Search.{IsFirstLocal, IsFirstPassing, NonePasses}
 
 pub inside : (t : ℕ) → t < 7_258_118_400 → nat_lt t seconds_in_all ≡ true
 inside t h =

@@ -3,12 +3,12 @@
 use Rattle.std.proofs.Common.{◌≡◌, ℕ, ◌+◌, ◌-◌, ◌<◌, ◌≤◌, nat_lt, true, false, Option, None, Some, ℤ, negsuc, pos, ◌<ℤ◌, ◌≤ℤ◌, ◌+ℤ◌, int_lt, unsigned_abs, sym, subst, arith, inl, inr, slice_get}
 use Rattle.std.proofs.lemmas.Bool.{and_left, cases_lt, false_from_ne_true}
 use Rattle.std.proofs.lemmas.Int.{ints}
-use Rattle.cal_civil.specs.headline.Local.{seconds_in_all}
+use Rattle.cal_civil.specs.rules.LocalSecond.{seconds_in_all}
 use Rattle.cal_zone.specs.declared.zone.Zone.{Zone}
-use Rattle.cal_rising.specs.headline.Elements.{Has}
-use Rattle.cal_elapse.specs.Masks.{sets_in}
-use Rattle.cal_elapse.specs.Searched.{IsMostSearched, IsSearched}
-use Rattle.cal_elapse.specs.Window.{IsReady, bound_of, count_from, start_of, timed_by, timed_of, to_place}
+use Rattle.cal_rising.specs.rules.Elements.{Has}
+use Rattle.cal_elapse.specs.computed.Masks.{sets_in}
+use Rattle.cal_elapse.specs.computed.Searched.{IsMostSearched, IsSearched}
+use Rattle.cal_elapse.specs.computed.Window.{IsReady, bound_of, count_from, start_of, timed_by, timed_of, to_place}
 use Rattle.cal_elapse.specs.declared.masks.Masks.{Masks}
 use Rattle.cal_elapse.specs.declared.window.Window.{Window}
 use Rattle.cal_civil.proofs.LocalLemmas.{local_arith}
@@ -17,7 +17,7 @@ use Rattle.cal_elapse.proofs.CountLemmas.{count_from-on}
 use Rattle.cal_elapse.proofs.MinuteLemmas.{match_inside}
 use Rattle.cal_elapse.proofs.MostMonthsLemmas.{most_same}
 use Rattle.cal_text.proofs.General.{lt_from_test, none_chosen}
-use Rattle.cal_spec.specs.headline.Match.{matches}
+use Rattle.cal_spec.specs.rules.Match.{matches}
 use Rattle.cal_elapse.proofs.InstantLemmas.{first_has}
 
 -- nothing matches after the last local second

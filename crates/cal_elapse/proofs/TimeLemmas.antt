@@ -1,12 +1,12 @@
 -- How the masks of hours, minutes and seconds, which have one bit for each matching value, tell whether a time of day
 -- matches.
 use Rattle.std.proofs.Common.{arith}
-use Rattle.cal_elapse.specs.Bits.{is_bit}
-use Rattle.cal_elapse.specs.Masks.{sets_in}
-use Rattle.cal_elapse.specs.Months.{minute_in}
+use Rattle.cal_elapse.specs.computed.Bits.{is_bit}
+use Rattle.cal_elapse.specs.computed.Masks.{sets_in}
+use Rattle.cal_elapse.specs.rules.Months.{minute_in}
 use Rattle.cal_elapse.specs.declared.masks.Masks.{Masks}
 use Rattle.cal_elapse.proofs.CarryLemmas.{Splits}
-use Rattle.cal_spec.specs.headline.Match.{time_in}
+use Rattle.cal_spec.specs.rules.Match.{time_in}
 use Rattle.cal_text.proofs.General.{and_regrouped}
 
 -- a minute of the day matches if and only if both its hour and its minute of the hour match

@@ -8,21 +8,20 @@ use Rattle.jiff.proofs.SpanFacts.{signed_arith}
 use Rattle.std.specs.Ordering.{int_cmp}
 use Rattle.std.specs.List.Sorted.{IsStrictlySortedBy}
 use Rattle.std.specs.BTreeSet.{insert_key}
-use Rattle.cal_zone.specs.Instant.{IsInstant}
-use Rattle.cal_civil.specs.LocalSecond.{IsLocalSecond}
-use Rattle.cal_civil.specs.headline.Local.{seconds_in_all}
+use Rattle.cal_zone.specs.rules.Instant.{IsInstant}
+use Rattle.cal_civil.specs.rules.LocalSecond.{IsLocalSecond, seconds_in_all}
 use Rattle.cal_zone.specs.declared.zone.Zone.{Zone}
-use Rattle.cal_zone.specs.headline.Place.{place_of}
+use Rattle.cal_zone.specs.rules.Place.{place_of}
 use Rattle.jiff.specs.Types.{TimeZone}
 use Rattle.cal_civil.proofs.LocalLemmas.{local_inside}
-use Rattle.cal_elapse.specs.Ring.{IsNear}
+use Rattle.cal_elapse.specs.computed.Ring.{IsNear}
 use Rattle.cal_zone.proofs.PlaceLemmas.{within}
 use Rattle.cal_elapse.specs.declared.masks.Masks.{Masks}
-use Rattle.cal_elapse.specs.ElapsesAfter.{elapses_after}
-use Rattle.cal_elapse.specs.headline.Elapses.{Timed, IsPlace}
-use Rattle.cal_rising.specs.headline.Elements.{Has}
-use Rattle.cal_elapse.specs.Search.{NonePasses}
-use Rattle.cal_elapse.specs.Window.{IsMatchAhead, IsPlacedBelow, IsReady, Windowed, bound_of, start_of, timed_by, timed_of, to_place, with_place}
+use Rattle.cal_elapse.specs.rules.ElapsesAfter.{elapses_after}
+use Rattle.cal_elapse.specs.rules.Elapses.{Timed, IsPlace}
+use Rattle.cal_rising.specs.rules.Elements.{Has}
+use Rattle.cal_elapse.specs.rules.Search.{NonePasses}
+use Rattle.cal_elapse.specs.computed.Window.{IsMatchAhead, IsPlacedBelow, IsReady, Windowed, bound_of, start_of, timed_by, timed_of, to_place, with_place}
 use Rattle.cal_elapse.specs.declared.window.Window.{Window}
 use Rattle.cal_elapse.proofs.ElapsesLemmas.{elapses_after-first, first_elapse-least, first_elapse-none}
 use Rattle.cal_text.proofs.General.{int_lt_trans, list-first, lt_from_test, none_chosen, drop_none}

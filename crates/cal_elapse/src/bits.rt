@@ -1,8 +1,8 @@
 //! Sets of numbers below 64, stored as the bits of a word.
 
 ghost use Rattle.std.specs.Prelude.{◌≡◌, ◌≢◌, ◌<◌, ℕ, true, false};
-ghost use Rattle.cal_elapse.specs.Bits.{is_bit};
-ghost use Rattle.cal_elapse.specs.Search.{IsFirstPassing};
+ghost use Rattle.cal_elapse.specs.computed.Bits.{is_bit};
+ghost use Rattle.cal_elapse.specs.rules.Search.{IsFirstPassing};
 
 /// Returns whether the set `mask` contains the number `index`, which must be below 64.
 pub(crate) fn has_bit(mask: u64, index: u32) -> bool

@@ -2,9 +2,9 @@
 //! matches (systemd.time(7), Calendar Events). The values that a field matches are the set bits of a mask.
 
 ghost use Rattle.std.specs.Prelude.{◌≡◌, true};
-ghost use Rattle.cal_elapse.specs.Bits.{is_bit, is_bit_in};
-ghost use Rattle.cal_elapse.specs.Covered.{AreAmong, HasAll};
-ghost use Rattle.cal_elapse.specs.Masks.{sets_in};
+ghost use Rattle.cal_elapse.specs.computed.Bits.{is_bit, is_bit_in};
+ghost use Rattle.cal_elapse.specs.rules.Covered.{AreAmong, HasAll};
+ghost use Rattle.cal_elapse.specs.computed.Masks.{sets_in};
 
 use crate::masks::Masks;
 

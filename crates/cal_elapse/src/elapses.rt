@@ -1,6 +1,6 @@
 //! The elapses of a calendar expression in a zone, in increasing order (systemd.time(7), Calendar Events).
 
-ghost use Rattle.cal_elapse.specs.Months.{months_in_all};
+ghost use Rattle.cal_elapse.specs.rules.Months.{months_in_all};
 
 use crate::NoMemory;
 use crate::window::Window;
@@ -22,7 +22,7 @@ pub struct Elapses<'z> {
 }
 
 impl<'z> Model for Elapses<'z> {
-    ghost use Rattle.cal_elapse.specs.Window.{IsReady};
+    ghost use Rattle.cal_elapse.specs.computed.Window.{IsReady};
     ghost use Rattle.cal_elapse.specs.declared.window.Window.{Window as PlainWindow};
 
     ghost Value = { PlainWindow };
@@ -34,14 +34,14 @@ impl<'z> Model for Elapses<'z> {
 
 impl<'z> Elapses<'z> {
     ghost use Rattle.std.specs.Prelude.{◌≡◌, ◌≤◌, [], ◌∷◌, IfOk};
-    ghost use Rattle.cal_zone.specs.headline.Zone.{zone_of};
-    ghost use Rattle.cal_elapse.specs.ElapsesAfter.{elapses_after};
-    ghost use Rattle.cal_elapse.specs.Masks.{sets_in};
-    ghost use Rattle.cal_elapse.specs.MostMonths.{IsExamined};
-    ghost use Rattle.cal_elapse.specs.RemainingElapses.{remaining_elapses};
-    ghost use Rattle.cal_elapse.specs.headline.Elapses.{timed};
-    ghost use Rattle.cal_elapse.specs.Window.{start_of, timed_of};
-    ghost use Rattle.cal_spec.specs.headline.Members.{sets_of};
+    ghost use Rattle.cal_zone.specs.rules.Zone.{zone_of};
+    ghost use Rattle.cal_elapse.specs.rules.ElapsesAfter.{elapses_after};
+    ghost use Rattle.cal_elapse.specs.computed.Masks.{sets_in};
+    ghost use Rattle.cal_elapse.specs.rules.MostMonths.{IsExamined};
+    ghost use Rattle.cal_elapse.specs.computed.RemainingElapses.{remaining_elapses};
+    ghost use Rattle.cal_elapse.specs.rules.Elapses.{timed};
+    ghost use Rattle.cal_elapse.specs.computed.Window.{start_of, timed_of};
+    ghost use Rattle.cal_spec.specs.rules.Members.{sets_of};
 
     /// Creates the source of the elapses after `base`, for an expression in a zone, and searches for the first match.
     ///
@@ -89,10 +89,10 @@ impl Rising for Elapses<'_> {
     ghost use Rattle.std.specs.Prelude.{◌≡◌, ◌≤◌, IfSome, IsSome, drop, slice_get};
     ghost use Rattle.std.specs.Ordering.{int_eq};
     ghost use Rattle.std.specs.Set.{is_member};
-    ghost use Rattle.cal_elapse.specs.RemainingElapses.{remaining_elapses, rises-remaining_elapses};
-    ghost use Rattle.cal_elapse.specs.Masks.{sets_in};
-    ghost use Rattle.cal_elapse.specs.Searched.{IsMostSearched, IsSearched};
-    ghost use Rattle.cal_elapse.specs.Window.{timed_of};
+    ghost use Rattle.cal_elapse.specs.computed.RemainingElapses.{remaining_elapses, rises-remaining_elapses};
+    ghost use Rattle.cal_elapse.specs.computed.Masks.{sets_in};
+    ghost use Rattle.cal_elapse.specs.computed.Searched.{IsMostSearched, IsSearched};
+    ghost use Rattle.cal_elapse.specs.computed.Window.{timed_of};
 
     ghost rest = { remaining_elapses };
 

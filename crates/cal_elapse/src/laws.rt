@@ -3,14 +3,14 @@
 
 ghost use Rattle.std.specs.Prelude.{◌≡◌, ◌↔◌, ◌+◌, ◌++◌, ◌∷◌, [], ℕ, ℤ, pos, ◌≤ℤ◌, List, Some, map, suc, take, drop, slice_get};
 ghost use Rattle.jiff.specs.Types.{TimeZone};
-ghost use Rattle.cal_zone.specs.Instant.{IsInstant};
-ghost use Rattle.cal_spec.specs.headline.Fields.{Fields};
-ghost use Rattle.cal_spec.specs.headline.Members.{sets_of};
-ghost use Rattle.cal_elapse.specs.ElapsesAfter.{elapses_after, elapses_except, each_after};
-ghost use Rattle.cal_elapse.specs.headline.Elapses.{Timed, AreElapses, timed};
-ghost use Rattle.cal_elapse.specs.Covered.{AreAmong, AreKept, IsCovered};
-ghost use Rattle.cal_rising.specs.RisingList.{union, without};
-ghost use Rattle.cal_rising.specs.headline.Elements.{Has};
+ghost use Rattle.cal_zone.specs.rules.Instant.{IsInstant};
+ghost use Rattle.cal_spec.specs.rules.Fields.{Fields};
+ghost use Rattle.cal_spec.specs.rules.Members.{sets_of};
+ghost use Rattle.cal_elapse.specs.rules.ElapsesAfter.{elapses_after, elapses_except, each_after};
+ghost use Rattle.cal_elapse.specs.rules.Elapses.{Timed, AreElapses, timed};
+ghost use Rattle.cal_elapse.specs.rules.Covered.{AreAmong, AreKept, IsCovered};
+ghost use Rattle.cal_rising.specs.rules.RisingList.{union, without};
+ghost use Rattle.cal_rising.specs.rules.Elements.{Has};
 
 /// There is exactly one list of the elapses of expressions after a base, without those of exceptions. The list is
 /// strictly increasing. It contains exactly the instants after the base to which a matching local second of an

@@ -1,7 +1,7 @@
 //! The values that each field of a calendar expression matches, as bits (systemd.time(7), Calendar Events).
 
 ghost use Rattle.std.specs.Prelude.{◌≡◌, ◌%◌, ◌<◌, ◌≤◌, ℕ, false};
-ghost use Rattle.cal_elapse.specs.Bits.{is_bit, is_bit_in};
+ghost use Rattle.cal_elapse.specs.computed.Bits.{is_bit, is_bit_in};
 
 /// The values that each field of a calendar expression matches, one bit for each. The lowest bit stands for the
 /// smallest value of the field: 1970 for years, 1 for months and for days of the month, Monday for weekdays, and 0 for

@@ -3,10 +3,10 @@
 
 ghost use Rattle.std.specs.Prelude.{◌≡◌, ◌==◌, ◌+◌, ◌-◌, ◌%◌, ◌<◌, ◌≤◌, ◌&&◌, ◌||◌, ◌≢◌, ℕ, false, nat_le, nat_lt, slice_index_or, if◌then◌else◌};
 ghost use Rattle.std.specs.List.{list_any};
-ghost use Rattle.cal_elapse.specs.Bits.{is_bit};
-ghost use Rattle.cal_elapse.specs.Masks.{AreSlotValues, last_number, sets_in, slot_of};
-ghost use Rattle.cal_spec.specs.Expr.{members_of};
-ghost use Rattle.cal_spec.specs.headline.Members.{part_has, sets_of};
+ghost use Rattle.cal_elapse.specs.computed.Bits.{is_bit};
+ghost use Rattle.cal_elapse.specs.computed.Masks.{AreSlotValues, last_number, sets_in, slot_of};
+ghost use Rattle.cal_spec.specs.computed.Expr.{members_of};
+ghost use Rattle.cal_spec.specs.rules.Members.{part_has, sets_of};
 ghost use Rattle.cal_spec.specs.declared.field.Field.TheVariants.{Day};
 ghost use Rattle.cal_spec.specs.declared.slot.Slot.{Slot};
 

@@ -1,11 +1,10 @@
 //! Tests whether a local second matches, without a search (systemd.time(7), Calendar Events).
 
 ghost use Rattle.std.specs.Prelude.{◌≡◌, ◌<◌, unsigned_abs};
-ghost use Rattle.cal_civil.specs.LocalSecond.{IsLocalSecond};
-ghost use Rattle.cal_elapse.specs.Masks.{sets_in};
-ghost use Rattle.cal_elapse.specs.Months.{day_in};
-ghost use Rattle.cal_spec.specs.headline.Match.{matches, time_in};
-ghost use Rattle.cal_civil.specs.headline.Local.{seconds_per_day, days_in_all};
+ghost use Rattle.cal_civil.specs.rules.LocalSecond.{IsLocalSecond, seconds_per_day, days_in_all};
+ghost use Rattle.cal_elapse.specs.computed.Masks.{sets_in};
+ghost use Rattle.cal_elapse.specs.rules.Months.{day_in};
+ghost use Rattle.cal_spec.specs.rules.Match.{matches, time_in};
 
 use crate::Masks;
 use crate::bits::has_bit;

@@ -4,8 +4,8 @@ ghost use Rattle.std.specs.Prelude.{◌≡◌, ◌+◌, ◌-◌, ◌<◌, ◌≤
 ghost use Rattle.std.specs.Int.{IsInRange};
 ghost use Rattle.jiff_core.specs.Calendar.{days_from_civil, IsBetween};
 ghost use Rattle.jiff_core.specs.Date.{epoch_day};
-ghost use Rattle.cal_civil.specs.headline.Local.{civil_date, days_in_all, first_year, last_year};
-ghost use Rattle.cal_elapse.specs.Months.{first_day, length_of, month_of, year_of, months_in_all};
+ghost use Rattle.cal_civil.specs.rules.LocalSecond.{civil_date, days_in_all, first_year, last_year};
+ghost use Rattle.cal_elapse.specs.rules.Months.{first_day, length_of, month_of, year_of, months_in_all};
 
 use cal_civil::date_of_day;
 use jiff_core::civil::{Date, days_in_month};

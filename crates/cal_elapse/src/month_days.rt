@@ -2,10 +2,10 @@
 //! count the months examined.
 
 ghost use Rattle.std.specs.Prelude.{◌≡◌, ◌+◌, ◌-◌, ◌<◌, ◌≤◌, ℕ, true, nat_lt, if◌then◌else◌};
-ghost use Rattle.cal_elapse.specs.Bits.{is_bit};
-ghost use Rattle.cal_elapse.specs.Masks.{sets_in};
-ghost use Rattle.cal_elapse.specs.Months.{day_in, month_in, months_in_all};
-ghost use Rattle.cal_elapse.specs.Search.{IsFirstPassing};
+ghost use Rattle.cal_elapse.specs.computed.Bits.{is_bit};
+ghost use Rattle.cal_elapse.specs.computed.Masks.{sets_in};
+ghost use Rattle.cal_elapse.specs.rules.Months.{day_in, month_in, months_in_all};
+ghost use Rattle.cal_elapse.specs.rules.Search.{IsFirstPassing};
 
 use crate::Masks;
 use crate::bits::{has_bit, next_bit};

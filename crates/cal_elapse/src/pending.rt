@@ -4,9 +4,9 @@ ghost use Rattle.std.specs.Prelude.{◌≡◌, [], ℤ, pos, IfOk, slice_get, dr
 ghost use Rattle.std.specs.Ordering.{int_cmp};
 ghost use Rattle.std.specs.List.Sorted.{IsStrictlySortedBy};
 ghost use Rattle.std.specs.BTreeSet.{insert_key};
-ghost use Rattle.cal_zone.specs.Instant.{IsInstant};
-ghost use Rattle.cal_elapse.specs.Ring.{IsNear};
-ghost use Rattle.cal_rising.specs.headline.Elements.{Has};
+ghost use Rattle.cal_zone.specs.rules.Instant.{IsInstant};
+ghost use Rattle.cal_elapse.specs.computed.Ring.{IsNear};
+ghost use Rattle.cal_rising.specs.rules.Elements.{Has};
 
 use crate::NoMemory;
 use crate::ring::{CELL_WORDS, CELLS, clear_cell, first_held, set_cell, set_cells};
@@ -31,7 +31,7 @@ pub struct Pending {
 
 impl Model for Pending {
     ghost use Rattle.std.specs.Prelude.{ℤ, List, box_value};
-    ghost use Rattle.cal_elapse.specs.Ring.{IsRoundFrom, instants_in};
+    ghost use Rattle.cal_elapse.specs.computed.Ring.{IsRoundFrom, instants_in};
 
     ghost Value = { List ℤ };
 
@@ -42,7 +42,7 @@ impl Model for Pending {
 
 impl Pending {
     ghost use Rattle.std.specs.Prelude.{◌⊎◌, ◌↔◌, ◌<ℤ◌, IsSomeAnd};
-    ghost use Rattle.cal_elapse.specs.Ring.{IsOneOf};
+    ghost use Rattle.cal_elapse.specs.computed.Ring.{IsOneOf};
 
     /// Creates an empty set. Fails with `NoMemory` if allocation fails.
     pub fn new(alloc: Global) -> Result<Pending, NoMemory>

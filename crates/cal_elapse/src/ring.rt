@@ -2,10 +2,10 @@
 //! number of cells.
 
 ghost use Rattle.std.specs.Prelude.{◌≡◌, ◌≢◌, ◌+◌, ◌*◌, ◌<◌, ◌≤ℤ◌, ℕ, pos, true, false, ◌||◌, length};
-ghost use Rattle.cal_zone.specs.Instant.{last_instant};
-ghost use Rattle.cal_elapse.specs.Bits.{is_bit, is_bit_in};
-ghost use Rattle.cal_elapse.specs.Ring.{cells_behind, is_held, cell_words, cell_count};
-ghost use Rattle.cal_elapse.specs.Search.{IsFirstPassing};
+ghost use Rattle.cal_zone.specs.rules.Instant.{last_instant};
+ghost use Rattle.cal_elapse.specs.computed.Bits.{is_bit, is_bit_in};
+ghost use Rattle.cal_elapse.specs.computed.Ring.{cells_behind, is_held, cell_words, cell_count};
+ghost use Rattle.cal_elapse.specs.rules.Search.{IsFirstPassing};
 
 use crate::bits::{lowest_bit, next_bit, with_bit, without_bit};
 use crate::scan::first_set;

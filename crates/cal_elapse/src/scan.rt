@@ -2,7 +2,7 @@
 
 ghost use Rattle.std.specs.Prelude.{◌≡◌, ◌<◌, ◌≤◌, ℕ, false, not, ◌==◌, length, slice_index_or};
 ghost use Rattle.std.specs.List.{position};
-ghost use Rattle.cal_elapse.specs.Bits.{is_set};
+ghost use Rattle.cal_elapse.specs.computed.Bits.{is_set};
 
 use std::simd::prelude::*;
 

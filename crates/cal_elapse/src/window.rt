@@ -1,14 +1,13 @@
 //! The conversion of an expression's matches to instants, in the order in which the matches are found.
 
 ghost use Rattle.std.specs.Prelude.{◌≡◌, ◌+◌, ◌*◌, ◌/◌, ◌≤◌, ℤ, pos, ◌+ℤ◌, ◌≤ℤ◌, ◌<ℤ◌, Some, cond, unsigned_abs};
-ghost use Rattle.cal_civil.specs.LocalSecond.{IsLocalSecond};
-ghost use Rattle.cal_civil.specs.headline.Local.{seconds_in_all, max_offset};
-ghost use Rattle.cal_zone.specs.Instant.{IsInstant};
-ghost use Rattle.cal_zone.specs.headline.Place.{place_of};
-ghost use Rattle.cal_zone.specs.headline.Zone.{zone_of};
-ghost use Rattle.cal_rising.specs.headline.Elements.{Has};
-ghost use Rattle.cal_elapse.specs.Ring.{IsNear};
-ghost use Rattle.cal_elapse.specs.Window.{start_of, to_place, with_place};
+ghost use Rattle.cal_civil.specs.rules.LocalSecond.{IsLocalSecond, seconds_in_all, max_offset};
+ghost use Rattle.cal_zone.specs.rules.Instant.{IsInstant};
+ghost use Rattle.cal_zone.specs.rules.Place.{place_of};
+ghost use Rattle.cal_zone.specs.rules.Zone.{zone_of};
+ghost use Rattle.cal_rising.specs.rules.Elements.{Has};
+ghost use Rattle.cal_elapse.specs.computed.Ring.{IsNear};
+ghost use Rattle.cal_elapse.specs.computed.Window.{start_of, to_place, with_place};
 
 use crate::search::searcher::{SearchStart, Searcher};
 use crate::{NoMemory, Pending};
@@ -35,15 +34,15 @@ pub struct Window<'z> {
 
 impl<'z> Window<'z> {
     ghost use Rattle.std.specs.Prelude.{◌≡◌, ◌↔◌, ◌<◌, ◌≤◌, [], ◌∷◌, ℤ, pos, ◌+ℤ◌, ◌≤ℤ◌, true, None, Some, IfOk, drop, slice_get};
-    ghost use Rattle.cal_zone.specs.headline.Zone.{zone_of};
-    ghost use Rattle.cal_elapse.specs.ElapsesAfter.{elapses_after};
-    ghost use Rattle.cal_rising.specs.headline.Elements.{Has};
-    ghost use Rattle.cal_elapse.specs.Masks.{sets_in};
-    ghost use Rattle.cal_elapse.specs.MostMonths.{IsExamined};
-    ghost use Rattle.cal_elapse.specs.Searched.{IsMostSearched, IsSearched};
-    ghost use Rattle.cal_elapse.specs.headline.Elapses.{IsPlace, timed};
-    ghost use Rattle.cal_elapse.specs.Window.{IsPlacedTo, IsReady, timed_of, to_place};
-    ghost use Rattle.cal_spec.specs.headline.Members.{sets_of};
+    ghost use Rattle.cal_zone.specs.rules.Zone.{zone_of};
+    ghost use Rattle.cal_elapse.specs.rules.ElapsesAfter.{elapses_after};
+    ghost use Rattle.cal_rising.specs.rules.Elements.{Has};
+    ghost use Rattle.cal_elapse.specs.computed.Masks.{sets_in};
+    ghost use Rattle.cal_elapse.specs.rules.MostMonths.{IsExamined};
+    ghost use Rattle.cal_elapse.specs.computed.Searched.{IsMostSearched, IsSearched};
+    ghost use Rattle.cal_elapse.specs.rules.Elapses.{IsPlace, timed};
+    ghost use Rattle.cal_elapse.specs.computed.Window.{IsPlacedTo, IsReady, timed_of, to_place};
+    ghost use Rattle.cal_spec.specs.rules.Members.{sets_of};
 
     /// Creates the window and searches for the first match. The search starts at the first local second that can
     /// resolve to an instant after the base.

@@ -4,7 +4,7 @@
 mod filter;
 mod merges;
 
-ghost use Rattle.cal_base.specs.LocalSecond.{IsLocalSecond};
+ghost use Rattle.cal_base.specs.CivilRules.LocalSecond.{IsLocalSecond};
 
 use crate::shared::{NEW_YEAR, ensure, expr, instant};
 use cal_base::Zone;

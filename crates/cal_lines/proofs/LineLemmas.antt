@@ -7,7 +7,7 @@ use Rattle.std.proofs.lemmas.Bool.Decides.{nat_tests}
 use Rattle.std.proofs.lemmas.List.{get_or-reverse}
 use Rattle.std.proofs.lemmas.List.Sums.{prefix_len_passes, suffix_len-le-length}
 use Rattle.std.proofs.lemmas.Str.{IsCharBoundary-before_ascii}
-use Rattle.cal_lines.specs.headline.Lines.{is_blank_or_return, is_continued}
+use Rattle.cal_lines.specs.rules.Lines.{is_blank_or_return, is_continued}
 
 -- spaces, tabs and carriage returns are ASCII, so each is a single byte
 pub blank_is_ascii : (b : ℕ) → is_blank_or_return b ≡ true → b < 128

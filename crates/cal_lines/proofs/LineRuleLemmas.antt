@@ -1,7 +1,7 @@
 -- `groups` computes the only grouping of lines that follows the rule of `LineRule`.
 use Rattle.std.proofs.Common.{arith, ◌≡◌, true, false, List, [], ◌∷◌, ◌++◌, refl, ap, ◌∙◌}
-use Rattle.cal_lines.specs.LineRule.{AreGroups, IsClosed, IsOpen, lines_of}
-use Rattle.cal_lines.specs.headline.Lines.{Group, Line, continued_by, groups, is_continued}
+use Rattle.cal_lines.specs.rules.LineRule.{AreGroups, IsClosed, IsOpen, lines_of}
+use Rattle.cal_lines.specs.rules.Lines.{Group, Line, continued_by, groups, is_continued}
 
 -- the lines of `continued_by line all` are `line` and then the lines of `all`; so `groups` keeps all lines in their
 -- order (`lines_of_groups`)

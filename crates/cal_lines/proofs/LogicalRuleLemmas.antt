@@ -7,10 +7,10 @@ use Rattle.std.proofs.Math.Seq.{take-append_seam, take-length}
 use Rattle.std.proofs.lemmas.Bool.Decides.{nat_tests}
 use Rattle.std.proofs.lemmas.List.{get_or-reverse, length-append, take_more}
 use Rattle.std.proofs.lemmas.List.Sums.{prefix_len_passes, suffix_len-le-length}
-use Rattle.cal_text.specs.headline.Trim.{trim_start_matches}
+use Rattle.cal_text.specs.rules.Trim.{trim_start_matches}
 use Rattle.cal_text.proofs.TrimLemmas.{unindented, unindented_only}
-use Rattle.cal_lines.specs.headline.Lines.{Group, Line, groups, is_blank_or_return, is_comment, is_continued, joined_line, logical_lines, numbered_lines, part_of_line, physical_lines, plain_lines}
-use Rattle.cal_lines.specs.LogicalRule.{AreJoined, AreLogical, ArePhysical, EachIsLogical, IsLinePart}
+use Rattle.cal_lines.specs.rules.Lines.{Group, Line, groups, is_blank_or_return, is_comment, is_continued, joined_line, logical_lines, numbered_lines, part_of_line, physical_lines, plain_lines}
+use Rattle.cal_lines.specs.rules.LogicalRule.{AreJoined, AreLogical, ArePhysical, EachIsLogical, IsLinePart}
 use Rattle.cal_lines.proofs.GroupLemmas.{parts_of}
 use Rattle.cal_lines.proofs.LineRuleLemmas.{are_groups, groups_of_lines, lines_of_groups}
 

@@ -1,4 +1,1 @@
-pub mod LineRule
-pub mod LineView
-pub mod LogicalRule
-pub mod headline
+pub mod rules

@@ -2,11 +2,11 @@
 //! contract states the law.
 
 ghost use Rattle.std.specs.Prelude.{◌≡◌, ℕ, List};
-ghost use Rattle.cal_text.specs.TrimRule.{IsTrimmed};
-ghost use Rattle.cal_text.specs.headline.Trim.{trim_matches};
-ghost use Rattle.cal_lines.specs.LineRule.{AreGroups, lines_of};
-ghost use Rattle.cal_lines.specs.headline.Lines.{Group, Line, groups, is_blank_or_return, logical_lines};
-ghost use Rattle.cal_lines.specs.LogicalRule.{AreLogical};
+ghost use Rattle.cal_text.specs.rules.TrimRule.{IsTrimmed};
+ghost use Rattle.cal_text.specs.rules.Trim.{trim_matches};
+ghost use Rattle.cal_lines.specs.rules.LineRule.{AreGroups, lines_of};
+ghost use Rattle.cal_lines.specs.rules.Lines.{Group, Line, groups, is_blank_or_return, logical_lines};
+ghost use Rattle.cal_lines.specs.rules.LogicalRule.{AreLogical};
 
 /// A line that ends in an odd number of backslashes is continued by the next one. Lines are grouped by continuation in
 /// exactly one way: each group ends at the first line that isn't continued, or at the end of the file.

@@ -7,9 +7,9 @@
 ghost use Rattle.std.specs.Prelude.{◌≡◌, ◌==◌, ◌∷◌, [], ◌+◌, ◌++◌, ◌<◌, ◌≤◌, ◌^◌, ◌-◌, MatchOption, MatchResult, IfOk, IfSome, OnOk, length, string_bytes, take, true};
 ghost use Rattle.std.specs.List.{prefix_len, suffix_len};
 ghost use Rattle.std.specs.Str.Lines.{lines, strip_carriage_return};
-ghost use Rattle.cal_text.specs.headline.Trim.{trim_matches, trim_end_matches, trim_start_matches};
-ghost use Rattle.cal_lines.specs.LineView.{logical_line, plain_line};
-ghost use Rattle.cal_lines.specs.headline.Lines.{is_blank_or_return, is_comment, is_continued, logical_lines, part_of_line, plain_lines};
+ghost use Rattle.cal_text.specs.rules.Trim.{trim_matches, trim_end_matches, trim_start_matches};
+ghost use Rattle.cal_lines.specs.rules.LineView.{logical_line, plain_line};
+ghost use Rattle.cal_lines.specs.rules.Lines.{is_blank_or_return, is_comment, is_continued, logical_lines, part_of_line, plain_lines};
 
 use std::alloc::{AllocError, Global};
 
@@ -51,7 +51,7 @@ fn trim_end(text: &str) -> &str
 }
 
 /// Returns `text` without leading and trailing spaces, tabs and carriage returns.
-#[tactic(auto, unfolding(cal_text::specs::headline::Trim::trim_matches))]
+#[tactic(auto, unfolding(cal_text::specs::rules::Trim::trim_matches))]
 pub fn trim(text: &str) -> &str
     ensures { result.now ≡ trim_matches is_blank_or_return text.now }
 {
@@ -137,7 +137,7 @@ fn trailing_backslashes(line: &str) -> usize
 }
 
 /// Returns whether the line is continued by the next one, that is, whether it ends in an odd number of backslashes.
-#[tactic(auto, unfolding(crate::specs::headline::Lines::is_continued))]
+#[tactic(auto, unfolding(crate::specs::rules::Lines::is_continued))]
 fn is_continued(line: &str) -> bool
     ensures { result ≡ is_continued line.now }
 {
@@ -154,7 +154,7 @@ fn without_backslash(line: &str) -> &str
 
 /// Appends a physical line to a logical line. If the physical line is continued, a space takes the place of its last
 /// backslash. Returns whether the physical line is continued. Fails only if allocation fails.
-#[tactic(auto, unfolding(crate::specs::headline::Lines::part_of_line))]
+#[tactic(auto, unfolding(crate::specs::rules::Lines::part_of_line))]
 fn push_part(joined: &mut String, line: &str) -> Result<bool, AllocError>
     ensures text { OnOk result (string_bytes joined.new ≡ string_bytes joined.old ++ part_of_line line.now) }
     ensures goes_on { IfOk result (λ goes_on. goes_on ≡ is_continued line.now) }

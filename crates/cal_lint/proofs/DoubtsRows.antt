@@ -1,11 +1,11 @@
 -- Examples that check, by computation, which expressions may not mean what their author thinks, and which keys count as
 -- unknown.
 use Rattle.std.proofs.Common.{◌≡◌, ℕ, List, true, false, [], ◌∷◌, codes, refl, Option, None, Some}
-use Rattle.cal_text.specs.headline.Separators.{words}
+use Rattle.cal_text.specs.rules.Separators.{words}
 use Rattle.cal_spec.specs.declared.field.Part.{Part}
-use Rattle.cal_spec.specs.headline.NormalForm.{point}
-use Rattle.cal_lint.specs.Doubts.{has_month_day, is_hour_list, is_hour_range}
-use Rattle.cal_lint.specs.UnknownKeys.{is_unknown_key}
+use Rattle.cal_spec.specs.rules.NormalForm.{point}
+use Rattle.cal_lint.specs.rules.Doubts.{has_month_day, is_hour_list, is_hour_range}
+use Rattle.cal_lint.specs.rules.UnknownKeys.{is_unknown_key}
 
 abbrev to : ℕ → Option ℕ → List Part
 to end step = record { start = 0; end = Some end; step = step } ∷ []

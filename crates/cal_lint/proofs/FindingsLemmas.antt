@@ -1,15 +1,15 @@
 -- If a unit has only one file, and the first line of this file has the number 1, `timer_faults` lists all errors of the
 -- unit.
 use Rattle.std.proofs.Common.{◌≡◌, ◌∙◌, false, [], ◌∷◌, ap, append-nil, map, sym}
-use Rattle.cal_lines.specs.headline.Lines.{logical_lines}
-use Rattle.cal_spec.specs.Expr.{expr_in}
-use Rattle.cal_timer.specs.headline.Assignments.{assignments_in}
-use Rattle.cal_timer.specs.headline.TimerText.{without_mark}
-use Rattle.cal_read.specs.TimerFaults.{all_faults, faults_of, in_file}
-use Rattle.cal_read.specs.TimerTexts.{assignments_at}
+use Rattle.cal_lines.specs.rules.Lines.{logical_lines}
+use Rattle.cal_spec.specs.computed.Expr.{expr_in}
+use Rattle.cal_timer.specs.rules.Assignments.{assignments_in}
+use Rattle.cal_timer.specs.rules.TimerText.{without_mark}
+use Rattle.cal_read.specs.rules.TimerFaults.{all_faults, faults_of, in_file}
+use Rattle.cal_read.specs.rules.TimerTexts.{assignments_at}
 use Rattle.cal_read.specs.declared.texts.NumberedText.{NumberedText}
 use Rattle.cal_read.proofs.SectionAssignmentsLemmas.{assignments_of_timer}
-use Rattle.cal_lint.specs.Findings.{timer_faults}
+use Rattle.cal_lint.specs.rules.Findings.{timer_faults}
 
 pub faults_of_one : (file : NumberedText) → file.first ≡ 1 → faults_of expr_in [] 0 (file ∷ []) ≡ timer_faults file.text.now
 unfolding faults_of

@@ -2,12 +2,12 @@
 -- with systemd-analyze. The fields of an expression matter only if days are counted from the month's end, as in the
 -- rows `days_from_end` and `days_within`. All other rows use the fields of `daily`, whatever their text is.
 use Rattle.std.proofs.Common.{◌≡◌, ℕ, List, true, false, ◌++◌, ◌∷◌, [], codes, refl, Option, None, Some}
-use Rattle.cal_text.specs.headline.Separators.{words}
-use Rattle.cal_civil.specs.headline.Weekday.{name_of}
-use Rattle.cal_spec.specs.headline.Fields.{Fields}
-use Rattle.cal_spec.specs.headline.NormalForm.{point}
-use Rattle.cal_spec.specs.WeekdayNames.{day_named, days_of}
-use Rattle.cal_lint.specs.Systemd252.{first_rejection, late_among}
+use Rattle.cal_text.specs.rules.Separators.{words}
+use Rattle.cal_civil.specs.rules.Weekday.{name_of}
+use Rattle.cal_spec.specs.rules.Fields.{Fields}
+use Rattle.cal_spec.specs.rules.NormalForm.{point}
+use Rattle.cal_spec.specs.rules.WeekdayNames.{day_named, days_of}
+use Rattle.cal_lint.specs.rules.Systemd252.{first_rejection, late_among}
 use Rattle.cal_lint.specs.declared.older_systemd.Rejection.{Rejection}
 use Rattle.cal_lint.specs.declared.older_systemd.Rejection.TheVariants.{Tab, Blanks, PastSunday, OneSecond, SecondStep, Offset, ZoneName}
 

@@ -1,5 +1,1 @@
-pub mod Doubts
-pub mod Findings
-pub mod Hints
-pub mod Systemd252
-pub mod UnknownKeys
+pub mod rules

@@ -3,9 +3,9 @@
 ghost use Rattle.std.specs.Prelude.{◌≡◌};
 ghost use Rattle.std.specs.List.{find};
 ghost use Rattle.std.specs.Option.{option_copied};
-ghost use Rattle.cal_spec.specs.Reads.{GivesUnlessNoMemory};
-ghost use Rattle.cal_text.specs.headline.Separators.{words};
-ghost use Rattle.cal_lint.specs.Doubts.{doubt_in, has_hours, has_month_day, is_doubtful, is_hour_list, is_hour_range, is_later_hour, is_month_day, is_range_to, part_number, single};
+ghost use Rattle.cal_spec.specs.computed.Reads.{GivesUnlessNoMemory};
+ghost use Rattle.cal_text.specs.rules.Separators.{words};
+ghost use Rattle.cal_lint.specs.rules.Doubts.{doubt_in, has_hours, has_month_day, is_doubtful, is_hour_list, is_hour_range, is_later_hour, is_month_day, is_range_to, part_number, single};
 
 use cal_spec::{Expr, Field, Part, SpecFault, read_expr};
 use cal_text::first_word;
@@ -35,7 +35,7 @@ impl Doubt {
 ///
 /// Fails with the error of [`read_expr`] if `text` is not a valid expression. Fails with [`SpecFault::NoMemory`] only
 /// if allocation fails.
-#[tactic(auto, unfolding(crate::specs::Doubts::doubt_in))]
+#[tactic(auto, unfolding(crate::specs::rules::Doubts::doubt_in))]
 pub fn find_doubt(alloc: Global, text: &str) -> Result<Option<Doubt>, SpecFault>
     ensures { GivesUnlessNoMemory (λ doubt. doubt) result (doubt_in text.now) }
 {

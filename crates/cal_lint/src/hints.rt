@@ -7,10 +7,10 @@ ghost use Rattle.std.specs.Prelude.{◌≡◌, IfOk, IfSome, Some, false, is_ok,
 ghost use Rattle.std.specs.List.{list_any};
 ghost use Rattle.std.specs.Option.{option_map, option_copied};
 ghost use Rattle.std.specs.Char.{is_ascii_alphabetic};
-ghost use Rattle.cal_text.specs.headline.Trim.{trim_matches};
-ghost use Rattle.cal_text.specs.headline.Separators.{is_blank};
-ghost use Rattle.cal_spec.specs.Expr.{expr_in};
-ghost use Rattle.cal_lint.specs.Hints.{is_comment_mark, is_span, mistake_in};
+ghost use Rattle.cal_text.specs.rules.Trim.{trim_matches};
+ghost use Rattle.cal_text.specs.rules.Separators.{is_blank};
+ghost use Rattle.cal_spec.specs.computed.Expr.{expr_in};
+ghost use Rattle.cal_lint.specs.rules.Hints.{is_comment_mark, is_span, mistake_in};
 ghost use Rattle.cal_lint.specs.declared.hints.Mistake.{Mistake};
 
 use crate::crontab::from_crontab;
@@ -117,7 +117,7 @@ fn hint_for(alloc: Global, text: &str) -> Result<Option<Hint>, AllocError>
 
 /// Returns the mistake that concerns the whole text, and not one of its words, or `None` if there is no such mistake.
 /// If there are several, returns the first in the order of [`Mistake`].
-#[tactic(auto, unfolding(crate::specs::Hints::mistake_in))]
+#[tactic(auto, unfolding(crate::specs::rules::Hints::mistake_in))]
 fn mistake_in(text: &str) -> Option<Mistake>
     ensures { result ≡ mistake_in text.now }
 {

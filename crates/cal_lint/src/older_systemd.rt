@@ -4,12 +4,11 @@ ghost use Rattle.std.specs.Prelude.{◌≡◌, ◌≤◌, ◌==◌, IsTrue, leng
 ghost use Rattle.std.specs.Option.{option_and_then, option_copied};
 ghost use Rattle.std.specs.List.{after_first, find, list_all, list_any, prefix_len, slice_split};
 ghost use Rattle.std.specs.Char.{is_ascii_digit};
-ghost use Rattle.cal_bytes.specs.SplitPieces.{pieces_after};
-ghost use Rattle.cal_text.specs.headline.Separators.{is_colon, is_comma, words};
-ghost use Rattle.cal_spec.specs.Parts.{is_slash};
-ghost use Rattle.cal_spec.specs.Reads.{GivesUnlessNoMemory};
-ghost use Rattle.cal_spec.specs.WeekdayNames.{after_joint, day_named};
-ghost use Rattle.cal_lint.specs.Systemd252.{are_equal, rejection_in, has_empty_part, has_extra, has_extra_after, has_large_step, has_late_days, has_late_part, has_weekday_wrap, is_date, is_one_second, is_rejected_for, is_space, is_weekday_list, piece_is_rejected_for, runs_past_sunday, seconds_in, step_in, word_is_rejected_for};
+ghost use Rattle.cal_bytes.specs.computed.SplitPieces.{pieces_after};
+ghost use Rattle.cal_text.specs.rules.Separators.{is_colon, is_comma, words, is_slash};
+ghost use Rattle.cal_spec.specs.computed.Reads.{GivesUnlessNoMemory};
+ghost use Rattle.cal_spec.specs.rules.WeekdayNames.{after_joint, day_named};
+ghost use Rattle.cal_lint.specs.rules.Systemd252.{are_equal, rejection_in, has_empty_part, has_extra, has_extra_after, has_large_step, has_late_days, has_late_part, has_weekday_wrap, is_date, is_one_second, is_rejected_for, is_space, is_weekday_list, piece_is_rejected_for, runs_past_sunday, seconds_in, step_in, word_is_rejected_for};
 
 use cal_civil::{begins_with_letter, begins_zone};
 use cal_spec::{Expr, Field, Part, SpecFault, find_day, first_piece, letters_len, read_expr};
@@ -73,7 +72,7 @@ impl Rejection {
 ///
 /// Fails with the error of [`read_expr`] if `text` is not a valid expression. Fails with [`SpecFault::NoMemory`] only
 /// if allocation fails.
-#[tactic(auto, unfolding(crate::specs::Systemd252::rejection_in))]
+#[tactic(auto, unfolding(crate::specs::rules::Systemd252::rejection_in))]
 pub fn systemd_252(alloc: Global, text: &str) -> Result<Option<Rejection>, SpecFault>
     ensures { GivesUnlessNoMemory (λ rejection. rejection) result (rejection_in text.now) }
 {
@@ -214,7 +213,7 @@ fn has_weekday_wrap(text: &str) -> bool
 }
 
 /// Returns whether an item of a weekday list is a range that runs past Sunday.
-#[tactic(auto, unfolding(cal_spec::specs::WeekdayNames::days_of))]
+#[tactic(auto, unfolding(cal_spec::specs::rules::WeekdayNames::days_of))]
 fn runs_past_sunday(item: &[u8]) -> bool
     ensures { result ≡ runs_past_sunday item.now }
 {

@@ -7,11 +7,11 @@
 ghost use Rattle.std.specs.Prelude.{◌≡◌, ◌+◌, ◌<◌, ◌^◌, ◌++◌, ◌∷◌, [], IfOk, OnOk, length, map};
 ghost use Rattle.std.specs.List.{find, list_any};
 ghost use Rattle.std.specs.Option.{option_map, option_to_list};
-ghost use Rattle.cal_read.specs.SectionAssignments.{shown_owned_assignment};
-ghost use Rattle.cal_timer.specs.TimerView.{shown_assignment};
-ghost use Rattle.cal_lint.specs.Doubts.{doubt_in};
-ghost use Rattle.cal_lint.specs.Systemd252.{rejection_in};
-ghost use Rattle.cal_lint.specs.Findings.{advice, fault_on, findings_in, found_problems, if_valid, is_checked, is_on, is_percent, problem_at, problem_kind_of, shown_finding, timer_faults};
+ghost use Rattle.cal_read.specs.rules.SectionAssignments.{shown_owned_assignment};
+ghost use Rattle.cal_timer.specs.rules.TimerView.{shown_assignment};
+ghost use Rattle.cal_lint.specs.rules.Doubts.{doubt_in};
+ghost use Rattle.cal_lint.specs.rules.Systemd252.{rejection_in};
+ghost use Rattle.cal_lint.specs.rules.Findings.{advice, fault_on, findings_in, found_problems, if_valid, is_checked, is_on, is_percent, problem_at, problem_kind_of, shown_finding, timer_faults};
 ghost use Rattle.cal_lint.specs.declared.problems.Problem.TheVariants.{Doubtful, Invalid, Rejected};
 
 use crate::doubts::{Doubt, find_doubt};

@@ -2,9 +2,9 @@
 -- the line of the next expression, then the lines are those of the first `i + 1` expressions.
 use Rattle.std.proofs.Common.{◌≡◌, ◌+◌, ◌<◌, ◌∙◌, ℕ, Bor, List, [], ◌∷◌, ◌++◌, ap, get_or, length, map, subst, sym, take}
 use Rattle.std.proofs.lemmas.List.{map-append, take_more}
-use Rattle.cal_spec.specs.headline.Fields.{Fields}
-use Rattle.cal_timer.specs.TimerEntries.{TimerLine}
-use Rattle.cal_load.specs.Expressions.{AreOf}
+use Rattle.cal_spec.specs.rules.Fields.{Fields}
+use Rattle.cal_timer.specs.rules.TimerEntries.{TimerLine}
+use Rattle.cal_load.specs.rules.Expressions.{AreOf}
 
 pub lines_more : (texts : List (Bor (List ℕ))) (i : ℕ) (d : Bor (List ℕ)) (old new : List (TimerLine Fields)) → i < length texts
     → AreOf (map (λ text. text.now) (take i texts)) old

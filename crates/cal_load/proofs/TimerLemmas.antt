@@ -2,10 +2,10 @@
 use Rattle.std.proofs.Common.{◌≡◌, ℕ, List, ◌++◌, All, Ok, Err, Result, append-nil, inl, inr}
 use Rattle.std.specs.Prelude.{IfOk}
 use Rattle.std.proofs.lemmas.List.Elements.{All-push}
-use Rattle.cal_units.specs.Aliases.{Alias}
-use Rattle.cal_units.specs.Machine.{Machine}
-use Rattle.cal_load.specs.LoadedTarget.{IsLoadedFile, IsLoadedTarget, IsLoadedUnit, timers_in}
-use Rattle.cal_load.specs.Loaded.{IsTimerOn}
+use Rattle.cal_units.specs.rules.Aliases.{Alias}
+use Rattle.cal_units.specs.rules.Machine.{Machine}
+use Rattle.cal_load.specs.rules.LoadedTarget.{IsLoadedFile, IsLoadedTarget, IsLoadedUnit, timers_in}
+use Rattle.cal_load.specs.rules.Loaded.{IsTimerOn}
 use Rattle.cal_targets.specs.declared.fault.TargetLoadFault.{TargetLoadFault}
 use Rattle.cal_load.specs.declared.loaded.LoadedTarget as targets
 use Rattle.cal_load.specs.declared.loaded.LoadedTimer.{LoadedTimer}

@@ -1,4 +1,1 @@
-pub mod Expressions
-pub mod Loaded
-pub mod LoadedTarget
-pub mod Position
+pub mod rules

@@ -1,8 +1,8 @@
 //! The calendar of a timer.
 
 ghost use Rattle.std.specs.Prelude.{◌≡◌, map};
-ghost use Rattle.cal_timer.specs.TimerView.{shown};
-ghost use Rattle.cal_load.specs.Loaded.{exceptions_in, expressions_in};
+ghost use Rattle.cal_timer.specs.rules.TimerView.{shown};
+ghost use Rattle.cal_load.specs.rules.Loaded.{exceptions_in, expressions_in};
 
 use cal_timer::{Timer, TimerLine};
 

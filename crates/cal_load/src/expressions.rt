@@ -1,9 +1,9 @@
 //! Timers that are made of expressions alone.
 
 ghost use Rattle.std.specs.Prelude.{◌≡◌, ◌∷◌, ◌++◌, [], ℕ, List, All, IfOk, OnOk, map};
-ghost use Rattle.cal_timer.specs.TimerView.{shown};
-ghost use Rattle.cal_units.specs.Machine.{Machine};
-ghost use Rattle.cal_load.specs.Expressions.{AreOf, IsMadeOf, IsTimerOf};
+ghost use Rattle.cal_timer.specs.rules.TimerView.{shown};
+ghost use Rattle.cal_units.specs.rules.Machine.{Machine};
+ghost use Rattle.cal_load.specs.rules.Expressions.{AreOf, IsMadeOf, IsTimerOf};
 
 use crate::calendar::Calendar;
 use crate::loaded::{Loaded, LoadedTimer};

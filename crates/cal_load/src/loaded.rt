@@ -1,10 +1,10 @@
 //! Timers that were loaded.
 
 ghost use Rattle.std.specs.Prelude.{◌≡◌, ◌+◌, ◌++◌, [], IfSome, OnOk, map, slice_get};
-ghost use Rattle.cal_timer.specs.TimerView.{shown};
-ghost use Rattle.cal_load.specs.Loaded.{exceptions_in, expressions_in};
-ghost use Rattle.cal_load.specs.LoadedTarget.{timers_in};
-ghost use Rattle.cal_load.specs.Position.{IsLastUntil, IsPosition};
+ghost use Rattle.cal_timer.specs.rules.TimerView.{shown};
+ghost use Rattle.cal_load.specs.rules.Loaded.{exceptions_in, expressions_in};
+ghost use Rattle.cal_load.specs.rules.LoadedTarget.{timers_in};
+ghost use Rattle.cal_load.specs.rules.Position.{IsLastUntil, IsPosition};
 
 use crate::calendar::Calendar;
 use cal_targets::{TargetFault, TargetLoadFault, push_fault};

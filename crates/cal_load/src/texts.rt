@@ -2,9 +2,9 @@
 
 ghost use Rattle.std.specs.Prelude.{◌≡◌, ◌+◌, ◌<◌, ◌^◌, All, IfOk, length, map};
 ghost use Rattle.std.specs.Str.Lines.{lines};
-ghost use Rattle.cal_read.specs.TimerTexts.{assignments_of};
-ghost use Rattle.cal_units.specs.Files.{shown_unit_text};
-ghost use Rattle.cal_load.specs.Loaded.{assignments_of_files};
+ghost use Rattle.cal_read.specs.rules.TimerTexts.{assignments_of};
+ghost use Rattle.cal_units.specs.rules.Files.{shown_unit_text};
+ghost use Rattle.cal_load.specs.rules.Loaded.{assignments_of_files};
 
 use cal_read::NumberedText;
 use cal_targets::TargetLoadFault;

@@ -1,10 +1,10 @@
 //! The timers that a user names.
 
 ghost use Rattle.std.specs.Prelude.{ℕ, List, All, IfOk, OnOk, map, string_bytes};
-ghost use Rattle.cal_units.specs.Aliases.{Alias as Known, shown_alias};
-ghost use Rattle.cal_units.specs.Machine.{Machine};
-ghost use Rattle.cal_load.specs.Loaded.{IsTimerOn};
-ghost use Rattle.cal_load.specs.LoadedTarget.{IsLoadedFile, IsLoadedTarget};
+ghost use Rattle.cal_units.specs.rules.Aliases.{Alias as Known, shown_alias};
+ghost use Rattle.cal_units.specs.rules.Machine.{Machine};
+ghost use Rattle.cal_load.specs.rules.Loaded.{IsTimerOn};
+ghost use Rattle.cal_load.specs.rules.LoadedTarget.{IsLoadedFile, IsLoadedTarget};
 
 use crate::loaded::{Loaded, LoadedTarget};
 use crate::unit::{read_timer_file, read_unit};

@@ -1,13 +1,13 @@
 //! Reading a timer from its files.
 
 ghost use Rattle.std.specs.Prelude.{◌≡◌, ◌+◌, ◌<◌, ◌^◌, ◌∷◌, ◌++◌, All, IfOk, codes, length, map, string_bytes};
-ghost use Rattle.cal_drop_ins.specs.DropIns.{drop_ins};
-ghost use Rattle.cal_read.specs.TimerTexts.{assignments_of};
-ghost use Rattle.cal_units.specs.Aliases.{shown_alias, unit_stems};
-ghost use Rattle.cal_units.specs.Files.{files_at, shown_unit_text};
-ghost use Rattle.cal_units.specs.Machine.{Machine, disk_of};
-ghost use Rattle.cal_load.specs.Loaded.{IsCalendarBy, IsCalendarOf, IsFileOn, IsTimerReadFrom};
-ghost use Rattle.cal_load.specs.LoadedTarget.{IsLoadedUnit};
+ghost use Rattle.cal_drop_ins.specs.rules.DropIns.{drop_ins};
+ghost use Rattle.cal_read.specs.rules.TimerTexts.{assignments_of};
+ghost use Rattle.cal_units.specs.rules.Aliases.{shown_alias, unit_stems};
+ghost use Rattle.cal_units.specs.rules.Files.{files_at, shown_unit_text};
+ghost use Rattle.cal_units.specs.rules.Machine.{Machine, disk_of};
+ghost use Rattle.cal_load.specs.rules.Loaded.{IsCalendarBy, IsCalendarOf, IsFileOn, IsTimerReadFrom};
+ghost use Rattle.cal_load.specs.rules.LoadedTarget.{IsLoadedUnit};
 
 use crate::calendar::Calendar;
 use crate::loaded::{LoadedTarget, LoadedTimer, position_in};

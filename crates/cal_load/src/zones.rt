@@ -2,10 +2,10 @@
 
 ghost use Rattle.std.specs.Prelude.{◌≡◌, ◌++◌, IfOk, OnOk, map, option_copied, string_bytes};
 ghost use Rattle.std.specs.Option.{option_to_list};
-ghost use Rattle.cal_machine_zones.specs.ZoneFiles.{HasZonesOf};
-ghost use Rattle.cal_timer.specs.TimerView.{shown};
-ghost use Rattle.cal_units.specs.Machine.{Machine};
-ghost use Rattle.cal_load.specs.Loaded.{HasNames, zone_names_in};
+ghost use Rattle.cal_machine_zones.specs.rules.ZoneFiles.{HasZonesOf};
+ghost use Rattle.cal_timer.specs.rules.TimerView.{shown};
+ghost use Rattle.cal_units.specs.rules.Machine.{Machine};
+ghost use Rattle.cal_load.specs.rules.Loaded.{HasNames, zone_names_in};
 
 use cal_machine_zones::{ZonesFault, load_zones};
 use cal_timer::TimerLine;

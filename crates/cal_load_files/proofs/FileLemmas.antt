@@ -2,8 +2,8 @@
 use Rattle.std.proofs.Common.{◌≡◌, ℕ, List, [], ◌∷◌, ◌++◌, All, Option, Some, None, map, refl}
 use Rattle.std.specs.Option.{option_map, option_to_list}
 use Rattle.std.proofs.lemmas.List.Elements.{All-append, All-cons, All-head, All-nil, All-same, All-tail}
-use Rattle.cal_units.specs.Files.{IsStoredOn, UnitText, file_at, files_at, shown_unit_text}
-use Rattle.cal_units.specs.Machine.{Machine}
+use Rattle.cal_units.specs.rules.Files.{IsStoredOn, UnitText, file_at, files_at, shown_unit_text}
+use Rattle.cal_units.specs.rules.Machine.{Machine}
 use Rattle.cal_units.specs.declared.files.UnitText as texts
 
 abbrev IsShownOn : Machine → UnitText → Type 0

@@ -1,8 +1,8 @@
 //! Reading the files that a user names, each once.
 
 ghost use Rattle.std.specs.Prelude.{◌≡◌, ◌++◌, [], All, IfOk, OnOk};
-ghost use Rattle.cal_units.specs.Machine.{Machine};
-ghost use Rattle.cal_units.specs.Files.{IsStoredOn};
+ghost use Rattle.cal_units.specs.rules.Machine.{Machine};
+ghost use Rattle.cal_units.specs.rules.Files.{IsStoredOn};
 
 use cal_drop_ins::unit_stem;
 use cal_targets::{

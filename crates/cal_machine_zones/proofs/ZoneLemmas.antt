@@ -13,15 +13,15 @@ use Rattle.std.specs.Cmp.Lexicographic.{slice_cmp}
 use Rattle.std.specs.Ordering.{nat_cmp}
 use Rattle.std.proofs.lemmas.Slice.Eq.{bytes_eq-Decides}
 use Rattle.jiff.specs.Types.{TimeZone}
-use Rattle.cal_civil.specs.headline.ZoneName.{is_utc_name}
-use Rattle.cal_streams.specs.Whole.{GivesAll}
-use Rattle.cal_units.specs.Machine.{Machine}
-use Rattle.cal_zone.specs.LoadZone.{IsLoaded}
-use Rattle.cal_zone.specs.ZoneFile.{IsFileZone, file_limit}
-use Rattle.cal_zone.specs.AddedZones.{is_taken}
-use Rattle.cal_zone.specs.headline.ZoneTable.{ZoneMap, zone_named}
+use Rattle.cal_civil.specs.rules.ZoneName.{is_utc_name}
+use Rattle.cal_streams.specs.rules.Whole.{GivesAll}
+use Rattle.cal_units.specs.rules.Machine.{Machine}
+use Rattle.cal_zone.specs.rules.LoadZone.{IsLoaded}
+use Rattle.cal_zone.specs.rules.ZoneFile.{IsFileZone, file_limit}
+use Rattle.cal_zone.specs.rules.AddedZones.{is_taken}
+use Rattle.cal_zone.specs.rules.ZoneTable.{ZoneMap, zone_named}
 use Rattle.cal_zone.proofs.ZoneMapLemmas.{zone_named-here, zone_named-elsewhere}
-use Rattle.cal_machine_zones.specs.ZoneFiles.{HasZonesOf, IsFirstError, IsLoadError, IsZoneAdded, IsZoneOn}
+use Rattle.cal_machine_zones.specs.rules.ZoneFiles.{HasZonesOf, IsFirstError, IsLoadError, IsZoneAdded, IsZoneOn}
 use Rattle.cal_machine_zones.specs.declared.fault.ZonesFault.{ZonesFault}
 
 -- every table has the name UTC, so a name that a table doesn't have isn't UTC

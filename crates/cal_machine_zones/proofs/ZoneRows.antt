@@ -1,11 +1,11 @@
 -- Examples that check the definition of the local zone, after tzset(3) and localtime(5).
 use Rattle.std.proofs.Common.{◌≡◌, [], ◌∷◌, codes, map, refl, Some, None}
-use Rattle.cal_civil.specs.ReadOffset.{offset_in}
-use Rattle.cal_civil.specs.headline.ZoneName.{is_utc_name, is_zone_name}
-use Rattle.cal_units.specs.Machine.Entry.{Missing, File, Link}
-use Rattle.cal_units.specs.Units.{after_prefix}
-use Rattle.cal_machine_zones.specs.MachineLocalZone.{argument_zone, link_zone, variable_zone}
-use Rattle.cal_machine_zones.specs.MachineLocalZone.MachineLocalZone.{ByRule, InUtc, OfName, UnclearIn}
+use Rattle.cal_civil.specs.computed.ReadOffset.{offset_in}
+use Rattle.cal_civil.specs.rules.ZoneName.{is_utc_name, is_zone_name}
+use Rattle.cal_units.specs.rules.Machine.Entry.{Missing, File, Link}
+use Rattle.cal_units.specs.rules.Units.{after_prefix}
+use Rattle.cal_machine_zones.specs.rules.MachineLocalZone.{argument_zone, link_zone, variable_zone}
+use Rattle.cal_machine_zones.specs.rules.MachineLocalZone.MachineLocalZone.{ByRule, InUtc, OfName, UnclearIn}
 use Rattle.cal_machine_zones.specs.declared.fault.Origin.TheVariants as origins
 
 -- values of the option: `utc`, a rule, a name, and a text that is none of these

@@ -1,2 +1,1 @@
-pub mod MachineLocalZone
-pub mod ZoneFiles
+pub mod rules

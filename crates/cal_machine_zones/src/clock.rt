@@ -1,8 +1,8 @@
 //! The local zone of a machine.
 
 ghost use Rattle.std.specs.Prelude.{◌≡◌, IfErr, IfOk, option_map};
-ghost use Rattle.cal_units.specs.Machine.{Machine, shown_entry};
-ghost use Rattle.cal_machine_zones.specs.MachineLocalZone.{HasOffset, HasZoneOffset, IsLocalFault, IsMachineFault, IsTold, IsUnclearFault, IsUnread, link_zone, localtime, machine_local_zone, machine_zone, shown_told, unread_fault};
+ghost use Rattle.cal_units.specs.rules.Machine.{Machine, shown_entry};
+ghost use Rattle.cal_machine_zones.specs.rules.MachineLocalZone.{HasOffset, HasZoneOffset, IsLocalFault, IsMachineFault, IsTold, IsUnclearFault, IsUnread, link_zone, localtime, machine_local_zone, machine_zone, shown_told, unread_fault};
 
 use crate::fault::{Origin, ZonesFault};
 use crate::texts::{LOCALTIME, ToldZone, argument_zone, link_zone, variable_zone};

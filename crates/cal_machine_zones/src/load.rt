@@ -3,10 +3,10 @@
 ghost use Rattle.std.specs.Prelude.{◌≡◌, ◌||◌, ℕ, List, IfErr, IfOk, OnOk, false, is_some, map, string_bytes};
 ghost use Rattle.std.specs.List.{list_any};
 ghost use Rattle.std.specs.Str.{bytes_eq};
-ghost use Rattle.cal_civil.specs.headline.ZoneName.{is_utc_name};
-ghost use Rattle.cal_units.specs.Machine.{Machine};
-ghost use Rattle.cal_zone.specs.headline.ZoneTable.{zone_named};
-ghost use Rattle.cal_machine_zones.specs.ZoneFiles.{HasZonesOf, IsFirstError, IsLoadError, IsNameFault, IsNamesFault, IsZoneAdded, IsZoneOn, zone_path};
+ghost use Rattle.cal_civil.specs.rules.ZoneName.{is_utc_name};
+ghost use Rattle.cal_units.specs.rules.Machine.{Machine};
+ghost use Rattle.cal_zone.specs.rules.ZoneTable.{zone_named};
+ghost use Rattle.cal_machine_zones.specs.rules.ZoneFiles.{HasZonesOf, IsFirstError, IsLoadError, IsNameFault, IsNamesFault, IsZoneAdded, IsZoneOn, zone_path};
 
 use crate::fault::{FileReason, ZonesFault};
 use cal_units::{Tree, TreeFault};

@@ -2,9 +2,9 @@
 
 ghost use Rattle.std.specs.Prelude.{◌≡◌, IfSome, is_some, option_map};
 ghost use Rattle.jiff.specs.Words.{read_whole};
-ghost use Rattle.cal_units.specs.Machine.{shown_entry};
-ghost use Rattle.cal_units.specs.Units.{after_prefix};
-ghost use Rattle.cal_machine_zones.specs.MachineLocalZone.{HasOffset, argument_zone, file_zone, link_name, link_zone, name_or_offset, name_zone, offset_zone, shown_told, target_zone, variable_zone, without_folder};
+ghost use Rattle.cal_units.specs.rules.Machine.{shown_entry};
+ghost use Rattle.cal_units.specs.rules.Units.{after_prefix};
+ghost use Rattle.cal_machine_zones.specs.rules.MachineLocalZone.{HasOffset, argument_zone, file_zone, link_name, link_zone, name_or_offset, name_zone, offset_zone, shown_told, target_zone, variable_zone, without_folder};
 
 use crate::fault::Origin;
 use cal_civil::{is_utc_name, read_offset};

@@ -4,20 +4,20 @@ use Rattle.std.proofs.Common.{◌≡◌, ◌++◌, ℕ, zero, suc, ◌+◌, ◌<
 use Rattle.std.proofs.lemmas.List.{append_assoc, map-append}
 use Rattle.cal_elapse.proofs.CoveredLemmas.{elapses_except-kept, kept_one, kept_without, matches_among}
 use Rattle.cal_elapse.proofs.ElapsesLemmas.{without-elapses}
-use Rattle.cal_elapse.specs.Covered.{AreAmong}
-use Rattle.cal_elapse.specs.ElapsesAfter.{elapses_after, each_after}
-use Rattle.cal_elapse.specs.headline.Elapses.{IsPlace, Timed, timed}
-use Rattle.cal_elapse.specs.Masks.{sets_in}
+use Rattle.cal_elapse.specs.rules.Covered.{AreAmong}
+use Rattle.cal_elapse.specs.rules.ElapsesAfter.{elapses_after, each_after}
+use Rattle.cal_elapse.specs.rules.Elapses.{IsPlace, Timed, timed}
+use Rattle.cal_elapse.specs.computed.Masks.{sets_in}
 use Rattle.cal_elapse.specs.declared.masks.Masks.{Masks}
-use Rattle.cal_timer.specs.TimerEntries.{TimerLine, Timer}
-use Rattle.cal_timer.specs.TimerView.{shown}
+use Rattle.cal_timer.specs.rules.TimerEntries.{TimerLine, Timer}
+use Rattle.cal_timer.specs.rules.TimerView.{shown}
 use Rattle.cal_timer.specs.declared.timer.TimerLine as declared_line
-use Rattle.cal_rising.specs.Merge.{Merge, merged}
-use Rattle.cal_spec.specs.headline.Fields.{Fields}
-use Rattle.cal_spec.specs.headline.Match.{Sets}
+use Rattle.cal_rising.specs.rules.Merge.{Merge, merged}
+use Rattle.cal_spec.specs.rules.Fields.{Fields}
+use Rattle.cal_spec.specs.rules.Match.{Sets}
 use Rattle.cal_plan.proofs.PlanLemmas.{shown_more}
-use Rattle.cal_plan.specs.TimerElapses.{IsAdded, IsCoveredEntry, each_of, elapses_of_lists, entry_sets, timed_entry}
-use Rattle.cal_zone.specs.Setting.{Setting}
+use Rattle.cal_plan.specs.rules.TimerElapses.{IsAdded, IsCoveredEntry, each_of, elapses_of_lists, entry_sets, timed_entry}
+use Rattle.cal_zone.specs.rules.Setting.{Setting}
 
 -- if `f` has the same zone suffix as `e`, and each field of `f` matches all values that the same field of `e` matches,
 -- then every elapse of `e` is an elapse of `f`

@@ -5,18 +5,18 @@ use Rattle.std.specs.Option.{option_map, unwrap_or}
 use Rattle.std.proofs.lemmas.Bool.{false_from_ne_true}
 use Rattle.std.proofs.lemmas.List.{take_more, map-append}
 use Rattle.jiff.specs.Types.{TimeZone, UTC}
-use Rattle.cal_zone.specs.Setting.{Setting}
-use Rattle.cal_rising.specs.Merge.{Merge, merged}
+use Rattle.cal_zone.specs.rules.Setting.{Setting}
+use Rattle.cal_rising.specs.rules.Merge.{Merge, merged}
 use Rattle.cal_elapse.proofs.ElapsesLemmas.{AreElapses-elapses_except}
 use Rattle.cal_elapse.proofs.InstantLemmas.{IsInstant-elapse}
-use Rattle.cal_elapse.specs.headline.Elapses.{AreElapses, Timed, timed}
-use Rattle.cal_timer.specs.TimerEntries.{TimerLine, Timer}
-use Rattle.cal_timer.specs.TimerView.{shown}
+use Rattle.cal_elapse.specs.rules.Elapses.{AreElapses, Timed, timed}
+use Rattle.cal_timer.specs.rules.TimerEntries.{TimerLine, Timer}
+use Rattle.cal_timer.specs.rules.TimerView.{shown}
 use Rattle.cal_timer.specs.declared.timer.TimerLine as declared_line
-use Rattle.cal_spec.specs.headline.Fields.{Fields}
-use Rattle.cal_plan.specs.Instants.{AreInstants}
-use Rattle.cal_plan.specs.TimerElapses.{IsMergeOf, IsTimed, elapses_of_lists, timed_entry, zone_or_utc}
-use Rattle.cal_plan.specs.ZoneFor.{first_unzoned, lacks_zone, lesser_line, unzoned}
+use Rattle.cal_spec.specs.rules.Fields.{Fields}
+use Rattle.cal_plan.specs.rules.Instants.{AreInstants}
+use Rattle.cal_plan.specs.rules.TimerElapses.{IsMergeOf, IsTimed, elapses_of_lists, timed_entry, zone_or_utc}
+use Rattle.cal_plan.specs.rules.ZoneFor.{first_unzoned, lacks_zone, lesser_line, unzoned}
 
 pub none_mapped : (o : Option (TimerLine Fields)) → option_map (λ (e : TimerLine Fields). e.number) o ≡ None → o ≡ None
 none_mapped None h = refl

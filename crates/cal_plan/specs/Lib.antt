@@ -1,3 +1,1 @@
-pub mod Instants
-pub mod TimerElapses
-pub mod ZoneFor
+pub mod rules

@@ -13,7 +13,7 @@ pub struct Instants<S: Rising> {
 
 impl<S: Rising> Model for Instants<S> {
     ghost use Rattle.std.specs.Prelude.{List, ℤ};
-    ghost use Rattle.cal_plan.specs.Instants.{AreInstants};
+    ghost use Rattle.cal_plan.specs.rules.Instants.{AreInstants};
 
     ghost Value = { List ℤ };
 
@@ -26,7 +26,7 @@ impl<S: Rising> Instants<S> {
     ghost use Rattle.std.specs.Prelude.{◌≡◌, drop, option_map, slice_get};
     ghost use Rattle.std.specs.List.Sorted.{IsStrictlySortedBy};
     ghost use Rattle.std.specs.Ordering.{int_cmp};
-    ghost use Rattle.cal_plan.specs.Instants.{AreInstants};
+    ghost use Rattle.cal_plan.specs.rules.Instants.{AreInstants};
 
     /// Wraps a source. All numbers that it has yet to return must be instants.
     pub fn new(source: S) -> Self

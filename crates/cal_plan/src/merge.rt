@@ -2,15 +2,15 @@
 //! exception is an expression; when it elapses, the timer doesn't.
 
 ghost use Rattle.std.specs.Prelude.{◌≡◌, ◌≢◌, ◌++◌, [], ◌∷◌, None, MatchResult, false, true, map, IfOk, OnOk};
-ghost use Rattle.cal_zone.specs.Setting.{setting_seen};
-ghost use Rattle.cal_rising.specs.Merge.{merged};
-ghost use Rattle.cal_elapse.specs.ElapsesAfter.{elapses_after};
-ghost use Rattle.cal_elapse.specs.Masks.{sets_in};
-ghost use Rattle.cal_elapse.specs.RemainingElapses.{remaining_elapses};
-ghost use Rattle.cal_timer.specs.TimerView.{shown};
-ghost use Rattle.cal_plan.specs.Instants.{AreInstants};
-ghost use Rattle.cal_plan.specs.ZoneFor.{IsUnzoned, first_unzoned, lacks_zone, unzoned};
-ghost use Rattle.cal_plan.specs.TimerElapses.{IsAdded, IsCoveredEntry, IsMergeOf, each_of, entry_sets, lists_shown, timed_entry};
+ghost use Rattle.cal_zone.specs.rules.Setting.{setting_seen};
+ghost use Rattle.cal_rising.specs.rules.Merge.{merged};
+ghost use Rattle.cal_elapse.specs.rules.ElapsesAfter.{elapses_after};
+ghost use Rattle.cal_elapse.specs.computed.Masks.{sets_in};
+ghost use Rattle.cal_elapse.specs.computed.RemainingElapses.{remaining_elapses};
+ghost use Rattle.cal_timer.specs.rules.TimerView.{shown};
+ghost use Rattle.cal_plan.specs.rules.Instants.{AreInstants};
+ghost use Rattle.cal_plan.specs.rules.ZoneFor.{IsUnzoned, first_unzoned, lacks_zone, unzoned};
+ghost use Rattle.cal_plan.specs.rules.TimerElapses.{IsAdded, IsCoveredEntry, IsMergeOf, each_of, entry_sets, lists_shown, timed_entry};
 ghost use Rattle.cal_plan.specs.declared.plan_fault.PlanFault.TheVariants.{NoMemory};
 
 use crate::plan_fault::PlanFault;
@@ -139,7 +139,7 @@ fn add_exceptions<'a>(
 }
 
 /// Creates the source of the elapses of an expression in its zone, which must be known.
-#[tactic(auto, unfolding(crate::specs::TimerElapses::timed_entry))]
+#[tactic(auto, unfolding(crate::specs::rules::TimerElapses::timed_entry))]
 fn elapses_of<'a>(
     alloc: Global,
     setting: Setting<'a>,

@@ -2,10 +2,10 @@
 //! doesn't.
 
 ghost use Rattle.std.specs.Prelude.{◌≡◌, map};
-ghost use Rattle.cal_zone.specs.Setting.{setting_seen};
-ghost use Rattle.cal_timer.specs.TimerView.{shown};
-ghost use Rattle.cal_plan.specs.TimerElapses.{lists_shown};
-ghost use Rattle.cal_plan.specs.ZoneFor.{first_unzoned, unzoned};
+ghost use Rattle.cal_zone.specs.rules.Setting.{setting_seen};
+ghost use Rattle.cal_timer.specs.rules.TimerView.{shown};
+ghost use Rattle.cal_plan.specs.rules.TimerElapses.{lists_shown};
+ghost use Rattle.cal_plan.specs.rules.ZoneFor.{first_unzoned, unzoned};
 
 use crate::zones::zone_for;
 use cal_timer::TimerLine;
@@ -26,7 +26,7 @@ pub fn first_unzoned(setting: Setting<'_>, lines: &[TimerLine]) -> Option<u32>
 
 /// Returns the number of the first line, among the expressions and the exceptions, that names a zone missing from the
 /// zone table, or `None` if there is no such line.
-#[tactic(auto, unfolding(crate::specs::ZoneFor::unzoned))]
+#[tactic(auto, unfolding(crate::specs::rules::ZoneFor::unzoned))]
 pub(crate) fn find_unzoned(
     setting: Setting<'_>,
     lines: &[TimerLine],

@@ -4,12 +4,12 @@ use Rattle.std.proofs.Math.Seq.{take-length}
 use Rattle.std.proofs.lemmas.List.{take_more, take-append-drop}
 use Rattle.std.proofs.lemmas.List.Concat.{flat_map-append}
 use Rattle.cal_spec.specs.declared.spec_fault.SpecFault.{SpecFault}
-use Rattle.cal_lines.specs.headline.Lines.{logical_lines}
-use Rattle.cal_timer.specs.headline.Assignments.{assignments_in}
-use Rattle.cal_timer.specs.headline.TimerText.{without_mark}
-use Rattle.cal_timer.specs.TimerEntries.{Timer, lists_of, timer_of}
-use Rattle.cal_read.specs.TimerTexts.{assignments_at, assignments_of}
-use Rattle.cal_timer.specs.TimerView.{empty_lists, resumed}
+use Rattle.cal_lines.specs.rules.Lines.{logical_lines}
+use Rattle.cal_timer.specs.rules.Assignments.{assignments_in}
+use Rattle.cal_timer.specs.rules.TimerText.{without_mark}
+use Rattle.cal_timer.specs.rules.TimerEntries.{Timer, lists_of, timer_of}
+use Rattle.cal_read.specs.rules.TimerTexts.{assignments_at, assignments_of}
+use Rattle.cal_timer.specs.rules.TimerView.{empty_lists, resumed}
 use Rattle.cal_timer.specs.declared.fault.TimerFault.{TimerFault}
 use Rattle.cal_read.specs.declared.texts.NumberedText.{NumberedText}
 use Rattle.cal_timer.proofs.ListedLemmas.{resumed_append, with_lists}

@@ -1,19 +1,4 @@
-pub mod SectionAssignments
-pub mod TimerFaults
-pub mod TimerTexts
-pub use Rattle.cal_stamp.specs.Stamp
-pub use Rattle.cal_stamp.specs.StampCivilRule
-pub use Rattle.cal_stamp.specs.StampDate
-pub use Rattle.cal_stamp.specs.StampFault
-pub use Rattle.cal_stamp.specs.StampFaultRule
-pub use Rattle.cal_stamp.specs.StampForm
-pub use Rattle.cal_stamp.specs.StampMomentRule
-pub use Rattle.cal_stamp.specs.StampPrinted
-pub use Rattle.cal_stamp.specs.StampRule
-pub use Rattle.cal_stamp.specs.StampTime
-pub use Rattle.cal_stamp.specs.StampViews
-pub use Rattle.cal_timer.specs.TimerView
-pub use Rattle.cal_timer.specs.TimerFault
-pub use Rattle.cal_timer.specs.TimerRule
-pub use Rattle.cal_timer.specs.TimerEntries
-pub use Rattle.cal_timer.specs.headline
+pub mod rules
+pub use Rattle.cal_stamp.specs.computed as StampComputed
+pub use Rattle.cal_stamp.specs.rules as StampRules
+pub use Rattle.cal_timer.specs.rules as TimerRules

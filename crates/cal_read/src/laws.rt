@@ -2,14 +2,14 @@
 //! [`crate::Assignments`] use. Each law is a function that does nothing and whose contract is the law.
 
 ghost use Rattle.std.specs.Prelude.{◌≡◌, ◌∷◌, [], ℕ, Bool, List, Result, Some, codes, map, slice_get};
-ghost use Rattle.cal_spec.specs.headline.Fields.{Fields};
+ghost use Rattle.cal_spec.specs.rules.Fields.{Fields};
 ghost use Rattle.cal_spec.specs.declared.spec_fault.SpecFault.{SpecFault};
-ghost use Rattle.cal_read.specs.SectionAssignments.{section_assignments};
-ghost use Rattle.cal_timer.specs.headline.Assignments.{Assignment, assignments_in};
-ghost use Rattle.cal_lines.specs.headline.Lines.{Line};
-ghost use Rattle.cal_timer.specs.TimerEntries.{first_fault, lists_of, timer_of};
-ghost use Rattle.cal_read.specs.TimerFaults.{all_faults, faults_of};
-ghost use Rattle.cal_read.specs.TimerTexts.{assignments_of, IsFirstOf};
+ghost use Rattle.cal_read.specs.rules.SectionAssignments.{section_assignments};
+ghost use Rattle.cal_timer.specs.rules.Assignments.{Assignment, assignments_in};
+ghost use Rattle.cal_lines.specs.rules.Lines.{Line};
+ghost use Rattle.cal_timer.specs.rules.TimerEntries.{first_fault, lists_of, timer_of};
+ghost use Rattle.cal_read.specs.rules.TimerFaults.{all_faults, faults_of};
+ghost use Rattle.cal_read.specs.rules.TimerTexts.{assignments_of, IsFirstOf};
 ghost use Rattle.cal_read.specs.declared.texts.FileFault.{FileFault};
 ghost use Rattle.cal_read.specs.declared.texts.NumberedText.{NumberedText};
 

@@ -3,10 +3,10 @@
 
 ghost use Rattle.std.specs.Prelude.{◌≡◌, ◌+◌, ◌<◌, ◌^◌, ◌∷◌, ◌++◌, [], false, length, map, IfOk, MatchOption, OnErr, List};
 ghost use Rattle.std.specs.Option.{option_map, option_to_list};
-ghost use Rattle.cal_lines.specs.LineView.{line_at};
-ghost use Rattle.cal_lines.specs.headline.Lines.{Line, logical_lines};
-ghost use Rattle.cal_timer.specs.TimerView.{shown_assignment};
-ghost use Rattle.cal_read.specs.SectionAssignments.{section_assignments, shown_owned_assignment};
+ghost use Rattle.cal_lines.specs.rules.LineView.{line_at};
+ghost use Rattle.cal_lines.specs.rules.Lines.{Line, logical_lines};
+ghost use Rattle.cal_timer.specs.rules.TimerView.{shown_assignment};
+ghost use Rattle.cal_read.specs.rules.SectionAssignments.{section_assignments, shown_owned_assignment};
 
 use cal_lines::{first_logical, trim};
 use cal_timer::{Assignment, read_assignment, section};
@@ -49,9 +49,9 @@ pub struct Assignments<'t> {
 
 impl<'t> Model for Assignments<'t> {
     ghost use Rattle.std.specs.Prelude.{◌+◌, ◌<◌, ◌^◌, List, length};
-    ghost use Rattle.cal_lines.specs.headline.Lines.{logical_lines};
-    ghost use Rattle.cal_timer.specs.headline.Assignments.{Assignment};
-    ghost use Rattle.cal_read.specs.SectionAssignments.{section_assignments};
+    ghost use Rattle.cal_lines.specs.rules.Lines.{logical_lines};
+    ghost use Rattle.cal_timer.specs.rules.Assignments.{Assignment};
+    ghost use Rattle.cal_read.specs.rules.SectionAssignments.{section_assignments};
 
     ghost Value = { List Assignment };
 

@@ -2,9 +2,9 @@
 //! expression after `X-ExceptOnCalendar=`; when it elapses, the timer doesn't.
 
 ghost use Rattle.std.specs.Prelude.{◌≡◌, ◌≢◌, ◌+◌, ◌<◌, ◌^◌, Ok, Err, MatchResult, IfErr, All, length};
-ghost use Rattle.cal_spec.specs.Expr.{expr_in};
-ghost use Rattle.cal_timer.specs.TimerEntries.{lists_of};
-ghost use Rattle.cal_read.specs.TimerTexts.{assignments_of, IsFirstOf};
+ghost use Rattle.cal_spec.specs.computed.Expr.{expr_in};
+ghost use Rattle.cal_timer.specs.rules.TimerEntries.{lists_of};
+ghost use Rattle.cal_read.specs.rules.TimerTexts.{assignments_of, IsFirstOf};
 
 use cal_timer::{Timer, TimerFault, TimerLists, without_mark};
 use std::alloc::Global;

@@ -5,17 +5,18 @@ use Rattle.std.proofs.lemmas.Option.{slice_get-get_or}
 use Rattle.std.specs.List.{slice_get}
 use Rattle.jiff.proofs.SpanFacts.{signed_arith}
 use Rattle.cal_streams.specs.declared.whole.WholeFault.{WholeFault}
-use Rattle.cal_rising.specs.headline.Elements.{Has}
-use Rattle.cal_zone.specs.Instant.{IsInstant}
+use Rattle.cal_rising.specs.rules.Elements.{Has}
+use Rattle.cal_zone.specs.rules.Instant.{IsInstant}
 use Rattle.cal_stamp.proofs.StampCounted.{counted_back}
-use Rattle.cal_plan.specs.Instants.{AreInstants}
-use Rattle.cal_report.specs.RunReport.{base_from, base_in, report, second_or_fault}
-use Rattle.cal_report.specs.Resume.{AreShown, IsBaseAfter, IsBegunAgain, Resumes, base_after, begun_again, showing}
-use Rattle.cal_report.specs.Context.{setting_of}
-use Rattle.cal_report.specs.TextReport.TimestampReport.{stamp_in}
-use Rattle.cal_report.specs.headline.Headline.{Schedule, base_text, started_at}
+use Rattle.cal_plan.specs.rules.Instants.{AreInstants}
+use Rattle.cal_report.specs.rules.RunReport.{base_from, base_in, report, second_or_fault}
+use Rattle.cal_report.specs.rules.Resume.{AreShown, IsBaseAfter, IsBegunAgain, Resumes, base_after, begun_again, showing}
+use Rattle.cal_report.specs.rules.Context.{setting_of}
+use Rattle.cal_report.specs.rules.TextReport.TimestampReport.{stamp_in}
+use Rattle.cal_report.specs.rules.Headline.{Schedule, base_text, started_at}
+use Rattle.cal_report.proofs.BaseLemmas.{base_found}
 use Rattle.cal_report.proofs.HeadlineElapses.{elapses_are_instants}
-use Rattle.cal_request.specs.headline.Request.{Request}
+use Rattle.cal_request.specs.rules.Request.{Request}
 
 has_at : (xs : List ℤ) (k : ℕ) (x : ℤ) → slice_get xs k ≡ Some x → Has xs x
 has_at [] k x at = cc
@@ -80,7 +81,7 @@ is_begun_again asked base s shown k now sought these few =
       zones = refl;
       count = omega (arith, few, ap length these.first, length-take asked.iterations these.elapses);
       from = found.from;
-      sought = found.sought;
+      sought = base_found (begun_again asked shown k) found.from found.sought;
       after = found.after;
     }
 

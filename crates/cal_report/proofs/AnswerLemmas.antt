@@ -5,11 +5,11 @@ use Rattle.std.specs.List.{flat_map, join_by, list_any}
 use Rattle.std.proofs.lemmas.List.{append-nil, append_assoc, length-map, take-map}
 use Rattle.std.proofs.lemmas.List.Concat.{flat_map-append}
 use Rattle.std.specs.Io.KnownBytes.{Appends}
-use Rattle.cal_bytes.specs.Writes.{Leaves, AppendsFront, Writes}
+use Rattle.cal_bytes.specs.rules.Writes.{Leaves, AppendsFront, Writes}
 use Rattle.std.proofs.KnownBytes.{Appends-nil, Appends-trans}
 use Rattle.cal_bytes.proofs.Pieces.{step, stop, respell}
-use Rattle.cal_report.specs.Answer.{Answer, IsAnsweredBefore, report_in, error_line_in, later_text, status_in, reports_text, error_lines, texts_status}
-use Rattle.cal_request.specs.Status.{is_fine, status_and}
+use Rattle.cal_report.specs.rules.Answer.{Answer, IsAnsweredBefore, report_in, error_line_in, later_text, status_in, reports_text, error_lines, texts_status}
+use Rattle.cal_request.specs.rules.Status.{is_fine, status_and}
 use Rattle.cal_request.specs.declared.request.Status.{Status}
 use Rattle.cal_request.specs.declared.request.Status.TheVariants.{Fine, Refused}
 

@@ -2,7 +2,7 @@
 use Rattle.std.proofs.Common.{◌≡◌, ℕ, zero, suc, ◌+◌, List, [], ◌∷◌, ◌++◌, take, Option, None, Some, refl, codes, slice_get, drop}
 use Rattle.std.specs.Prelude.{ℤ}
 use Rattle.cal_zone.specs.declared.zone.Zone.{Zone}
-use Rattle.cal_report.specs.headline.ElapseLines.{elapse_text, elapse_texts, elapses_text}
+use Rattle.cal_report.specs.rules.ElapseLines.{elapse_text, elapse_texts, elapses_text}
 
 some_is : (x e : ℤ) → ◌≡◌ {A = Option ℤ} (Some e) (Some x) → x ≡ e
 some_is x e h = cc

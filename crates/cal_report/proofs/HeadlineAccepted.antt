@@ -8,62 +8,42 @@ use Rattle.std.specs.Str.{is_utf8}
 use Rattle.std.proofs.lemmas.Bool.{or_parts}
 use Rattle.jiff.specs.Types.{TimeZone}
 use Rattle.cal_streams.specs.declared.whole.WholeFault.{WholeFault}
-use Rattle.cal_zone.specs.headline.Zone.{zone_of}
-use Rattle.cal_spec.specs.Expr.{expr_in}
-use Rattle.cal_spec.specs.headline.Fields.{Fields}
-use Rattle.cal_spec.specs.Grammar.{fields_in}
-use Rattle.cal_spec.specs.NormalParts.{normal_fields}
-use Rattle.cal_spec.specs.headline.NormalForm.{IsNormalFieldsOf}
-use Rattle.cal_text.specs.AndThen.{◌>>=◌}
-use Rattle.cal_spec.specs.ValidFields.{IsValidFields}
-use Rattle.cal_spec.specs.headline.ZoneSuffix.{ZoneSuffix, of_name, at_offset}
-use Rattle.cal_zone.specs.headline.FixedOffsetZone.{fixed_offset_zone}
+use Rattle.cal_zone.specs.rules.Zone.{zone_of}
+use Rattle.cal_spec.specs.computed.Expr.{expr_in}
+use Rattle.cal_spec.specs.rules.Fields.{Fields}
+use Rattle.cal_spec.specs.rules.NormalForm.{Spells}
+use Rattle.cal_text.specs.rules.AndThen.{◌>>=◌}
+use Rattle.cal_spec.specs.rules.ZoneSuffix.{ZoneSuffix, of_name, at_offset}
+use Rattle.cal_zone.specs.rules.FixedOffsetZone.{fixed_offset_zone}
 use Rattle.cal_spec.specs.declared.spec_fault.SpecFault.{SpecFault}
-use Rattle.cal_spec.proofs.FieldLemmas.{valid_fields}
-use Rattle.cal_spec.proofs.WholeRule.{valid_found}
-use Rattle.cal_timer.specs.headline.Assignments.{Assignment}
-use Rattle.cal_timer.specs.TimerRule.{AreFine, JudgesTimer}
-use Rattle.cal_timer.specs.TimerEntries.{TimerLine, Timer, bad_line, entries, entry_of, fault_joining, timer_in, timer_of}
-use Rattle.cal_timer.specs.headline.TimerText.{excepted, is_exception, is_exception_reset, is_expression, is_reset, listed, max_expressions}
+use Rattle.cal_spec.proofs.ExprRule.{read_is_spelled, spelled_is_read}
+use Rattle.cal_timer.specs.rules.Assignments.{Assignment}
+use Rattle.cal_timer.specs.rules.TimerRule.{AreFine, JudgesTimer}
+use Rattle.cal_timer.specs.rules.TimerEntries.{TimerLine, Timer, bad_line, entries, entry_of, fault_joining, timer_in, timer_of}
+use Rattle.cal_timer.specs.rules.TimerText.{excepted, is_exception, is_exception_reset, is_expression, is_reset, listed, max_expressions}
 use Rattle.cal_timer.specs.declared.fault.TimerFault.{TimerFault}
 use Rattle.cal_timer.proofs.ListedLemmas.{fault_of_exception, fault_of_expression}
 use Rattle.cal_timer.proofs.TimerRuleLemmas.{judged}
-use Rattle.cal_report.specs.Answer.{texts_status}
-use Rattle.cal_report.specs.TextReport.CalendarReport.{answer_in, answer_with, calendar_answer}
-use Rattle.cal_report.specs.headline.Headline.{AreAccepted, AreSpelled, Expression, IsAccepted, IsAcceptedFile, IsZoneFor, Spells, assigned_in}
-use Rattle.cal_report.specs.RunReport.{answers_report, base_in, report, whole_report}
-use Rattle.cal_report.specs.headline.ReportLines.{Report}
-use Rattle.cal_report.specs.TimerReport.{answer_of_timer, answer_unless, timer_answer}
-use Rattle.cal_request.specs.RequestKind.{timer_path}
-use Rattle.cal_request.specs.headline.Request.{Request}
+use Rattle.cal_report.specs.rules.Answer.{texts_status}
+use Rattle.cal_report.specs.rules.TextReport.CalendarReport.{answer_in, answer_with, calendar_answer}
+use Rattle.cal_report.specs.rules.Headline.{AreAccepted, AreSpelled, Expression, IsAccepted, IsAcceptedFile, IsZoneFor, assigned_in}
+use Rattle.cal_report.specs.rules.RunReport.{answers_report, base_in, report, whole_report}
+use Rattle.cal_report.specs.rules.ReportLines.{Report}
+use Rattle.cal_report.specs.rules.TimerReport.{answer_of_timer, answer_unless, timer_answer}
+use Rattle.cal_request.specs.rules.RequestKind.{timer_path}
+use Rattle.cal_request.specs.rules.Request.{Request}
 use Rattle.cal_request.specs.declared.request.Status.TheVariants.{Fine, Refused}
 use Rattle.cal_request.specs.declared.verb.Verb.TheVariants as verb
-use Rattle.cal_report.proofs.HeadlineLemmas.{HaveOneNormalForm, report_of_texts, report_of_timer, spelled_is_read, text_of}
+use Rattle.cal_report.proofs.HeadlineLemmas.{report_of_texts, report_of_timer, text_of}
 use Rattle.cal_plan.proofs.PlanLemmas.{all_zoned, none_mapped}
-use Rattle.cal_plan.specs.ZoneFor.{lacks_zone, unzoned, zone_for}
-use Rattle.cal_report.specs.Context.{setting_of}
+use Rattle.cal_plan.specs.rules.ZoneFor.{lacks_zone, unzoned, zone_for}
+use Rattle.cal_report.specs.rules.Context.{setting_of}
 
 some_found : {A : Type 0} (o : Option A) → is_none o ≡ false → (x : A) × (o ≡ Some x)
 some_found None h = cc
 some_found (Some x) h = (x, refl)
 
 -- If the status is `Fine`, every text was accepted
-
--- The clause `some` of the law `one_normal_form_of_fields`: `normal_fields` returns a normal form of valid fields. The
--- lemmas below take this clause as a premise. `HaveOneNormalForm` is the clause `only` of the same law.
-abbrev pub AreNormalForms : Type 0
-AreNormalForms = (f : Fields) → IsValidFields f → IsNormalFieldsOf f (normal_fields f)
-
-spelled_by : AreNormalForms → (text : List ℕ) (fields : Fields) (r : Result Fields SpecFault) → fields_in text ≡ r
-    → ◌≡◌ {A = Result Fields SpecFault} (r >>= (λ f. Ok (normal_fields f))) (Ok fields) → Spells text fields
-spelled_by some text fields (Ok raw) found h =
-    let same : normal_fields raw ≡ fields = cc in
-    record { raw = raw; valid = valid_found text raw found; normal = subst (IsNormalFieldsOf raw) same (some raw (valid_fields text raw found)) }
-spelled_by some text fields (Err fault) found h = cc
-
-read_is_spelled : AreNormalForms → (text : List ℕ) (fields : Fields) → expr_in text ≡ Ok fields → Spells text fields
-unfolding expr_in
-read_is_spelled some text fields h = spelled_by some text fields (fields_in text) refl h
 
 found_is_zone : (asked : Request) (suffix : Option ZoneSuffix) (tz : TimeZone) → zone_for (setting_of asked) suffix ≡ Some tz → IsZoneFor asked suffix tz
 unfolding zone_for
@@ -77,33 +57,33 @@ pub record IsAcceptedText (asked : Request) (text : List ℕ) : Type 0 where
   pub same : text ≡ expression.text
   pub accepted : IsAccepted asked expression
 
-accepted_in : AreNormalForms → (asked : Request) (base : ℤ) (text : List ℕ) (fields : Fields) (o : Option TimeZone) → expr_in text ≡ Ok fields
+accepted_in : (asked : Request) (base : ℤ) (text : List ℕ) (fields : Fields) (o : Option TimeZone) → expr_in text ≡ Ok fields
     → zone_for (setting_of asked) fields.zone ≡ o → is_err (answer_in asked base text fields o) ≡ false → IsAcceptedText asked text
-accepted_in some asked base text fields None read found h = cc
-accepted_in some asked base text fields (Some tz) read found h = record {
+accepted_in asked base text fields None read found h = cc
+accepted_in asked base text fields (Some tz) read found h = record {
   expression = record { text = text; fields = fields; tz = tz };
   same = refl;
-  accepted = record { spelled = read_is_spelled some text fields read; zone = found_is_zone asked fields.zone tz found };
+  accepted = record { spelled = read_is_spelled text fields read; zone = found_is_zone asked fields.zone tz found };
 }
 
-accepted_with : AreNormalForms → (asked : Request) (base : ℤ) (text : List ℕ) (r : Result Fields SpecFault) → expr_in text ≡ r
+accepted_with : (asked : Request) (base : ℤ) (text : List ℕ) (r : Result Fields SpecFault) → expr_in text ≡ r
     → is_err (answer_with asked base text r) ≡ false → IsAcceptedText asked text
-accepted_with some asked base text (Ok fields) read h = accepted_in some asked base text fields (zone_for (setting_of asked) fields.zone) read refl h
-accepted_with some asked base text (Err fault) read h = cc
+accepted_with asked base text (Ok fields) read h = accepted_in asked base text fields (zone_for (setting_of asked) fields.zone) read refl h
+accepted_with asked base text (Err fault) read h = cc
 
-pub text_accepted : AreNormalForms → (asked : Request) (base : ℤ) (text : List ℕ)
+pub text_accepted : (asked : Request) (base : ℤ) (text : List ℕ)
     → is_err (calendar_answer asked base text) ≡ false → IsAcceptedText asked text
 unfolding calendar_answer
-text_accepted some asked base text h =
-    accepted_with some asked base text (expr_in text) refl h
+text_accepted asked base text h =
+    accepted_with asked base text (expr_in text) refl h
 
-texts_accepted : AreNormalForms → (asked : Request) (base : ℤ) (texts : List (List ℕ))
+texts_accepted : (asked : Request) (base : ℤ) (texts : List (List ℕ))
     → list_any (λ text. is_err (calendar_answer asked base text)) texts ≡ false → AreAccepted asked texts
-texts_accepted some asked base [] h = record { expressions = []; same = refl; each = tt }
-texts_accepted some asked base (text ∷ texts) h =
+texts_accepted asked base [] h = record { expressions = []; same = refl; each = tt }
+texts_accepted asked base (text ∷ texts) h =
     let parts = or_parts (is_err (calendar_answer asked base text)) (list_any (λ text. is_err (calendar_answer asked base text)) texts) h in
-    let here = text_accepted some asked base text parts.0 in
-    let rest = texts_accepted some asked base texts parts.1 in
+    let here = text_accepted asked base text parts.0 in
+    let rest = texts_accepted asked base texts parts.1 in
     let same : text ∷ texts ≡ here.expression.text ∷ map text_of rest.expressions = let first = here.same in let later = rest.same in cc in
     record { expressions = here.expression ∷ rest.expressions; same = same; each = (here.accepted, rest.each) }
 
@@ -114,32 +94,32 @@ none_by_status : (b : Bool) → (if b then Refused else Fine) ≡ Fine → b ≡
 none_by_status true h = cc
 none_by_status false h = refl
 
-pub fine_texts_are_accepted : AreNormalForms → (asked : Request) (read : Result (List ℕ) WholeFault) (base : ℤ) → asked.verb ≡ verb.Calendar → base_in asked ≡ Ok base
+pub fine_texts_are_accepted : (asked : Request) (read : Result (List ℕ) WholeFault) (base : ℤ) → asked.verb ≡ verb.Calendar → base_in asked ≡ Ok base
     → (report asked read).status ≡ Fine → AreAccepted asked asked.texts
 unfolding answers_report texts_status
-fine_texts_are_accepted some asked read base verb sought h =
+fine_texts_are_accepted asked read base verb sought h =
     let fine = sym (ap (λ (r : Report). r.status) (report_of_texts asked read base verb sought)) ∙ h in
-    texts_accepted some asked base asked.texts (none_by_status _ fine)
+    texts_accepted asked base asked.texts (none_by_status _ fine)
 
 -- If the status is `Fine`, the timer file was accepted
 
-spelled_unless : AreNormalForms → (number : ℕ) (text : List ℕ) (r : Result Fields SpecFault) → expr_in text ≡ r → bad_line number r ≡ None
+spelled_unless : (number : ℕ) (text : List ℕ) (r : Result Fields SpecFault) → expr_in text ≡ r → bad_line number r ≡ None
     → (fields : Fields) × Spells text fields
-spelled_unless some number text (Ok fields) read h = (fields, read_is_spelled some text fields read)
-spelled_unless some number text (Err fault) read h = cc
+spelled_unless number text (Ok fields) read h = (fields, read_is_spelled text fields read)
+spelled_unless number text (Err fault) read h = cc
 
-joining_by : AreNormalForms → (list : List Assignment) (a : Assignment) (many : Bool) → nat_le max_expressions (length list) ≡ many
+joining_by : (list : List Assignment) (a : Assignment) (many : Bool) → nat_le max_expressions (length list) ≡ many
     → fault_joining expr_in list a ≡ None → (length list < max_expressions) × ((fields : Fields) × Spells a.value fields)
 unfolding fault_joining
-joining_by some list a true few = rw few (λ h. cc)
-joining_by some list a false few = rw few (λ h. (grind (arith, few), spelled_unless some a.number a.value (expr_in a.value) refl h))
+joining_by list a true few = rw few (λ h. cc)
+joining_by list a false few = rw few (λ h. (grind (arith, few), spelled_unless a.number a.value (expr_in a.value) refl h))
 
-joining_spelled : AreNormalForms → (list : List Assignment) (a : Assignment) → fault_joining expr_in list a ≡ None
+joining_spelled : (list : List Assignment) (a : Assignment) → fault_joining expr_in list a ≡ None
     → (length list < max_expressions) × ((fields : Fields) × Spells a.value fields)
-joining_spelled some list a h = joining_by some list a (nat_le max_expressions (length list)) refl h
+joining_spelled list a h = joining_by list a (nat_le max_expressions (length list)) refl h
 
-fine_spelled : AreNormalForms → (all : List Assignment) → AreFine expr_in all → AreSpelled all
-fine_spelled some all fine before a after split = grind (arith, joining_spelled, fault_of_expression, fault_of_exception)
+fine_spelled : (all : List Assignment) → AreFine expr_in all → AreSpelled all
+fine_spelled all fine before a after split = grind (arith, joining_spelled, fault_of_expression, fault_of_exception)
 
 -- the value of an assignment is a valid expression
 abbrev IsSpelled : Assignment → Type 0
@@ -197,36 +177,36 @@ one_more asked a list spelled read there rest =
       many = rw read (ap suc rest.many);
     }
 
-expressions_of : HaveOneNormalForm → (asked : Request) (list : List Assignment) → AllByRecursion IsSpelled list
+expressions_of : (asked : Request) (list : List Assignment) → AllByRecursion IsSpelled list
     → find (lacks_zone (setting_of asked)) (filter_map (λ a. entry_of a (expr_in a.value)) list) ≡ None → AreExpressionsOf asked list
-expressions_of one asked [] spelled h = no_expressions asked
-expressions_of one asked (a ∷ list) spelled h =
-    let read = spelled_is_read one a.value (spelled.0).0 (spelled.0).1 in
+expressions_of asked [] spelled h = no_expressions asked
+expressions_of asked (a ∷ list) spelled h =
+    let read = spelled_is_read a.value (spelled.0).0 (spelled.0).1 in
     let entry : TimerLine Fields = record { number = a.number; text = a.value; expr = (spelled.0).0 } in
     let rest = filter_map (λ a. entry_of a (expr_in a.value)) list in
     let parts = found_none (lacks_zone (setting_of asked)) entry rest (lacks_zone (setting_of asked) entry) refl (rw read at h) in
-    one_more asked a list spelled.0 read parts.0 (expressions_of one asked list spelled.1 parts.1)
+    one_more asked a list spelled.0 read parts.0 (expressions_of asked list spelled.1 parts.1)
 
 read_parts : (utf8 : Bool) (good bad : Result (Timer Fields) TimerFault) (lists : Timer Fields) (fault : TimerFault) → bad ≡ Err fault
     → (if utf8 then good else bad) ≡ Ok lists → (utf8 ≡ true) × (good ≡ Ok lists)
 read_parts true good bad lists fault is h = (refl, h)
 read_parts false good bad lists fault is h = absurd (let never : ◌≡◌ {A = Result (Timer Fields) TimerFault} (Err fault) (Ok lists) = sym is ∙ h in cc)
 
-lists_accepted : HaveOneNormalForm → AreNormalForms → (asked : Request) (bytes : List ℕ) (lists : Timer Fields) → timer_in expr_in bytes ≡ Ok lists
+lists_accepted : (asked : Request) (bytes : List ℕ) (lists : Timer Fields) → timer_in expr_in bytes ≡ Ok lists
     → unzoned (setting_of asked) lists ≡ None → IsAcceptedFile asked bytes
 unfolding timer_in timer_of entries
-lists_accepted one some asked bytes lists read there =
+lists_accepted asked bytes lists read there =
     let parts = read_parts (is_utf8 bytes) _ _ lists _ refl read in
     let all = assigned_in bytes in
     let judges : JudgesTimer expr_in all (Ok lists) = subst (JudgesTimer expr_in all) parts.1 (judged expr_in all) in
-    let spelled = fine_spelled some all judges.0 in
+    let spelled = fine_spelled all judges.0 in
     let zoned = all_zoned (setting_of asked) lists there in
     let none : find (lacks_zone (setting_of asked)) (entries expr_in all).expressions ≡ None
     = ap (λ (l : Timer Fields). find (lacks_zone (setting_of asked)) l.expressions) judges.1 ∙ none_mapped (find (lacks_zone (setting_of asked)) lists.expressions) zoned.0 in
     let nor : find (lacks_zone (setting_of asked)) (entries expr_in all).exceptions ≡ None
     = ap (λ (l : Timer Fields). find (lacks_zone (setting_of asked)) l.exceptions) judges.1 ∙ none_mapped (find (lacks_zone (setting_of asked)) lists.exceptions) zoned.1 in
-    let found = expressions_of one asked (listed all) (listed_spelled all spelled) none in
-    let except = expressions_of one asked (excepted all) (excepted_spelled all spelled) nor in
+    let found = expressions_of asked (listed all) (listed_spelled all spelled) none in
+    let except = expressions_of asked (excepted all) (excepted_spelled all spelled) nor in
     let many : length found.expressions ≡ length lists.expressions = found.many ∙ ap (λ (l : Timer Fields). length l.expressions) judges.1 in
     record {
       schedule = record { expressions = found.expressions; exceptions = except.expressions };
@@ -234,19 +214,19 @@ lists_accepted one some asked bytes lists read there =
       each = record { expressions = found.each; exceptions = except.each };
     }
 
-accepted_unless : HaveOneNormalForm → AreNormalForms → (asked : Request) (bytes name : List ℕ) (base : ℤ) (lists : Timer Fields) (o : Option ℕ)
+accepted_unless : (asked : Request) (bytes name : List ℕ) (base : ℤ) (lists : Timer Fields) (o : Option ℕ)
     → timer_in expr_in bytes ≡ Ok lists → unzoned (setting_of asked) lists ≡ o → (whole_report (answer_unless asked base name lists o)).status ≡ Fine → IsAcceptedFile asked bytes
-accepted_unless one some asked bytes name base lists None read there h = lists_accepted one some asked bytes lists read there
-accepted_unless one some asked bytes name base lists (Some number) read there h = never_fine h
+accepted_unless asked bytes name base lists None read there h = lists_accepted asked bytes lists read there
+accepted_unless asked bytes name base lists (Some number) read there h = never_fine h
 
-accepted_of : HaveOneNormalForm → AreNormalForms → (asked : Request) (bytes name : List ℕ) (base : ℤ) (r : Result (Timer Fields) TimerFault)
+accepted_of : (asked : Request) (bytes name : List ℕ) (base : ℤ) (r : Result (Timer Fields) TimerFault)
     → timer_in expr_in bytes ≡ r → (whole_report (answer_of_timer asked base name r)).status ≡ Fine → IsAcceptedFile asked bytes
-accepted_of one some asked bytes name base (Ok lists) read h = accepted_unless one some asked bytes name base lists (unzoned (setting_of asked) lists) read refl h
-accepted_of one some asked bytes name base (Err fault) read h = never_fine h
+accepted_of asked bytes name base (Ok lists) read h = accepted_unless asked bytes name base lists (unzoned (setting_of asked) lists) read refl h
+accepted_of asked bytes name base (Err fault) read h = never_fine h
 
-pub fine_file_is_accepted : HaveOneNormalForm → AreNormalForms → (asked : Request) (bytes : List ℕ) (base : ℤ) → asked.verb ≡ verb.Timer → base_in asked ≡ Ok base
+pub fine_file_is_accepted : (asked : Request) (bytes : List ℕ) (base : ℤ) → asked.verb ≡ verb.Timer → base_in asked ≡ Ok base
     → (report asked (Ok bytes)).status ≡ Fine → IsAcceptedFile asked bytes
 unfolding timer_answer
-fine_file_is_accepted one some asked bytes base verb sought h =
-    accepted_of one some asked bytes (timer_path asked.texts) base (timer_in expr_in bytes) refl
+fine_file_is_accepted asked bytes base verb sought h =
+    accepted_of asked bytes (timer_path asked.texts) base (timer_in expr_in bytes) refl
     (sym (ap (λ (r : Report). r.status) (report_of_timer asked bytes base verb sought)) ∙ h)

@@ -6,17 +6,17 @@ use Rattle.std.specs.Io.KnownBytes.{Appends}
 use Rattle.std.specs.List.{AllZip, cons_option, filter_map, flat_map, join_by, list_any}
 use Rattle.std.specs.Result.{result_err, result_ok}
 use Rattle.cal_streams.specs.declared.whole.WholeFault.{WholeFault}
-use Rattle.cal_report.specs.Answer.{Answer, error_line_in, error_line, error_lines, report_in, reports_text, texts_status}
-use Rattle.cal_report.specs.TextReport.CalendarReport.{calendar_answer}
-use Rattle.cal_report.specs.headline.Headline.{AreAnswered, IsAnswerTo, IsReportOf, alone}
-use Rattle.cal_report.specs.RunReport.{ByReading, IsReported, answers_report, base_in, report}
-use Rattle.cal_report.specs.headline.ReportLines.{Report}
-use Rattle.cal_request.specs.headline.Request.{Request}
+use Rattle.cal_report.specs.rules.Answer.{Answer, error_line_in, error_line, error_lines, report_in, reports_text, texts_status}
+use Rattle.cal_report.specs.rules.TextReport.CalendarReport.{calendar_answer}
+use Rattle.cal_report.specs.rules.Headline.{AreAnswered, IsAnswerTo, IsReportOf, alone}
+use Rattle.cal_report.specs.rules.RunReport.{ByReading, IsReported, answers_report, base_in, report}
+use Rattle.cal_report.specs.rules.ReportLines.{Report}
+use Rattle.cal_request.specs.rules.Request.{Request}
 use Rattle.cal_request.specs.declared.request.Status.{Status}
 use Rattle.cal_request.specs.declared.request.Status.TheVariants.{Fine, Refused}
 use Rattle.cal_request.specs.declared.verb.Verb.TheVariants.{Calendar}
-use Rattle.cal_report.proofs.HeadlineAccepted.{AreNormalForms, text_accepted}
-use Rattle.cal_report.proofs.HeadlineLemmas.{HaveOneNormalForm, is_answered, is_report, report_of, report_of_texts}
+use Rattle.cal_report.proofs.HeadlineAccepted.{text_accepted}
+use Rattle.cal_report.proofs.HeadlineLemmas.{is_answered, is_report, report_of, report_of_texts}
 
 -- an answer, with the whole error line instead of the error message
 abbrev lined : List ℕ → Answer → Result (List ℕ) (List ℕ)
@@ -32,27 +32,27 @@ same_report a b h = cc
 never_both : (message report : List ℕ) → ◌≡◌ {A = Answer} (Err message) (Ok report) → ⊥
 never_both message report h = cc
 
-answered_so : HaveOneNormalForm → AreNormalForms → (asked : Request) (base : ℤ) (text : List ℕ) (a : Answer)
+answered_so : (asked : Request) (base : ℤ) (text : List ℕ) (a : Answer)
     → calendar_answer asked base text ≡ a → IsAnswerTo asked base text (lined text a)
-answered_so one some asked base text (Ok report) is =
-    let it = text_accepted some asked base text (ap is_err is) in
-    let whole = is_answered one asked base it.expression it.accepted in
+answered_so asked base text (Ok report) is =
+    let it = text_accepted asked base text (ap is_err is) in
+    let whole = is_answered asked base it.expression it.accepted in
     let same = same_report report (report_of asked base it.expression) (sym is ∙ (ap (calendar_answer asked base) it.same ∙ whole)) in (
       it.expression,
       sym it.same,
       it.accepted,
       subst (IsReportOf asked base (alone it.expression)) same (is_report asked base it.expression),
     )
-answered_so one some asked base text (Err message) is = (
-  λ e same accepted. never_both message (report_of asked base e) (sym is ∙ (ap (calendar_answer asked base) (sym same) ∙ is_answered one asked base e accepted)),
+answered_so asked base text (Err message) is = (
+  λ e same accepted. never_both message (report_of asked base e) (sym is ∙ (ap (calendar_answer asked base) (sym same) ∙ is_answered asked base e accepted)),
   (message, search rules),
 )
 
-pub each_answered : HaveOneNormalForm → AreNormalForms → (asked : Request) (base : ℤ) (texts : List (List ℕ))
+pub each_answered : (asked : Request) (base : ℤ) (texts : List (List ℕ))
     → AllZip (IsAnswerTo asked base) texts (map (lined_by (calendar_answer asked base)) texts)
-each_answered one some asked base [] = tt
-each_answered one some asked base (text ∷ texts) =
-    (answered_so one some asked base text (calendar_answer asked base text) refl, each_answered one some asked base texts)
+each_answered asked base [] = tt
+each_answered asked base (text ∷ texts) =
+    (answered_so asked base text (calendar_answer asked base text) refl, each_answered asked base texts)
 
 -- The reports, the error lines and the status are the same for `lined` answers as for the answers themselves
 
@@ -85,26 +85,26 @@ some_fails answer [] = refl
 some_fails answer (text ∷ texts) =
     ap (λ b. b || list_any (λ text. is_err (answer text)) texts) (fails_so text (answer text)) ∙ ap (λ b. is_err (lined_by answer text) || b) (some_fails answer texts)
 
-texts_answered : HaveOneNormalForm → AreNormalForms → (asked : Request) (base : ℤ) → AreAnswered asked base asked.texts (answers_report (calendar_answer asked base) asked.texts)
+texts_answered : (asked : Request) (base : ℤ) → AreAnswered asked base asked.texts (answers_report (calendar_answer asked base) asked.texts)
 unfolding answers_report reports_text error_lines texts_status
-texts_answered one some asked base =
+texts_answered asked base =
     let answer = calendar_answer asked base in
     record {
       answers = map (lined_by answer) asked.texts;
-      each = each_answered one some asked base asked.texts;
+      each = each_answered asked base asked.texts;
       out = ap (join_by (λ report. report) (codes "\n")) (reports_are answer asked.texts);
       err = lines_are answer asked.texts;
       status = ap (λ b. if b then Refused else Fine) (some_fails answer asked.texts);
     }
 
-pub each_is_answered : HaveOneNormalForm → AreNormalForms → (asked : Request) (read : Result (List ℕ) WholeFault) (base : ℤ)
+pub each_is_answered : (asked : Request) (read : Result (List ℕ) WholeFault) (base : ℤ)
     → asked.verb ≡ Calendar → base_in asked ≡ Ok base → AreAnswered asked base asked.texts (report asked read)
-each_is_answered one some asked read base verb sought =
-    rw (report_of_texts asked read base verb sought) (texts_answered one some asked base)
+each_is_answered asked read base verb sought =
+    rw (report_of_texts asked read base verb sought) (texts_answered asked base)
 
-pub each_is_written : HaveOneNormalForm → AreNormalForms → (asked : Request) (base : ℤ) (old new : Option (List ℕ)) (failed : Bool) (status : Status)
+pub each_is_written : (asked : Request) (base : ℤ) (old new : Option (List ℕ)) (failed : Bool) (status : Status)
     (out_old out_new err_old err_new : Option (List ℕ)) → asked.verb ≡ Calendar → base_in asked ≡ Ok base
     → ByReading asked old new failed (IsReported (Ok status) out_old out_new err_old err_new)
     → (it : Report) × AreAnswered asked base asked.texts it × Appends out_old out_new it.out × Appends err_old err_new it.err × (status ≡ it.status)
-each_is_written one some asked base old new failed status out_old out_new err_old err_new verb sought run =
-    (report asked run.read, each_is_answered one some asked run.read base verb sought, run.holds.out, run.holds.err, run.holds.status)
+each_is_written asked base old new failed status out_old out_new err_old err_new verb sought run =
+    (report asked run.read, each_is_answered asked run.read base verb sought, run.holds.out, run.holds.err, run.holds.status)

@@ -7,24 +7,24 @@ use Rattle.std.specs.List.{slice_get}
 use Rattle.jiff.proofs.SpanFacts.{signed_arith}
 use Rattle.jiff.specs.Types.{Fold, Offset, TimeZone}
 use Rattle.jiff.specs.Words.{ambiguous_at}
-use Rattle.cal_zone.specs.Instant.{IsInstant}
-use Rattle.cal_civil.specs.headline.Local.{seconds_in_all-is}
-use Rattle.cal_zone.specs.headline.Place.{datetime_of, place_of, settle_of}
-use Rattle.cal_zone.specs.headline.Zone.{local_shown_at}
+use Rattle.cal_zone.specs.rules.Instant.{IsInstant}
+use Rattle.cal_civil.specs.rules.LocalSecond.{seconds_in_all-is}
+use Rattle.cal_zone.specs.rules.Place.{datetime_of, place_of, settle_of}
+use Rattle.cal_zone.specs.rules.Zone.{local_shown_at}
 use Rattle.cal_zone.proofs.PlaceLemmas.{place_of-Some}
-use Rattle.cal_spec.specs.headline.Fields.{Fields}
-use Rattle.cal_spec.specs.headline.Match.{matches}
-use Rattle.cal_spec.specs.headline.Members.{sets_of}
-use Rattle.cal_elapse.specs.ElapsesAfter.{elapses_except}
-use Rattle.cal_elapse.specs.headline.Elapses.{AreElapses, IsPlace, Timed, timed}
+use Rattle.cal_spec.specs.rules.Fields.{Fields}
+use Rattle.cal_spec.specs.rules.Match.{matches}
+use Rattle.cal_spec.specs.rules.Members.{sets_of}
+use Rattle.cal_elapse.specs.rules.ElapsesAfter.{elapses_except}
+use Rattle.cal_elapse.specs.rules.Elapses.{AreElapses, IsPlace, Timed, timed}
 use Rattle.cal_elapse.proofs.ElapsesLemmas.{AreElapses-elapses_except, AreElapses-only, elapses_except-later}
 use Rattle.cal_elapse.proofs.InstantLemmas.{IsInstant-elapse}
 use Rattle.cal_stamp.specs.declared.fault.StampFault.{StampFault}
-use Rattle.cal_plan.specs.Instants.{AreInstants}
-use Rattle.cal_report.specs.headline.Headline.{AreElapsesOf, Expression, Schedule, meaning}
-use Rattle.cal_report.specs.RunReport.{base_from, base_in, second_or_fault}
-use Rattle.cal_report.specs.TextReport.TimestampReport.{stamp_in}
-use Rattle.cal_request.specs.headline.Request.{Request}
+use Rattle.cal_plan.specs.rules.Instants.{AreInstants}
+use Rattle.cal_report.specs.rules.Headline.{AreElapsesOf, Expression, Schedule, meaning}
+use Rattle.cal_report.specs.rules.RunReport.{base_from, base_in, second_or_fault}
+use Rattle.cal_report.specs.rules.TextReport.TimestampReport.{stamp_in}
+use Rattle.cal_request.specs.rules.Request.{Request}
 use Rattle.cal_report.proofs.HeadlineLemmas.{one_elapses}
 
 -- Elapses are instants

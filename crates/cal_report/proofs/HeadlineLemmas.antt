@@ -6,52 +6,38 @@ use Rattle.std.specs.Io.KnownBytes.{Appends}
 use Rattle.std.specs.List.{AllByRecursion, AllZip, filter_map, find, flat_map, join_by, list_any}
 use Rattle.jiff.specs.Types.{TimeZone}
 use Rattle.cal_streams.specs.declared.whole.WholeFault.{WholeFault}
-use Rattle.cal_spec.specs.Expr.{expr_in}
-use Rattle.cal_spec.specs.headline.Fields.{Fields}
-use Rattle.cal_spec.specs.NormalParts.{normal_fields}
-use Rattle.cal_spec.specs.headline.NormalForm.{IsNormalFieldsOf}
-use Rattle.cal_spec.specs.ValidFields.{IsValidFields}
+use Rattle.cal_spec.specs.computed.Expr.{expr_in}
+use Rattle.cal_spec.specs.rules.Fields.{Fields}
+use Rattle.cal_spec.specs.rules.NormalForm.{Spells}
 use Rattle.cal_spec.specs.declared.spec_fault.SpecFault.{SpecFault}
-use Rattle.cal_spec.proofs.FieldLemmas.{valid_fields}
-use Rattle.cal_spec.proofs.WholeRule.{valid_only}
-use Rattle.cal_bytes.specs.headline.Bytes.{joined}
-use Rattle.cal_elapse.specs.ElapsesAfter.{elapses_after, elapses_except}
-use Rattle.cal_elapse.specs.headline.Elapses.{AreElapses, Timed}
+use Rattle.cal_spec.proofs.ExprRule.{spelled_is_read}
+use Rattle.cal_bytes.specs.rules.Bytes.{joined}
+use Rattle.cal_elapse.specs.rules.ElapsesAfter.{elapses_after, elapses_except}
+use Rattle.cal_elapse.specs.rules.Elapses.{AreElapses, Timed}
 use Rattle.cal_elapse.proofs.ElapsesLemmas.{AreElapses-elapses_except, AreElapses-only, elapses_except-none}
-use Rattle.cal_timer.specs.headline.Assignments.{Assignment}
-use Rattle.cal_timer.specs.TimerRule.{AreFine}
-use Rattle.cal_timer.specs.TimerEntries.{TimerLine, Timer, entries, entry_of, fault_following, fault_joining, timer_in, timer_of}
-use Rattle.cal_timer.specs.headline.TimerText.{excepted, is_exception, is_expression, listed, max_expressions}
+use Rattle.cal_timer.specs.rules.Assignments.{Assignment}
+use Rattle.cal_timer.specs.rules.TimerRule.{AreFine}
+use Rattle.cal_timer.specs.rules.TimerEntries.{TimerLine, Timer, entries, entry_of, fault_following, fault_joining, timer_in, timer_of}
+use Rattle.cal_timer.specs.rules.TimerText.{excepted, is_exception, is_expression, listed, max_expressions}
 use Rattle.cal_timer.proofs.TimerRuleLemmas.{only_judged}
-use Rattle.cal_plan.specs.TimerElapses.{elapses_of_lists, timed_entry}
-use Rattle.cal_plan.specs.ZoneFor.{lacks_zone, unzoned, zone_for}
-use Rattle.cal_report.specs.Context.{setting_of}
-use Rattle.cal_report.specs.Answer.{error_lines, report_in, reports_text, texts_status}
-use Rattle.cal_spec.specs.headline.ZoneSuffix.{ZoneSuffix, of_name, at_offset}
-use Rattle.cal_report.specs.TextReport.CalendarReport.{answer_in, answer_with, calendar_answer, calendar_report}
-use Rattle.cal_report.specs.headline.ReportLines.{heading_text, except_label, original_label}
-use Rattle.cal_report.specs.headline.ElapseLines.{elapses_text}
-use Rattle.cal_report.specs.headline.Headline.{AreAllAccepted, AreReportsOf, AreSpelled, Expression, IsAccepted, IsFileOf, IsFine, IsReportOf, IsZoneFor, Schedule, Spells, alone, assigned_in, headings, meaning}
-use Rattle.cal_report.specs.RunReport.{ByReading, IsReported, answers_report, base_in, report, report_from, report_on, whole_report}
-use Rattle.cal_report.specs.TimerReport.{headings_text, timer_answer, timer_report}
-use Rattle.cal_request.specs.RequestKind.{timer_path, kind_by}
-use Rattle.cal_request.specs.headline.Request.{Request}
+use Rattle.cal_plan.specs.rules.TimerElapses.{elapses_of_lists, timed_entry}
+use Rattle.cal_plan.specs.rules.ZoneFor.{lacks_zone, unzoned, zone_for}
+use Rattle.cal_report.specs.rules.Context.{setting_of}
+use Rattle.cal_report.specs.rules.Answer.{error_lines, report_in, reports_text, texts_status}
+use Rattle.cal_spec.specs.rules.ZoneSuffix.{ZoneSuffix, of_name, at_offset}
+use Rattle.cal_report.specs.rules.TextReport.CalendarReport.{answer_in, answer_with, calendar_answer, calendar_report}
+use Rattle.cal_report.specs.rules.ReportLines.{heading_text, except_label, original_label}
+use Rattle.cal_report.specs.rules.ElapseLines.{elapses_text}
+use Rattle.cal_report.specs.rules.Headline.{AreAllAccepted, AreReportsOf, AreSpelled, Expression, IsAccepted, IsFileOf, IsFine, IsReportOf, IsZoneFor, Schedule, alone, assigned_in, headings, meaning}
+use Rattle.cal_report.specs.rules.RunReport.{ByReading, IsReported, answers_report, base_in, report, report_from, report_on, whole_report}
+use Rattle.cal_report.specs.rules.TimerReport.{headings_text, timer_answer, timer_report}
+use Rattle.cal_request.specs.rules.RequestKind.{timer_path, kind_by}
+use Rattle.cal_request.specs.rules.Request.{Request}
 use Rattle.cal_request.specs.declared.request.Status.{Status}
 use Rattle.cal_request.specs.declared.request.Status.TheVariants.{Fine, Refused}
 use Rattle.cal_request.specs.declared.verb.Verb.TheVariants as verb
 
 -- Accepted expressions are parsed as the definitions say
-
--- The clause `only` of the law `one_normal_form_of_fields` of `cal_spec`: valid fields have no normal form other than
--- the one that `normal_fields` returns. The lemmas below take this clause as a premise.
-abbrev pub HaveOneNormalForm : Type 0
-HaveOneNormalForm = (f g : Fields) → IsValidFields f → IsNormalFieldsOf f g → g ≡ normal_fields f
-
-pub spelled_is_read : HaveOneNormalForm → (text : List ℕ) (fields : Fields) → Spells text fields → expr_in text ≡ Ok fields
-unfolding expr_in
-spelled_is_read one text fields h =
-    let found = valid_only text h.raw h.valid in
-    rw found (ap Ok (sym (one h.raw fields (valid_fields text h.raw found) h.normal)))
 
 zone_is_found : (asked : Request) (suffix : Option ZoneSuffix) (tz : TimeZone) → IsZoneFor asked suffix tz → zone_for (setting_of asked) suffix ≡ Some tz
 unfolding zone_for
@@ -65,11 +51,11 @@ zone_is_found asked (Some (at_offset seconds)) tz h = ap Some (sym h)
 abbrev pub report_of : Request → ℤ → Expression → List ℕ
 report_of asked base e = calendar_report asked base e.text e.fields e.tz
 
-pub is_answered : HaveOneNormalForm → (asked : Request) (base : ℤ) (e : Expression) → IsAccepted asked e
+pub is_answered : (asked : Request) (base : ℤ) (e : Expression) → IsAccepted asked e
     → calendar_answer asked base e.text ≡ Ok (report_of asked base e)
 unfolding calendar_answer
-is_answered one asked base e h =
-    ap (answer_with asked base e.text) (spelled_is_read one e.text e.fields h.spelled)
+is_answered asked base e h =
+    ap (answer_with asked base e.text) (spelled_is_read e.text e.fields h.spelled)
     ∙ ap (answer_in asked base e.text e.fields) (zone_is_found asked e.fields.zone e.tz h.zone)
 
 -- if there are no exceptions, `elapses_after` computes exactly the elapses of an expression
@@ -92,24 +78,24 @@ each_report asked base (e ∷ es) = (is_report asked base e, each_report asked b
 abbrev pub text_of : Expression → List ℕ
 text_of e = e.text
 
-reports_are : HaveOneNormalForm → (asked : Request) (base : ℤ) (es : List Expression) → AllByRecursion (IsAccepted asked) es
+reports_are : (asked : Request) (base : ℤ) (es : List Expression) → AllByRecursion (IsAccepted asked) es
     → flat_map (λ text. report_in (calendar_answer asked base text)) (map text_of es) ≡ map (report_of asked base) es
-reports_are one asked base [] all = refl
-reports_are one asked base (e ∷ es) all =
-    rw (is_answered one asked base e all.0) (ap (λ (rs : List (List ℕ)). report_of asked base e ∷ rs) (reports_are one asked base es all.1))
+reports_are asked base [] all = refl
+reports_are asked base (e ∷ es) all =
+    rw (is_answered asked base e all.0) (ap (λ (rs : List (List ℕ)). report_of asked base e ∷ rs) (reports_are asked base es all.1))
 
-none_refused : HaveOneNormalForm → (asked : Request) (base : ℤ) (es : List Expression) → AllByRecursion (IsAccepted asked) es
+none_refused : (asked : Request) (base : ℤ) (es : List Expression) → AllByRecursion (IsAccepted asked) es
     → error_lines (calendar_answer asked base) (map text_of es) ≡ []
 unfolding error_lines
-none_refused one asked base [] all = refl
-none_refused one asked base (e ∷ es) all =
-    rw (is_answered one asked base e all.0) (none_refused one asked base es all.1)
+none_refused asked base [] all = refl
+none_refused asked base (e ∷ es) all =
+    rw (is_answered asked base e all.0) (none_refused asked base es all.1)
 
-none_fails : HaveOneNormalForm → (asked : Request) (base : ℤ) (es : List Expression) → AllByRecursion (IsAccepted asked) es
+none_fails : (asked : Request) (base : ℤ) (es : List Expression) → AllByRecursion (IsAccepted asked) es
     → list_any (λ text. is_err (calendar_answer asked base text)) (map text_of es) ≡ false
-none_fails one asked base [] all = refl
-none_fails one asked base (e ∷ es) all =
-    rw (is_answered one asked base e all.0) (none_fails one asked base es all.1)
+none_fails asked base [] all = refl
+none_fails asked base (e ∷ es) all =
+    rw (is_answered asked base e all.0) (none_fails asked base es all.1)
 
 -- if the base time is valid, the report of a request for calendar expressions consists of the answers to them
 pub report_of_texts : (asked : Request) (read : Result (List ℕ) WholeFault) (base : ℤ) → asked.verb ≡ verb.Calendar → base_in asked ≡ Ok base
@@ -119,51 +105,51 @@ report_of_texts asked read base verb sought =
     ap (λ v. report_on asked read (kind_by v asked.texts)) verb
     ∙ ap (report_from (λ b. answers_report (calendar_answer asked b) asked.texts)) sought
 
-answers_report_is : HaveOneNormalForm → (asked : Request) (base : ℤ) (es : List Expression)
+answers_report_is : (asked : Request) (base : ℤ) (es : List Expression)
     → asked.texts ≡ map text_of es → AllByRecursion (IsAccepted asked) es
     → AreReportsOf asked base es (answers_report (calendar_answer asked base) asked.texts).out × IsFine (answers_report (calendar_answer asked base) asked.texts)
 unfolding answers_report reports_text texts_status
-answers_report_is one asked base es texts all =
+answers_report_is asked base es texts all =
     let answer = calendar_answer asked base in (
       record {
         reports = map (report_of asked base) es;
         each = each_report asked base es;
-        layout = ap (reports_text answer) texts ∙ ap (join_by (λ report. report) (codes "\n")) (reports_are one asked base es all);
+        layout = ap (reports_text answer) texts ∙ ap (join_by (λ report. report) (codes "\n")) (reports_are asked base es all);
       },
       record {
-        err = ap (error_lines answer) texts ∙ none_refused one asked base es all;
-        status = ap (texts_status answer) texts ∙ ap (λ b. if b then Refused else Fine) (none_fails one asked base es all);
+        err = ap (error_lines answer) texts ∙ none_refused asked base es all;
+        status = ap (texts_status answer) texts ∙ ap (λ b. if b then Refused else Fine) (none_fails asked base es all);
       },
     )
 
-pub calendar_report_is : HaveOneNormalForm → (asked : Request) (read : Result (List ℕ) WholeFault) (base : ℤ) (es : List Expression)
+pub calendar_report_is : (asked : Request) (read : Result (List ℕ) WholeFault) (base : ℤ) (es : List Expression)
     → asked.verb ≡ verb.Calendar → base_in asked ≡ Ok base → asked.texts ≡ map (λ (e : Expression). e.text) es → AllByRecursion (IsAccepted asked) es
     → AreReportsOf asked base es (report asked read).out × IsFine (report asked read)
-calendar_report_is one asked read base es verb sought texts all =
-    rw (report_of_texts asked read base verb sought) (answers_report_is one asked base es texts all)
+calendar_report_is asked read base es verb sought texts all =
+    rw (report_of_texts asked read base verb sought) (answers_report_is asked base es texts all)
 
 -- Timer files
 
 -- assigning a valid expression or exception isn't an error if the list of its kind has fewer than `max_expressions`
 -- entries
-joins_well : HaveOneNormalForm → (list : List Assignment) (a : Assignment) → (length list < max_expressions) × ((fields : Fields) × Spells a.value fields)
+joins_well : (list : List Assignment) (a : Assignment) → (length list < max_expressions) × ((fields : Fields) × Spells a.value fields)
     → fault_joining expr_in list a ≡ None
 unfolding fault_joining
-joins_well one list a spelled =
+joins_well list a spelled =
     let few : nat_le max_expressions (length list) ≡ false = grind (arith, spelled.0) in
-    rw (few, spelled_is_read one a.value spelled.1.0 spelled.1.1) refl
+    rw (few, spelled_is_read a.value spelled.1.0 spelled.1.1) refl
 
-no_fault : HaveOneNormalForm → (before : List Assignment) (a : Assignment) (expresses excepts : Bool) → is_expression a ≡ expresses → is_exception a ≡ excepts
+no_fault : (before : List Assignment) (a : Assignment) (expresses excepts : Bool) → is_expression a ≡ expresses → is_exception a ≡ excepts
     → (is_expression a ≡ true → (length (listed before) < max_expressions) × ((fields : Fields) × Spells a.value fields))
     × (is_exception a ≡ true → (length (excepted before) < max_expressions) × ((fields : Fields) × Spells a.value fields))
     → fault_following expr_in before a ≡ None
 unfolding fault_following
-no_fault one before a true excepts e f h = rw e (joins_well one (listed before) a (h.0 e))
-no_fault one before a false true e f h = rw (e, f) (joins_well one (excepted before) a (h.1 f))
-no_fault one before a false false e f h = rw (e, f) refl
+no_fault before a true excepts e f h = rw e (joins_well (listed before) a (h.0 e))
+no_fault before a false true e f h = rw (e, f) (joins_well (excepted before) a (h.1 f))
+no_fault before a false false e f h = rw (e, f) refl
 
-all_fine : HaveOneNormalForm → (all : List Assignment) → AreSpelled all → AreFine expr_in all
-all_fine one all h before a after split = no_fault one before a (is_expression a) (is_exception a) refl refl (h before a after split)
+all_fine : (all : List Assignment) → AreSpelled all → AreFine expr_in all
+all_fine all h before a after split = no_fault before a (is_expression a) (is_exception a) refl refl (h before a after split)
 
 -- `entry`, a line of a parsed timer file, has the text and the fields of the expression `e`, and the zone suffix of `e`
 -- stands for the zone of `e`
@@ -172,19 +158,19 @@ record IsEntryOf (asked : Request) (entry : TimerLine Fields) (e : Expression) :
   expr : entry.expr ≡ e.fields
   zone : zone_for (setting_of asked) e.fields.zone ≡ Some e.tz
 
-entries_are : HaveOneNormalForm → (asked : Request) (list : List Assignment) (es : List Expression)
+entries_are : (asked : Request) (list : List Assignment) (es : List Expression)
     → map (λ (a : Assignment). a.value) list ≡ map text_of es → AllByRecursion (IsAccepted asked) es
     → AllZip (IsEntryOf asked) (filter_map (λ a. entry_of a (expr_in a.value)) list) es
-entries_are one asked [] [] same all = tt
-entries_are one asked [] (e ∷ es) same all = cc
-entries_are one asked (a ∷ list) [] same all = cc
-entries_are one asked (a ∷ list) (e ∷ es) same all =
+entries_are asked [] [] same all = tt
+entries_are asked [] (e ∷ es) same all = cc
+entries_are asked (a ∷ list) [] same all = cc
+entries_are asked (a ∷ list) (e ∷ es) same all =
     let text : a.value ≡ e.text = cc in
     let rest : map (λ (a : Assignment). a.value) list ≡ map text_of es = cc in
-    let read : expr_in a.value ≡ Ok e.fields = ap expr_in text ∙ spelled_is_read one e.text e.fields all.0.spelled in
+    let read : expr_in a.value ≡ Ok e.fields = ap expr_in text ∙ spelled_is_read e.text e.fields all.0.spelled in
     rw read (
       record { text = text; expr = refl; zone = zone_is_found asked e.fields.zone e.tz all.0.zone },
-      entries_are one asked list es rest all.1,
+      entries_are asked list es rest all.1,
     )
 
 none_lacks : (asked : Request) (list : List (TimerLine Fields)) (es : List Expression) → AllZip (IsEntryOf asked) list es
@@ -227,20 +213,20 @@ record AreEntriesOf (asked : Request) (lists : Timer Fields) (s : Schedule) : Ty
 abbrev entries_in : List ℕ → Timer Fields
 entries_in bytes = entries expr_in (assigned_in bytes)
 
-file_entries : HaveOneNormalForm → (asked : Request) (bytes : List ℕ) (s : Schedule) → IsFileOf bytes s → AreAllAccepted asked s
+file_entries : (asked : Request) (bytes : List ℕ) (s : Schedule) → IsFileOf bytes s → AreAllAccepted asked s
     → AreEntriesOf asked (entries_in bytes) s
 unfolding entries
-file_entries one asked bytes s file all = record {
-  expressions = entries_are one asked (listed (assigned_in bytes)) s.expressions file.expressions all.expressions;
-  exceptions = entries_are one asked (excepted (assigned_in bytes)) s.exceptions file.exceptions all.exceptions;
+file_entries asked bytes s file all = record {
+  expressions = entries_are asked (listed (assigned_in bytes)) s.expressions file.expressions all.expressions;
+  exceptions = entries_are asked (excepted (assigned_in bytes)) s.exceptions file.exceptions all.exceptions;
 }
 
-file_is_read : HaveOneNormalForm → (asked : Request) (bytes : List ℕ) (s : Schedule) → IsFileOf bytes s → AreAllAccepted asked s
+file_is_read : (asked : Request) (bytes : List ℕ) (s : Schedule) → IsFileOf bytes s → AreAllAccepted asked s
     → timer_in expr_in bytes ≡ Ok (entries_in bytes)
 unfolding timer_in timer_of
-file_is_read one asked bytes s file all =
-    let some = as_many asked (entries_in bytes).expressions s.expressions (file_entries one asked bytes s file all).expressions file.some in
-    rw file.utf8 (sym (only_judged expr_in (assigned_in bytes) (Ok (entries_in bytes)) (all_fine one (assigned_in bytes) file.spelled, refl, some)))
+file_is_read asked bytes s file all =
+    let some = as_many asked (entries_in bytes).expressions s.expressions (file_entries asked bytes s file all).expressions file.some in
+    rw file.utf8 (sym (only_judged expr_in (assigned_in bytes) (Ok (entries_in bytes)) (all_fine (assigned_in bytes) file.spelled, refl, some)))
 
 all_there : (asked : Request) (lists : Timer Fields) (s : Schedule) → AreEntriesOf asked lists s → unzoned (setting_of asked) lists ≡ None
 unfolding unzoned
@@ -255,11 +241,11 @@ report_of_timer asked bytes base verb sought =
     ap (λ v. report_on asked (Ok bytes) (kind_by v asked.texts)) verb
     ∙ ap (report_from (λ b. whole_report (timer_answer asked b (timer_path asked.texts) (Ok bytes)))) sought
 
-file_is_answered : HaveOneNormalForm → (asked : Request) (bytes name : List ℕ) (base : ℤ) (s : Schedule) → IsFileOf bytes s
+file_is_answered : (asked : Request) (bytes name : List ℕ) (base : ℤ) (s : Schedule) → IsFileOf bytes s
     → AreAllAccepted asked s → timer_answer asked base name (Ok bytes) ≡ Ok (timer_report asked base (entries_in bytes))
 unfolding timer_answer
-file_is_answered one asked bytes name base s file all =
-    rw (file_is_read one asked bytes s file all, all_there asked (entries_in bytes) s (file_entries one asked bytes s file all)) refl
+file_is_answered asked bytes name base s file all =
+    rw (file_is_read asked bytes s file all, all_there asked (entries_in bytes) s (file_entries asked bytes s file all)) refl
 
 layout_is : (a b c : List ℕ) → joined (joined (a ∷ b ∷ []) ∷ c ∷ []) ≡ (a ++ b) ++ c
 layout_is a b c = rw (append-nil b, append-nil c) refl
@@ -282,30 +268,30 @@ timer_is_report asked base lists s h =
           (elapses_text asked.local asked.now (take asked.iterations elapses)));
     }
 
-pub timer_report_is : HaveOneNormalForm → (asked : Request) (bytes : List ℕ) (base : ℤ) (s : Schedule)
+pub timer_report_is : (asked : Request) (bytes : List ℕ) (base : ℤ) (s : Schedule)
     → asked.verb ≡ verb.Timer → base_in asked ≡ Ok base → IsFileOf bytes s → AreAllAccepted asked s
     → IsReportOf asked base s (report asked (Ok bytes)).out × IsFine (report asked (Ok bytes))
-timer_report_is one asked bytes base s verb sought file all =
-    rw (report_of_timer asked bytes base verb sought, file_is_answered one asked bytes (timer_path asked.texts) base s file all)
-    (timer_is_report asked base (entries_in bytes) s (file_entries one asked bytes s file all), record { err = refl; status = refl })
+timer_report_is asked bytes base s verb sought file all =
+    rw (report_of_timer asked bytes base verb sought, file_is_answered asked bytes (timer_path asked.texts) base s file all)
+    (timer_is_report asked base (entries_in bytes) s (file_entries asked bytes s file all), record { err = refl; status = refl })
 
 -- What a run has written if it returns `Ok`
 
-pub calendar_is_written : HaveOneNormalForm → (asked : Request) (base : ℤ) (es : List Expression) (old new : Option (List ℕ)) (failed : Bool) (status : Status)
+pub calendar_is_written : (asked : Request) (base : ℤ) (es : List Expression) (old new : Option (List ℕ)) (failed : Bool) (status : Status)
     (out_old out_new err_old err_new : Option (List ℕ)) → asked.verb ≡ verb.Calendar → base_in asked ≡ Ok base → asked.texts ≡ map (λ (e : Expression). e.text) es
     → AllByRecursion (IsAccepted asked) es → ByReading asked old new failed (IsReported (Ok status) out_old out_new err_old err_new)
     → (text : List ℕ) × AreReportsOf asked base es text × Appends out_old out_new text × Appends err_old err_new [] × (status ≡ Fine)
-calendar_is_written one asked base es old new failed status out_old out_new err_old err_new verb sought texts all run =
-    let printed = calendar_report_is one asked run.read base es verb sought texts all in
+calendar_is_written asked base es old new failed status out_old out_new err_old err_new verb sought texts all run =
+    let printed = calendar_report_is asked run.read base es verb sought texts all in
     ((report asked run.read).out, printed.0, run.holds.out, subst (Appends err_old err_new) printed.1.err run.holds.err, run.holds.status ∙ printed.1.status)
 
-pub timer_is_written : HaveOneNormalForm → (asked : Request) (base : ℤ) (bytes : List ℕ) (s : Schedule) (old new : Option (List ℕ)) (failed : Bool) (status : Status)
+pub timer_is_written : (asked : Request) (base : ℤ) (bytes : List ℕ) (s : Schedule) (old new : Option (List ℕ)) (failed : Bool) (status : Status)
     (out_old out_new err_old err_new : Option (List ℕ)) → asked.verb ≡ verb.Timer → base_in asked ≡ Ok base → IsFileOf bytes s
     → AreAllAccepted asked s → (run : ByReading asked old new failed (IsReported (Ok status) out_old out_new err_old err_new)) → run.read ≡ Ok bytes
     → (text : List ℕ) × IsReportOf asked base s text × Appends out_old out_new text × Appends err_old err_new [] × (status ≡ Fine)
-timer_is_written one asked base bytes s old new failed status out_old out_new err_old err_new verb sought file all run read =
+timer_is_written asked base bytes s old new failed status out_old out_new err_old err_new verb sought file all run read =
     let printed : IsReportOf asked base s (report asked run.read).out × IsFine (report asked run.read)
-    = subst (λ (r : Result (List ℕ) WholeFault). IsReportOf asked base s (report asked r).out × IsFine (report asked r)) (sym read) (timer_report_is one asked bytes base s verb sought file all) in
+    = subst (λ (r : Result (List ℕ) WholeFault). IsReportOf asked base s (report asked r).out × IsFine (report asked r)) (sym read) (timer_report_is asked bytes base s verb sought file all) in
     ((report asked run.read).out, printed.0, run.holds.out, subst (Appends err_old err_new) printed.1.err run.holds.err, run.holds.status ∙ printed.1.status)
 
 -- Reports and lists of elapses are unique
@@ -341,10 +327,10 @@ same_expression e f text fields tz =
     let same : ◌≡◌ {A = Expression} (record { text = e.text; fields = e.fields; tz = e.tz }) (record { text = f.text; fields = f.fields; tz = f.tz }) = cc in
     same
 
-pub one_meaning : HaveOneNormalForm → (asked : Request) (e f : Expression) → IsAccepted asked e → IsAccepted asked f → e.text ≡ f.text → e ≡ f
-one_meaning one asked e f h k text =
-    let here = spelled_is_read one e.text e.fields h.spelled in
-    let there = spelled_is_read one f.text f.fields k.spelled in
+pub one_meaning : (asked : Request) (e f : Expression) → IsAccepted asked e → IsAccepted asked f → e.text ≡ f.text → e ≡ f
+one_meaning asked e f h k text =
+    let here = spelled_is_read e.text e.fields h.spelled in
+    let there = spelled_is_read f.text f.fields k.spelled in
     let read : ◌≡◌ {A = Result Fields SpecFault} (Ok e.fields) (Ok f.fields) = sym here ∙ (ap expr_in text ∙ there) in
     let fields : e.fields ≡ f.fields = cc in
     let zone : Some e.tz ≡ Some f.tz

@@ -1,6 +1,7 @@
 pub mod AgainLemmas
 pub mod AmongLemmas
 pub mod AnswerLemmas
+pub mod BaseLemmas
 pub mod ElapseTexts
 pub mod HeadlineAccepted
 pub mod HeadlineEach

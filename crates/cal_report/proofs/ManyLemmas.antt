@@ -6,15 +6,14 @@ use Rattle.std.proofs.lemmas.List.{append_cancel_left, length-map}
 use Rattle.std.proofs.lemmas.List.Folds.{flat_map-map}
 use Rattle.std.specs.List.{AllByRecursion, AllZip, flat_map, join_by}
 use Rattle.cal_streams.specs.declared.whole.WholeFault.{WholeFault}
-use Rattle.cal_report.specs.RunReport.{ByReading, IsReported, base_from, base_in, report}
-use Rattle.cal_report.specs.Resume.{AreAcceptedAmong, ResumesAmong, for_text, report_of_one}
-use Rattle.cal_report.specs.TextReport.TimestampReport.{stamp_in}
-use Rattle.cal_report.specs.headline.Headline.{AreReportsOf, Expression, IsAccepted, IsReportOf, alone}
+use Rattle.cal_report.specs.rules.RunReport.{ByReading, IsReported, base_from, base_in, report}
+use Rattle.cal_report.specs.rules.Resume.{AreAcceptedAmong, ResumesAmong, for_text, report_of_one}
+use Rattle.cal_report.specs.rules.TextReport.TimestampReport.{stamp_in}
+use Rattle.cal_report.specs.rules.Headline.{AreReportsOf, Expression, IsAccepted, IsReportOf, alone}
 use Rattle.cal_report.proofs.AmongLemmas.{all_accepted, reports_are_among}
-use Rattle.cal_report.proofs.HeadlineAccepted.{AreNormalForms}
-use Rattle.cal_report.proofs.HeadlineLemmas.{HaveOneNormalForm, one_report}
+use Rattle.cal_report.proofs.HeadlineLemmas.{one_report}
 use Rattle.cal_report.proofs.ResumeLemmas.{front_written, text_report, text_resumes, zone_again}
-use Rattle.cal_request.specs.headline.Request.{Request}
+use Rattle.cal_request.specs.rules.Request.{Request}
 use Rattle.std.specs.Io.KnownBytes.{Appends}
 use Rattle.cal_request.specs.declared.request.RunFault.{RunFault}
 use Rattle.cal_request.specs.declared.request.Status.{Status}
@@ -159,12 +158,12 @@ accepted_at : (asked : Request) (before : List Expression) (e : Expression) (aft
 accepted_at asked [] e after all = all.0
 accepted_at asked (d ∷ before) e after all = accepted_at asked before e after all.1
 
-module _ (one : HaveOneNormalForm) (asked : Request) (read : Result (List ℕ) WholeFault) (base : ℤ) (verb : asked.verb ≡ Calendar) (sought : base_in asked ≡ Ok base) where
+module _ (asked : Request) (read : Result (List ℕ) WholeFault) (base : ℤ) (verb : asked.verb ≡ Calendar) (sought : base_in asked ≡ Ok base) where
   -- the report of an expression equals the standard output of a request for this expression alone
   reported_alone : (e : Expression) (text : List ℕ) → IsAccepted asked e → IsReportOf asked base (alone e) text → (report (for_text asked e.text) read).out ≡ text
   reported_alone e text accepted is =
       let again = for_text asked e.text in
-      let there = text_report one again read base e verb (same_sought asked e.text ∙ sought) refl (accepted_alone asked e.text e accepted) in
+      let there = text_report again read base e verb (same_sought asked e.text ∙ sought) refl (accepted_alone asked e.text e accepted) in
       let here : IsReportOf again base (alone e) text = record { elapses = is.elapses; these = is.these; layout = is.layout } in
       one_report again base (alone e) (report again read).out text there here
 
@@ -194,7 +193,7 @@ module _ (one : HaveOneNormalForm) (asked : Request) (read : Result (List ℕ) W
         rest = cut.rest;
         layout = cut.layout ∙ ap (λ (t : List ℕ). t ++ cut.last) (ap (flat_map (λ xs. xs ++ (10 ∷ []))) parts.before_is ∙ flat_map-map (λ xs. xs ++ (10 ∷ [])) (report_of_one asked read) parts.first);
         begins = begins;
-        resumes = text_resumes one again read base parts.x cut.last cut.rest verb (same_sought asked parts.x.text ∙ sought) refl
+        resumes = text_resumes again read base parts.x cut.last cut.rest verb (same_sought asked parts.x.text ∙ sought) refl
             (accepted_alone asked parts.x.text parts.x accepted) begins;
       }
 
@@ -209,10 +208,10 @@ module _ (one : HaveOneNormalForm) (asked : Request) (read : Result (List ℕ) W
       (cut_among 10 (report_of_one asked read e) (map (report_of_one asked read) es) front rest
       (ap (join_by (λ report. report) (codes "\n")) alone ∙ sym reports.layout ∙ cut))
 
-  pub texts_resume : AreNormalForms → (es : List Expression) (front rest : List ℕ) → AreAcceptedAmong asked asked.texts es → 0 < length es
+  pub texts_resume : (es : List Expression) (front rest : List ℕ) → AreAcceptedAmong asked asked.texts es → 0 < length es
       → (report asked read).out ≡ front ++ rest → ResumesAmong asked base es read front
-  texts_resume some es front rest among any cut =
-      reports_resume es front rest (all_accepted asked asked.texts es among) (reports_are_among one some asked read base es verb sought among) any cut
+  texts_resume es front rest among any cut =
+      reports_resume es front rest (all_accepted asked asked.texts es among) (reports_are_among asked read base es verb sought among) any cut
 
 -- if `front` is divided in two ways as in `ResumesAmong`, both divisions have the same expressions `before`, whose
 -- reports are complete, and the same prefix `last` of the next report
@@ -227,10 +226,10 @@ one_place asked base es read front p q =
     (same_front es p.before q.before (p.e ∷ p.after) (q.e ∷ q.after) p.texts q.texts (sym (length-map p.before r) ∙ ap length cut.0 ∙ length-map q.before r), cut.1)
 
 -- whatever a run for several texts returns, what it wrote to standard output can be continued as `ResumesAmong` says
-pub texts_cut : HaveOneNormalForm → AreNormalForms → (asked : Request) (base : ℤ) (es : List Expression) (result : Result Status RunFault) (old new : Option (List ℕ))
+pub texts_cut : (asked : Request) (base : ℤ) (es : List Expression) (result : Result Status RunFault) (old new : Option (List ℕ))
     (failed : Bool) (out_old out_new err_old err_new : Option (List ℕ)) → asked.verb ≡ Calendar → base_in asked ≡ Ok base → AreAcceptedAmong asked asked.texts es
     → 0 < length es → (run : ByReading asked old new failed (IsReported result out_old out_new err_old err_new))
     → (front : List ℕ) × Appends out_old out_new front × ResumesAmong asked base es run.read front
-texts_cut one some asked base es result old new failed out_old out_new err_old err_new verb sought among any run =
+texts_cut asked base es result old new failed out_old out_new err_old err_new verb sought among any run =
     let there = front_written result out_old out_new (report asked run.read).out run.holds.out in
-    (there.front, there.written, texts_resume one asked run.read base verb sought some es there.front there.rest among any there.whole)
+    (there.front, there.written, texts_resume asked run.read base verb sought es there.front there.rest among any there.whole)

@@ -3,14 +3,14 @@ use Rattle.std.proofs.Common.{arith, ◌≡◌, ℕ, ℤ, Bool, true, false, Lis
 use Rattle.std.proofs.lemmas.List.{append-nil}
 use Rattle.std.proofs.KnownBytes.{Appends-nil}
 use Rattle.std.specs.Io.KnownBytes.{Appends}
-use Rattle.cal_streams.specs.Whole.{is_read_failed}
+use Rattle.cal_streams.specs.rules.Whole.{is_read_failed}
 use Rattle.cal_streams.specs.declared.whole.WholeFault.{WholeFault}
-use Rattle.cal_report.specs.TimerReport.{HadMemory}
-use Rattle.cal_request.specs.Verb.{seeks_elapses}
-use Rattle.cal_request.specs.RequestKind.{RequestKind, for_file, for_texts, kind_by, kind_of}
-use Rattle.cal_request.specs.headline.Request.{Request}
-use Rattle.cal_bytes.specs.Writes.{AppendsFront, Writes}
-use Rattle.cal_report.specs.RunReport.{ByReading, IsCut, IsCutAt, IsReported, ReadsFile, ReadsFor, base_in, file_report, report, report_on, texts_report, whole_report}
+use Rattle.cal_report.specs.rules.TimerReport.{HadMemory}
+use Rattle.cal_request.specs.rules.Verb.{seeks_elapses}
+use Rattle.cal_request.specs.rules.RequestKind.{RequestKind, for_file, for_texts, kind_by, kind_of}
+use Rattle.cal_request.specs.rules.Request.{Request}
+use Rattle.cal_bytes.specs.rules.Writes.{AppendsFront, Writes}
+use Rattle.cal_report.specs.rules.RunReport.{ByReading, IsCut, IsCutAt, IsReported, ReadsFile, ReadsFor, base_in, file_report, report, report_on, texts_report, whole_report}
 use Rattle.cal_request.specs.declared.request.RunFault.{RunFault}
 use Rattle.cal_request.specs.declared.request.Status.{Status}
 use Rattle.cal_request.specs.declared.request.Status.TheVariants.{Fine, Refused}

@@ -8,24 +8,25 @@ use Rattle.std.proofs.lemmas.List.{drop-take, take-append-drop, take-append-le, 
 use Rattle.std.specs.Io.KnownBytes.{Appends}
 use Rattle.std.specs.List.{AllByRecursion, AllZip, join_by}
 use Rattle.jiff.specs.Types.{TimeZone}
-use Rattle.cal_bytes.specs.Writes.{AppendsFront, Writes}
+use Rattle.cal_bytes.specs.rules.Writes.{AppendsFront, Writes}
 use Rattle.cal_streams.specs.declared.whole.WholeFault.{WholeFault}
-use Rattle.cal_zone.specs.headline.InstantText.{instant_text}
+use Rattle.cal_zone.specs.rules.InstantText.{instant_text}
 use Rattle.cal_zone.specs.declared.zone.Zone.{Zone}
-use Rattle.cal_elapse.specs.headline.Elapses.{AreElapses, Timed}
-use Rattle.cal_report.specs.headline.ElapseLines.{elapse_text, elapse_texts, elapses_text, label_text}
-use Rattle.cal_spec.specs.headline.ZoneSuffix.{ZoneSuffix, of_name, at_offset}
-use Rattle.cal_report.specs.headline.Headline.{AreAllAccepted, AreReportsOf, Expression, IsAccepted, IsFileOf, IsReportOf, IsZoneFor, Schedule, alone, headings, meaning}
-use Rattle.cal_report.specs.RunReport.{ByReading, IsReported, base_in, report}
-use Rattle.cal_zone.specs.headline.Moment.{micros_of}
-use Rattle.cal_report.specs.headline.ReportLines.{distance_text, utc_line}
-use Rattle.cal_report.specs.Resume.{AreShown, Begins, IsBaseAfter, IsBegunAgain, Resumes, Stand, showing, up_to_line}
-use Rattle.cal_request.specs.headline.Request.{Request}
+use Rattle.cal_elapse.specs.rules.Elapses.{AreElapses, Timed}
+use Rattle.cal_report.specs.rules.ElapseLines.{elapse_text, elapse_texts, elapses_text, label_text}
+use Rattle.cal_spec.specs.rules.ZoneSuffix.{ZoneSuffix, of_name, at_offset}
+use Rattle.cal_report.specs.rules.Headline.{AreAllAccepted, AreReportsOf, Expression, IsAccepted, IsFileOf, IsReportOf, IsZoneFor, Schedule, alone, headings, meaning}
+use Rattle.cal_report.specs.rules.RunReport.{ByReading, IsReported, base_in, report}
+use Rattle.cal_zone.specs.rules.Instant.{micros_of}
+use Rattle.cal_report.specs.rules.ReportLines.{distance_text, utc_line}
+use Rattle.cal_report.proofs.BaseLemmas.{base_is}
+use Rattle.cal_report.specs.rules.Resume.{AreShown, Begins, IsBaseAfter, IsBegunAgain, Resumes, Stand, showing, up_to_line}
+use Rattle.cal_request.specs.rules.Request.{Request}
 use Rattle.cal_request.specs.declared.request.RunFault.{RunFault}
 use Rattle.cal_request.specs.declared.request.Status.{Status}
 use Rattle.cal_request.specs.declared.verb.Verb.TheVariants.{Calendar, Timer}
 use Rattle.cal_report.proofs.HeadlineElapses.{goes_on}
-use Rattle.cal_report.proofs.HeadlineLemmas.{HaveOneNormalForm, calendar_report_is, one_elapses, timer_report_is}
+use Rattle.cal_report.proofs.HeadlineLemmas.{calendar_report_is, one_elapses, timer_report_is}
 use Rattle.std.proofs.lemmas.Option.{get_or_from_slice_get, slice_get_read, slice_get_within}
 
 slice_get-taken : (n : ℕ) (xs : List ℤ) (k : ℕ) (e : ℤ) → slice_get (take n xs) k ≡ Some e → slice_get xs k ≡ Some e
@@ -334,11 +335,11 @@ one_report_of : (asked : Request) (base : ℤ) (e : Expression) (text : List ℕ
 one_report_of asked base e text h = of_reports asked base e text h.reports h.each h.layout
 
 -- a request for one accepted text prints the report of the expression `e` with this text
-pub text_report : HaveOneNormalForm → (asked : Request) (read : Result (List ℕ) WholeFault) (base : ℤ) (e : Expression)
+pub text_report : (asked : Request) (read : Result (List ℕ) WholeFault) (base : ℤ) (e : Expression)
     → asked.verb ≡ Calendar → base_in asked ≡ Ok base → asked.texts ≡ e.text ∷ [] → IsAccepted asked e
     → IsReportOf asked base (alone e) (report asked read).out
-text_report one asked read base e verb sought texts accepted =
-    one_report_of asked base e (report asked read).out (calendar_report_is one asked read base (e ∷ []) verb sought texts (accepted, tt)).0
+text_report asked read base e verb sought texts accepted =
+    one_report_of asked base e (report asked read).out (calendar_report_is asked read base (e ∷ []) verb sought texts (accepted, tt)).0
 
 resumes_by : (asked : Request) (base : ℤ) (s : Schedule) (read : Result (List ℕ) WholeFault) (front rest : List ℕ)
     → IsReportOf asked base s (report asked read).out → (report asked read).out ≡ front ++ rest
@@ -359,22 +360,22 @@ resumes_by asked base s read front rest h cut reported =
           shows_others asked base shown found.0 again begun s (report again read).out these (reported shown found.0 again begun);
     }
 
-pub text_resumes : HaveOneNormalForm → (asked : Request) (read : Result (List ℕ) WholeFault) (base : ℤ) (e : Expression) (front rest : List ℕ)
+pub text_resumes : (asked : Request) (read : Result (List ℕ) WholeFault) (base : ℤ) (e : Expression) (front rest : List ℕ)
     → asked.verb ≡ Calendar → base_in asked ≡ Ok base → asked.texts ≡ e.text ∷ [] → IsAccepted asked e
     → (report asked read).out ≡ front ++ rest → Resumes asked base (alone e) read front
-text_resumes one asked read base e front rest verb sought texts accepted cut =
-    resumes_by asked base (alone e) read front rest (text_report one asked read base e verb sought texts accepted) cut
+text_resumes asked read base e front rest verb sought texts accepted cut =
+    resumes_by asked base (alone e) read front rest (text_report asked read base e verb sought texts accepted) cut
     (λ shown k again begun.
-    text_report one again read begun.from e (begun.verb ∙ verb) begun.sought (begun.texts ∙ texts)
+    text_report again read begun.from e (begun.verb ∙ verb) (base_is again begun.from begun.sought) (begun.texts ∙ texts)
     (accepted_again asked base shown k again begun e accepted))
 
-pub file_resumes : HaveOneNormalForm → (asked : Request) (bytes : List ℕ) (base : ℤ) (s : Schedule) (front rest : List ℕ)
+pub file_resumes : (asked : Request) (bytes : List ℕ) (base : ℤ) (s : Schedule) (front rest : List ℕ)
     → asked.verb ≡ Timer → base_in asked ≡ Ok base → IsFileOf bytes s → AreAllAccepted asked s
     → (report asked (Ok bytes)).out ≡ front ++ rest → Resumes asked base s (Ok bytes) front
-file_resumes one asked bytes base s front rest verb sought file all cut =
-    resumes_by asked base s (Ok bytes) front rest (timer_report_is one asked bytes base s verb sought file all).0 cut
+file_resumes asked bytes base s front rest verb sought file all cut =
+    resumes_by asked base s (Ok bytes) front rest (timer_report_is asked bytes base s verb sought file all).0 cut
     (λ shown k again begun.
-    (timer_report_is one again bytes begun.from s (begun.verb ∙ verb) begun.sought file
+    (timer_report_is again bytes begun.from s (begun.verb ∙ verb) (base_is again begun.from begun.sought) file
     (all_accepted_again asked base shown k again begun s all)).0)
 
 -- What a run writes, whether or not it is cut off
@@ -384,19 +385,19 @@ pub front_written : {T E : Type 0} (result : Result T E) (old new : Option (List
 front_written (Ok x) old new text h = record { front = text; rest = []; whole = sym (append-nil text); written = h }
 front_written (Err e) old new text h = h
 
-pub text_cut : HaveOneNormalForm → (asked : Request) (base : ℤ) (e : Expression) (result : Result Status RunFault) (old new : Option (List ℕ)) (failed : Bool)
+pub text_cut : (asked : Request) (base : ℤ) (e : Expression) (result : Result Status RunFault) (old new : Option (List ℕ)) (failed : Bool)
     (out_old out_new err_old err_new : Option (List ℕ)) → asked.verb ≡ Calendar → base_in asked ≡ Ok base → asked.texts ≡ e.text ∷ [] → IsAccepted asked e
     → (run : ByReading asked old new failed (IsReported result out_old out_new err_old err_new))
     → (front : List ℕ) × Appends out_old out_new front × Resumes asked base (alone e) run.read front
-text_cut one asked base e result old new failed out_old out_new err_old err_new verb sought texts accepted run =
+text_cut asked base e result old new failed out_old out_new err_old err_new verb sought texts accepted run =
     let there = front_written result out_old out_new (report asked run.read).out run.holds.out in
-    (there.front, there.written, text_resumes one asked run.read base e there.front there.rest verb sought texts accepted there.whole)
+    (there.front, there.written, text_resumes asked run.read base e there.front there.rest verb sought texts accepted there.whole)
 
-pub file_cut : HaveOneNormalForm → (asked : Request) (bytes : List ℕ) (base : ℤ) (s : Schedule) (result : Result Status RunFault) (old new : Option (List ℕ)) (failed : Bool)
+pub file_cut : (asked : Request) (bytes : List ℕ) (base : ℤ) (s : Schedule) (result : Result Status RunFault) (old new : Option (List ℕ)) (failed : Bool)
     (out_old out_new err_old err_new : Option (List ℕ)) → asked.verb ≡ Timer → base_in asked ≡ Ok base → IsFileOf bytes s → AreAllAccepted asked s
     → (run : ByReading asked old new failed (IsReported result out_old out_new err_old err_new)) → run.read ≡ Ok bytes
     → (front : List ℕ) × Appends out_old out_new front × Resumes asked base s (Ok bytes) front
-file_cut one asked bytes base s result old new failed out_old out_new err_old err_new verb sought file all run read =
+file_cut asked bytes base s result old new failed out_old out_new err_old err_new verb sought file all run read =
     let there = front_written result out_old out_new (report asked run.read).out run.holds.out in
     let whole = ap (λ (r : Result (List ℕ) WholeFault). (report asked r).out) (sym read) ∙ there.whole in
-    (there.front, there.written, file_resumes one asked bytes base s there.front there.rest verb sought file all whole)
+    (there.front, there.written, file_resumes asked bytes base s there.front there.rest verb sought file all whole)

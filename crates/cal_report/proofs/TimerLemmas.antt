@@ -2,19 +2,19 @@
 use Rattle.std.proofs.Common.{Result, Ok, ◌≡◌, ℕ, ◌+◌, ◌<◌, ◌++◌, List, length, map, drop, get_or, ℤ, refl, ap, ◌∙◌, string_bytes}
 use Rattle.std.specs.List.{flat_map}
 use Rattle.std.proofs.lemmas.List.Folds.{flat_map-map}
-use Rattle.cal_rising.specs.Merge.{Merge, merged}
-use Rattle.cal_timer.specs.TimerEntries.{Timer, timer_text}
-use Rattle.cal_timer.specs.TimerView.{shown}
+use Rattle.cal_rising.specs.rules.Merge.{Merge, merged}
+use Rattle.cal_timer.specs.rules.TimerEntries.{Timer, timer_text}
+use Rattle.cal_timer.specs.rules.TimerView.{shown}
 use Rattle.cal_timer.specs.declared.timer.TimerLine as declared_line
 use Rattle.cal_streams.specs.declared.whole.WholeFault.{WholeFault}
-use Rattle.cal_spec.specs.Expr.{expr_in}
-use Rattle.cal_spec.specs.headline.Fields.{Fields}
-use Rattle.cal_plan.specs.TimerElapses.{IsMergeOf}
-use Rattle.cal_request.specs.headline.Request.{Request}
-use Rattle.cal_report.specs.Context.{setting_of}
-use Rattle.cal_report.specs.TimerPlan.{plan_text}
-use Rattle.cal_report.specs.TimerReport.{HadMemory, headings_text, timer_answer, timer_report}
-use Rattle.cal_report.specs.headline.ReportLines.{heading_text}
+use Rattle.cal_spec.specs.computed.Expr.{expr_in}
+use Rattle.cal_spec.specs.rules.Fields.{Fields}
+use Rattle.cal_plan.specs.rules.TimerElapses.{IsMergeOf}
+use Rattle.cal_request.specs.rules.Request.{Request}
+use Rattle.cal_report.specs.rules.Context.{setting_of}
+use Rattle.cal_report.specs.computed.TimerPlan.{plan_text}
+use Rattle.cal_report.specs.rules.TimerReport.{HadMemory, headings_text, timer_answer, timer_report}
+use Rattle.cal_report.specs.rules.ReportLines.{heading_text}
 use Rattle.cal_text.proofs.General.{item_first}
 
 -- the heading of a line of a timer file, with this label

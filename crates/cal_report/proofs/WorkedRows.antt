@@ -1,7 +1,7 @@
 -- Examples that test the definitions, on local seconds and on whole requests.
 use Rattle.jiff.specs.Types.{UTC, Date}
 use Rattle.std.specs.FinMap.{empty}
-use Rattle.cal_zone.specs.headline.Zone.{utc, zone_of}
+use Rattle.cal_zone.specs.rules.Zone.{utc, zone_of}
 use Rattle.std.proofs.Common.{◌≡◌, ℕ, ◌<◌, [], ◌∷◌, ◌++◌, None, Some, Ok, codes, pos, ◌∙◌, ap, sym, inl, true, false, refl, rules, arith}
 use Rattle.std.specs.Fmt.{digits}
 use Rattle.jiff.specs.Words.{epoch_day, weekday_of}
@@ -9,49 +9,53 @@ use Rattle.jiff_core.proofs.CalendarLemmas.{days_from_civil-day_count}
 use Rattle.jiff_core.proofs.MarchLemmas.{day_count-early}
 use Rattle.jiff.proofs.SpanFacts.{signed_arith}
 use Rattle.jiff_core.specs.Calendar.{weekday_number}
-use Rattle.cal_civil.specs.headline.Days.{date_of}
+use Rattle.cal_civil.specs.rules.Days.{date_of}
 use Rattle.cal_civil.proofs.DayLemmas.{date_of-epoch_day}
-use Rattle.cal_civil.specs.headline.Local.{civil_date, seconds_in_all-is}
-use Rattle.cal_stamp.specs.Stamp.{in_moments, moment_in}
-use Rattle.cal_stamp.specs.StampForm.{day_shift, form_by_end, form_of}
-use Rattle.cal_report.specs.Resume.{AreShown, IsBegunAgain}
-use Rattle.cal_report.specs.TextReport.TimestampReport.{stamp_in}
-use Rattle.cal_span.specs.UnitSpellings.{spellings_of}
-use Rattle.cal_span.specs.headline.TimeUnit.{unit_name}
-use Rattle.cal_span.specs.headline.SpanText.{units_text, counts_in_row}
-use Rattle.cal_span.specs.SpanValue.{words_in, pairs_in, is_number, unit_named, number_worth, worth_of, span_of}
-use Rattle.cal_spec.specs.headline.Fields.{Fields}
-use Rattle.cal_spec.specs.headline.Match.{matches, date_in, time_in}
-use Rattle.cal_spec.specs.headline.Members.{sets_of, part_has}
-use Rattle.cal_report.specs.Answer.{reports_text, error_lines, texts_status}
-use Rattle.cal_elapse.specs.headline.Elapses.{IsElapse, timed}
-use Rattle.cal_report.specs.RunReport.{answers_report, base_in, report}
-use Rattle.cal_request.specs.headline.Request.{Request}
-use Rattle.cal_report.specs.TextReport.TimespanReport.{timespan_answer, timespan_report}
+use Rattle.cal_civil.specs.rules.LocalSecond.{civil_date, seconds_in_all-is}
+use Rattle.cal_stamp.specs.computed.Stamp.{in_moments, moment_in}
+use Rattle.cal_stamp.specs.computed.StampForm.{day_shift, form_by_end, form_of}
+use Rattle.cal_report.proofs.BaseLemmas.{base_found}
+use Rattle.cal_report.specs.rules.Resume.{AreShown, IsBegunAgain}
+use Rattle.cal_report.specs.rules.TextReport.TimestampReport.{stamp_in}
+use Rattle.cal_span.specs.rules.UnitSpellings.{spellings_of}
+use Rattle.cal_span.specs.rules.TimeUnit.{unit_name}
+use Rattle.cal_span.specs.rules.SpanText.{units_text, counts_in_row}
+use Rattle.cal_span.specs.computed.SpanValue.{words_in, pairs_in, span_of}
+use Rattle.cal_span.specs.rules.PairValue.{is_number, unit_named, number_worth, worth_of}
+use Rattle.cal_spec.specs.rules.NormalForm.{Spells}
+use Rattle.cal_spec.specs.rules.Fields.{Fields}
+use Rattle.cal_spec.specs.rules.Match.{matches, date_in, time_in}
+use Rattle.cal_spec.specs.rules.Members.{sets_of, part_has}
+use Rattle.cal_report.specs.rules.Answer.{reports_text, error_lines, texts_status}
+use Rattle.cal_elapse.specs.rules.Elapses.{IsElapse, timed}
+use Rattle.cal_report.specs.rules.RunReport.{answers_report, base_in, report}
+use Rattle.cal_request.specs.rules.Request.{Request}
+use Rattle.cal_report.specs.rules.TextReport.TimespanReport.{timespan_answer, timespan_report}
 use Rattle.cal_request.specs.declared.request.Status.TheVariants.{Refused}
 use Rattle.cal_request.specs.declared.verb.Verb.TheVariants.{Calendar, Timespan}
 use Rattle.cal_zone.proofs.PlaceLemmas.{place_of-UTC}
 use Rattle.std.proofs.lemmas.Int.{ints}
 use lib.Utf8.{encode}
 use Rattle.std.specs.Str.{chars, is_utf8}
-use Rattle.cal_lines.specs.headline.Lines.{groups, is_continued, logical_lines, part_of_line, physical_lines, plain_lines}
-use Rattle.cal_timer.specs.headline.Assignments.{Assignment, assignment_of, assignments_in, timer_lines}
-use Rattle.cal_timer.specs.headline.TimerText.{excepted, is_exception, is_exception_reset, is_expression, is_reset, listed as listed_in, max_expressions, without_mark}
+use Rattle.cal_lines.specs.rules.Lines.{groups, is_continued, logical_lines, part_of_line, physical_lines, plain_lines}
+use Rattle.cal_timer.specs.rules.Assignments.{Assignment, assignment_of, assignments_in, timer_lines}
+use Rattle.cal_timer.specs.rules.TimerText.{excepted, is_exception, is_exception_reset, is_expression, is_reset, listed as listed_in, max_expressions, without_mark}
 use Rattle.std.specs.Prelude.{ℤ, ◌<ℤ◌, ◌≤ℤ◌, List, length, map, slice_get, take}
-use Rattle.cal_civil.specs.headline.Weekday as weekday
-use Rattle.cal_civil.specs.headline.ZoneName.{is_zone_name}
-use Rattle.cal_spec.specs.Components.{part_due, parts_listed, component_of}
-use Rattle.cal_spec.specs.DateAndTime.{date_texts, time_texts, date_fields, time_fields, date_in_word, time_in_word}
-use Rattle.cal_spec.specs.Grammar.{fields_in, fields_at}
-use Rattle.cal_spec.specs.Parts.{with_step, after_end, after_start, part_of, fault_of}
-use Rattle.cal_spec.specs.headline.Shorthand.{shorthand_named}
-use Rattle.cal_spec.specs.WeekdayNames.{day_named, days_of, listed_days, weekdays_of}
-use Rattle.cal_spec.specs.Words.{roles_of}
-use Rattle.cal_text.specs.headline.Trim.{trim_matches, trim_end_matches, trim_start_matches}
-use Rattle.cal_text.specs.headline.Separators.{words}
+use Rattle.cal_civil.specs.rules.Weekday as weekday
+use Rattle.cal_civil.specs.rules.ZoneName.{is_zone_name}
+use Rattle.cal_spec.specs.computed.Components.{part_due, parts_listed, component_of}
+use Rattle.cal_spec.specs.computed.DateAndTime.{date_texts, time_texts, date_fields, time_fields, date_in_word, time_in_word}
+use Rattle.cal_spec.specs.computed.Grammar.{fields_in, fields_at}
+use Rattle.cal_spec.specs.computed.Parts.{with_step, after_end, after_start, part_of, fault_of}
+use Rattle.cal_spec.specs.rules.Shorthand.{shorthand_named}
+use Rattle.cal_spec.specs.rules.WeekdayNames.{day_named, days_of}
+use Rattle.cal_spec.specs.computed.WeekdayLists.{listed_days, weekdays_of}
+use Rattle.cal_spec.specs.computed.Words.{roles_of}
+use Rattle.cal_text.specs.rules.Trim.{trim_matches, trim_end_matches, trim_start_matches}
+use Rattle.cal_text.specs.rules.Separators.{words}
 use Rattle.cal_spec.proofs.WholeRule.{valid_found}
 use Rattle.cal_elapse.proofs.ElapsesLemmas.{AreElapses-only, elapses_except-none, first_elapse-least}
-use Rattle.cal_report.specs.headline.Headline.{AreElapsesOf, AreSpelled, Expression, IsAccepted, IsFileOf, Spells, alone, assigned_in, meaning}
+use Rattle.cal_report.specs.rules.Headline.{AreElapsesOf, AreSpelled, Expression, IsAccepted, IsFileOf, alone, assigned_in, meaning}
 use Rattle.cal_elapse.proofs.SearchLemmas.{inside}
 use Rattle.cal_timer.proofs.TimerRuleLemmas.{no_split}
 
@@ -297,6 +301,6 @@ one_second-begun shown h = record {
   zones = refl;
   count = refl;
   from = pos 1_704_112_201;
-  sought = one_second-sought;
+  sought = base_found one_second (pos 1_704_112_201) one_second-sought;
   after = rw h.first (first_is h.elapses (pos 1_704_112_201) (every-first h.elapses h.these));
 }

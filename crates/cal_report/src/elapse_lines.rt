@@ -1,11 +1,11 @@
 //! The part of a report that lists elapses, each with its distance from the present (systemd-analyze(1), calendar).
 
 ghost use Rattle.std.specs.Prelude.{◌≡◌, ◌+◌, ◌-◌, ◌≤◌, ◌++◌, length, false, take};
-ghost use Rattle.cal_bytes.specs.Puts.{Puts};
+ghost use Rattle.cal_bytes.specs.rules.Puts.{Puts};
 ghost use Rattle.cal_bytes.specs.declared.short_text.TheConstants.{SHORT_TEXT_ROOM};
 ghost use Rattle.cal_span.specs.declared.span.text.TheConstants.{SPAN_ROOM};
-ghost use Rattle.cal_report.specs.headline.ElapseLines.{label_text, elapse_text, elapse_texts, elapses_text};
-ghost use Rattle.cal_request.specs.Verb.{IsCount};
+ghost use Rattle.cal_report.specs.rules.ElapseLines.{label_text, elapse_text, elapse_texts, elapses_text};
+ghost use Rattle.cal_request.specs.rules.Verb.{IsCount};
 
 use crate::local_and_utc::LocalAndUtc;
 use crate::report_lines::push_distance;
@@ -79,7 +79,7 @@ fn put_elapse<W: Sink>(
 }
 
 /// Appends the lines of one elapse, at most `SPAN_ROOM` + 240 bytes.
-#[tactic(auto, unfolding(crate::specs::headline::ElapseLines::elapse_text))]
+#[tactic(auto, unfolding(crate::specs::rules::ElapseLines::elapse_text))]
 fn push_elapse(
     text: &mut ShortText,
     number: u32,
@@ -102,7 +102,7 @@ fn push_elapse(
 
 /// Appends the label of an elapse: `Next elapse:` for number 1, and otherwise `Iter. #` and the number, right-aligned
 /// like the other labels.
-#[tactic(auto, unfolding(crate::specs::headline::ElapseLines::label_text))]
+#[tactic(auto, unfolding(crate::specs::rules::ElapseLines::label_text))]
 fn push_label(text: &mut ShortText, number: u32)
     requires room { length text.old.items + 30 ≤ SHORT_TEXT_ROOM }
     ensures text { text.new.items ≡ text.old.items ++ label_text number }

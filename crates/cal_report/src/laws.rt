@@ -7,25 +7,24 @@ ghost use Rattle.std.specs.List.{AllByRecursion};
 ghost use Rattle.jiff.specs.Types.{Fold, Offset, TimeZone};
 ghost use Rattle.jiff.specs.Words.{ambiguous_at};
 ghost use Rattle.cal_streams.specs.declared.whole.WholeFault.{WholeFault};
-ghost use Rattle.cal_zone.specs.Instant.{IsInstant};
-ghost use Rattle.cal_zone.specs.headline.Place.{datetime_of, place_of};
-ghost use Rattle.cal_zone.specs.headline.Zone.{local_shown_at};
-ghost use Rattle.cal_spec.specs.headline.Fields.{Fields};
-ghost use Rattle.cal_spec.specs.headline.Match.{matches};
-ghost use Rattle.cal_spec.specs.headline.Members.{sets_of};
-ghost use Rattle.cal_elapse.specs.headline.Elapses.{AreElapses, IsPlace, Timed, timed};
-ghost use Rattle.cal_plan.specs.Instants.{AreInstants};
-ghost use Rattle.cal_report.specs.headline.Headline.{AreAccepted, AreAllAccepted, AreAnswered, AreElapsesOf, AreReportsOf, Expression, IsAccepted, IsAcceptedFile, IsFileOf, IsFine, IsReportOf, Schedule, alone, started_at};
-ghost use Rattle.cal_report.specs.RunReport.{ByReading, IsReported, base_in, report};
-ghost use Rattle.cal_report.specs.headline.ReportLines.{Report};
-ghost use Rattle.cal_report.specs.Resume.{AreAcceptedAmong, Resumes, ResumesAmong, begun_again, showing};
-ghost use Rattle.cal_request.specs.headline.Request.{Request};
+ghost use Rattle.cal_zone.specs.rules.Instant.{IsInstant};
+ghost use Rattle.cal_zone.specs.rules.Place.{datetime_of, place_of};
+ghost use Rattle.cal_zone.specs.rules.Zone.{local_shown_at};
+ghost use Rattle.cal_spec.specs.rules.Fields.{Fields};
+ghost use Rattle.cal_spec.specs.rules.Match.{matches};
+ghost use Rattle.cal_spec.specs.rules.Members.{sets_of};
+ghost use Rattle.cal_elapse.specs.rules.Elapses.{AreElapses, IsPlace, Timed, timed};
+ghost use Rattle.cal_plan.specs.rules.Instants.{AreInstants};
+ghost use Rattle.cal_report.specs.rules.Headline.{AreAccepted, AreAllAccepted, AreAnswered, AreElapsesOf, AreReportsOf, Expression, IsAccepted, IsAcceptedFile, IsFileOf, IsFine, IsReportOf, Schedule, alone, started_at};
+ghost use Rattle.cal_report.specs.rules.RunReport.{ByReading, IsReported, report};
+ghost use Rattle.cal_report.specs.rules.BaseTime.{IsBase};
+ghost use Rattle.cal_report.specs.rules.ReportLines.{Report};
+ghost use Rattle.cal_report.specs.rules.Resume.{AreAcceptedAmong, Resumes, ResumesAmong, begun_again, showing};
+ghost use Rattle.cal_request.specs.rules.Request.{Request};
 ghost use Rattle.cal_request.specs.declared.request.RunFault.{RunFault};
 ghost use Rattle.cal_request.specs.declared.request.Status.{Status};
 ghost use Rattle.cal_request.specs.declared.request.Status.TheVariants.{Fine};
 ghost use Rattle.cal_request.specs.declared.verb.Verb.TheVariants.{Calendar, Timer};
-
-use cal_spec::laws::one_normal_form_of_fields;
 
 /// The headline, word for word as the pages quote it:
 ///
@@ -40,16 +39,16 @@ use cal_spec::laws::one_normal_form_of_fields;
 pub fn headline()
     // If every expression is accepted, the report shows each of them in order: its heading, and then its first elapses.
     ensures calendar { (asked : Request) (read : Result (List ℕ) WholeFault) (base : ℤ) (es : List Expression)
-        → asked.verb ≡ Calendar → base_in asked ≡ Ok base
+        → asked.verb ≡ Calendar → IsBase asked base
         → asked.texts ≡ map (λ (e : Expression). e.text) es → AllByRecursion (IsAccepted asked) es
         → AreReportsOf asked base es (report asked read).out × IsFine (report asked read) }
     // In general, each accepted text has its report, and each rejected text has an error line on standard error.
     ensures each { (asked : Request) (read : Result (List ℕ) WholeFault) (base : ℤ) → asked.verb ≡ Calendar
-        → base_in asked ≡ Ok base → AreAnswered asked base asked.texts (report asked read) }
+        → IsBase asked base → AreAnswered asked base asked.texts (report asked read) }
     // The report of an accepted timer file consists of its headings, followed by the first elapses of the timer. The
     // timer's elapses are those of the file's expressions, except those that are also elapses of an exception.
     ensures timer { (asked : Request) (bytes : List ℕ) (base : ℤ) (s : Schedule)
-        → asked.verb ≡ Timer → base_in asked ≡ Ok base → IsFileOf bytes s → AreAllAccepted asked s
+        → asked.verb ≡ Timer → IsBase asked base → IsFileOf bytes s → AreAllAccepted asked s
         → IsReportOf asked base s (report asked (Ok bytes)).out × IsFine (report asked (Ok bytes)) }
 
     // The statements `calendar`, `each` and `timer` again, now about the bytes that a run appends to its writers. Here
@@ -57,27 +56,27 @@ pub fn headline()
     // what the contract of `run` promises.
     ensures written { (asked : Request) (base : ℤ) (es : List Expression) (old new : Option (List ℕ)) (failed : Bool)
         (status : Status) (out_old out_new err_old err_new : Option (List ℕ)) → asked.verb ≡ Calendar
-        → base_in asked ≡ Ok base → asked.texts ≡ map (λ (e : Expression). e.text) es → AllByRecursion (IsAccepted asked) es
+        → IsBase asked base → asked.texts ≡ map (λ (e : Expression). e.text) es → AllByRecursion (IsAccepted asked) es
         → ByReading asked old new failed (IsReported (Ok status) out_old out_new err_old err_new)
         → (text : List ℕ) × AreReportsOf asked base es text × Appends out_old out_new text
         × Appends err_old err_new [] × (status ≡ Fine) }
     ensures written_each { (asked : Request) (base : ℤ) (old new : Option (List ℕ)) (failed : Bool) (status : Status)
-        (out_old out_new err_old err_new : Option (List ℕ)) → asked.verb ≡ Calendar → base_in asked ≡ Ok base
+        (out_old out_new err_old err_new : Option (List ℕ)) → asked.verb ≡ Calendar → IsBase asked base
         → ByReading asked old new failed (IsReported (Ok status) out_old out_new err_old err_new)
         → (it : Report) × AreAnswered asked base asked.texts it × Appends out_old out_new it.out
         × Appends err_old err_new it.err × (status ≡ it.status) }
     ensures written_file { (asked : Request) (base : ℤ) (bytes : List ℕ) (s : Schedule) (old new : Option (List ℕ))
         (failed : Bool) (status : Status) (out_old out_new err_old err_new : Option (List ℕ)) → asked.verb ≡ Timer
-        → base_in asked ≡ Ok base → IsFileOf bytes s → AreAllAccepted asked s
+        → IsBase asked base → IsFileOf bytes s → AreAllAccepted asked s
         → (run : ByReading asked old new failed (IsReported (Ok status) out_old out_new err_old err_new)) → run.read ≡ Ok bytes
         → (text : List ℕ) × IsReportOf asked base s text × Appends out_old out_new text
         × Appends err_old err_new [] × (status ≡ Fine) }
 
     // If the status is `Fine`, every text was accepted, or, for the verb `timer`, the timer file was.
     ensures accepted { (asked : Request) (read : Result (List ℕ) WholeFault) (base : ℤ) → asked.verb ≡ Calendar
-        → base_in asked ≡ Ok base → (report asked read).status ≡ Fine → AreAccepted asked asked.texts }
+        → IsBase asked base → (report asked read).status ≡ Fine → AreAccepted asked asked.texts }
     ensures accepted_file { (asked : Request) (bytes : List ℕ) (base : ℤ) → asked.verb ≡ Timer
-        → base_in asked ≡ Ok base → (report asked (Ok bytes)).status ≡ Fine → IsAcceptedFile asked bytes }
+        → IsBase asked base → (report asked (Ok bytes)).status ≡ Fine → IsAcceptedFile asked bytes }
 
     // The statements above leave no choice: a text is accepted as at most one expression, and reports and lists of
     // elapses are unique.
@@ -94,8 +93,8 @@ pub fn headline()
     // list becomes the base time, the elapses after this base time are exactly those that follow it in the list. So a
     // list can be printed in parts.
     ensures instants { (asked : Request) (base : ℤ) (s : Schedule) (xs : List ℤ) → IsInstant asked.now
-        → base_in asked ≡ Ok base → AreElapsesOf s base xs → AreInstants xs }
-    ensures based { (asked : Request) (secs : ℤ) → IsInstant secs → base_in (started_at asked secs) ≡ Ok secs }
+        → IsBase asked base → AreElapsesOf s base xs → AreInstants xs }
+    ensures based { (asked : Request) (secs : ℤ) → IsInstant secs → IsBase (started_at asked secs) secs }
     ensures again { (ts exceptions : List Timed) (base e : ℤ) (xs : List ℤ) (k : ℕ) → AreElapses ts exceptions base xs
         → slice_get xs k ≡ Some e → AreElapses ts exceptions e (drop (suc k) xs) }
     ensures in_parts { (ts exceptions : List Timed) (base e : ℤ) (xs ys : List ℤ) (k m : ℕ) → AreElapses ts exceptions base xs
@@ -117,9 +116,7 @@ pub fn headline()
     ensures fold { (tz : TimeZone) (local i : ℤ) (before after : Offset)
         → ambiguous_at tz (datetime_of local) ≡ Fold before after → place_of tz local ≡ Some i
         → (i ≡ local -ℤ before.seconds) × (after.seconds <ℤ before.seconds → i <ℤ (local -ℤ after.seconds)) }
-{
-    one_normal_form_of_fields();
-}
+{}
 
 /// States how to continue a report of which only a prefix was written. Count the elapses whose first line is complete
 /// in the prefix. If there are any, run the same request with the last of them as its base time, and with `iterations`
@@ -128,14 +125,14 @@ pub fn headline()
 pub fn cut_output_resumes()
     // If the request is for one accepted calendar expression, its report can be continued after every prefix `front`.
     ensures calendar { (asked : Request) (read : Result (List ℕ) WholeFault) (base : ℤ) (e : Expression)
-        (front rest : List ℕ) → asked.verb ≡ Calendar → base_in asked ≡ Ok base → asked.texts ≡ e.text ∷ []
+        (front rest : List ℕ) → asked.verb ≡ Calendar → IsBase asked base → asked.texts ≡ e.text ∷ []
         → IsAccepted asked e → (report asked read).out ≡ front ++ rest → Resumes asked base (alone e) read front }
     // If at least one of the texts of a request for `calendar` is accepted, the output can be continued after every
     // prefix `front`. `es` are the expressions of the accepted texts. The prefix consists of complete reports and of a
     // prefix of the next report. This next report can be continued as if its expression had been requested alone. There
     // is only one way to divide `front` into complete reports and a prefix of the next one (`one_place`).
     ensures several { (asked : Request) (read : Result (List ℕ) WholeFault) (base : ℤ) (es : List Expression)
-        (front rest : List ℕ) → asked.verb ≡ Calendar → base_in asked ≡ Ok base → AreAcceptedAmong asked asked.texts es
+        (front rest : List ℕ) → asked.verb ≡ Calendar → IsBase asked base → AreAcceptedAmong asked asked.texts es
         → 0 < length es → (report asked read).out ≡ front ++ rest → ResumesAmong asked base es read front }
     ensures one_place { (asked : Request) (base : ℤ) (es : List Expression) (read : Result (List ℕ) WholeFault)
         (front : List ℕ) (p q : ResumesAmong asked base es read front) → (p.before ≡ q.before) × (p.last ≡ q.last) }
@@ -146,16 +143,16 @@ pub fn cut_output_resumes()
     ensures one_list { (asked : Request) (texts : List (List ℕ)) (es fs : List Expression)
         → AreAcceptedAmong asked texts es → AreAcceptedAmong asked texts fs → es ≡ fs }
     ensures nothing { (asked : Request) (read : Result (List ℕ) WholeFault) (base : ℤ) → asked.verb ≡ Calendar
-        → base_in asked ≡ Ok base → AreAcceptedAmong asked asked.texts [] → (report asked read).out ≡ [] }
+        → IsBase asked base → AreAcceptedAmong asked asked.texts [] → (report asked read).out ≡ [] }
     // If the request is for an accepted timer file, its report can be continued after every prefix `front`.
     ensures timer { (asked : Request) (bytes : List ℕ) (base : ℤ) (s : Schedule) (front rest : List ℕ)
-        → asked.verb ≡ Timer → base_in asked ≡ Ok base → IsFileOf bytes s → AreAllAccepted asked s
+        → asked.verb ≡ Timer → IsBase asked base → IsFileOf bytes s → AreAllAccepted asked s
         → (report asked (Ok bytes)).out ≡ front ++ rest → Resumes asked base s (Ok bytes) front }
 
     // The request `begun_again`, which continues a report, prints exactly the remaining elapses. Its base time is `@`
     // with the seconds of the last elapse whose first line is complete, or the original base time if there is none.
     ensures again { (asked : Request) (read : Result (List ℕ) WholeFault) (base : ℤ) (s : Schedule) (front : List ℕ)
-        → IsInstant asked.now → base_in asked ≡ Ok base → (r : Resumes asked base s read front)
+        → IsInstant asked.now → IsBase asked base → (r : Resumes asked base s read front)
         → (report (begun_again asked r.shown r.number) read).out ≡ showing asked s (drop r.number r.shown) }
 
     // Whatever a run returns, the bytes that it appended to its writer `out` are a prefix of the report. After this
@@ -163,20 +160,18 @@ pub fn cut_output_resumes()
     // promises.
     ensures written { (asked : Request) (base : ℤ) (e : Expression) (result : Result Status RunFault)
         (old new : Option (List ℕ)) (failed : Bool) (out_old out_new err_old err_new : Option (List ℕ))
-        → asked.verb ≡ Calendar → base_in asked ≡ Ok base → asked.texts ≡ e.text ∷ [] → IsAccepted asked e
+        → asked.verb ≡ Calendar → IsBase asked base → asked.texts ≡ e.text ∷ [] → IsAccepted asked e
         → (run : ByReading asked old new failed (IsReported result out_old out_new err_old err_new))
         → (front : List ℕ) × Appends out_old out_new front × Resumes asked base (alone e) run.read front }
     ensures written_several { (asked : Request) (base : ℤ) (es : List Expression) (result : Result Status RunFault)
         (old new : Option (List ℕ)) (failed : Bool) (out_old out_new err_old err_new : Option (List ℕ))
-        → asked.verb ≡ Calendar → base_in asked ≡ Ok base → AreAcceptedAmong asked asked.texts es → 0 < length es
+        → asked.verb ≡ Calendar → IsBase asked base → AreAcceptedAmong asked asked.texts es → 0 < length es
         → (run : ByReading asked old new failed (IsReported result out_old out_new err_old err_new))
         → (front : List ℕ) × Appends out_old out_new front × ResumesAmong asked base es run.read front }
     ensures written_file { (asked : Request) (bytes : List ℕ) (base : ℤ) (s : Schedule)
         (result : Result Status RunFault) (old new : Option (List ℕ)) (failed : Bool)
         (out_old out_new err_old err_new : Option (List ℕ))
-        → asked.verb ≡ Timer → base_in asked ≡ Ok base → IsFileOf bytes s → AreAllAccepted asked s
+        → asked.verb ≡ Timer → IsBase asked base → IsFileOf bytes s → AreAllAccepted asked s
         → (run : ByReading asked old new failed (IsReported result out_old out_new err_old err_new)) → run.read ≡ Ok bytes
         → (front : List ℕ) × Appends out_old out_new front × Resumes asked base s (Ok bytes) front }
-{
-    one_normal_form_of_fields();
-}
+{}

@@ -2,8 +2,8 @@
 
 ghost use Rattle.std.specs.Prelude.{◌≡◌, ◌+◌, ◌≤◌, ◌++◌, length};
 ghost use Rattle.cal_bytes.specs.declared.short_text.TheConstants.{SHORT_TEXT_ROOM};
-ghost use Rattle.cal_zone.specs.headline.InstantText.{instant_text};
-ghost use Rattle.cal_report.specs.headline.ReportLines.{utc_line};
+ghost use Rattle.cal_zone.specs.rules.InstantText.{instant_text};
+ghost use Rattle.cal_report.specs.rules.ReportLines.{utc_line};
 
 use cal_bytes::{ShortText, push};
 use cal_zone::{Instant, InstantFormatter, Zone};
@@ -19,7 +19,7 @@ pub struct LocalAndUtc<'z> {
 
 impl<'z> Model for LocalAndUtc<'z> {
     ghost use Rattle.std.specs.Prelude.{◌≡◌};
-    ghost use Rattle.cal_zone.specs.headline.Zone.{utc};
+    ghost use Rattle.cal_zone.specs.rules.Zone.{utc};
     ghost use Rattle.cal_zone.specs.declared.zone.Zone.{Zone};
 
     ghost Value = { Zone };
@@ -52,7 +52,7 @@ impl<'z> LocalAndUtc<'z> {
 
     /// Appends a line with a label and the instant in UTC, at most 102 bytes. Appends nothing if the local zone is
     /// [`Zone::utc`]. A zone with the fixed offset 0 doesn't count as [`Zone::utc`].
-    #[tactic(auto, unfolding(crate::specs::headline::ReportLines::utc_line))]
+    #[tactic(auto, unfolding(crate::specs::rules::ReportLines::utc_line))]
     pub fn push_utc_line(&mut self, text: &mut ShortText, instant: Instant)
         requires room { length text.old.items + 102 ≤ SHORT_TEXT_ROOM }
         ensures text { text.new.items ≡ text.old.items ++ utc_line self.old instant.secs }

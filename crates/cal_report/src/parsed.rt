@@ -1,9 +1,9 @@
 //! Parsing one text: a calendar expression, a timestamp or a time span.
 
 ghost use Rattle.std.specs.Prelude.{◌≡◌, Ok, Err, IfOk, IfErr, IsErrOf};
-ghost use Rattle.cal_report.specs.TextReport.CalendarReport.{calendar_answer};
-ghost use Rattle.cal_report.specs.Context.{asked_by};
-ghost use Rattle.cal_report.specs.TextReport.{answer_by, report_text, text_fault_message, verb_of};
+ghost use Rattle.cal_report.specs.rules.TextReport.CalendarReport.{calendar_answer};
+ghost use Rattle.cal_report.specs.rules.Context.{asked_by};
+ghost use Rattle.cal_report.specs.rules.TextReport.{answer_by, report_text, text_fault_message, verb_of};
 ghost use Rattle.cal_report.specs.declared.text_fault.TextFault.TheVariants.{NoMemory};
 
 use crate::context::Context;
@@ -32,7 +32,7 @@ pub enum Parsed<'a> {
 ///
 /// Everything that the report of the text needs is allocated here, so that writing the report cannot run out of
 /// memory. Parsing a timestamp or a time span allocates nothing.
-#[tactic(auto, unfolding(crate::specs::TextReport::TimespanReport::timespan_answer, crate::specs::TextReport::TimestampReport::stamp_in, crate::specs::TextReport::TimestampReport::timestamp_answer))]
+#[tactic(auto, unfolding(crate::specs::rules::TextReport::TimespanReport::timespan_answer, crate::specs::rules::TextReport::TimestampReport::stamp_in, crate::specs::rules::TextReport::TimestampReport::timestamp_answer))]
 pub fn read_text<'a>(
     alloc: Global,
     context: Context<'a>,
@@ -63,7 +63,7 @@ pub fn read_text<'a>(
 ///
 /// Fails with [`TextFault::Spec`] if the expression is invalid, with [`TextFault::NoSuchZone`] if it names a zone that
 /// is neither `UTC` nor in the table, and with [`TextFault::NoMemory`] if allocation fails.
-#[tactic(auto, using(cal_plan::proofs::ElapseInstants::elapses_are_instants), unfolding(crate::specs::TextReport::CalendarReport::calendar_answer, crate::specs::TextReport::CalendarReport::calendar_report))]
+#[tactic(auto, using(cal_plan::proofs::ElapseInstants::elapses_are_instants), unfolding(crate::specs::rules::TextReport::CalendarReport::calendar_answer, crate::specs::rules::TextReport::CalendarReport::calendar_report))]
 fn read_calendar<'a>(
     alloc: Global,
     context: Context<'a>,

@@ -3,20 +3,20 @@
 
 ghost use Rattle.std.specs.Prelude.{ℕ, ℤ, List, Result, Ok, map, ◌≡◌, [], ◌∷◌, false, codes, IfOk, IsErrOf};
 ghost use Rattle.std.specs.String.{string_bytes};
-ghost use Rattle.cal_streams.specs.Whole.{is_read_failed};
+ghost use Rattle.cal_streams.specs.rules.Whole.{is_read_failed};
 ghost use Rattle.cal_streams.specs.declared.whole.WholeFault.{WholeFault};
-ghost use Rattle.cal_timer.specs.TimerEntries.{ReadsWhole, timer_file_limit};
-ghost use Rattle.cal_bytes.specs.Writes.{Writes};
-ghost use Rattle.cal_bytes.specs.Puts.{Puts};
-ghost use Rattle.cal_bytes.specs.headline.Bytes.{joined};
-ghost use Rattle.cal_report.specs.Answer.{IsAnsweredBefore, error_line_in, error_line, later_text, status_in, reports_text, error_lines, texts_status};
-ghost use Rattle.cal_report.specs.Context.{asked_by, asked_in};
-ghost use Rattle.cal_report.specs.RunReport.{ByReading, IsCut, IsReported, ReadsFile, base_in, file_report, secs_or_fault, texts_report, whole_report};
-ghost use Rattle.cal_report.specs.TextReport.{answer_by};
-ghost use Rattle.cal_request.specs.Verb.{is_timer, seeks_elapses};
-ghost use Rattle.cal_request.specs.RequestView.{asked};
-ghost use Rattle.cal_report.specs.TimerReport.{error_line_at, timer_answer};
-ghost use Rattle.cal_request.specs.Status.{is_out_failed, is_err_failed};
+ghost use Rattle.cal_timer.specs.rules.TimerEntries.{ReadsWhole, timer_file_limit};
+ghost use Rattle.cal_bytes.specs.rules.Writes.{Writes};
+ghost use Rattle.cal_bytes.specs.rules.Puts.{Puts};
+ghost use Rattle.cal_bytes.specs.rules.Bytes.{joined};
+ghost use Rattle.cal_report.specs.rules.Answer.{IsAnsweredBefore, error_line_in, error_line, later_text, status_in, reports_text, error_lines, texts_status};
+ghost use Rattle.cal_report.specs.rules.Context.{asked_by, asked_in};
+ghost use Rattle.cal_report.specs.rules.RunReport.{ByReading, IsCut, IsReported, ReadsFile, base_in, file_report, secs_or_fault, texts_report, whole_report};
+ghost use Rattle.cal_report.specs.rules.TextReport.{answer_by};
+ghost use Rattle.cal_request.specs.rules.Verb.{is_timer, seeks_elapses};
+ghost use Rattle.cal_request.specs.rules.RequestView.{asked};
+ghost use Rattle.cal_report.specs.rules.TimerReport.{error_line_at, timer_answer};
+ghost use Rattle.cal_request.specs.rules.Status.{is_out_failed, is_err_failed};
 ghost use Rattle.cal_request.specs.declared.request.RunFault.TheVariants.{NoMemory};
 ghost use Rattle.cal_request.specs.declared.request.Status.TheVariants.{Refused};
 
@@ -47,7 +47,7 @@ use std::alloc::Global;
 /// if allocation fails. All allocations for a text happen before the first byte of its report is written. So if
 /// one of these allocations fails, the earlier texts are answered completely, and nothing is written for this
 /// text and the later ones. Requests for timestamps and time spans allocate nothing.
-#[tactic(auto, unfolding(crate::specs::RunReport::report))]
+#[tactic(auto, unfolding(crate::specs::rules::RunReport::report))]
 pub fn run<R: Source, O: Sink, E: Sink>(
     alloc: Global,
     request: &Request,
@@ -161,7 +161,7 @@ pub fn run_timer<R: Source, O: Sink, E: Sink>(
 }
 
 /// Parses the base time of the request. Returns the present if the request doesn't have one.
-#[tactic(auto, unfolding(crate::specs::RunReport::base_in, crate::specs::TextReport::TimestampReport::stamp_in))]
+#[tactic(auto, unfolding(crate::specs::rules::RunReport::base_in, crate::specs::rules::TextReport::TimestampReport::stamp_in))]
 fn read_base(request: &Request, setting: Setting<'_>) -> Result<Instant, StampFault>
     ensures { secs_or_fault result ≡ base_in (asked_in request.now setting.entry) }
 {
@@ -305,7 +305,7 @@ fn report_error<E: Sink>(
 }
 
 /// Writes an error line: `TEXT: MESSAGE`, or `TEXT:LINE: MESSAGE` if there is a line number.
-#[tactic(auto, unfolding(crate::specs::TimerReport::error_line_at))]
+#[tactic(auto, unfolding(crate::specs::rules::TimerReport::error_line_at))]
 fn put_error_line<W: Sink>(
     err: &mut W,
     text: &str,

@@ -1,11 +1,11 @@
 //! Lines and phrases that several reports share (systemd-analyze(1), calendar and timestamp).
 
 ghost use Rattle.std.specs.Prelude.{◌≡◌, ◌+◌, ◌≤◌, ◌++◌, ◌-ℤ◌, false, length, unsigned_abs};
-ghost use Rattle.cal_bytes.specs.Puts.{Puts};
+ghost use Rattle.cal_bytes.specs.rules.Puts.{Puts};
 ghost use Rattle.cal_bytes.specs.declared.short_text.TheConstants.{SHORT_TEXT_ROOM};
 ghost use Rattle.cal_span.specs.declared.span.text.TheConstants.{SPAN_ROOM};
-ghost use Rattle.cal_zone.specs.headline.Moment.{micros_of};
-ghost use Rattle.cal_report.specs.headline.ReportLines.{direction_text, distance_text, heading_text, normal_line, text_line};
+ghost use Rattle.cal_zone.specs.rules.Instant.{micros_of};
+ghost use Rattle.cal_report.specs.rules.ReportLines.{direction_text, distance_text, heading_text, normal_line, text_line};
 
 use cal_bytes::{ShortText, Sink, WriteFault, push, put_all, put_pieces};
 use cal_span::{Span, push_span};
@@ -29,7 +29,7 @@ pub fn put_text<W: Sink>(out: &mut W, label: &[u8], text: &str) -> Result<(), Wr
 }
 
 /// Writes two lines: one with `label` and the expression as it was given, and one with its normal form.
-#[tactic(auto, using(cal_bytes::proofs::PutLemmas::puts), unfolding(crate::specs::headline::ReportLines::heading_text))]
+#[tactic(auto, using(cal_bytes::proofs::PutLemmas::puts), unfolding(crate::specs::rules::ReportLines::heading_text))]
 pub fn put_heading<W: Sink>(
     out: &mut W,
     label: &[u8],
@@ -44,7 +44,7 @@ pub fn put_heading<W: Sink>(
 }
 
 /// Writes the normal form and a line feed. [`put_text`] has already written the label of this line.
-#[tactic(auto, using(cal_bytes::proofs::PutLemmas::puts), unfolding(crate::specs::headline::ReportLines::normal_line))]
+#[tactic(auto, using(cal_bytes::proofs::PutLemmas::puts), unfolding(crate::specs::rules::ReportLines::normal_line))]
 fn put_normal<W: Sink>(out: &mut W, expr: &Expr) -> Result<(), WriteFault>
     requires { W.is_failed out.old ≡ false }
     ensures { Puts W.Sink out.old out.new result (normal_line expr.now) }
@@ -55,7 +55,7 @@ fn put_normal<W: Sink>(out: &mut W, expr: &Expr) -> Result<(), WriteFault>
 
 /// Appends the time span between the present and `moment`, followed by ` left` or ` ago`. Appends at most [`SPAN_ROOM`]
 /// + 5 bytes.
-#[tactic(auto, unfolding(crate::specs::headline::ReportLines::distance_text))]
+#[tactic(auto, unfolding(crate::specs::rules::ReportLines::distance_text))]
 pub fn push_distance(text: &mut ShortText, now: Instant, moment: Moment)
     requires room { length text.old.items + SPAN_ROOM + 5 ≤ SHORT_TEXT_ROOM }
     ensures text { text.new.items ≡ text.old.items ++ distance_text (micros_of now.secs) moment.micros }

@@ -1,7 +1,7 @@
 //! Why a text is rejected: a calendar expression, a timestamp or a time span.
 
 ghost use Rattle.std.specs.Prelude.{◌≡◌};
-ghost use Rattle.cal_report.specs.TextReport.{text_fault_message};
+ghost use Rattle.cal_report.specs.rules.TextReport.{text_fault_message};
 
 use cal_span::SpanFault;
 use cal_spec::SpecFault;

@@ -1,11 +1,11 @@
 //! Writing the report of one text: a calendar expression, a timestamp or a time span.
 
 ghost use Rattle.std.specs.Prelude.{◌≡◌, [], ◌∷◌, false};
-ghost use Rattle.cal_bytes.specs.Puts.{Puts};
-ghost use Rattle.cal_bytes.specs.headline.Bytes.{joined};
-ghost use Rattle.cal_report.specs.Answer.{lead_text};
-ghost use Rattle.cal_report.specs.Context.{asked_by};
-ghost use Rattle.cal_report.specs.TextReport.{report_text};
+ghost use Rattle.cal_bytes.specs.rules.Puts.{Puts};
+ghost use Rattle.cal_bytes.specs.rules.Bytes.{joined};
+ghost use Rattle.cal_report.specs.rules.Answer.{lead_text};
+ghost use Rattle.cal_report.specs.rules.Context.{asked_by};
+ghost use Rattle.cal_report.specs.rules.TextReport.{report_text};
 
 mod calendar_report;
 mod timespan_report;

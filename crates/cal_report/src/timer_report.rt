@@ -3,14 +3,14 @@
 //! doesn't elapse.
 
 ghost use Rattle.std.specs.Prelude.{◌≡◌, ◌≢◌, ℕ, List, Result, Ok, Err, MatchResult, false, map};
-ghost use Rattle.cal_bytes.specs.Puts.{Puts};
-ghost use Rattle.cal_streams.specs.Whole.{is_read_failed};
+ghost use Rattle.cal_bytes.specs.rules.Puts.{Puts};
+ghost use Rattle.cal_streams.specs.rules.Whole.{is_read_failed};
 ghost use Rattle.cal_streams.specs.declared.whole.WholeFault.{WholeFault};
-ghost use Rattle.cal_timer.specs.TimerEntries.{ReadsWhole, timer_file_limit};
-ghost use Rattle.cal_timer.specs.TimerView.{shown};
-ghost use Rattle.cal_report.specs.Context.{asked_by};
-ghost use Rattle.cal_report.specs.TimerReport.{HadMemory, headings_text, lists_text, error_line_at, timer_answer};
-ghost use Rattle.cal_report.specs.TimerPlan.{plan_text, plan_fault_line, plan_fault_message};
+ghost use Rattle.cal_timer.specs.rules.TimerEntries.{ReadsWhole, timer_file_limit};
+ghost use Rattle.cal_timer.specs.rules.TimerView.{shown};
+ghost use Rattle.cal_report.specs.rules.Context.{asked_by};
+ghost use Rattle.cal_report.specs.rules.TimerReport.{HadMemory, headings_text, lists_text, error_line_at, timer_answer};
+ghost use Rattle.cal_report.specs.computed.TimerPlan.{plan_text, plan_fault_line, plan_fault_message};
 ghost use Rattle.cal_report.specs.declared.timer_report.TimerPlanFault.TheVariants.{NoMemory};
 
 use crate::context::Context;
@@ -68,7 +68,7 @@ impl TimerPlanFault {
 
 /// Reads a timer file, which may have at most 1,048,576 bytes, to its end and parses it. Everything that the report
 /// needs is allocated here, so that writing the report cannot run out of memory.
-#[tactic(auto, unfolding(crate::specs::TimerReport::timer_answer))]
+#[tactic(auto, unfolding(crate::specs::rules::TimerReport::timer_answer))]
 pub fn read_plan<'a, R: Source>(
     alloc: Global,
     context: Context<'a>,

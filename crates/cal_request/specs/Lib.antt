@@ -1,5 +1,1 @@
-pub mod RequestKind
-pub mod RequestView
-pub mod Status
-pub mod Verb
-pub mod headline
+pub mod rules

@@ -1,7 +1,7 @@
 //! The types that describe a request, and how a run ends, as plain data.
 
 ghost use Rattle.std.specs.Prelude.{◌≡◌, None, false, true, vec_len};
-ghost use Rattle.cal_request.specs.Verb.{IsCount, is_timer, seeks_elapses};
+ghost use Rattle.cal_request.specs.rules.Verb.{IsCount, is_timer, seeks_elapses};
 
 use crate::verb::Verb;
 
@@ -34,7 +34,7 @@ pub enum Status {
 
 impl Status {
     ghost use Rattle.std.specs.Prelude.{◌≡◌};
-    ghost use Rattle.cal_request.specs.Status.{is_fine, status_and};
+    ghost use Rattle.cal_request.specs.rules.Status.{is_fine, status_and};
 
     /// Returns whether the status is [`Status::Fine`].
     pub fn is_fine(self) -> bool

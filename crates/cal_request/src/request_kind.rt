@@ -2,7 +2,7 @@
 
 ghost use Rattle.std.specs.Prelude.{◌≡◌, map};
 ghost use Rattle.std.specs.String.{string_bytes};
-ghost use Rattle.cal_request.specs.RequestKind.{kind_by, shown_kind};
+ghost use Rattle.cal_request.specs.rules.RequestKind.{kind_by, shown_kind};
 
 use crate::request::Request;
 use crate::verb::TextVerb;
@@ -19,7 +19,7 @@ pub enum RequestKind<'a> {
 impl Request {
     ghost use Rattle.std.specs.Prelude.{◌≡◌, map};
     ghost use Rattle.std.specs.String.{string_bytes};
-    ghost use Rattle.cal_request.specs.RequestKind.{kind_by, shown_kind};
+    ghost use Rattle.cal_request.specs.rules.RequestKind.{kind_by, shown_kind};
 
     /// Returns what the request asks about.
     pub fn kind(&self) -> RequestKind<'_>

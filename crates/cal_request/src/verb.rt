@@ -2,7 +2,7 @@
 
 ghost use Rattle.std.specs.Prelude.{◌≡◌, find};
 ghost use Rattle.std.specs.Str.{bytes_eq};
-ghost use Rattle.cal_request.specs.Verb.{verb_name};
+ghost use Rattle.cal_request.specs.rules.Verb.{verb_name};
 
 /// The verb of a request, which says what to report for each text or for a timer file. The verb `timer` is this
 /// project's own; systemd-analyze(1) describes the others.
@@ -31,7 +31,7 @@ pub enum TextVerb {
 
 impl Verb {
     ghost use Rattle.std.specs.Prelude.{◌≡◌};
-    ghost use Rattle.cal_request.specs.Verb.{uses_instants, is_timer, seeks_elapses, text_verb, verb_name, verb_named};
+    ghost use Rattle.cal_request.specs.rules.Verb.{uses_instants, is_timer, seeks_elapses, text_verb, verb_name, verb_named};
 
     /// The verbs, in the order in which the help lists them.
     pub const ALL: [Verb; 4] = [Verb::Calendar, Verb::Timestamp, Verb::Timespan, Verb::Timer];

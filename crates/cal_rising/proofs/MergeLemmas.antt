@@ -12,9 +12,9 @@ use Rattle.std.specs.List.Sorted.{IsStrictlySortedBy}
 use Rattle.std.specs.Ordering.{int_cmp, match_ordering}
 use Rattle.std.specs.declared.cmp.Ordering.{Ordering}
 use Rattle.std.specs.declared.cmp.Ordering.TheVariants.{Less, Equal, Greater}
-use Rattle.cal_rising.specs.Merge.{HasHead, Peeked, lesser, numbers, advanced}
-use Rattle.cal_rising.specs.RisingList.{HasAny, with_numbers, union}
-use Rattle.cal_rising.specs.headline.Elements.{Has}
+use Rattle.cal_rising.specs.rules.Merge.{HasHead, Peeked, lesser, numbers, advanced}
+use Rattle.cal_rising.specs.rules.RisingList.{HasAny, with_numbers, union}
+use Rattle.cal_rising.specs.rules.Elements.{Has}
 use Rattle.cal_text.proofs.General.{lt_from_less, rises-drop}
 use Rattle.cal_rising.proofs.RisingLemmas.{above_first, later_members, same_rising, Has-union, rises-union}
 

@@ -10,7 +10,7 @@ use Rattle.std.specs.Ordering.{match_ordering}
 use Rattle.std.proofs.lemmas.Cmp.{tied_itself}
 use Rattle.std.specs.declared.cmp.Ordering.{Ordering}
 use Rattle.std.specs.declared.cmp.Ordering.TheVariants.{Less, Equal, Greater}
-use Rattle.cal_rising.specs.headline.Elements.{Has}
+use Rattle.cal_rising.specs.rules.Elements.{Has}
 
 -- `Has` implies `Contains`, the standard library's definition of an element of a list; `has_from_contains` is the
 -- converse

@@ -9,10 +9,10 @@ use Rattle.std.specs.FinMap.{int_cmp-IsAntisymmetric}
 use Rattle.std.specs.List.Sorted.{IsStrictlySortedBy}
 use Rattle.std.specs.Ordering.{int_cmp}
 use Rattle.std.specs.declared.cmp.Ordering.TheVariants.{Less}
-use Rattle.cal_rising.specs.Rises.{sorted-insert_key}
-pub use Rattle.cal_rising.specs.Rises.{rises-with_numbers, rises-union}
-use Rattle.cal_rising.specs.RisingList.{HasAny, IsUnion, with_numbers, union}
-use Rattle.cal_rising.specs.headline.Elements.{Has}
+use Rattle.cal_rising.specs.computed.Rises.{sorted-insert_key}
+pub use Rattle.cal_rising.specs.computed.Rises.{rises-with_numbers, rises-union}
+use Rattle.cal_rising.specs.rules.RisingList.{HasAny, IsUnion, with_numbers, union}
+use Rattle.cal_rising.specs.rules.Elements.{Has}
 use Rattle.cal_rising.proofs.OrderLemmas.{all_at, has-insert_key, same_sorted}
 use Rattle.cal_text.proofs.General.{lt_from_less}
 

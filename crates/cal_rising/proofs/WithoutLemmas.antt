@@ -14,10 +14,10 @@ use Rattle.std.proofs.lemmas.Bool.Decides.{Decides-int_eq}
 use Rattle.std.proofs.lemmas.Int.{ints, to_z-of_z}
 use Rattle.std.proofs.lemmas.List.{get_or_default}
 use borrow.Author.Count.{below_more}
-use Rattle.cal_rising.specs.Merge.{Peeked, HasHead, numbers, numbers_by}
-use Rattle.cal_rising.specs.Rises.{rises-union, rises-without}
-use Rattle.cal_rising.specs.RisingList.{HasAny, IsSameFrom, IsUnionWithout, union, without}
-use Rattle.cal_rising.specs.headline.Elements.{Has}
+use Rattle.cal_rising.specs.rules.Merge.{Peeked, HasHead, numbers, numbers_by}
+use Rattle.cal_rising.specs.computed.Rises.{rises-union, rises-without}
+use Rattle.cal_rising.specs.rules.RisingList.{HasAny, IsSameFrom, IsUnionWithout, union, without}
+use Rattle.cal_rising.specs.rules.Elements.{Has}
 use Rattle.cal_rising.proofs.RisingLemmas.{Has-union, same_rising}
 use Rattle.std.specs.Cmp.{int_eq_equiv}
 use Rattle.std.proofs.lemmas.Map.Made.{is_member-filter}

@@ -1,4 +1,2 @@
-pub mod Merge
-pub mod Rises
-pub mod RisingList
-pub mod headline
+pub mod computed
+pub mod rules

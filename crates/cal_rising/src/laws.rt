@@ -2,7 +2,7 @@
 //! contract states the law.
 
 ghost use Rattle.std.specs.Prelude.{◌≡◌, [], ℤ, List};
-ghost use Rattle.cal_rising.specs.RisingList.{IsUnion, IsUnionWithout, union, without};
+ghost use Rattle.cal_rising.specs.rules.RisingList.{IsUnion, IsUnionWithout, union, without};
 
 /// The union of lists is strictly increasing and contains exactly the numbers of the lists. No other list has both
 /// properties.

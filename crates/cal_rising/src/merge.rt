@@ -2,7 +2,7 @@
 //! sources, the exceptions.
 
 ghost use Rattle.std.specs.Prelude.{◌≡◌, ◌++◌, ◌∷◌, [], true, false, IfErr, OnErr, OnOk, slice_get, drop};
-ghost use Rattle.cal_rising.specs.Merge.{merged};
+ghost use Rattle.cal_rising.specs.rules.Merge.{merged};
 
 use crate::sources::Sources;
 use crate::{NoMemory, Rising};
@@ -21,7 +21,7 @@ pub struct Merge<S: Rising> {
 }
 
 impl<S: Rising> Model for Merge<S> {
-    ghost use Rattle.cal_rising.specs.Merge.{Merge};
+    ghost use Rattle.cal_rising.specs.rules.Merge.{Merge};
 
     ghost Value = { Merge };
 
@@ -88,8 +88,8 @@ impl<S: Rising> Rising for Merge<S> {
         None
     }
 
-    ghost use Rattle.cal_rising.specs.RisingList.{union};
-    ghost use Rattle.cal_rising.specs.Rises.{rises-union, rises-without};
+    ghost use Rattle.cal_rising.specs.rules.RisingList.{union};
+    ghost use Rattle.cal_rising.specs.computed.Rises.{rises-union, rises-without};
 
     ghost rises = { λ merge. rises-without (union merge.lists) (union merge.exceptions) (rises-union merge.lists) };
 }

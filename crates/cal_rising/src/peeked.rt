@@ -4,8 +4,8 @@
 ghost use Rattle.std.specs.Prelude.{◌≡◌, ◌≤ℤ◌, None, IfSome};
 ghost use Rattle.std.specs.Set.{is_member};
 ghost use Rattle.std.specs.Ordering.{int_eq};
-ghost use Rattle.cal_rising.specs.Merge.{HasHead, numbers, advanced};
-ghost use Rattle.cal_rising.specs.RisingList.{IsSameFrom};
+ghost use Rattle.cal_rising.specs.rules.Merge.{HasHead, numbers, advanced};
+ghost use Rattle.cal_rising.specs.rules.RisingList.{IsSameFrom};
 
 use crate::Rising;
 use std::marker::Model;
@@ -28,7 +28,7 @@ pub struct Peeked<S: Rising> {
 impl<S: Rising> Model for Peeked<S> {
     ghost use Rattle.std.specs.List.Sorted.{IsStrictlySortedBy};
     ghost use Rattle.std.specs.Ordering.{int_cmp};
-    ghost use Rattle.cal_rising.specs.Merge.{Peeked, numbers_by};
+    ghost use Rattle.cal_rising.specs.rules.Merge.{Peeked, numbers_by};
 
     ghost Value = { Peeked };
 

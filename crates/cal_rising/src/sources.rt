@@ -4,8 +4,8 @@ ghost use Rattle.std.specs.Prelude.{◌≡◌, ◌++◌, ◌∷◌, [], map, tru
 ghost use Rattle.std.specs.List.{All, list_any};
 ghost use Rattle.std.specs.Set.{is_member};
 ghost use Rattle.std.specs.Ordering.{int_eq};
-ghost use Rattle.cal_rising.specs.Merge.{HasHead, lesser, numbers, advanced};
-ghost use Rattle.cal_rising.specs.RisingList.{IsSameFrom, union};
+ghost use Rattle.cal_rising.specs.rules.Merge.{HasHead, lesser, numbers, advanced};
+ghost use Rattle.cal_rising.specs.rules.RisingList.{IsSameFrom, union};
 
 use crate::peeked::Peeked;
 use crate::{NoMemory, Rising};
@@ -20,7 +20,7 @@ pub struct Sources<S: Rising> {
 
 impl<S: Rising> Model for Sources<S> {
     ghost use Rattle.std.specs.Prelude.{map, List, ℤ};
-    ghost use Rattle.cal_rising.specs.Merge.{numbers};
+    ghost use Rattle.cal_rising.specs.rules.Merge.{numbers};
 
     ghost Value = { List (List ℤ) };
 
@@ -79,7 +79,7 @@ impl<S: Rising> Rising for Sources<S> {
         least
     }
 
-    ghost use Rattle.cal_rising.specs.Rises.{rises-union};
+    ghost use Rattle.cal_rising.specs.computed.Rises.{rises-union};
 
     ghost rises = { rises-union };
 }
@@ -95,7 +95,7 @@ fn peek_all<S: Rising>(sources: &mut Vec<Peeked<S>>)
 }
 
 /// Returns the smallest of the numbers that were read ahead, or `None` if there are none.
-#[tactic(auto, unfolding(crate::specs::RisingList::union))]
+#[tactic(auto, unfolding(crate::specs::rules::RisingList::union))]
 fn least_head<S: Rising>(sources: &Vec<Peeked<S>>) -> Option<i64>
     requires { All HasHead sources.now.items }
     ensures { result ≡ slice_get (union (map numbers sources.now.items)) 0 }

@@ -9,10 +9,10 @@ use Rattle.std.specs.Prelude.{decimal}
 use Rattle.std.specs.List.{flat_map}
 use Rattle.cal_span.specs.declared.time_unit.TimeUnit.{TimeUnit}
 use Rattle.cal_span.specs.declared.time_unit.TimeUnit.TheVariants.{Year, Month, Week, Day, Hour, Minute, Second, Millisecond, Microsecond}
-use Rattle.cal_bytes.specs.headline.Bytes.{joined}
-use Rattle.cal_span.specs.headline.TimeUnit.{size_of, all_units, unit_name}
-use Rattle.cal_span.specs.SpanTextRule.{weight, AreReduced, AreCounts, IsSpanText}
-use Rattle.cal_span.specs.headline.SpanText.{Count, count_text, counts_in_row, counts_text, positive, counts_of, units_text, span_text}
+use Rattle.cal_bytes.specs.rules.Bytes.{joined}
+use Rattle.cal_span.specs.rules.TimeUnit.{size_of, all_units, unit_name}
+use Rattle.cal_span.specs.rules.SpanTextRule.{weight, AreReduced, AreCounts, IsSpanText}
+use Rattle.cal_span.specs.rules.SpanText.{Count, count_text, counts_in_row, counts_text, positive, counts_of, units_text, span_text}
 use Rattle.std.proofs.lemmas.Bool.Decides.{nat_tests}
 
 -- the length of every unit is more than zero

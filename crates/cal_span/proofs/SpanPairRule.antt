@@ -6,8 +6,9 @@ use Rattle.cal_span.specs.declared.span.word.CharKind.{CharKind}
 use Rattle.cal_span.specs.declared.span.word.CharKind.TheVariants.{Numeric, Letter}
 use Rattle.cal_span.proofs.SpanPairs.{no_kind, stray_first}
 use Rattle.cal_span.proofs.SpanWords.{is_kind-same, same_from_is_kind}
-use Rattle.cal_span.specs.SpanValue.{Piece, Pair, is_kind, pairs_of}
-use Rattle.cal_span.specs.SpanRule.{BeginsWithNoUnit, IsWithUnit, IsWithoutUnit, IsNoNumber, ArePairs}
+use Rattle.cal_span.specs.rules.PairValue.{Piece, Pair, is_kind}
+use Rattle.cal_span.specs.computed.SpanValue.{pairs_of}
+use Rattle.cal_span.specs.rules.SpanRule.{BeginsWithNoUnit, IsWithUnit, IsWithoutUnit, IsNoNumber, ArePairs}
 
 abbrev IsFirst : List Piece → Pair → List Piece → Type 0
 IsFirst ws p rest = IsWithUnit ws p rest ⊎ (IsWithoutUnit ws p rest ⊎ IsNoNumber ws p rest)

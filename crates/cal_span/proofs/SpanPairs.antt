@@ -9,8 +9,9 @@ use Rattle.cal_span.specs.declared.span.fault.SpanFault.{SpanFault}
 use Rattle.cal_span.specs.declared.span.fault.SpanFault.TheVariants.{BadNumber, UnknownUnit, TooLarge}
 use Rattle.cal_span.specs.declared.span.word.CharKind.{CharKind}
 use Rattle.cal_span.specs.declared.span.word.CharKind.TheVariants.{Numeric, Letter}
-use Rattle.cal_span.specs.headline.TimeUnit.{size_of}
-use Rattle.cal_span.specs.SpanValue.{limit, Piece, Pair, is_kind, words_in, pairs_of, pairs_in, is_number, unit_in, number_worth, worth_of, sum_with}
+use Rattle.cal_span.specs.rules.TimeUnit.{size_of}
+use Rattle.cal_span.specs.rules.PairValue.{limit, Piece, Pair, is_kind, is_number, unit_in, number_worth, worth_of}
+use Rattle.cal_span.specs.computed.SpanValue.{words_in, pairs_of, pairs_in, sum_with}
 use Rattle.cal_span.proofs.SpanWords.{same_from_is_kind}
 use Rattle.cal_text.proofs.DigitLemmas.{top}
 use Rattle.std.proofs.lemmas.Bool.Decides.{nat_tests}

@@ -12,11 +12,12 @@ use Rattle.cal_span.specs.declared.time_unit.TimeUnit.{TimeUnit}
 use Rattle.cal_span.specs.declared.time_unit.TimeUnit.TheVariants.{Year, Month, Week, Day, Hour, Minute, Second, Millisecond, Microsecond}
 use Rattle.cal_span.specs.declared.span.word.CharKind.{CharKind}
 use Rattle.cal_span.specs.declared.span.word.CharKind.TheVariants.{Blank, Numeric, Letter}
-use Rattle.cal_span.specs.UnitSpellings.{spellings_of}
-use Rattle.cal_span.specs.headline.TimeUnit.{size_of, all_units, unit_name}
-use Rattle.cal_span.specs.SpanValue.{limit, kind_of, is_kind, Piece, characters, with_front, runs, words_in, Pair, pairs_of, pairs_in, is_number, unit_named, number_worth, worth_of, judged, value_of_pairs, span_of}
-use Rattle.cal_span.specs.SpanTextRule.{weight}
-use Rattle.cal_span.specs.headline.SpanText.{Count, count_text, counts_in_row, positive, counts_of, span_text}
+use Rattle.cal_span.specs.rules.UnitSpellings.{spellings_of}
+use Rattle.cal_span.specs.rules.TimeUnit.{size_of, all_units, unit_name}
+use Rattle.cal_span.specs.rules.PairValue.{limit, kind_of, is_kind, Piece, characters, Pair, is_number, unit_named, number_worth, worth_of}
+use Rattle.cal_span.specs.computed.SpanValue.{with_front, runs, words_in, pairs_of, pairs_in, judged, value_of_pairs, span_of}
+use Rattle.cal_span.specs.rules.SpanTextRule.{weight}
+use Rattle.cal_span.specs.rules.SpanText.{Count, count_text, counts_in_row, positive, counts_of, span_text}
 use Rattle.cal_span.proofs.SpanCounts.{size_of_positive, are_counts_of, weight-positive, span_text_zero, span_text_row}
 use Rattle.cal_span.proofs.SpanDigits.{AreDigits, are_digits-decimal, kind_of_digit, is_number-decimal, number_worth-decimal}
 use Rattle.cal_span.proofs.SpanWords.{is_kind-same}

@@ -1,16 +1,21 @@
--- `span_of` returns the value or the error that the rule `Judges` demands, and the rule allows no other value or error.
+-- `span_of` returns the value or the error that the rule demands (`Judges`, `HasSpanValue`), and the rule allows no
+-- other value or error.
 use Rattle.std.proofs.Common.{ℕ, ◌+◌, ◌≤◌, ◌≡◌, Bool, true, false, cond, List, [], ◌∷◌, ◌++◌, Option, Some, None, Result, Ok, Err, refl, sym, ap, ◌∙◌, subst, arith, add-zero, zero-add, ◌⊎◌, inl, inr, ⊎_elim}
-use Rattle.std.specs.Prelude.{nat_le}
+use Rattle.std.specs.Prelude.{nat_le, not, filter, ◌↔◌}
 use Rattle.std.proofs.lemmas.Bool.{leb-true, leb-false, le-leb, lt-leb}
 use Rattle.cal_span.specs.declared.time_unit.TimeUnit.{TimeUnit}
 use Rattle.cal_span.specs.declared.span.fault.SpanFault.{SpanFault}
 use Rattle.cal_span.specs.declared.span.fault.SpanFault.TheVariants.{Empty, BadNumber, UnknownUnit, TooLarge}
 use Rattle.cal_span.specs.declared.time_unit.TimeUnit.TheVariants.{Year, Month, Week, Day, Hour, Minute, Second, Millisecond, Microsecond}
-use Rattle.cal_span.specs.UnitSpellings.{spellings_of}
-use Rattle.cal_span.specs.SpanValue.{limit, unit_named, Pair, pairs_in, is_number, unit_in, worth_in, worth_of, sum_with, judged, value_of_pairs, span_of}
+use Rattle.cal_span.specs.rules.UnitSpellings.{spellings_of}
+use Rattle.cal_span.specs.declared.span.word.CharKind.TheVariants.{Blank}
+use Rattle.cal_span.specs.rules.PairValue.{limit, unit_named, Pair, characters, is_kind, is_number, unit_in, worth_in, worth_of}
+use Rattle.cal_span.specs.computed.SpanValue.{pairs_in, pairs_of, runs, words_in, sum_with, judged, value_of_pairs, span_of}
 use Rattle.std.specs.List.{AllByRecursion}
-use Rattle.cal_text.specs.AndThen.{◌>>=◌}
-use Rattle.cal_span.specs.SpanRule.{AreWorth, IsFaultAfter, IsFirstFault, Judges}
+use Rattle.cal_text.specs.rules.AndThen.{◌>>=◌}
+use Rattle.cal_span.specs.rules.SpanRule.{AreWorth, HasPairs, HasSpanValue, IsFaultAfter, IsFirstFault, Judges}
+use Rattle.cal_span.proofs.SpanPairRule.{are_pairs, only_pairs}
+use Rattle.cal_span.proofs.SpanRuns.{runs_cut, runs_longest, runs_only}
 use Rattle.std.proofs.lemmas.Bool.Decides.{nat_tests}
 
 -- a pair by itself can only be invalid because of its number or its unit
@@ -115,6 +120,22 @@ only_value ps (Err TooLarge) fault = only_first_fault ps TooLarge fault
 
 pub one_judgement : (ps : List Pair) (a b : Result ℕ SpanFault) → Judges ps a → Judges ps b → a ≡ b
 one_judgement ps a b by_a by_b = sym (only_value ps a by_a) ∙ only_value ps b by_b
+
+has_value : (text : List ℕ) → HasSpanValue text (span_of text)
+unfolding pairs_in words_in
+has_value text =
+    let has : HasPairs text (pairs_in text) = record { words = runs (characters text); cut = runs_cut text; apart = runs_longest text; paired = are_pairs (words_in text) } in
+    record { pairs = pairs_in text; has = has; judged = judges_span text }
+
+only_value_of : (text : List ℕ) (r : Result ℕ SpanFault) → HasSpanValue text r → span_of text ≡ r
+unfolding pairs_in words_in
+only_value_of text r h =
+    let words = runs_only text h.has.words h.has.cut h.has.apart in
+    let same : h.pairs ≡ pairs_in text = only_pairs _ h.pairs h.has.paired ∙ ap (λ ws. pairs_of (filter (λ w. not (is_kind Blank w.kind)) ws)) words in
+    one_judgement (pairs_in text) (span_of text) r (judges_span text) (subst (λ ps. Judges ps r) same h.judged)
+
+pub span_is_value : (text : List ℕ) (r : Result ℕ SpanFault) → (span_of text ≡ r) ↔ HasSpanValue text r
+span_is_value text r = (λ e. subst (HasSpanValue text) e (has_value text), only_value_of text r)
 
 -- each spelling of a unit is recognized as this unit, so no spelling belongs to two units
 pub spelled_once : (unit : TimeUnit) → AllByRecursion (λ (word : List ℕ). unit_named word ≡ Some unit) (spellings_of unit)

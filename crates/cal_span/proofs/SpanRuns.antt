@@ -5,8 +5,9 @@ use Rattle.std.specs.List.{AllByRecursion, flat_map}
 use Rattle.std.proofs.lemmas.List.{append-nil}
 use Rattle.cal_span.specs.declared.span.word.CharKind.{CharKind}
 use Rattle.cal_span.proofs.SpanWords.{is_kind-same, same_from_is_kind}
-use Rattle.cal_span.specs.SpanValue.{Piece, is_kind, characters, with_front, runs}
-use Rattle.cal_span.specs.SpanRule.{IsRun, AreRuns, AreApart}
+use Rattle.cal_span.specs.rules.PairValue.{Piece, is_kind, characters}
+use Rattle.cal_span.specs.computed.SpanValue.{with_front, runs}
+use Rattle.cal_span.specs.rules.SpanRule.{IsRun, AreRuns, AreApart}
 use Rattle.std.proofs.lemmas.Bool.Decides.{nat_tests}
 
 -- a single character is a run

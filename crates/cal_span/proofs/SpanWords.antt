@@ -4,7 +4,8 @@ use Rattle.std.specs.Prelude.{filter, not}
 use Rattle.std.proofs.lemmas.List.{append-nil, drop-drop, length-append, length-take-le}
 use Rattle.cal_span.specs.declared.span.word.CharKind.{CharKind}
 use Rattle.cal_span.specs.declared.span.word.CharKind.TheVariants.{Blank, Numeric, Letter, Other}
-use Rattle.cal_span.specs.SpanValue.{Piece, is_kind, runs, characters, words_in, front_of, after_front}
+use Rattle.cal_span.specs.rules.PairValue.{Piece, is_kind, characters}
+use Rattle.cal_span.specs.computed.SpanValue.{runs, words_in, front_of, after_front}
 use Rattle.std.proofs.lemmas.Bool.Decides.{nat_tests}
 
 pub is_kind-same : (j : CharKind) → is_kind j j ≡ true

@@ -1,10 +1,11 @@
 -- Examples of parsed and printed time spans, checked by computation.
 use Rattle.std.proofs.Common.{◌≡◌, [], Ok, Err, codes, refl}
 use Rattle.std.specs.Fmt.{digits}
-use Rattle.cal_span.specs.UnitSpellings.{spellings_of}
-use Rattle.cal_span.specs.headline.TimeUnit.{unit_name}
-use Rattle.cal_span.specs.headline.SpanText.{units_text, counts_in_row, span_text}
-use Rattle.cal_span.specs.SpanValue.{words_in, pairs_in, is_number, unit_named, number_worth, worth_of, span_of}
+use Rattle.cal_span.specs.rules.UnitSpellings.{spellings_of}
+use Rattle.cal_span.specs.rules.TimeUnit.{unit_name}
+use Rattle.cal_span.specs.rules.SpanText.{units_text, counts_in_row, span_text}
+use Rattle.cal_span.specs.computed.SpanValue.{words_in, pairs_in, span_of}
+use Rattle.cal_span.specs.rules.PairValue.{is_number, unit_named, number_worth, worth_of}
 use Rattle.cal_span.specs.declared.span.fault.SpanFault.TheVariants.{Empty, BadNumber, UnknownUnit, TooLarge}
 
 one_and_a_half : span_of (codes "1.5h") ≡ Ok 5_400_000_000

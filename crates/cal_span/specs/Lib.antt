@@ -1,6 +1,2 @@
-pub mod SpanFault
-pub mod SpanRule
-pub mod SpanTextRule
-pub mod SpanValue
-pub mod UnitSpellings
-pub mod headline
+pub mod computed
+pub mod rules

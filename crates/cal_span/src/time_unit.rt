@@ -1,8 +1,8 @@
 //! The units of time spans.
 
 ghost use Rattle.std.specs.Prelude.{◌≡◌, ◌≤◌, ◌<◌, length, map};
-ghost use Rattle.cal_span.specs.UnitSpellings.{spellings_of};
-ghost use Rattle.cal_span.specs.headline.TimeUnit.{size_of, unit_name};
+ghost use Rattle.cal_span.specs.rules.UnitSpellings.{spellings_of};
+ghost use Rattle.cal_span.specs.rules.TimeUnit.{size_of, unit_name};
 
 /// A unit of time (systemd.time(7), Parsing Time Spans).
 #[derive(Clone, Copy, PartialEq, Eq, Debug)]
@@ -63,7 +63,7 @@ impl TimeUnit {
 
     /// Returns all spellings of the unit in UTF-8, the long ones first (systemd.time(7), Parsing Time Spans). Case
     /// matters.
-    #[tactic(auto, unfolding(crate::specs::UnitSpellings::spellings_of))]
+    #[tactic(auto, unfolding(crate::specs::rules::UnitSpellings::spellings_of))]
     pub fn spellings(self) -> &'static [&'static [u8]]
         ensures { map (λ word. word.now) result.now ≡ spellings_of self }
     {
@@ -82,7 +82,7 @@ impl TimeUnit {
     }
 
     /// Returns the spelling with which the unit is printed, at most 5 bytes.
-    #[tactic(auto, unfolding(crate::specs::headline::TimeUnit::unit_name))]
+    #[tactic(auto, unfolding(crate::specs::rules::TimeUnit::unit_name))]
     pub fn name(self) -> &'static str
         ensures name { result.now ≡ unit_name self }
         ensures short { length result.now ≤ 5 }

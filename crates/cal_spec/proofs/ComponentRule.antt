@@ -8,13 +8,13 @@ use Rattle.std.proofs.lemmas.Bool.Decides.{nat_tests}
 use Rattle.std.proofs.lemmas.List.{append-nil, append_assoc}
 use Rattle.std.proofs.lemmas.List.Splits.{join_with_byte-slice_split}
 use Rattle.std.proofs.lemmas.Slice.Eq.{bytes_eq-Decides}
-use Rattle.cal_text.specs.headline.Separators.{is_comma}
-use Rattle.cal_spec.specs.Components.{is_star, counted, room_in, part_due, parts_of, first_value_fault, parts_listed, component_of}
-use Rattle.cal_spec.specs.headline.GrammarRule.{IsNumber, IsNext, IsPartText, IsPartOf, AreListed, IsComponent}
-use Rattle.cal_spec.specs.Parts.{is_time, is_within, is_outside, is_backward, is_zero, reaches_no_further_value, fault_of}
-use Rattle.cal_spec.specs.headline.FullYears.{with_full_years}
-use Rattle.cal_spec.specs.headline.Slot.{least, greatest}
-use Rattle.cal_spec.specs.headline.ValidParts.{IsWithin, IsEndWithin, EndsAfter, IsStep, GoesOn, IsValidPart}
+use Rattle.cal_text.specs.rules.Separators.{is_comma}
+use Rattle.cal_spec.specs.computed.Components.{is_star, counted, room_in, part_due, parts_of, first_value_fault, parts_listed, component_of}
+use Rattle.cal_spec.specs.rules.GrammarRule.{IsNumber, IsNext, IsPartText, IsPartOf, AreListed, IsComponent}
+use Rattle.cal_spec.specs.computed.Parts.{is_time, is_within, is_outside, is_backward, is_zero, reaches_no_further_value, fault_of}
+use Rattle.cal_spec.specs.rules.FullYears.{with_full_years}
+use Rattle.cal_spec.specs.rules.Slot.{least, greatest}
+use Rattle.cal_spec.specs.rules.ValidParts.{IsWithin, IsEndWithin, EndsAfter, IsStep, GoesOn, IsValidPart}
 use Rattle.cal_spec.specs.declared.field.Part.{Part}
 use Rattle.cal_spec.specs.declared.slot.Slot.{Slot}
 use Rattle.cal_spec.specs.declared.slot.Slot.TheVariants.{DayFromEnd}

@@ -5,17 +5,17 @@ use Rattle.std.specs.List.{AllByRecursion, slice_split, join_with_byte, onto_fir
 use Rattle.std.proofs.lemmas.Bool.{or_cases, eqb-true, false≢true}
 use Rattle.std.proofs.lemmas.Bool.Decides.{nat_tests}
 use Rattle.std.proofs.lemmas.List.Splits.{join_with_byte-slice_split}
-use Rattle.cal_spec.specs.Components.{counted}
-use Rattle.cal_spec.specs.DateAndTime.{DateFields, TimeFields, is_tilde, is_date_sign, date_texts_by, time_texts_by, date_texts, time_texts, date_fields, time_fields, room_after, date_in_word, time_in_word}
-use Rattle.cal_text.specs.headline.Separators.{is_colon}
-use Rattle.cal_spec.specs.headline.UnparsedTexts.{DateTexts, TimeTexts}
-use Rattle.cal_spec.specs.headline.Fields.{Fields, counted_parts, max_counted_parts}
-use Rattle.cal_spec.specs.headline.GrammarRule.{last_sign, IsDateShape, IsTimeShape, IsDate, IsTime, IsComponent}
-use Rattle.cal_spec.specs.headline.Slot.{day_slot}
+use Rattle.cal_spec.specs.computed.Components.{counted}
+use Rattle.cal_spec.specs.computed.DateAndTime.{DateFields, TimeFields, is_tilde, is_date_sign, date_texts_by, time_texts_by, date_texts, time_texts, date_fields, time_fields, room_after, date_in_word, time_in_word}
+use Rattle.cal_text.specs.rules.Separators.{is_colon}
+use Rattle.cal_spec.specs.rules.UnparsedTexts.{DateTexts, TimeTexts}
+use Rattle.cal_spec.specs.rules.Fields.{Fields, counted_parts, max_counted_parts}
+use Rattle.cal_spec.specs.rules.GrammarRule.{last_sign, IsDateShape, IsTimeShape, IsDate, IsTime, IsComponent}
+use Rattle.cal_spec.specs.rules.Slot.{day_slot}
 use Rattle.cal_spec.specs.declared.field.Part.{Part}
 use Rattle.cal_spec.specs.declared.slot.Slot.{Slot}
 use Rattle.cal_spec.specs.declared.slot.Slot.TheVariants.{Year, Month, Hour, Minute, Second}
-use Rattle.cal_spec.specs.headline.ZoneSuffix.{ZoneSuffix}
+use Rattle.cal_spec.specs.rules.ZoneSuffix.{ZoneSuffix}
 use Rattle.cal_spec.proofs.ComponentRule.{is_component_byte, component_found, component_only, component_bytes}
 use Rattle.cal_spec.proofs.FieldLemmas.{fields_with, date_found, time_found, counted_date, counted_time, day_no_time}
 use Rattle.cal_text.proofs.General.{IsClear, Apart, clear_of, split_at, split_alone, some_pieces}

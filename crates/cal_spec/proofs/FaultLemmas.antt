@@ -4,21 +4,21 @@ use Rattle.std.specs.Option.{option_or}
 use Rattle.std.specs.Result.{result_err}
 use Rattle.std.proofs.lemmas.Bool.{eqb-false}
 use Rattle.std.proofs.lemmas.Bool.Decides.{nat_tests}
-use Rattle.cal_spec.specs.Components.{is_star, counted, room_in, part_due, parts_of, first_value_fault, parts_listed, component_of}
-use Rattle.cal_spec.specs.DateAndTime.{DateFields, date_texts, time_texts, date_fields, time_fields, date_due, time_due, room_after, date_in_word, time_in_word}
-use Rattle.cal_spec.specs.headline.UnparsedTexts.{DateTexts, TimeTexts, WordRoles}
-use Rattle.cal_spec.specs.Faults.{pieces_of, numbered, first_number, shape_fault, shape_faults, value_fault, component_faults, numbered_in, date_faults, time_faults, faults_at, judgements_of}
-use Rattle.cal_spec.specs.Grammar.{max_text_bytes, fields_at, fields_due, fields_in}
-use Rattle.cal_spec.specs.Parts.{is_time, part_of}
-use Rattle.cal_spec.specs.headline.FullYears.{with_full_years}
-use Rattle.cal_text.specs.AndThen.{◌>>=◌}
-use Rattle.cal_spec.specs.Reads.{unless, first_of}
-use Rattle.cal_spec.specs.headline.Slot.{day_slot}
-use Rattle.cal_spec.specs.WeekdayNames.{weekdays_in}
-use Rattle.cal_spec.specs.Words.{roles_of}
-use Rattle.cal_text.specs.headline.Separators.{words}
-use Rattle.cal_spec.specs.ParsedSuffix.{suffix_in}
-use Rattle.cal_spec.specs.headline.ZoneSuffix.{ZoneSuffix}
+use Rattle.cal_spec.specs.computed.Components.{is_star, counted, room_in, part_due, parts_of, first_value_fault, parts_listed, component_of}
+use Rattle.cal_spec.specs.computed.DateAndTime.{DateFields, date_texts, time_texts, date_fields, time_fields, date_due, time_due, room_after, date_in_word, time_in_word}
+use Rattle.cal_spec.specs.rules.UnparsedTexts.{DateTexts, TimeTexts, WordRoles}
+use Rattle.cal_spec.specs.computed.Faults.{pieces_of, numbered, first_number, shape_fault, shape_faults, value_fault, component_faults, numbered_in, date_faults, time_faults, faults_at, judgements_of}
+use Rattle.cal_spec.specs.computed.Grammar.{max_text_bytes, fields_at, fields_due, fields_in}
+use Rattle.cal_spec.specs.computed.Parts.{is_time, part_of}
+use Rattle.cal_spec.specs.rules.FullYears.{with_full_years}
+use Rattle.cal_text.specs.rules.AndThen.{◌>>=◌}
+use Rattle.cal_spec.specs.computed.Reads.{unless, first_of}
+use Rattle.cal_spec.specs.rules.Slot.{day_slot}
+use Rattle.cal_spec.specs.computed.WeekdayLists.{weekdays_in}
+use Rattle.cal_spec.specs.computed.Words.{roles_of}
+use Rattle.cal_text.specs.rules.Separators.{words}
+use Rattle.cal_spec.specs.computed.ParsedSuffix.{suffix_in}
+use Rattle.cal_spec.specs.rules.ZoneSuffix.{ZoneSuffix}
 use Rattle.cal_spec.specs.declared.field.Part.{Part}
 use Rattle.cal_spec.specs.declared.slot.Slot.{Slot}
 use Rattle.cal_spec.specs.declared.slot.Slot.TheVariants.{Year, Month, Hour, Minute, Second}
@@ -27,7 +27,7 @@ use Rattle.cal_spec.specs.declared.spec_fault.SpecFault.TheVariants.{TextTooLong
 use Rattle.cal_spec.proofs.ComponentLemmas.{component_is, component_read, parts_of-cons, parts_counted}
 use Rattle.cal_spec.proofs.FieldLemmas.{fields_with, DateRead, date_found}
 use Rattle.cal_spec.proofs.ReadLemmas.{Follows, bind_ok, cond_ok}
-use Rattle.cal_spec.specs.headline.Fields.{max_counted_parts}
+use Rattle.cal_spec.specs.rules.Fields.{max_counted_parts}
 
 -- Two parsers run one after the other. Let `u` be the error of the first, and let `v` be the error of the second for
 -- every value that the first can return; None stands for success. Then both together fail with `u`, or, if `u` is None,

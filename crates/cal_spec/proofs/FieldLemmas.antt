@@ -8,28 +8,29 @@ use Rattle.std.proofs.lemmas.List.Folds.{list_any_at}
 use Rattle.jiff_core.specs.declared.civil.weekday.Weekday.{Weekday}
 use Rattle.jiff_core.specs.declared.civil.weekday.Weekday.TheVariants.{Monday, Tuesday, Wednesday, Thursday, Friday, Saturday, Sunday}
 use Rattle.jiff_core.specs.Weekday.{monday_zero}
-use Rattle.cal_civil.specs.headline.Weekday.{week}
-use Rattle.cal_text.specs.headline.Separators.{is_comma, words}
-use Rattle.cal_spec.specs.Components.{counted, component_of}
-use Rattle.cal_spec.specs.DateAndTime.{DateFields, TimeFields, date_texts, time_texts, date_fields, time_fields, date_due, time_due, room_after, date_in_word, time_in_word}
-use Rattle.cal_spec.specs.headline.UnparsedTexts.{DateTexts, TimeTexts, WordRoles}
-use Rattle.cal_spec.specs.Views.{fields_of}
-use Rattle.cal_spec.specs.headline.Fields.{Fields, parts_in, counted_parts, max_counted_parts}
-use Rattle.cal_spec.specs.Parts.{is_time}
-use Rattle.cal_spec.specs.Grammar.{max_text_bytes, fields_at, fields_due, fields_in}
-use Rattle.cal_text.specs.AndThen.{◌>>=◌}
-use Rattle.cal_spec.specs.Reads.{GivesUnlessNoMemory}
+use Rattle.cal_civil.specs.rules.Weekday.{week}
+use Rattle.cal_text.specs.rules.Separators.{is_comma, words}
+use Rattle.cal_spec.specs.computed.Components.{counted, component_of}
+use Rattle.cal_spec.specs.computed.DateAndTime.{DateFields, TimeFields, date_texts, time_texts, date_fields, time_fields, date_due, time_due, room_after, date_in_word, time_in_word}
+use Rattle.cal_spec.specs.rules.UnparsedTexts.{DateTexts, TimeTexts, WordRoles}
+use Rattle.cal_spec.specs.computed.Views.{fields_of}
+use Rattle.cal_spec.specs.rules.Fields.{Fields, parts_in, counted_parts, max_counted_parts}
+use Rattle.cal_spec.specs.computed.Parts.{is_time}
+use Rattle.cal_spec.specs.computed.Grammar.{max_text_bytes, fields_at, fields_due, fields_in}
+use Rattle.cal_text.specs.rules.AndThen.{◌>>=◌}
+use Rattle.cal_spec.specs.computed.Reads.{GivesUnlessNoMemory}
 use Rattle.cal_spec.specs.declared.fields.Fields as declared_fields
-use Rattle.cal_spec.specs.headline.Slot.{day_slot}
-use Rattle.cal_spec.specs.ValidFields.{IsValidFields}
-use Rattle.cal_spec.specs.WeekdayNames.{day_named, leading_letters, days_of, items_of, without_comma, listed_days, is_like_shorthand, weekdays_of, weekdays_in}
-use Rattle.cal_spec.specs.headline.Weekdays.{days_until, is_in_weekday_range, set_of}
-use Rattle.cal_spec.specs.Words.{roles_of}
-use Rattle.cal_civil.specs.headline.ZoneName.{is_utc_name, is_zone_name}
-use Rattle.cal_civil.specs.ReadOffset.{offset_in}
+use Rattle.cal_spec.specs.rules.Slot.{day_slot}
+use Rattle.cal_spec.specs.computed.ValidFields.{IsValidFields}
+use Rattle.cal_spec.specs.rules.WeekdayNames.{day_named, leading_letters, days_of}
+use Rattle.cal_spec.specs.computed.WeekdayLists.{items_of, without_comma, listed_days, is_like_shorthand, weekdays_of, weekdays_in}
+use Rattle.cal_spec.specs.rules.Weekdays.{days_until, is_in_weekday_range, set_of}
+use Rattle.cal_spec.specs.computed.Words.{roles_of}
+use Rattle.cal_civil.specs.rules.ZoneName.{is_utc_name, is_zone_name}
+use Rattle.cal_civil.specs.computed.ReadOffset.{offset_in}
 use Rattle.cal_civil.proofs.OffsetWordLemmas.{offset-minutes}
-use Rattle.cal_spec.specs.ParsedSuffix.{IsSuffixOption, suffix_due, suffix_in, suffix_of}
-use Rattle.cal_spec.specs.headline.ZoneSuffix.{ZoneSuffix, at_offset, kept_name, of_name}
+use Rattle.cal_spec.specs.computed.ParsedSuffix.{IsSuffixOption, suffix_due, suffix_in, suffix_of}
+use Rattle.cal_spec.specs.rules.ZoneSuffix.{ZoneSuffix, at_offset, kept_name, of_name}
 use Rattle.cal_spec.specs.declared.field.Part.{Part}
 use Rattle.cal_spec.specs.declared.slot.Slot.{Slot}
 use Rattle.cal_spec.specs.declared.slot.Slot.TheVariants.{Year, Month, Hour, Minute, Second}

@@ -6,18 +6,18 @@ use Rattle.std.proofs.lemmas.Bool.{leb-true}
 use Rattle.std.proofs.lemmas.Fmt.{length-decimal-le}
 use Rattle.std.proofs.lemmas.List.{length-replicate}
 use Rattle.std.proofs.lemmas.Nat.{div-add-mod'}
-use Rattle.cal_civil.specs.headline.OffsetText.{zeros}
-use Rattle.cal_civil.specs.headline.Weekday.{name_of}
-use Rattle.cal_spec.specs.headline.ExprText.{component_text, day_lead, expr_text, fields_text, number_text, optional_text, part_text, parts_text, row_text, zone_text}
-use Rattle.cal_spec.specs.headline.Fields.{Fields, counted_parts, parts_in}
-use Rattle.cal_spec.specs.NormalParts.{IsNormal, IsNormalTo, normal_component, normal_fields, normal_parts, normal_second, starred}
-use Rattle.cal_spec.specs.headline.NormalForm.{IsStarred}
-use Rattle.cal_spec.specs.headline.Slot.{least, greatest, day_slot}
-use Rattle.cal_spec.specs.ValidFields.{IsValidComponent, IsValidFields}
-use Rattle.cal_spec.specs.headline.ValidParts.{GoesOn, IsEndWithin, IsSecondWithin, IsValidPart, IsWithin}
-use Rattle.cal_spec.specs.headline.WeekdayRuns.{run_text, runs_text, weekdays_text}
-use Rattle.cal_spec.specs.ParsedSuffix.{IsSuffixOption}
-use Rattle.cal_spec.specs.headline.ZoneSuffix.{ZoneSuffix, suffix_text}
+use Rattle.cal_civil.specs.rules.OffsetText.{zeros}
+use Rattle.cal_civil.specs.rules.Weekday.{name_of}
+use Rattle.cal_spec.specs.rules.ExprText.{component_text, day_lead, expr_text, fields_text, number_text, optional_text, part_text, parts_text, row_text, zone_text}
+use Rattle.cal_spec.specs.rules.Fields.{Fields, counted_parts, parts_in}
+use Rattle.cal_spec.specs.computed.NormalParts.{IsNormal, IsNormalTo, normal_component, normal_fields, normal_parts, normal_second, starred}
+use Rattle.cal_spec.specs.rules.NormalForm.{IsStarred}
+use Rattle.cal_spec.specs.rules.Slot.{least, greatest, day_slot}
+use Rattle.cal_spec.specs.computed.ValidFields.{IsValidComponent, IsValidFields}
+use Rattle.cal_spec.specs.rules.ValidParts.{GoesOn, IsEndWithin, IsSecondWithin, IsValidPart, IsWithin}
+use Rattle.cal_spec.specs.rules.WeekdayRuns.{run_text, runs_text, weekdays_text}
+use Rattle.cal_spec.specs.computed.ParsedSuffix.{IsSuffixOption}
+use Rattle.cal_spec.specs.rules.ZoneSuffix.{ZoneSuffix, suffix_text}
 use Rattle.cal_spec.proofs.SuffixLemmas.{suffix_word}
 use Rattle.cal_spec.specs.declared.field.Part.{Part}
 use Rattle.cal_spec.specs.declared.slot.Slot.{Slot}

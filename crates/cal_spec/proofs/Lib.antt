@@ -14,6 +14,7 @@ mod WeekdayLemmas
 pub mod ComponentLemmas
 pub mod ComponentRule
 pub mod DateRule
+pub mod ExprRule
 pub mod FaultLemmas
 pub mod FaultSpanLemmas
 pub mod FieldLemmas

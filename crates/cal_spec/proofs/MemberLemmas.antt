@@ -6,16 +6,16 @@ use Rattle.std.proofs.lemmas.Bool.{eqb-true, le-leb, or_cases, or_left, or_right
 use Rattle.std.proofs.lemmas.Bool.Decides.{nat_tests}
 use Rattle.jiff_core.specs.declared.civil.date.Date.{Date}
 use Rattle.jiff_core.proofs.CalendarLemmas.{days_in_month_bounds}
-use Rattle.cal_civil.specs.headline.Local.{civil_date}
-use Rattle.cal_spec.specs.headline.Fields.{Fields}
-use Rattle.cal_spec.specs.headline.Match.{date_in, day_value, matches, time_in}
-use Rattle.cal_spec.specs.headline.Members.{component_has, is_between, is_step_between, part_has, part_matches, sets_of}
-use Rattle.cal_spec.specs.NormalParts.{AreParts, IsPart, normal_component, normal_fields, normal_parts, normal_second, part_eq, reduced, reduced_to, starred, in_order}
-use Rattle.cal_spec.specs.headline.NormalForm.{each, normal_from_end, part_cmp, point, range_step}
-use Rattle.cal_rising.specs.headline.Elements.{Has}
-use Rattle.cal_spec.specs.headline.Slot.{day_slot}
-use Rattle.cal_spec.specs.headline.ValidParts.{EndsAfter, IsStep}
-use Rattle.cal_spec.specs.ValidFields.{IsValidFields}
+use Rattle.cal_civil.specs.rules.LocalSecond.{civil_date}
+use Rattle.cal_spec.specs.rules.Fields.{Fields}
+use Rattle.cal_spec.specs.rules.Match.{date_in, day_value, matches, time_in}
+use Rattle.cal_spec.specs.rules.Members.{component_has, is_between, is_step_between, part_has, part_matches, sets_of}
+use Rattle.cal_spec.specs.computed.NormalParts.{AreParts, IsPart, normal_component, normal_fields, normal_parts, normal_second, part_eq, reduced, reduced_to, starred, in_order}
+use Rattle.cal_spec.specs.rules.NormalForm.{each, normal_from_end, part_cmp, point, range_step}
+use Rattle.cal_rising.specs.rules.Elements.{Has}
+use Rattle.cal_spec.specs.rules.Slot.{day_slot}
+use Rattle.cal_spec.specs.rules.ValidParts.{EndsAfter, IsStep}
+use Rattle.cal_spec.specs.computed.ValidFields.{IsValidFields}
 use Rattle.cal_spec.specs.declared.field.Part.{Part}
 use Rattle.cal_spec.specs.declared.slot.Slot.{Slot}
 use Rattle.cal_spec.specs.declared.slot.Slot.TheVariants.{Year, Month, Hour, Minute, Second}

@@ -9,13 +9,13 @@ use Rattle.std.specs.declared.cmp.Ordering.TheVariants.{Less}
 use Rattle.std.specs.BTreeSet.{insert_key}
 use Rattle.std.specs.Ordering.{match_ordering}
 use Rattle.cal_rising.proofs.OrderLemmas.{all_at, all_from, same_sorted}
-use Rattle.cal_spec.specs.headline.Fields.{Fields, counted_parts, parts_in}
-use Rattle.cal_spec.specs.NormalParts.{AreNormal, AreParts, IsNormal, IsPart, normal_component, normal_fields, normal_parts, normal_second, part_eq, reduced, starred, in_order}
-use Rattle.cal_spec.specs.headline.NormalForm.{AreNormalOf, IsNormalFieldsOf, IsNormalOf, IsNormalSecondOf, IsReduced, IsStarred, each, normal_from_end, part_cmp}
-use Rattle.cal_rising.specs.headline.Elements.{Has}
-use Rattle.cal_spec.specs.headline.Slot.{day_slot}
-use Rattle.cal_spec.specs.ValidFields.{IsValidComponent, IsValidFields}
-use Rattle.cal_spec.specs.headline.ValidParts.{IsValidPart}
+use Rattle.cal_spec.specs.rules.Fields.{Fields, counted_parts, parts_in}
+use Rattle.cal_spec.specs.computed.NormalParts.{AreNormal, AreParts, IsNormal, IsPart, normal_component, normal_fields, normal_parts, normal_second, part_eq, reduced, starred, in_order}
+use Rattle.cal_spec.specs.rules.NormalForm.{AreNormalOf, IsNormalFieldsOf, IsNormalOf, IsNormalSecondOf, IsReduced, IsStarred, each, normal_from_end, part_cmp}
+use Rattle.cal_rising.specs.rules.Elements.{Has}
+use Rattle.cal_spec.specs.rules.Slot.{day_slot}
+use Rattle.cal_spec.specs.computed.ValidFields.{IsValidComponent, IsValidFields}
+use Rattle.cal_spec.specs.rules.ValidParts.{IsValidPart}
 use Rattle.cal_spec.specs.declared.field.Part.{Part}
 use Rattle.cal_spec.specs.declared.slot.Slot.{Slot}
 use Rattle.cal_spec.specs.declared.slot.Slot.TheVariants.{Year, Month, Hour, Minute, Second}

@@ -14,11 +14,11 @@ use Rattle.std.proofs.lemmas.Cmp.{eq_by_cmp_equiv}
 use Rattle.std.proofs.lemmas.List.Kept.{IsStrictlySortedBy-dedup, Contains-dedup, Contains-from_dedup}
 use Rattle.std.proofs.lemmas.List.Sorted.{Contains-permutation, IsPermutation-sym}
 use Rattle.cal_rising.proofs.OrderLemmas.{contains_from_has, has_from_contains, same_sorted}
-use Rattle.cal_spec.specs.NormalParts.{part_eq, normal_parts, reduced, IsPart, AreParts, in_order}
-use Rattle.cal_spec.specs.headline.NormalForm.{part_cmp}
-use Rattle.cal_rising.specs.headline.Elements.{Has}
-use Rattle.cal_spec.specs.ValidFields.{IsValidComponent}
-use Rattle.cal_spec.specs.headline.ValidParts.{IsValidPart}
+use Rattle.cal_spec.specs.computed.NormalParts.{part_eq, normal_parts, reduced, IsPart, AreParts, in_order}
+use Rattle.cal_spec.specs.rules.NormalForm.{part_cmp}
+use Rattle.cal_rising.specs.rules.Elements.{Has}
+use Rattle.cal_spec.specs.computed.ValidFields.{IsValidComponent}
+use Rattle.cal_spec.specs.rules.ValidParts.{IsValidPart}
 use Rattle.cal_spec.specs.declared.field.Part.{Part}
 use Rattle.cal_spec.specs.declared.slot.Slot.{Slot}
 use Rattle.cal_spec.proofs.OrderLemmas.{has_in_order, sorted_in_order}

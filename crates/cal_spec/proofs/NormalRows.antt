@@ -1,14 +1,14 @@
 -- Examples of the normal form and its text, checked by computation.
 use Rattle.std.proofs.Common.{◌≡◌, ℕ, true, false, [], ◌∷◌, Option, None, Some, refl, codes}
 use Rattle.std.specs.Fmt.{digits}
-use Rattle.cal_civil.specs.headline.Weekday.{name_of}
-use Rattle.cal_spec.specs.headline.ZoneSuffix.{of_name}
+use Rattle.cal_civil.specs.rules.Weekday.{name_of}
+use Rattle.cal_spec.specs.rules.ZoneSuffix.{of_name}
 use Rattle.cal_spec.specs.declared.field.Part.{Part}
-use Rattle.cal_spec.specs.headline.ExprText.{expr_text, fields_text, row_text, parts_text, part_text, number_text}
-use Rattle.cal_spec.specs.headline.Fields.{Fields}
-use Rattle.cal_spec.specs.NormalParts.{normal_fields, normal_parts, normal_second, reduced}
-use Rattle.cal_spec.specs.headline.NormalForm.{part_cmp, point}
-use Rattle.cal_spec.specs.headline.WeekdayRuns.{weekdays_text, runs_text, run_text}
+use Rattle.cal_spec.specs.rules.ExprText.{expr_text, fields_text, row_text, parts_text, part_text, number_text}
+use Rattle.cal_spec.specs.rules.Fields.{Fields}
+use Rattle.cal_spec.specs.computed.NormalParts.{normal_fields, normal_parts, normal_second, reduced}
+use Rattle.cal_spec.specs.rules.NormalForm.{part_cmp, point}
+use Rattle.cal_spec.specs.rules.WeekdayRuns.{weekdays_text, runs_text, run_text}
 
 range : ℕ → ℕ → Option ℕ → Part
 range a b step = record { start = a; end = Some b; step = step }

@@ -4,10 +4,10 @@ use Rattle.std.specs.Cmp.{IsTotalOrder}
 use Rattle.std.specs.FinMap.{IsAntisymmetric}
 use Rattle.std.specs.List.Sorted.{IsStrictlySortedBy}
 use Rattle.std.specs.declared.cmp.Ordering.{Ordering}
-use Rattle.cal_rising.specs.Rises.{sorted-insert_key}
-use Rattle.cal_rising.specs.headline.Elements.{Has}
+use Rattle.cal_rising.specs.computed.Rises.{sorted-insert_key}
+use Rattle.cal_rising.specs.rules.Elements.{Has}
 use Rattle.cal_rising.proofs.OrderLemmas.{has-insert_key}
-use Rattle.cal_spec.specs.NormalParts.{in_order}
+use Rattle.cal_spec.specs.computed.NormalParts.{in_order}
 
 module _ {A : Type 0} (cmp : A → A → Ordering) where
   -- the sorted list has the same elements

@@ -6,23 +6,22 @@ use Rattle.std.specs.List.{list_all, list_any}
 use Rattle.std.proofs.lemmas.Bool.{and_parts, le-ltb, lt-ltb}
 use Rattle.std.proofs.lemmas.Bool.Decides.{nat_tests}
 use Rattle.std.proofs.lemmas.List.{append-nil}
-use Rattle.cal_bytes.specs.headline.Bytes.{joined}
-use Rattle.cal_text.specs.headline.Separators.{is_colon, is_blank, words}
-use Rattle.cal_spec.specs.headline.ExprText.{component_text, day_lead, expr_text, fields_text, row_text, zone_text}
-use Rattle.cal_spec.specs.headline.Fields.{Fields}
-use Rattle.cal_spec.specs.Grammar.{fields_at, fields_in}
-use Rattle.cal_spec.specs.NormalParts.{normal_fields}
-use Rattle.cal_spec.specs.headline.Slot.{day_slot}
-use Rattle.cal_spec.specs.ValidFields.{IsValidFields}
-use Rattle.cal_spec.specs.headline.WeekdayRuns.{runs_from, runs_text}
-use Rattle.cal_spec.specs.WeekdayNames.{weekdays_in}
-use Rattle.cal_spec.specs.Words.{after_weekdays, date_or_time, roles_of}
-use Rattle.cal_spec.specs.headline.UnparsedTexts.{WordRoles}
-use Rattle.cal_civil.specs.headline.ZoneName.{begins_with_letter}
-use Rattle.cal_civil.specs.ReadOffset.{begins_zone}
-use Rattle.cal_civil.specs.headline.OffsetWord.{begins_with_sign, is_sign}
-use Rattle.cal_spec.specs.ParsedSuffix.{IsSuffixOption, suffix_due, suffix_in}
-use Rattle.cal_spec.specs.headline.ZoneSuffix.{ZoneSuffix, suffix_text}
+use Rattle.cal_bytes.specs.rules.Bytes.{joined}
+use Rattle.cal_text.specs.rules.Separators.{is_colon, is_blank, words}
+use Rattle.cal_spec.specs.rules.ExprText.{component_text, day_lead, expr_text, fields_text, row_text, zone_text}
+use Rattle.cal_spec.specs.rules.Fields.{Fields}
+use Rattle.cal_spec.specs.computed.Grammar.{fields_at, fields_in}
+use Rattle.cal_spec.specs.computed.NormalParts.{normal_fields}
+use Rattle.cal_spec.specs.rules.Slot.{day_slot}
+use Rattle.cal_spec.specs.computed.ValidFields.{IsValidFields}
+use Rattle.cal_spec.specs.rules.WeekdayRuns.{runs_from, runs_text}
+use Rattle.cal_spec.specs.computed.WeekdayLists.{weekdays_in}
+use Rattle.cal_spec.specs.computed.Words.{after_weekdays, date_or_time, roles_of}
+use Rattle.cal_spec.specs.rules.UnparsedTexts.{WordRoles}
+use Rattle.cal_civil.specs.rules.ZoneName.{begins_with_letter}
+use Rattle.cal_civil.specs.rules.OffsetWord.{begins_zone, begins_with_sign, is_sign}
+use Rattle.cal_spec.specs.computed.ParsedSuffix.{IsSuffixOption, suffix_due, suffix_in}
+use Rattle.cal_spec.specs.rules.ZoneSuffix.{ZoneSuffix, suffix_text}
 use Rattle.cal_spec.proofs.SuffixLemmas.{suffix_word, letter_some}
 use Rattle.cal_spec.specs.declared.slot.Slot.TheVariants.{Year, Month, Hour, Minute, Second}
 use Rattle.cal_spec.proofs.LengthLemmas.{AreSmall, expr_length, small_component, small_second}
@@ -30,7 +29,7 @@ use Rattle.cal_spec.proofs.NormalFieldsLemmas.{fields_valid}
 use Rattle.cal_text.proofs.General.{split_alone, split_at, some_front, list_all-both, clear_of, list_all-wider}
 use Rattle.cal_spec.proofs.ComponentRule.{is_component_byte}
 use Rattle.cal_spec.proofs.ReadBackParts.{component_printed, printed_bytes, printed_some}
-use Rattle.cal_spec.specs.headline.GrammarRule.{IsDate, IsTime, last_sign}
+use Rattle.cal_spec.specs.rules.GrammarRule.{IsDate, IsTime, last_sign}
 use Rattle.cal_spec.proofs.ReadBackWeekdays.{ReadsDays, weekdays_all, weekdays_some}
 use Rattle.cal_spec.proofs.WordRule.{no_shorthand}
 use Rattle.cal_spec.proofs.WeekdayLemmas.{weekdays_text-all, weekdays_text-some}

@@ -6,12 +6,12 @@ use Rattle.std.specs.Option.{option_map}
 use Rattle.std.proofs.lemmas.Bool.{le-ltb}
 use Rattle.std.proofs.lemmas.Fmt.{decimal_is_IsNumeral}
 use Rattle.std.proofs.lemmas.List.{append-nil}
-use Rattle.cal_civil.specs.headline.OffsetText.{zeros}
-use Rattle.cal_spec.specs.headline.ExprText.{component_text, number_text, optional_text, part_text, parts_text}
-use Rattle.cal_spec.specs.headline.GrammarRule.{IsNumber, IsNext, IsPartText, IsPartOf, IsComponent}
-use Rattle.cal_spec.specs.headline.FullYears.{with_century, with_full_years}
-use Rattle.cal_spec.specs.ValidFields.{IsValidComponent}
-use Rattle.cal_spec.specs.headline.ValidParts.{IsEndWithin, IsValidPart}
+use Rattle.cal_civil.specs.rules.OffsetText.{zeros}
+use Rattle.cal_spec.specs.rules.ExprText.{component_text, number_text, optional_text, part_text, parts_text}
+use Rattle.cal_spec.specs.rules.GrammarRule.{IsNumber, IsNext, IsPartText, IsPartOf, IsComponent}
+use Rattle.cal_spec.specs.rules.FullYears.{with_century, with_full_years}
+use Rattle.cal_spec.specs.computed.ValidFields.{IsValidComponent}
+use Rattle.cal_spec.specs.rules.ValidParts.{IsEndWithin, IsValidPart}
 use Rattle.cal_spec.specs.declared.field.Part.{Part}
 use Rattle.cal_spec.specs.declared.slot.Slot.{Slot}
 use Rattle.cal_spec.specs.declared.slot.Slot.TheVariants.{Year}

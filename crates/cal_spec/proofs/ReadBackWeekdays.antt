@@ -3,12 +3,13 @@
 use Rattle.std.proofs.Common.{◌≡◌, ℕ, Bool, true, false, not, ◌&&◌, ◌||◌, if◌then◌else◌, List, length, map, Option, None, Some, is_none, Result, Ok, Err, refl, sym, ap, ◌∙◌, [], ◌∷◌, arith}
 use Rattle.std.specs.List.{list_all, list_any}
 use Rattle.std.proofs.lemmas.Bool.{and_parts, cond-false, cond-true, false≢true, not-true}
-use Rattle.cal_civil.specs.headline.Weekday.{name_of, week}
-use Rattle.cal_spec.specs.headline.Shorthand.{shorthand_named}
-use Rattle.cal_spec.specs.headline.WeekdayRuns.{run_text, runs_from, runs_text}
-use Rattle.cal_spec.specs.WeekdayNames.{day_named, days_of, listed_days, weekdays_of}
-use Rattle.cal_text.specs.headline.Separators.{is_blank}
-use Rattle.cal_civil.specs.headline.ZoneName.{begins_with_letter}
+use Rattle.cal_civil.specs.rules.Weekday.{name_of, week}
+use Rattle.cal_spec.specs.rules.Shorthand.{shorthand_named}
+use Rattle.cal_spec.specs.rules.WeekdayRuns.{run_text, runs_from, runs_text}
+use Rattle.cal_spec.specs.rules.WeekdayNames.{day_named, days_of}
+use Rattle.cal_spec.specs.computed.WeekdayLists.{listed_days, weekdays_of}
+use Rattle.cal_text.specs.rules.Separators.{is_blank}
+use Rattle.cal_civil.specs.rules.ZoneName.{begins_with_letter}
 use Rattle.cal_spec.specs.declared.shorthand.Shorthand.{Shorthand}
 use Rattle.cal_spec.specs.declared.spec_fault.SpecFault.{SpecFault}
 use Rattle.cal_text.proofs.General.{check_all, each_checked}

@@ -1,8 +1,8 @@
 -- Parsers that run one after the other: if all of them together succeed, each of them succeeds.
 use Rattle.std.proofs.Common.{◌≡◌, Bool, true, false, cond, Option, Some, None, Ok, Err, refl}
 use Rattle.std.specs.Prelude.{Result}
-use Rattle.cal_text.specs.AndThen.{◌>>=◌}
-use Rattle.cal_spec.specs.Reads.{unless}
+use Rattle.cal_text.specs.rules.AndThen.{◌>>=◌}
+use Rattle.cal_spec.specs.computed.Reads.{unless}
 use Rattle.cal_spec.specs.declared.spec_fault.SpecFault.{SpecFault}
 
 -- the first of two parsers returns some value, and for this value the second returns `y`

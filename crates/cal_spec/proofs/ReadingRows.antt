@@ -1,18 +1,19 @@
 -- Examples of invalid texts and of the errors that parsing them returns, checked by computation.
 use Rattle.std.proofs.Common.{◌≡◌, codes, refl, Err, List, [], ◌∷◌, ℕ, map}
-use Rattle.cal_spec.specs.Grammar.{fields_in, fields_at}
-use Rattle.cal_spec.specs.Words.{roles_of}
-use Rattle.cal_text.specs.headline.Separators.{words}
-use Rattle.cal_spec.specs.headline.Shorthand.{shorthand_named}
-use Rattle.cal_spec.specs.WeekdayNames.{day_named, days_of, listed_days, weekdays_of}
-use Rattle.cal_spec.specs.DateAndTime.{date_texts, time_texts, date_fields, time_fields, date_in_word, time_in_word}
-use Rattle.cal_spec.specs.Components.{part_due, parts_listed, component_of}
-use Rattle.cal_spec.specs.Parts.{with_step, after_end, after_start, part_of, fault_of}
-use Rattle.cal_civil.specs.ReadOffset.{hour_minute_in, offset_in, two_digits}
-use Rattle.cal_civil.specs.headline.ZoneName.{is_zone_name}
-use Rattle.cal_spec.specs.ParsedSuffix.{suffix_of}
+use Rattle.cal_spec.specs.computed.Grammar.{fields_in, fields_at}
+use Rattle.cal_spec.specs.computed.Words.{roles_of}
+use Rattle.cal_text.specs.rules.Separators.{words}
+use Rattle.cal_spec.specs.rules.Shorthand.{shorthand_named}
+use Rattle.cal_spec.specs.rules.WeekdayNames.{day_named, days_of}
+use Rattle.cal_spec.specs.computed.WeekdayLists.{listed_days, weekdays_of}
+use Rattle.cal_spec.specs.computed.DateAndTime.{date_texts, time_texts, date_fields, time_fields, date_in_word, time_in_word}
+use Rattle.cal_spec.specs.computed.Components.{part_due, parts_listed, component_of}
+use Rattle.cal_spec.specs.computed.Parts.{with_step, after_end, after_start, part_of, fault_of}
+use Rattle.cal_civil.specs.computed.ReadOffset.{hour_minute_in, offset_in, two_digits}
+use Rattle.cal_civil.specs.rules.ZoneName.{is_zone_name}
+use Rattle.cal_spec.specs.computed.ParsedSuffix.{suffix_of}
 use Rattle.cal_spec.specs.declared.spec_fault.SpecFault.{SpecFault}
-use Rattle.cal_civil.specs.headline.Weekday.{name_of}
+use Rattle.cal_civil.specs.rules.Weekday.{name_of}
 use Rattle.cal_spec.specs.declared.spec_fault.SpecFault.TheVariants.{Empty, BadWeekday, BadDate, BadTime, FractionalSecond, NumberTooLarge, OutOfField, BackwardRange, ZeroRepeat, NoRepeat, TooManyParts, StrayWord, UnknownShorthand}
 
 -- a text, and the error that parsing it returns

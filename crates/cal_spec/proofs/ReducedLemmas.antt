@@ -4,10 +4,10 @@ use Rattle.std.proofs.Common.{◌≡◌, ℕ, ◌+◌, ◌-◌, ◌*◌, ◌/◌
 use Rattle.std.proofs.Math.Nat.{mul-le-mul_right, mul-mod_left}
 use Rattle.std.proofs.lemmas.Bool.{ne_eqb, eqb-true, eqb-false, leb-true, le-leb, and_parts, and_from, cases_lt}
 use Rattle.std.proofs.lemmas.Nat.{div-mul-add, div-add-mod', mod_below}
-use Rattle.cal_spec.specs.headline.Members.{is_between, is_step_between}
-use Rattle.cal_spec.specs.NormalParts.{IsPart, IsNormal, IsNormalTo, IsNormalRange, reduced_to, reduced}
-use Rattle.cal_spec.specs.headline.NormalForm.{IsLastReached, IsReducedTo, IsReduced, range_to, range_step, step_of, point}
-use Rattle.cal_spec.specs.headline.ValidParts.{EndsAfter, GoesOn, IsEndWithin, IsValidPart, IsStep, IsWithin}
+use Rattle.cal_spec.specs.rules.Members.{is_between, is_step_between}
+use Rattle.cal_spec.specs.computed.NormalParts.{IsPart, IsNormal, IsNormalTo, IsNormalRange, reduced_to, reduced}
+use Rattle.cal_spec.specs.rules.NormalForm.{IsLastReached, IsReducedTo, IsReduced, range_to, range_step, step_of, point}
+use Rattle.cal_spec.specs.rules.ValidParts.{EndsAfter, GoesOn, IsEndWithin, IsValidPart, IsStep, IsWithin}
 use Rattle.cal_spec.specs.declared.field.Part.{Part}
 use Rattle.cal_spec.specs.declared.slot.Slot.{Slot}
 use Rattle.cal_spec.proofs.NormalLemmas.{same_part}

@@ -5,13 +5,13 @@ use Rattle.std.specs.Char.{is_ascii_alphabetic}
 use Rattle.std.specs.List.{list_all, list_any}
 use Rattle.std.proofs.lemmas.Bool.{and_parts}
 use Rattle.std.proofs.lemmas.Bool.Decides.{nat_tests}
-use Rattle.cal_civil.specs.headline.OffsetText.{offset_text}
-use Rattle.cal_civil.specs.headline.OffsetWord.{IsOffsetWord, begins_with_sign, is_sign}
-use Rattle.cal_civil.specs.headline.ZoneName.{begins_with_letter, is_zone_byte, is_zone_name}
+use Rattle.cal_civil.specs.rules.OffsetText.{offset_text}
+use Rattle.cal_civil.specs.rules.OffsetWord.{IsOffsetWord, begins_with_sign, is_sign}
+use Rattle.cal_civil.specs.rules.ZoneName.{begins_with_letter, is_zone_byte, is_zone_name}
 use Rattle.cal_civil.proofs.OffsetWordLemmas.{is_offset_byte, offset-bytes, offset-only, printed-word}
-use Rattle.cal_text.specs.headline.Separators.{is_blank}
-use Rattle.cal_spec.specs.ParsedSuffix.{IsSuffix, suffix_of}
-use Rattle.cal_spec.specs.headline.ZoneSuffix.{ZoneSuffix, at_offset, of_name, suffix_text}
+use Rattle.cal_text.specs.rules.Separators.{is_blank}
+use Rattle.cal_spec.specs.computed.ParsedSuffix.{IsSuffix, suffix_of}
+use Rattle.cal_spec.specs.rules.ZoneSuffix.{ZoneSuffix, at_offset, of_name, suffix_text}
 use Rattle.cal_text.proofs.General.{clear_of}
 
 -- `+` and `-` are not letters

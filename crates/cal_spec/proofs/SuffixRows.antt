@@ -1,9 +1,9 @@
 -- Examples of the zone at the end of an expression, checked by computation.
 use Rattle.std.proofs.Common.{◌≡◌, ℕ, pos, neg_ℤ, List, [], ◌∷◌, codes, map, Option, Some, Result, Ok, Err, refl}
-use Rattle.cal_civil.specs.ReadOffset.{hour_minute_in, offset_in, two_digits}
-use Rattle.cal_civil.specs.headline.ZoneName.{is_utc_name, is_zone_name}
-use Rattle.cal_spec.specs.ParsedSuffix.{suffix_in, suffix_of}
-use Rattle.cal_spec.specs.headline.ZoneSuffix.{ZoneSuffix, of_name, at_offset}
+use Rattle.cal_civil.specs.computed.ReadOffset.{hour_minute_in, offset_in, two_digits}
+use Rattle.cal_civil.specs.rules.ZoneName.{is_utc_name, is_zone_name}
+use Rattle.cal_spec.specs.computed.ParsedSuffix.{suffix_in, suffix_of}
+use Rattle.cal_spec.specs.rules.ZoneSuffix.{ZoneSuffix, of_name, at_offset}
 use Rattle.cal_spec.specs.declared.spec_fault.SpecFault.{SpecFault}
 use Rattle.cal_spec.specs.declared.spec_fault.SpecFault.TheVariants.{StrayWord}
 

@@ -2,7 +2,7 @@
 use Rattle.std.proofs.Common.{◌≡◌, ℕ, List, [], ◌∷◌, ◌++◌, length, codes, refl, ap}
 use Rattle.std.proofs.lemmas.List.{nil_from_length}
 use Rattle.std.specs.List.{flat_map}
-use Rattle.cal_spec.specs.headline.ExprText.{part_text, parts_text, number_text}
+use Rattle.cal_spec.specs.rules.ExprText.{part_text, parts_text, number_text}
 use Rattle.cal_spec.specs.declared.field.Part.{Part}
 
 pub parts_text-none : (width : ℕ) (ps : List Part) → length ps ≡ 0 → parts_text width ps ≡ []

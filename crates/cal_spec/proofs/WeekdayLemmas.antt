@@ -5,11 +5,11 @@ use Rattle.std.specs.List.{flat_map, list_all, prefix_len}
 use Rattle.std.proofs.lemmas.List.{drop-drop}
 use Rattle.std.proofs.lemmas.Bool.{eq-eqb, ne_eqb, eqb-true, eqb-false, le-leb, lt-leb, and_from, and_right, or_left, cases_lt}
 use Rattle.std.proofs.lemmas.Bool.Decides.{nat_tests}
-use Rattle.cal_spec.specs.headline.Members.{is_between}
+use Rattle.cal_spec.specs.rules.Members.{is_between}
 use Rattle.std.proofs.lemmas.List.Sums.{prefix_len-le-length}
-use Rattle.cal_bytes.specs.headline.Bytes.{joined}
-use Rattle.cal_spec.specs.WeekdayRunsRule.{AreApartFrom, AreWeekdayRuns, is_in}
-use Rattle.cal_spec.specs.headline.WeekdayRuns.{Run, with_day, runs_from, run_text, runs_text, weekdays_text, text_after_first, day_name}
+use Rattle.cal_bytes.specs.rules.Bytes.{joined}
+use Rattle.cal_spec.specs.rules.WeekdayRunsRule.{AreApartFrom, AreWeekdayRuns, is_in}
+use Rattle.cal_spec.specs.rules.WeekdayRuns.{Run, with_day, runs_from, run_text, runs_text, weekdays_text, text_after_first, day_name}
 
 or_assoc : (x y z : Bool) → ((x || y) || z) ≡ (x || (y || z))
 or_assoc x y z = grind arith

@@ -1,16 +1,16 @@
 -- The parser accepts exactly the expressions of the grammar, and returns the fields that the grammar gives.
 use Rattle.std.proofs.Common.{ℕ, ◌≡◌, ◌⊎◌, inl, inr, List, Bool, length, Option, Some, Ok, refl, sym, ap, ◌∙◌}
 use Rattle.std.proofs.lemmas.Bool.{le-ltb}
-use Rattle.cal_spec.specs.DateAndTime.{DateFields, TimeFields, room_after, date_in_word, time_in_word}
-use Rattle.cal_spec.specs.headline.Fields.{Fields}
-use Rattle.cal_spec.specs.Grammar.{max_text_bytes, fields_at, fields_in}
-use Rattle.cal_spec.specs.headline.GrammarRule.{given, ArePlain, AreShort, IsExpression, IsValid}
-use Rattle.cal_spec.specs.WeekdayNames.{weekdays_in}
-use Rattle.cal_spec.specs.Words.{roles_of}
-use Rattle.cal_text.specs.headline.Separators.{words}
-use Rattle.cal_spec.specs.headline.UnparsedTexts.{WordRoles}
-use Rattle.cal_spec.specs.ParsedSuffix.{suffix_in}
-use Rattle.cal_spec.specs.headline.ZoneSuffix.{ZoneSuffix}
+use Rattle.cal_spec.specs.computed.DateAndTime.{DateFields, TimeFields, room_after, date_in_word, time_in_word}
+use Rattle.cal_spec.specs.rules.Fields.{Fields}
+use Rattle.cal_spec.specs.computed.Grammar.{max_text_bytes, fields_at, fields_in}
+use Rattle.cal_spec.specs.rules.GrammarRule.{given, ArePlain, AreShort, IsExpression, IsValid}
+use Rattle.cal_spec.specs.computed.WeekdayLists.{weekdays_in}
+use Rattle.cal_spec.specs.computed.Words.{roles_of}
+use Rattle.cal_text.specs.rules.Separators.{words}
+use Rattle.cal_spec.specs.rules.UnparsedTexts.{WordRoles}
+use Rattle.cal_spec.specs.computed.ParsedSuffix.{suffix_in}
+use Rattle.cal_spec.specs.rules.ZoneSuffix.{ZoneSuffix}
 use Rattle.cal_spec.proofs.DateRule.{is_date, is_time, AreFew, are_few, date_only, time_only}
 use Rattle.cal_spec.proofs.FieldLemmas.{fields_with, text_found, valid_fields}
 use Rattle.cal_spec.proofs.WeekdayRule.{weekdays_by_rule, weekdays_only}

@@ -8,18 +8,18 @@ use Rattle.std.specs.Char.{is_ascii_alphabetic, to_ascii_lowercase}
 use Rattle.std.proofs.lemmas.Bool.{and_parts, cases_Bool, or_parts, true_from_ne_false}
 use Rattle.std.proofs.lemmas.Bool.Decides.{nat_tests}
 use Rattle.std.proofs.lemmas.List.{length-append}
-use Rattle.cal_spec.specs.DateAndTime.{TimeFields, time_texts, time_in_word}
-use Rattle.cal_text.specs.headline.Separators.{is_colon}
-use Rattle.cal_spec.specs.headline.UnparsedTexts.{TimeTexts, WordRoles}
-use Rattle.cal_spec.specs.headline.GrammarRule.{given, ArePlain, AreShort, IsSignless, IsZoneWord}
-use Rattle.cal_spec.specs.headline.Shorthand.{any_date, midnight, expansion_of, shorthand_named}
-use Rattle.cal_spec.specs.Words.{roles_after_date, after_weekdays, date_or_time, roles_by, roles_in, roles_of}
-use Rattle.cal_civil.specs.headline.ZoneName.{begins_with_letter, is_zone_byte, is_zone_name}
-use Rattle.cal_civil.specs.ReadOffset.{begins_zone, offset_in}
-use Rattle.cal_civil.specs.headline.OffsetWord.{begins_with_sign}
+use Rattle.cal_spec.specs.computed.DateAndTime.{TimeFields, time_texts, time_in_word}
+use Rattle.cal_text.specs.rules.Separators.{is_colon}
+use Rattle.cal_spec.specs.rules.UnparsedTexts.{TimeTexts, WordRoles}
+use Rattle.cal_spec.specs.rules.GrammarRule.{given, ArePlain, AreShort, IsSignless, IsZoneWord}
+use Rattle.cal_spec.specs.rules.Shorthand.{any_date, midnight, expansion_of, shorthand_named}
+use Rattle.cal_spec.specs.computed.Words.{roles_after_date, after_weekdays, date_or_time, roles_by, roles_in, roles_of}
+use Rattle.cal_civil.specs.rules.ZoneName.{begins_with_letter, is_zone_byte, is_zone_name}
+use Rattle.cal_civil.specs.rules.OffsetWord.{begins_zone, begins_with_sign}
+use Rattle.cal_civil.specs.computed.ReadOffset.{offset_in}
 use Rattle.cal_civil.proofs.OffsetWordLemmas.{offset-bytes, offset-found}
-use Rattle.cal_spec.specs.ParsedSuffix.{suffix_due, suffix_in, suffix_of}
-use Rattle.cal_spec.specs.headline.ZoneSuffix.{ZoneSuffix, at_offset, kept_name, of_name}
+use Rattle.cal_spec.specs.computed.ParsedSuffix.{suffix_due, suffix_in, suffix_of}
+use Rattle.cal_spec.specs.rules.ZoneSuffix.{ZoneSuffix, at_offset, kept_name, of_name}
 use Rattle.cal_spec.proofs.SuffixLemmas.{no_letter, offset_suffix}
 use Rattle.cal_spec.specs.declared.shorthand.Shorthand.{Shorthand}
 use Rattle.cal_spec.proofs.FieldLemmas.{time_found}

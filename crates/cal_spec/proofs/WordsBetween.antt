@@ -5,8 +5,8 @@ use Rattle.std.specs.List.{list_all, list_any, slice_split, onto_first}
 use Rattle.std.proofs.lemmas.Bool.{and_parts, and_from, or_from, lt-ltb}
 use Rattle.std.proofs.lemmas.List.{append-nil}
 use Rattle.cal_text.proofs.WordLemmas.{words-blank}
-use Rattle.cal_spec.specs.WordsOfText.{IsWord, Ends, AreWords}
-use Rattle.cal_text.specs.headline.Separators.{is_blank, words}
+use Rattle.cal_spec.specs.rules.WordsOfText.{IsWord, Ends, AreWords}
+use Rattle.cal_text.specs.rules.Separators.{is_blank, words}
 use Rattle.cal_text.proofs.General.{some_piece, split_at, split_alone}
 
 abbrev solid : List (List ℕ) → List (List ℕ)

@@ -6,10 +6,10 @@
 ghost use Rattle.std.specs.Prelude.{◌≡◌, ◌≤◌};
 ghost use Rattle.std.specs.List.{slice_split};
 ghost use Rattle.std.specs.Option.{option_copied, option_map};
-ghost use Rattle.cal_text.specs.headline.Separators.{is_comma};
-ghost use Rattle.cal_spec.specs.Components.{room_in, counted, part_due, parts_of, first_value_fault, parts_listed, component_of};
-ghost use Rattle.cal_spec.specs.Reads.{Gives, GivesUnlessNoMemory};
-ghost use Rattle.cal_spec.specs.headline.Fields.{max_counted_parts};
+ghost use Rattle.cal_text.specs.rules.Separators.{is_comma};
+ghost use Rattle.cal_spec.specs.computed.Components.{room_in, counted, part_due, parts_of, first_value_fault, parts_listed, component_of};
+ghost use Rattle.cal_spec.specs.computed.Reads.{Gives, GivesUnlessNoMemory};
+ghost use Rattle.cal_spec.specs.rules.Fields.{max_counted_parts};
 
 use crate::parts::{fault_of, is_time, read_part, with_full_years};
 use crate::pieces::first_piece;
@@ -20,7 +20,7 @@ use std::alloc::Global;
 /// Parses a component with at most `room` counted parts (systemd.time(7), Calendar Events). Returns `None` for `*`.
 ///
 /// The syntax of all parts is checked before any of their values.
-#[tactic(auto, unfolding(crate::specs::Components::component_of))]
+#[tactic(auto, unfolding(crate::specs::computed::Components::component_of))]
 pub(crate) fn read_component(
     alloc: Global,
     slot: Slot,
@@ -52,7 +52,7 @@ pub(crate) fn count_parts(slot: Slot, component: &Option<Vec<Part>>) -> usize
 
 /// Parses parts separated by commas, with at most `room` counted parts among them, and then checks the values of all
 /// parts.
-#[tactic(auto, unfolding(crate::specs::Components::parts_listed))]
+#[tactic(auto, unfolding(crate::specs::computed::Components::parts_listed))]
 fn read_listed(alloc: Global, slot: Slot, room: usize, text: &[u8]) -> Result<Vec<Part>, SpecFault>
     requires { room ≤ max_counted_parts }
     ensures { GivesUnlessNoMemory (λ parts. parts.items) result (parts_listed slot room text.now) }
@@ -87,7 +87,7 @@ fn read_parts(alloc: Global, slot: Slot, room: usize, text: &[u8]) -> Result<Vec
 
 /// Parses the next part of a component that may have `room` more parts. Fails with `TooManyParts` if `room` is 0.
 /// Expands two-digit years.
-#[tactic(auto, unfolding(crate::specs::Components::part_due))]
+#[tactic(auto, unfolding(crate::specs::computed::Components::part_due))]
 fn part_due(slot: Slot, room: usize, text: &[u8]) -> Result<Part, SpecFault>
     ensures { Gives (λ part. part) result (part_due slot room text.now) }
 {

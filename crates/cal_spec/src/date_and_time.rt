@@ -3,10 +3,10 @@
 ghost use Rattle.std.specs.Prelude.{◌≡◌, ◌≤◌, ◌∷◌, [], MatchOption, filter};
 ghost use Rattle.std.specs.List.{position, slice_split};
 ghost use Rattle.std.specs.Option.{option_map};
-ghost use Rattle.cal_spec.specs.DateAndTime.{is_date_sign, date_texts, time_texts, date_in_word, time_in_word, date_fields, time_fields, room_after};
-ghost use Rattle.cal_spec.specs.Views.{date_fields_in, time_fields_in, date_texts_in, time_texts_in};
-ghost use Rattle.cal_spec.specs.Reads.{GivesUnlessNoMemory};
-ghost use Rattle.cal_spec.specs.headline.Fields.{max_counted_parts};
+ghost use Rattle.cal_spec.specs.computed.DateAndTime.{is_date_sign, date_texts, time_texts, date_in_word, time_in_word, date_fields, time_fields, room_after};
+ghost use Rattle.cal_spec.specs.computed.Views.{date_fields_in, time_fields_in, date_texts_in, time_texts_in};
+ghost use Rattle.cal_spec.specs.computed.Reads.{GivesUnlessNoMemory};
+ghost use Rattle.cal_spec.specs.rules.Fields.{max_counted_parts};
 
 use crate::SpecFault;
 use crate::components::{count_parts, read_component};
@@ -24,7 +24,7 @@ const MAX_COUNTED_PARTS: usize = 240;
 ///
 /// The number of components and the position of `~` are checked first, and the call fails with `BadDate` if they are
 /// wrong. Then the components are parsed from left to right.
-#[tactic(auto, unfolding(crate::specs::DateAndTime::date_in_word))]
+#[tactic(auto, unfolding(crate::specs::computed::DateAndTime::date_in_word))]
 pub(crate) fn read_date(alloc: Global, word: &[u8]) -> Result<DateFields, SpecFault>
     ensures { GivesUnlessNoMemory date_fields_in result (date_in_word word.now) }
 {
@@ -39,7 +39,7 @@ pub(crate) fn read_date(alloc: Global, word: &[u8]) -> Result<DateFields, SpecFa
 ///
 /// The number of components is checked first, and the call fails with `BadTime` if it is wrong. Then the components are
 /// parsed from left to right.
-#[tactic(auto, unfolding(crate::specs::DateAndTime::time_in_word))]
+#[tactic(auto, unfolding(crate::specs::computed::DateAndTime::time_in_word))]
 pub(crate) fn read_time(alloc: Global, room: usize, word: &[u8]) -> Result<TimeFields, SpecFault>
     requires { room ≤ max_counted_parts }
     ensures { GivesUnlessNoMemory time_fields_in result (time_in_word room word.now) }
@@ -81,7 +81,7 @@ struct TimeTexts<'a> {
 
 /// Splits a date into its components. A missing year becomes `*`. Returns `None` if the number of components is neither
 /// two nor three, or if `~` stands anywhere but before the day.
-#[tactic(auto, unfolding(crate::specs::DateAndTime::date_texts))]
+#[tactic(auto, unfolding(crate::specs::computed::DateAndTime::date_texts))]
 fn date_texts(word: &[u8]) -> Option<DateTexts<'_>>
     ensures { option_map date_texts_in result ≡ date_texts word.now }
 {
@@ -126,7 +126,7 @@ fn sign_index(word: &[u8]) -> Option<usize>
 
 /// Splits a time into its components. Missing seconds become `00`. Returns `None` if the number of components is
 /// neither two nor three.
-#[tactic(auto, unfolding(crate::specs::DateAndTime::time_texts))]
+#[tactic(auto, unfolding(crate::specs::computed::DateAndTime::time_texts))]
 fn time_texts(word: &[u8]) -> Option<TimeTexts<'_>>
     ensures { option_map time_texts_in result ≡ time_texts word.now }
 {
@@ -151,7 +151,7 @@ fn time_texts(word: &[u8]) -> Option<TimeTexts<'_>>
 }
 
 /// Parses the components of a date from left to right.
-#[tactic(auto, unfolding(crate::specs::DateAndTime::date_fields))]
+#[tactic(auto, unfolding(crate::specs::computed::DateAndTime::date_fields))]
 fn date_fields(alloc: Global, texts: DateTexts<'_>) -> Result<DateFields, SpecFault>
     ensures { GivesUnlessNoMemory date_fields_in result (date_fields (date_texts_in texts.entry)) }
 {
@@ -170,7 +170,7 @@ fn date_fields(alloc: Global, texts: DateTexts<'_>) -> Result<DateFields, SpecFa
 
 /// Parses the components of a time from left to right. They may have at most `room` parts, not counting the first part
 /// of each component.
-#[tactic(auto, unfolding(crate::specs::DateAndTime::time_fields))]
+#[tactic(auto, unfolding(crate::specs::computed::DateAndTime::time_fields))]
 fn time_fields(alloc: Global, room: usize, texts: TimeTexts<'_>) -> Result<TimeFields, SpecFault>
     requires { room ≤ max_counted_parts }
     ensures { GivesUnlessNoMemory time_fields_in result (time_fields room (time_texts_in texts.entry)) }

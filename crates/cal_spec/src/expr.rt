@@ -2,8 +2,8 @@
 
 ghost use Rattle.std.specs.Prelude.{◌≡◌, ◌<◌, unsigned_abs, option_copied, option_map, IfSome};
 ghost use Rattle.jiff_core.specs.Timestamp.{IsOffsetSeconds};
-ghost use Rattle.cal_spec.specs.NormalParts.{AreParts, normal_component, normal_second};
-ghost use Rattle.cal_spec.specs.headline.NormalForm.{normal_from_end};
+ghost use Rattle.cal_spec.specs.computed.NormalParts.{AreParts, normal_component, normal_second};
+ghost use Rattle.cal_spec.specs.rules.NormalForm.{normal_from_end};
 
 use crate::fields::{DateFields, Fields, TimeFields};
 use crate::matching::has_local;
@@ -23,9 +23,9 @@ pub struct Expr {
 }
 
 impl Model for Expr {
-    ghost use Rattle.cal_spec.specs.Views.{fields_of};
-    ghost use Rattle.cal_spec.specs.headline.Fields.{Fields};
-    ghost use Rattle.cal_spec.specs.Expr.{IsExpr};
+    ghost use Rattle.cal_spec.specs.computed.Views.{fields_of};
+    ghost use Rattle.cal_spec.specs.rules.Fields.{Fields};
+    ghost use Rattle.cal_spec.specs.computed.Expr.{IsExpr};
 
     ghost Value = { Fields };
 
@@ -35,14 +35,14 @@ impl Model for Expr {
 }
 
 impl Expr {
-    ghost use Rattle.cal_civil.specs.LocalSecond.{IsLocalSecond};
-    ghost use Rattle.cal_spec.specs.Expr.{IsExpr, component, members_of};
-    ghost use Rattle.cal_spec.specs.Views.{fields_of, shown_suffix};
-    ghost use Rattle.cal_spec.specs.headline.Match.{matches};
-    ghost use Rattle.cal_spec.specs.headline.Members.{sets_of};
-    ghost use Rattle.cal_spec.specs.NormalParts.{normal_fields};
-    ghost use Rattle.cal_spec.specs.ValidFields.{IsValidFields};
-    ghost use Rattle.cal_spec.specs.ParsedSuffix.{name_in, offset_said};
+    ghost use Rattle.cal_civil.specs.rules.LocalSecond.{IsLocalSecond};
+    ghost use Rattle.cal_spec.specs.computed.Expr.{IsExpr, component, members_of};
+    ghost use Rattle.cal_spec.specs.computed.Views.{fields_of, shown_suffix};
+    ghost use Rattle.cal_spec.specs.rules.Match.{matches};
+    ghost use Rattle.cal_spec.specs.rules.Members.{sets_of};
+    ghost use Rattle.cal_spec.specs.computed.NormalParts.{normal_fields};
+    ghost use Rattle.cal_spec.specs.computed.ValidFields.{IsValidFields};
+    ghost use Rattle.cal_spec.specs.rules.ZoneSuffix.{name_in, offset_said};
 
     /// Brings parsed fields into their normal form. Doesn't allocate.
     pub(crate) fn normal(fields: Fields) -> Expr
@@ -77,7 +77,7 @@ impl Expr {
 
     /// Returns whether the component `field` matches `value`. For [`Field::Day`], `value` is the day of the month, or,
     /// if [`Expr::from_end`] returns `true`, its count from the month's end (1 is the last day).
-    #[tactic(auto, unfolding(crate::specs::Views::fields_of, crate::specs::headline::Members::sets_of))]
+    #[tactic(auto, unfolding(crate::specs::computed::Views::fields_of, crate::specs::rules::Members::sets_of))]
     pub fn has_member(&self, field: Field, value: u16) -> bool
         ensures { result ≡ members_of field (sets_of self.now) value }
     {
@@ -94,7 +94,7 @@ impl Expr {
 
     /// Returns which weekdays match, from Monday to Sunday. The contract also states that the fields are valid and in
     /// normal form.
-    #[tactic(auto, unfolding(crate::specs::Views::fields_of))]
+    #[tactic(auto, unfolding(crate::specs::computed::Views::fields_of))]
     pub fn weekdays(&self) -> [bool; 7]
         ensures chosen { result ≡ self.now.weekdays }
         ensures expr { IsExpr self.now }
@@ -104,7 +104,7 @@ impl Expr {
 
     /// Returns the parts of a component, or `None` for `*`. The contract also states that the fields are valid and in
     /// normal form.
-    #[tactic(auto, unfolding(crate::specs::Views::fields_of))]
+    #[tactic(auto, unfolding(crate::specs::computed::Views::fields_of))]
     pub fn field(&self, field: Field) -> Option<&[Part]>
         ensures parts { option_copied result ≡ component field self.now }
         ensures expr { IsExpr self.now }
@@ -122,7 +122,7 @@ impl Expr {
     }
 
     /// Returns whether days are counted from the month's end, so that 1 is the last day of a month.
-    #[tactic(auto, unfolding(crate::specs::Views::fields_of))]
+    #[tactic(auto, unfolding(crate::specs::computed::Views::fields_of))]
     pub fn from_end(&self) -> bool
         ensures { result ≡ self.now.from_end }
     {
@@ -154,7 +154,7 @@ impl Expr {
 
     /// Returns the zone, if the expression has one. The contract also states that the fields are valid and in normal
     /// form.
-    #[tactic(auto, unfolding(crate::specs::Views::fields_of))]
+    #[tactic(auto, unfolding(crate::specs::computed::Views::fields_of))]
     pub(crate) fn zone(&self) -> Option<&ZoneSuffix>
         ensures zone { option_map shown_suffix (option_copied result) ≡ self.now.zone }
         ensures expr { IsExpr self.now }

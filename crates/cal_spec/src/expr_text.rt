@@ -2,12 +2,12 @@
 
 ghost use Rattle.std.specs.Prelude.{◌≡◌, ◌≤◌, [], ◌∷◌, codes, drop, false, option_copied, option_map};
 ghost use Rattle.std.specs.List.{flat_map};
-ghost use Rattle.cal_bytes.specs.Puts.{Puts};
-ghost use Rattle.cal_bytes.specs.headline.Bytes.{joined};
-ghost use Rattle.cal_civil.specs.headline.OffsetText.{offset_text};
-ghost use Rattle.cal_spec.specs.Expr.{component};
-ghost use Rattle.cal_spec.specs.Views.{shown_suffix};
-ghost use Rattle.cal_spec.specs.headline.ExprText.{component_text, day_lead, expr_text, fields_text, number_text, optional_text, part_text, parts_text, row_text, zone_text};
+ghost use Rattle.cal_bytes.specs.rules.Puts.{Puts};
+ghost use Rattle.cal_bytes.specs.rules.Bytes.{joined};
+ghost use Rattle.cal_civil.specs.rules.OffsetText.{offset_text};
+ghost use Rattle.cal_spec.specs.computed.Expr.{component};
+ghost use Rattle.cal_spec.specs.computed.Views.{shown_suffix};
+ghost use Rattle.cal_spec.specs.rules.ExprText.{component_text, day_lead, expr_text, fields_text, number_text, optional_text, part_text, parts_text, row_text, zone_text};
 
 use crate::weekday_runs::put_weekdays;
 use crate::zone_suffix::ZoneSuffix;
@@ -30,7 +30,7 @@ struct Row<'a> {
 /// `Mon,Fri 2012-01/2-01,03 *:30:45`. Doesn't allocate.
 ///
 /// Fails with [`WriteFault::Failed`] if and only if the writer fails; then only a prefix of the text was written.
-#[tactic(auto, using(cal_bytes::proofs::PutLemmas::puts), unfolding(crate::specs::headline::ExprText::expr_text))]
+#[tactic(auto, using(cal_bytes::proofs::PutLemmas::puts), unfolding(crate::specs::rules::ExprText::expr_text))]
 pub fn write_expr<W: Sink>(out: &mut W, expr: &Expr) -> Result<(), WriteFault>
     requires { W.is_failed out.old ≡ false }
     ensures { Puts W.Sink out.old out.new result (expr_text expr.now) }
@@ -41,7 +41,7 @@ pub fn write_expr<W: Sink>(out: &mut W, expr: &Expr) -> Result<(), WriteFault>
 }
 
 /// Returns the components in the order in which they are printed.
-#[tactic(auto, unfolding(crate::specs::headline::ExprText::fields_text))]
+#[tactic(auto, unfolding(crate::specs::rules::ExprText::fields_text))]
 fn rows(expr: &Expr) -> [Row<'_>; 6]
     ensures { flat_map (λ row. row_text row.lead.now row.width (option_copied row.parts)) result
         ≡ fields_text expr.now }
@@ -81,7 +81,7 @@ fn put_rows<W: Sink>(out: &mut W, rows: &[Row]) -> Result<(), WriteFault>
     Ok(())
 }
 
-#[tactic(auto, using(cal_bytes::proofs::PutLemmas::puts), unfolding(crate::specs::headline::ExprText::row_text))]
+#[tactic(auto, using(cal_bytes::proofs::PutLemmas::puts), unfolding(crate::specs::rules::ExprText::row_text))]
 fn put_row<W: Sink>(out: &mut W, row: Row) -> Result<(), WriteFault>
     requires { W.is_failed out.old ≡ false }
     ensures { Puts W.Sink out.old out.new result
@@ -122,7 +122,7 @@ fn put_parts<W: Sink>(out: &mut W, width: usize, parts: &[Part]) -> Result<(), W
 }
 
 /// Writes `lead` and then a part. The part's start and end are padded with zeros to at least `width` digits.
-#[tactic(auto, using(cal_bytes::proofs::PutLemmas::puts), unfolding(crate::specs::headline::ExprText::part_text))]
+#[tactic(auto, using(cal_bytes::proofs::PutLemmas::puts), unfolding(crate::specs::rules::ExprText::part_text))]
 fn put_part<W: Sink>(out: &mut W, lead: &[u8], width: usize, part: Part) -> Result<(), WriteFault>
     requires works { W.is_failed out.old ≡ false }
     requires narrow { width ≤ 4 }
@@ -150,7 +150,7 @@ fn put_optional<W: Sink>(
 }
 
 /// Writes `lead` and then a number, padded with zeros to at least `width` digits.
-#[tactic(auto, unfolding(crate::specs::headline::ExprText::number_text))]
+#[tactic(auto, unfolding(crate::specs::rules::ExprText::number_text))]
 fn put_number<W: Sink>(
     out: &mut W,
     lead: &[u8],

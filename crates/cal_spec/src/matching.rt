@@ -2,11 +2,10 @@
 
 ghost use Rattle.std.specs.Prelude.{◌≡◌, ◌<◌, false, unsigned_abs, slice_index_or};
 ghost use Rattle.jiff_core.specs.Weekday.{monday_zero};
-ghost use Rattle.cal_civil.specs.LocalSecond.{IsLocalSecond};
-ghost use Rattle.cal_spec.specs.Views.{fields_of};
-ghost use Rattle.cal_spec.specs.headline.Match.{date_in, day_value, matches, time_in};
-ghost use Rattle.cal_spec.specs.headline.Members.{sets_of};
-ghost use Rattle.cal_civil.specs.headline.Local.{seconds_per_day};
+ghost use Rattle.cal_civil.specs.rules.LocalSecond.{IsLocalSecond, seconds_per_day};
+ghost use Rattle.cal_spec.specs.computed.Views.{fields_of};
+ghost use Rattle.cal_spec.specs.rules.Match.{date_in, day_value, matches, time_in};
+ghost use Rattle.cal_spec.specs.rules.Members.{sets_of};
 
 use crate::fields::{Fields, TimeFields};
 use crate::members::component_has;
@@ -16,7 +15,7 @@ use jiff_core::civil::{Date, Weekday, days_in_month};
 
 /// Returns whether the fields match the weekday, date and time of the local second `local`, which must be in the years
 /// 1970 to 2199.
-#[tactic(auto, using(cal_civil::proofs::LocalLemmas::local_arith), unfolding(crate::specs::headline::Match::matches))]
+#[tactic(auto, using(cal_civil::proofs::LocalLemmas::local_arith), unfolding(crate::specs::rules::Match::matches))]
 pub fn has_local(fields: &Fields, local: i64) -> bool
     requires { IsLocalSecond local }
     ensures { result ≡ matches (sets_of (fields_of fields.now)) (unsigned_abs local) }
@@ -25,7 +24,7 @@ pub fn has_local(fields: &Fields, local: i64) -> bool
 }
 
 /// Returns whether the fields match the date and its weekday.
-#[tactic(auto, unfolding(crate::specs::headline::Match::date_in, crate::specs::headline::Members::sets_of, crate::specs::Views::fields_of))]
+#[tactic(auto, unfolding(crate::specs::rules::Match::date_in, crate::specs::rules::Members::sets_of, crate::specs::computed::Views::fields_of))]
 fn has_date(fields: &Fields, date: Date) -> bool
     ensures { result ≡ date_in (sets_of (fields_of fields.now)) date }
 {
@@ -43,7 +42,7 @@ fn has_weekday(weekdays: &[bool; 7], weekday: Weekday) -> bool
 }
 
 /// Returns whether the fields match the time of day that is `second` seconds after midnight.
-#[tactic(auto, unfolding(crate::specs::headline::Match::time_in, crate::specs::headline::Members::sets_of, crate::specs::Views::fields_of))]
+#[tactic(auto, unfolding(crate::specs::rules::Match::time_in, crate::specs::rules::Members::sets_of, crate::specs::computed::Views::fields_of))]
 fn has_time(fields: &Fields, second: u32) -> bool
     requires { second < seconds_per_day }
     ensures { result ≡ time_in (sets_of (fields_of fields.now)) second }

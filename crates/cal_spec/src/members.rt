@@ -2,7 +2,7 @@
 
 ghost use Rattle.std.specs.Prelude.{◌≡◌, option_map};
 ghost use Rattle.std.specs.List.{list_any};
-ghost use Rattle.cal_spec.specs.headline.Members.{component_has, star_has, is_between, is_step_between, part_has, repeats};
+ghost use Rattle.cal_spec.specs.rules.Members.{component_has, star_has, is_between, is_step_between, part_has, repeats};
 
 use crate::Part;
 use crate::slot::Slot;
@@ -23,7 +23,7 @@ fn parts_have(slot: Slot, parts: &[Part], value: u16) -> bool
     parts.iter().any(|part| part_has(slot, *part, value))
 }
 
-#[tactic(auto, unfolding(crate::specs::headline::Members::part_has))]
+#[tactic(auto, unfolding(crate::specs::rules::Members::part_has))]
 fn part_has(slot: Slot, part: Part, value: u16) -> bool
     ensures { result ≡ part_has slot part value }
 {

@@ -3,7 +3,7 @@
 
 ghost use Rattle.std.specs.Prelude.{◌≡◌, None, Some, map, option_map, if◌then◌else◌};
 ghost use Rattle.std.specs.List.{AllByRecursion};
-ghost use Rattle.cal_spec.specs.NormalParts.{AreParts, IsPart, normal_component, normal_parts, normal_second, reduced, starred};
+ghost use Rattle.cal_spec.specs.computed.NormalParts.{AreParts, IsPart, normal_component, normal_parts, normal_second, reduced, starred};
 
 use crate::Part;
 
@@ -27,7 +27,7 @@ pub fn normal_component(parts: Option<Vec<Part>>) -> Option<Vec<Part>>
 
 /// Brings the seconds into their normal form. If only the part `0/1` is left, the result is `None`, which stands for
 /// `*`.
-#[tactic(auto, unfolding(crate::specs::NormalParts::normal_second))]
+#[tactic(auto, unfolding(crate::specs::computed::NormalParts::normal_second))]
 pub fn normal_second(parts: Option<Vec<Part>>) -> Option<Vec<Part>>
     requires { AreParts (option_map (λ v. v.items) parts) }
     ensures { option_map (λ v. v.items) result ≡ normal_second (option_map (λ v. v.items) parts) }
@@ -74,7 +74,7 @@ fn reduce_each(parts: &mut Vec<Part>)
 
 /// Brings a part into its normal form. A range is shortened to end at the last number that it reaches; if this number
 /// is its start, the result is a single number. A step of 1 is dropped from a range. Other parts are unchanged.
-#[tactic(auto, unfolding(crate::specs::NormalParts::reduced))]
+#[tactic(auto, unfolding(crate::specs::computed::NormalParts::reduced))]
 fn reduce(part: Part) -> Part
     requires { IsPart part }
     ensures { result ≡ reduced part }

@@ -4,8 +4,8 @@ ghost use Rattle.std.specs.Prelude.{◌≡◌, ◌≤◌, ◌∷◌, [], IsTrue,
 ghost use Rattle.std.specs.List.{list_all, prefix_len};
 ghost use Rattle.std.specs.Char.{is_ascii_digit};
 ghost use Rattle.std.specs.Str.Parse.{digits_value};
-ghost use Rattle.cal_spec.specs.Parts.{symbols};
-ghost use Rattle.cal_spec.specs.Views.{symbol_of};
+ghost use Rattle.cal_spec.specs.computed.Parts.{symbols};
+ghost use Rattle.cal_spec.specs.computed.Views.{symbol_of};
 
 use cal_text::decimal_value;
 

@@ -2,9 +2,9 @@
 
 ghost use Rattle.std.specs.Prelude.{◌≡◌};
 ghost use Rattle.std.specs.Option.{option_map};
-ghost use Rattle.cal_spec.specs.Parts.{symbols, starts_with_point, bad, is_time, number_due, with_step, after_end, after_start, part_of, is_within, is_outside, is_backward, is_zero, reaches_no_further_value, fault_of};
-ghost use Rattle.cal_spec.specs.headline.FullYears.{with_century, with_full_years};
-ghost use Rattle.cal_spec.specs.Reads.{Gives};
+ghost use Rattle.cal_spec.specs.computed.Parts.{symbols, starts_with_point, bad, is_time, number_due, with_step, after_end, after_start, part_of, is_within, is_outside, is_backward, is_zero, reaches_no_further_value, fault_of};
+ghost use Rattle.cal_spec.specs.rules.FullYears.{with_century, with_full_years};
+ghost use Rattle.cal_spec.specs.computed.Reads.{Gives};
 
 use crate::numbers::{Symbol, first_symbol, value_of};
 use crate::slot::Slot;
@@ -16,7 +16,7 @@ const MAX_NUMBER: u16 = 9999;
 /// Parses a part, `a`, `a/r`, `a..b` or `a..b/r`, without checking its values (systemd.time(7), Calendar Events). If
 /// the syntax is wrong, the error is that of the leftmost mistake. A number above `MAX_NUMBER` and a fraction of a
 /// second count as mistakes in the syntax too.
-#[tactic(auto, unfolding(crate::specs::Parts::part_of))]
+#[tactic(auto, unfolding(crate::specs::computed::Parts::part_of))]
 pub(crate) fn read_part(slot: Slot, text: &[u8]) -> Result<Part, SpecFault>
     ensures { Gives (λ part. part) result (part_of slot text.now) }
 {
@@ -40,7 +40,7 @@ pub(crate) fn with_full_years(slot: Slot, part: Part) -> Part
 
 /// Returns the first error in the part's values, or `None` if they are valid. The checks are made in this order:
 /// `OutOfField`, `BackwardRange`, `ZeroRepeat`, `NoRepeat`.
-#[tactic(auto, unfolding(crate::specs::Parts::fault_of))]
+#[tactic(auto, unfolding(crate::specs::computed::Parts::fault_of))]
 pub(crate) fn fault_of(slot: Slot, part: Part) -> Option<SpecFault>
     ensures { result ≡ fault_of slot part }
 {
@@ -101,7 +101,7 @@ fn begins_with_point(text: &[u8]) -> bool
 }
 
 /// Parses what follows the first number of a part.
-#[tactic(auto, unfolding(crate::specs::Parts::after_start))]
+#[tactic(auto, unfolding(crate::specs::computed::Parts::after_start))]
 fn after_start(slot: Slot, start: u16, text: &[u8]) -> Result<Part, SpecFault>
     ensures { Gives (λ part. part) result (after_start slot start (symbols text.now)) }
 {
@@ -121,7 +121,7 @@ fn after_start(slot: Slot, start: u16, text: &[u8]) -> Result<Part, SpecFault>
 }
 
 /// Parses what follows the end of a range.
-#[tactic(auto, unfolding(crate::specs::Parts::after_end))]
+#[tactic(auto, unfolding(crate::specs::computed::Parts::after_end))]
 fn after_end(slot: Slot, start: u16, end: u16, text: &[u8]) -> Result<Part, SpecFault>
     ensures { Gives (λ part. part) result (after_end slot start end (symbols text.now)) }
 {
@@ -137,7 +137,7 @@ fn after_end(slot: Slot, start: u16, end: u16, text: &[u8]) -> Result<Part, Spec
 }
 
 /// Parses the text after the slash of a part. It must be the step and nothing else.
-#[tactic(auto, unfolding(crate::specs::Parts::with_step))]
+#[tactic(auto, unfolding(crate::specs::computed::Parts::with_step))]
 fn with_step(slot: Slot, start: u16, end: Option<u16>, text: &[u8]) -> Result<Part, SpecFault>
     ensures { Gives (λ part. part) result (with_step slot start end (symbols text.now)) }
 {

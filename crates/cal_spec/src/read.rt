@@ -2,12 +2,12 @@
 
 ghost use Rattle.std.specs.Prelude.{◌≡◌, IfOk};
 ghost use Rattle.std.specs.Option.{option_copied};
-ghost use Rattle.cal_spec.specs.Expr.{expr_in};
-ghost use Rattle.cal_spec.specs.Views.{fields_of, shown_word_roles};
-ghost use Rattle.cal_spec.specs.Grammar.{fields_at, fields_in};
-ghost use Rattle.cal_spec.specs.Reads.{GivesUnlessNoMemory};
-ghost use Rattle.cal_spec.specs.ValidFields.{IsValidFields};
-ghost use Rattle.cal_spec.specs.WeekdayNames.{weekdays_in};
+ghost use Rattle.cal_spec.specs.computed.Expr.{expr_in};
+ghost use Rattle.cal_spec.specs.computed.Views.{fields_of, shown_word_roles};
+ghost use Rattle.cal_spec.specs.computed.Grammar.{fields_at, fields_in};
+ghost use Rattle.cal_spec.specs.computed.Reads.{GivesUnlessNoMemory};
+ghost use Rattle.cal_spec.specs.computed.ValidFields.{IsValidFields};
+ghost use Rattle.cal_spec.specs.computed.WeekdayLists.{weekdays_in};
 
 use crate::date_and_time::{read_date, read_time, room_after};
 use crate::fields::Fields;
@@ -29,7 +29,7 @@ const MAX_TEXT_BYTES: usize = 4096;
 ///
 /// The zone is a name or a UTC offset, `+hh:mm` or `-hh:mm`. Only the syntax of a name is checked, not whether a zone
 /// of that name exists.
-#[tactic(auto, unfolding(crate::specs::Expr::expr_in))]
+#[tactic(auto, unfolding(crate::specs::computed::Expr::expr_in))]
 pub fn read_expr(alloc: Global, text: &str) -> Result<Expr, SpecFault>
     ensures { GivesUnlessNoMemory (λ expr. expr) result (expr_in text.now) }
 {
@@ -39,7 +39,7 @@ pub fn read_expr(alloc: Global, text: &str) -> Result<Expr, SpecFault>
 
 /// Parses the fields of a calendar expression, without bringing them into their normal form. The errors are those of
 /// [`read_expr`].
-#[tactic(auto, unfolding(crate::specs::Grammar::fields_in))]
+#[tactic(auto, unfolding(crate::specs::computed::Grammar::fields_in))]
 fn read_fields(alloc: Global, text: &str) -> Result<Fields, SpecFault>
     ensures fields { GivesUnlessNoMemory fields_of result (fields_in text.now) }
     ensures valid { IfOk result (λ fields. IsValidFields (fields_of fields)) }
@@ -54,7 +54,7 @@ fn read_fields(alloc: Global, text: &str) -> Result<Fields, SpecFault>
 }
 
 /// Parses the weekdays, date, time and zone, in this order. Fails with the first error.
-#[tactic(auto, unfolding(crate::specs::Grammar::fields_at, crate::specs::Views::fields_of))]
+#[tactic(auto, unfolding(crate::specs::computed::Grammar::fields_at, crate::specs::computed::Views::fields_of))]
 fn read_roles(alloc: Global, roles: WordRoles<'_>) -> Result<Fields, SpecFault>
     ensures { GivesUnlessNoMemory fields_of result (fields_at (shown_word_roles roles.entry)) }
 {

@@ -3,8 +3,8 @@
 ghost use Rattle.std.specs.Prelude.{◌≡◌, map};
 ghost use Rattle.std.specs.List.{find, list_any};
 ghost use Rattle.std.specs.Str.{str_eq_ignore_ascii_case};
-ghost use Rattle.cal_spec.specs.headline.Shorthand.{dates, times, names_of, expansion_of, shorthand_named};
-ghost use Rattle.cal_spec.specs.Views.{shown_expansion};
+ghost use Rattle.cal_spec.specs.rules.Shorthand.{dates, times, names_of, expansion_of, shorthand_named};
+ghost use Rattle.cal_spec.specs.computed.Views.{shown_expansion};
 
 use crate::pieces::is_same_word;
 
@@ -90,7 +90,7 @@ impl Shorthand {
 }
 
 /// Returns the shorthand with this name, ignoring case, or `None` if there is none.
-#[tactic(auto, unfolding(crate::specs::headline::Shorthand::shorthand_named))]
+#[tactic(auto, unfolding(crate::specs::rules::Shorthand::shorthand_named))]
 pub(crate) fn find_shorthand(word: &[u8]) -> Option<Shorthand>
     ensures { result ≡ shorthand_named word.now }
 {

@@ -1,7 +1,7 @@
 //! Slots: which component a number belongs to, and the least and the greatest number that each slot allows.
 
 ghost use Rattle.std.specs.Prelude.{◌≡◌, ◌≤◌};
-ghost use Rattle.cal_spec.specs.headline.Slot.{day_slot, least, greatest};
+ghost use Rattle.cal_spec.specs.rules.Slot.{day_slot, least, greatest};
 
 use cal_civil::{FIRST_YEAR, LAST_YEAR};
 

@@ -58,7 +58,7 @@ pub enum SpecFault {
 }
 
 impl SpecFault {
-    ghost use Rattle.cal_spec.specs.SpecFault.{message_of};
+    ghost use Rattle.cal_spec.specs.rules.SpecFault.{message_of};
 
     /// Returns the message for users, as `Display` prints it. It is empty for [`SpecFault::NoMemory`].
     pub fn words(&self) -> &str

@@ -4,15 +4,15 @@
 
 ghost use Rattle.std.specs.Prelude.{◌≡◌, ◌+◌, ◌<◌, ◌≤◌, [], ◌∷◌, codes, drop, false, length};
 ghost use Rattle.std.specs.List.{list_all, prefix_len};
-ghost use Rattle.cal_bytes.specs.Puts.{Puts};
-ghost use Rattle.cal_bytes.specs.headline.Bytes.{joined};
-ghost use Rattle.cal_spec.specs.headline.WeekdayRuns.{day_name, run_text, runs_from, runs_text, weekdays_text};
+ghost use Rattle.cal_bytes.specs.rules.Puts.{Puts};
+ghost use Rattle.cal_bytes.specs.rules.Bytes.{joined};
+ghost use Rattle.cal_spec.specs.rules.WeekdayRuns.{day_name, run_text, runs_from, runs_text, weekdays_text};
 
 use cal_bytes::{Sink, WriteFault, put_all, put_pieces};
 use cal_civil::{WEEK, short_weekday_name};
 
 /// Writes the weekdays that match and a space after them, or nothing if all seven match.
-#[tactic(auto, using(cal_bytes::proofs::PutLemmas::puts), unfolding(crate::specs::headline::WeekdayRuns::weekdays_text))]
+#[tactic(auto, using(cal_bytes::proofs::PutLemmas::puts), unfolding(crate::specs::rules::WeekdayRuns::weekdays_text))]
 pub fn put_weekdays<W: Sink>(out: &mut W, days: &[bool; 7]) -> Result<(), WriteFault>
     requires { W.is_failed out.old ≡ false }
     ensures { Puts W.Sink out.old out.new result (weekdays_text days.now) }
@@ -58,7 +58,7 @@ fn leading_days(days: &[bool]) -> usize
 }
 
 /// Writes `lead` and then a run: a single day by its name, two days as `first,second`, and more days as `first..last`.
-#[tactic(auto, using(cal_bytes::proofs::PutLemmas::puts), unfolding(crate::specs::headline::WeekdayRuns::run_text))]
+#[tactic(auto, using(cal_bytes::proofs::PutLemmas::puts), unfolding(crate::specs::rules::WeekdayRuns::run_text))]
 fn put_run<W: Sink>(out: &mut W, lead: &[u8], first: usize, last: usize) -> Result<(), WriteFault>
     requires works { W.is_failed out.old ≡ false }
     requires forward { first ≤ last }

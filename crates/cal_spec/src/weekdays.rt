@@ -4,11 +4,12 @@ ghost use Rattle.std.specs.Prelude.{◌≡◌, ◌≤◌, ◌||◌, length};
 ghost use Rattle.std.specs.List.{find, list_any, list_all, position, position_or_len, slice_split};
 ghost use Rattle.std.specs.Option.{option_copied};
 ghost use Rattle.std.specs.Str.{str_eq_ignore_ascii_case};
-ghost use Rattle.cal_civil.specs.headline.Weekday.{name_of, short_name_of};
-ghost use Rattle.cal_text.specs.headline.Separators.{is_comma};
-ghost use Rattle.cal_spec.specs.Reads.{Gives, GivesUnlessNoMemory};
-ghost use Rattle.cal_spec.specs.WeekdayNames.{after_joint, day_named, days_of, is_like_shorthand, is_no_letter, items_of, weekdays_of, without_comma};
-ghost use Rattle.cal_spec.specs.headline.Weekdays.{is_in_weekday_range, set_of};
+ghost use Rattle.cal_civil.specs.rules.Weekday.{name_of, short_name_of};
+ghost use Rattle.cal_text.specs.rules.Separators.{is_comma};
+ghost use Rattle.cal_spec.specs.computed.Reads.{Gives, GivesUnlessNoMemory};
+ghost use Rattle.cal_spec.specs.rules.WeekdayNames.{after_joint, day_named, days_of, is_no_letter};
+ghost use Rattle.cal_spec.specs.computed.WeekdayLists.{is_like_shorthand, items_of, weekdays_of, without_comma};
+ghost use Rattle.cal_spec.specs.rules.Weekdays.{is_in_weekday_range, set_of};
 
 use crate::SpecFault;
 use crate::pieces::{first_piece, is_same_word};
@@ -29,7 +30,7 @@ pub(crate) struct WeekdayRange {
 ///
 /// Fails with `UnknownShorthand` if the word consists only of letters and `-`, and its leading letters don't name a
 /// weekday. Fails with `BadWeekday` if the word is invalid in any other way.
-#[tactic(auto, unfolding(crate::specs::WeekdayNames::weekdays_of, crate::specs::WeekdayNames::listed_days))]
+#[tactic(auto, unfolding(crate::specs::computed::WeekdayLists::weekdays_of, crate::specs::computed::WeekdayLists::listed_days))]
 pub(crate) fn read_weekdays(alloc: Global, word: &[u8]) -> Result<[bool; 7], SpecFault>
     ensures { GivesUnlessNoMemory (λ days. days) result (weekdays_of word.now) }
 {
@@ -63,7 +64,7 @@ fn read_items(alloc: Global, list: &[u8]) -> Result<Vec<WeekdayRange>, SpecFault
 
 /// Parses an item of a weekday list: the name of a weekday, or two names joined by `..` or `-`. Returns `None` if the
 /// item is anything else.
-#[tactic(auto, unfolding(crate::specs::WeekdayNames::days_of))]
+#[tactic(auto, unfolding(crate::specs::rules::WeekdayNames::days_of))]
 fn read_days(item: &[u8]) -> Option<WeekdayRange>
     ensures { result ≡ days_of item.now }
 {
@@ -88,7 +89,7 @@ fn after_joint(text: &[u8]) -> Option<&[u8]>
 
 /// Returns the weekday with this name, in full or shortened to three letters, ignoring case. Returns `None` if no
 /// weekday has this name.
-#[tactic(auto, unfolding(crate::specs::WeekdayNames::day_named))]
+#[tactic(auto, unfolding(crate::specs::rules::WeekdayNames::day_named))]
 pub fn find_day(word: &[u8]) -> Option<Weekday>
     ensures { result ≡ day_named word.now }
 {

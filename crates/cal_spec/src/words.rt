@@ -3,9 +3,9 @@
 
 ghost use Rattle.std.specs.Prelude.{◌≡◌};
 ghost use Rattle.std.specs.Option.{option_copied, option_map};
-ghost use Rattle.cal_spec.specs.Views.{shown_word_roles};
-ghost use Rattle.cal_spec.specs.Words.{roles_after_date, after_weekdays, date_or_time, roles_of};
-ghost use Rattle.cal_text.specs.headline.Separators.{words};
+ghost use Rattle.cal_spec.specs.computed.Views.{shown_word_roles};
+ghost use Rattle.cal_spec.specs.computed.Words.{roles_after_date, after_weekdays, date_or_time, roles_of};
+ghost use Rattle.cal_text.specs.rules.Separators.{words};
 
 use crate::shorthand::{ANY_DATE, MIDNIGHT, find_shorthand};
 use cal_civil::{begins_with_letter, begins_zone};
@@ -27,7 +27,7 @@ pub(crate) struct WordRoles<'a> {
 
 /// Determines which words of an expression are its weekdays, date and time (systemd.time(7), Calendar Events). Returns
 /// `None` if there are no words. A shorthand is replaced by what it stands for.
-#[tactic(auto, unfolding(crate::specs::Words::roles_of))]
+#[tactic(auto, unfolding(crate::specs::computed::Words::roles_of))]
 pub(crate) fn find_word_roles(text: &str) -> Option<WordRoles<'_>>
     ensures { option_map shown_word_roles result ≡ roles_of (words text.now) }
 {

@@ -2,11 +2,11 @@
 
 ghost use Rattle.std.specs.Prelude.{◌≡◌};
 ghost use Rattle.std.specs.Option.{option_map};
-ghost use Rattle.cal_spec.specs.Reads.{GivesUnlessNoMemory};
-ghost use Rattle.cal_spec.specs.Views.{shown_suffix};
-ghost use Rattle.cal_text.specs.headline.Separators.{words};
-ghost use Rattle.cal_spec.specs.ParsedSuffix.{suffix_in};
-ghost use Rattle.cal_spec.specs.headline.ZoneSuffix.{kept_name};
+ghost use Rattle.cal_spec.specs.computed.Reads.{GivesUnlessNoMemory};
+ghost use Rattle.cal_spec.specs.computed.Views.{shown_suffix};
+ghost use Rattle.cal_text.specs.rules.Separators.{words};
+ghost use Rattle.cal_spec.specs.computed.ParsedSuffix.{suffix_in};
+ghost use Rattle.cal_spec.specs.rules.ZoneSuffix.{kept_name};
 
 use crate::SpecFault;
 use cal_civil::{is_utc_name, is_zone_name, read_offset};
@@ -25,7 +25,7 @@ pub enum ZoneSuffix {
 /// Parses the text after the weekdays, date and time: it is blank, the name of a zone (systemd.time(7), Calendar
 /// Events), or a UTC offset. Fails with `StrayWord` if it is anything else. UTC offsets are this project's addition:
 /// systemd doesn't accept them.
-#[tactic(auto, unfolding(crate::specs::ParsedSuffix::suffix_of))]
+#[tactic(auto, unfolding(crate::specs::computed::ParsedSuffix::suffix_of))]
 pub(crate) fn read_suffix(alloc: Global, text: &str) -> Result<Option<ZoneSuffix>, SpecFault>
     ensures { GivesUnlessNoMemory (λ suffix. option_map shown_suffix suffix) result (suffix_in (words text.now)) }
 {

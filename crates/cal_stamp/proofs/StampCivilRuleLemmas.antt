@@ -10,18 +10,18 @@ use Rattle.std.proofs.lemmas.List.Folds.{list_any-append}
 use Rattle.std.proofs.lemmas.List.Splits.{join_with_byte-slice_split}
 use Rattle.jiff.specs.Types.{TimeZone, Weekday}
 use Rattle.cal_civil.proofs.OffsetWordLemmas.{offset-found, offset-only}
-use Rattle.cal_civil.specs.ReadOffset.{offset_in}
-use Rattle.cal_civil.specs.headline.OffsetWord.{IsOffsetWord}
-use Rattle.cal_zone.specs.headline.FixedOffsetZone.{fixed_offset_zone}
-use Rattle.cal_civil.specs.headline.ZoneName.{begins_with_letter}
-use Rattle.cal_text.specs.headline.Separators.{is_colon}
-use Rattle.cal_spec.specs.WeekdayNames.{day_named}
-use Rattle.cal_zone.specs.Setting.{Setting}
-use Rattle.cal_stamp.specs.Stamp.{CivilStamp, begins_with_digit, name_found, offset_found, zone_of_word, zone_alone, zone_by_words, civil_stamp_in, after_date, after_weekday, weekday_found, civil_time}
-use Rattle.cal_stamp.specs.StampCivilRule.{IsCivilTime, MeansZone, NamesWeekday, WritesDate, WritesTime, NamesZone}
+use Rattle.cal_civil.specs.computed.ReadOffset.{offset_in}
+use Rattle.cal_civil.specs.rules.OffsetWord.{IsOffsetWord}
+use Rattle.cal_zone.specs.rules.FixedOffsetZone.{fixed_offset_zone}
+use Rattle.cal_civil.specs.rules.ZoneName.{begins_with_letter}
+use Rattle.cal_text.specs.rules.Separators.{is_colon}
+use Rattle.cal_spec.specs.rules.WeekdayNames.{day_named}
+use Rattle.cal_zone.specs.rules.Setting.{Setting}
+use Rattle.cal_stamp.specs.rules.StampCivilRule.{CivilStamp, IsCivilTime, MeansZone, NamesWeekday, WritesDate, WritesTime, NamesZone}
+use Rattle.cal_stamp.specs.rules.StampTime.{begins_with_digit, up_to, clock_number, time_by, time_of_pieces, time_numbers, micros_due, time_written}
+use Rattle.cal_stamp.specs.computed.Stamp.{name_found, offset_found, zone_of_word, zone_alone, zone_by_words, civil_stamp_in, after_date, after_weekday, weekday_found, civil_time}
 use Rattle.cal_stamp.specs.declared.date.DateNumbers.{DateNumbers}
-use Rattle.cal_stamp.specs.StampDate.{is_hyphen, digits_number, date_by, date_of_pieces, date_numbers, day_due, day_written}
-use Rattle.cal_stamp.specs.StampTime.{up_to, clock_number, time_by, time_of_pieces, time_numbers, micros_due, time_written}
+use Rattle.cal_stamp.specs.rules.StampDate.{is_hyphen, digits_number, date_by, date_of_pieces, date_numbers, day_due, day_written}
 use Rattle.cal_spec.proofs.ReadLemmas.{bind_ok}
 use Rattle.cal_text.proofs.General.{clear_of}
 

@@ -7,13 +7,13 @@ use Rattle.cal_span.proofs.SpanDigits.{AreDigits, are_digits-decimal}
 use Rattle.cal_span.proofs.SpanReadBack.{span_of-decimal}
 use Rattle.cal_text.proofs.General.{all_reverse}
 use Rattle.cal_text.proofs.TrimLemmas.{trim_only}
-use Rattle.cal_text.specs.TrimRule.{IsTrimmed, StartsSolid}
-use Rattle.cal_text.specs.headline.Separators.{is_blank}
-use Rattle.cal_zone.specs.Instant.{IsInstant}
-use Rattle.cal_zone.specs.headline.Moment.{micros_of}
-use Rattle.cal_zone.specs.Setting.{Setting}
-use Rattle.cal_stamp.specs.Stamp.{after_second, in_moments, moment_in, moment_of_form}
-use Rattle.cal_stamp.specs.StampForm.{counted, form_of, form_of_solid}
+use Rattle.cal_text.specs.rules.TrimRule.{IsTrimmed, StartsSolid}
+use Rattle.cal_text.specs.rules.Separators.{is_blank}
+use Rattle.cal_zone.specs.rules.Instant.{IsInstant, micros_of}
+use Rattle.cal_zone.specs.rules.Setting.{Setting}
+use Rattle.cal_stamp.specs.computed.Stamp.{after_second, in_moments, moment_in, moment_of_form}
+use Rattle.cal_stamp.specs.rules.StampRule.{counted}
+use Rattle.cal_stamp.specs.computed.StampForm.{form_of, form_of_solid}
 
 -- The form of a text that is `@` and digits
 

@@ -8,18 +8,18 @@ use Rattle.std.specs.Option.{option_to_list}
 use Rattle.std.proofs.lemmas.Bool.{cases_Bool}
 use Rattle.jiff.specs.Types.{TimeZone, Weekday}
 use Rattle.cal_civil.proofs.OffsetWordLemmas.{offset-found, offset-only}
-use Rattle.cal_civil.specs.ReadOffset.{offset_in}
-use Rattle.cal_civil.specs.headline.OffsetWord.{IsOffsetWord}
-use Rattle.cal_civil.specs.headline.ZoneName.{begins_with_letter}
-use Rattle.cal_text.specs.AndThen.{◌>>=◌}
-use Rattle.cal_text.specs.headline.Separators.{is_colon}
-use Rattle.cal_spec.specs.WeekdayNames.{day_named}
-use Rattle.cal_zone.specs.Setting.{Setting}
-use Rattle.cal_stamp.specs.Stamp.{begins_with_digit, name_found, offset_found, zone_of_word, zone_alone, zone_by_words, civil_stamp_in, after_date, after_weekday, weekday_found, civil_time}
-use Rattle.cal_stamp.specs.StampCivilRule.{NamesWeekday, WritesDate, WritesTime, NamesZone}
-use Rattle.cal_stamp.specs.StampDate.{day_written}
-use Rattle.cal_stamp.specs.StampTime.{time_written}
-use Rattle.cal_stamp.specs.StampFaultRule.{IsNoDateOrTime, IsNoZone, IsAtFault, HasFirstError, HasZoneError, IsNoLastWord}
+use Rattle.cal_civil.specs.computed.ReadOffset.{offset_in}
+use Rattle.cal_civil.specs.rules.OffsetWord.{IsOffsetWord}
+use Rattle.cal_civil.specs.rules.ZoneName.{begins_with_letter}
+use Rattle.cal_text.specs.rules.AndThen.{◌>>=◌}
+use Rattle.cal_text.specs.rules.Separators.{is_colon}
+use Rattle.cal_spec.specs.rules.WeekdayNames.{day_named}
+use Rattle.cal_zone.specs.rules.Setting.{Setting}
+use Rattle.cal_stamp.specs.rules.StampTime.{begins_with_digit, time_written}
+use Rattle.cal_stamp.specs.computed.Stamp.{name_found, offset_found, zone_of_word, zone_alone, zone_by_words, civil_stamp_in, after_date, after_weekday, weekday_found, civil_time}
+use Rattle.cal_stamp.specs.rules.StampCivilRule.{NamesWeekday, WritesDate, WritesTime, NamesZone}
+use Rattle.cal_stamp.specs.rules.StampDate.{day_written}
+use Rattle.cal_stamp.specs.rules.StampFaultRule.{IsNoDateOrTime, IsNoZone, IsAtFault, HasFirstError, HasZoneError, IsNoLastWord}
 use Rattle.cal_stamp.specs.declared.fault.StampFault.{StampFault}
 use Rattle.cal_stamp.specs.declared.fault.StampFault.TheVariants.{BadDate, NoSuchZone, StrayWord}
 use Rattle.cal_stamp.proofs.StampCivilRuleLemmas.{date_begins, date_no_colon, means, means_from, no_letter_first, time_begins, time_has_colon, zone_begins}

@@ -5,18 +5,19 @@ use Rattle.std.specs.List.{list_any}
 use Rattle.std.proofs.lemmas.Bool.{cases_Bool}
 use Rattle.jiff.specs.Types.{TimeZone, Weekday}
 use Rattle.cal_span.specs.declared.span.fault.SpanFault.{SpanFault}
-use Rattle.cal_span.specs.SpanValue.{span_of}
-use Rattle.cal_civil.specs.ReadOffset.{offset_in}
-use Rattle.cal_civil.specs.headline.ZoneName.{begins_with_letter}
-use Rattle.cal_text.specs.headline.Separators.{is_colon}
-use Rattle.cal_spec.specs.WeekdayNames.{day_named}
-use Rattle.cal_text.specs.AndThen.{◌>>=◌}
-use Rattle.cal_zone.specs.Setting.{Setting}
-use Rattle.cal_stamp.specs.Stamp.{CivilStamp, in_moments, after_second, before_second, settle_on, today, name_found, offset_found, zone_of_word, zone_alone, zone_by_words, civil_stamp_in, begins_with_digit, after_date, after_weekday, weekday_found, civil_time, moment_of_civil_stamp, moment_of_form, moment_in}
-use Rattle.cal_stamp.specs.StampCivilRule.{HasNoSuchDate}
-use Rattle.cal_stamp.specs.StampDate.{day_written}
-use Rattle.cal_stamp.specs.StampForm.{Form, nothing, present, later, earlier, counted, from_today, civil, form_of}
-use Rattle.cal_stamp.specs.StampTime.{time_numbers, micros_due, time_written}
+use Rattle.cal_span.specs.computed.SpanValue.{span_of}
+use Rattle.cal_civil.specs.computed.ReadOffset.{offset_in}
+use Rattle.cal_civil.specs.rules.ZoneName.{begins_with_letter}
+use Rattle.cal_text.specs.rules.Separators.{is_colon}
+use Rattle.cal_spec.specs.rules.WeekdayNames.{day_named}
+use Rattle.cal_text.specs.rules.AndThen.{◌>>=◌}
+use Rattle.cal_zone.specs.rules.Setting.{Setting}
+use Rattle.cal_stamp.specs.rules.StampCivilRule.{CivilStamp, HasNoSuchDate}
+use Rattle.cal_stamp.specs.computed.Stamp.{in_moments, after_second, before_second, settle_on, today, name_found, offset_found, zone_of_word, zone_alone, zone_by_words, civil_stamp_in, after_date, after_weekday, weekday_found, civil_time, moment_of_civil_stamp, moment_of_form, moment_in}
+use Rattle.cal_stamp.specs.rules.StampTime.{begins_with_digit, time_numbers, micros_due, time_written}
+use Rattle.cal_stamp.specs.rules.StampDate.{day_written}
+use Rattle.cal_stamp.specs.rules.StampRule.{Form, nothing, present, later, earlier, counted, from_today, civil}
+use Rattle.cal_stamp.specs.computed.StampForm.{form_of}
 use Rattle.cal_stamp.specs.declared.fault.StampFault.{StampFault}
 use Rattle.cal_stamp.specs.declared.fault.StampFault.TheVariants.{NoSuchDate, OutOfRange, WrongWeekday}
 

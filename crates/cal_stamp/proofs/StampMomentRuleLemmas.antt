@@ -11,19 +11,19 @@ use Rattle.jiff.specs.Types.{TimeZone, Weekday}
 use Rattle.jiff_core.specs.Calendar.{weekday_number}
 use Rattle.jiff_core.specs.Weekday.{monday_zero}
 use Rattle.cal_span.specs.declared.span.fault.SpanFault.{SpanFault}
-use Rattle.cal_span.specs.SpanValue.{span_of}
-use Rattle.cal_zone.specs.Instant.{IsMoment, last_moment}
-use Rattle.cal_civil.specs.headline.Local.{day_of}
-use Rattle.cal_zone.specs.headline.Moment.{micros_of}
-use Rattle.cal_zone.specs.headline.Zone.{local_shown_at}
+use Rattle.cal_span.specs.computed.SpanValue.{span_of}
+use Rattle.cal_span.proofs.SpanRuleLemmas.{span_is_value}
+use Rattle.cal_zone.specs.rules.Instant.{IsMoment, last_moment, micros_of}
+use Rattle.cal_civil.specs.rules.LocalSecond.{day_of}
+use Rattle.cal_zone.specs.rules.Zone.{local_shown_at}
 use Rattle.cal_spec.proofs.ReadLemmas.{bind_ok}
-use Rattle.cal_zone.specs.Setting.{Setting}
-use Rattle.cal_stamp.specs.Stamp.{CivilStamp, in_moments, after_second, before_second, today, settle_on, zone_by_words, civil_time, fits_weekday, moment_of_civil_stamp, moment_of_form, moment_in}
-use Rattle.cal_stamp.specs.StampCivilRule.{IsCivilTime}
-use Rattle.cal_stamp.specs.StampFaultRule.{HasError, IsBadSpan, IsWrong}
-use Rattle.cal_stamp.specs.StampForm.{Form, nothing, present, later, earlier, counted, from_today, civil, form_of}
-use Rattle.cal_stamp.specs.StampMomentRule.{LiesAfter, LiesBefore, IsPresentDay, IsDay, FallsOn, IsTimeOfDay, IsMidnight, IsCivilMoment, MeansTime}
-use Rattle.cal_stamp.specs.StampRule.{HasForm}
+use Rattle.cal_zone.specs.rules.Setting.{Setting}
+use Rattle.cal_stamp.specs.rules.StampCivilRule.{CivilStamp, IsCivilTime}
+use Rattle.cal_stamp.specs.computed.Stamp.{in_moments, after_second, before_second, today, settle_on, zone_by_words, civil_time, fits_weekday, moment_of_civil_stamp, moment_of_form, moment_in}
+use Rattle.cal_stamp.specs.rules.StampFaultRule.{HasError, IsBadSpan, IsWrong}
+use Rattle.cal_stamp.specs.rules.StampRule.{Form, nothing, present, later, earlier, counted, from_today, civil, HasForm}
+use Rattle.cal_stamp.specs.computed.StampForm.{form_of}
+use Rattle.cal_stamp.specs.rules.StampMomentRule.{LiesAfter, LiesBefore, IsPresentDay, IsDay, FallsOn, IsTimeOfDay, IsMidnight, IsCivilMoment, MeansTime, ResolvesTo}
 use Rattle.cal_stamp.specs.declared.fault.StampFault.{StampFault}
 use Rattle.cal_stamp.specs.declared.fault.StampFault.TheVariants.{OutOfRange, WrongWeekday, BadSpan}
 use Rattle.cal_stamp.proofs.StampCivilRuleLemmas as civil_rule
@@ -154,25 +154,25 @@ settles_outside zone day micros fault h =
 
 span_after : (second : ℤ) (span : List ℕ) (value : Result ℕ SpanFault) (time : ℤ) → span_of span ≡ value → after_second second value ≡ Ok time → LiesAfter second span time × IsMoment time
 span_after second span (Ok n) time e h =
-    let is = is_moment (micros_of second +ℤ pos n) time h in ((n, e, (let same = is.0 in omega (arith, signed_arith))), is.1)
+    let is = is_moment (micros_of second +ℤ pos n) time h in ((n, (span_is_value span (Ok n)).0 e, (let same = is.0 in omega (arith, signed_arith))), is.1)
 span_after second span (Err fault) time e h = cc
 
 span_before : (second : ℤ) (span : List ℕ) (value : Result ℕ SpanFault) (time : ℤ) → span_of span ≡ value → before_second second value ≡ Ok time → LiesBefore second span time × IsMoment time
 span_before second span (Ok n) time e h =
-    let is = is_moment (micros_of second -ℤ pos n) time h in ((n, e, (let same = is.0 in omega (arith, signed_arith))), is.1)
+    let is = is_moment (micros_of second -ℤ pos n) time h in ((n, (span_is_value span (Ok n)).0 e, (let same = is.0 in omega (arith, signed_arith))), is.1)
 span_before second span (Err fault) time e h = cc
 
 lies_after : (second : ℤ) (span : List ℕ) (time : ℤ) → LiesAfter second span time → after_second second (span_of span) ≡ in_moments time
 lies_after second span time h =
     let far = h.2 in
     let same : micros_of second +ℤ pos h.0 ≡ time = omega (arith, signed_arith) in
-    rw (h.1, same) refl
+    rw ((span_is_value span (Ok h.0)).1 h.1, same) refl
 
 lies_before : (second : ℤ) (span : List ℕ) (time : ℤ) → LiesBefore second span time → before_second second (span_of span) ≡ in_moments time
 lies_before second span time h =
     let far = h.2 in
     let same : micros_of second -ℤ pos h.0 ≡ time = omega (arith, signed_arith) in
-    rw (h.1, same) refl
+    rw ((span_is_value span (Ok h.0)).1 h.1, same) refl
 
 midnight : (now : ℤ) (at : Setting) (shift : ℤ) (ws : List (List ℕ)) (time : ℤ) → moment_of_form now at (from_today shift ws) ≡ Ok time → IsMidnight now at shift ws time × IsMoment time
 midnight now at shift ws time h =
@@ -239,6 +239,15 @@ exactly now at text form time has = (
   λ h. by_form now at text form has ∙ meant now at form time h.0 ∙ within time h.1,
 )
 
+pub resolves : (now : ℤ) (at : Setting) (text : List ℕ) (time : ℤ) → (moment_in now at text ≡ Ok time) ↔ ResolvesTo now at text time
+resolves now at text time = (
+  λ h.
+      let has = form_rule.found text in
+      let is = (exactly now at text (form_of text) time has).0 h in
+      record { form = form_of text; has_form = has; means = is.0; in_range = is.1 },
+  λ h. (exactly now at text h.form time h.has_form).1 (h.means, h.in_range),
+)
+
 pub beyond : (now : ℤ) (at : Setting) (text : List ℕ) (form : Form) (time : ℤ) → HasForm text form → MeansTime now at form time → (IsMoment time → ⊥) → moment_in now at text ≡ Err OutOfRange
 beyond now at text form time has h out = by_form now at text form has ∙ meant now at form time h ∙ outside time out
 
@@ -289,14 +298,14 @@ midnight_error now at shift ws fault h =
 module _ (span : List ℕ) (time : ℕ → ℤ) (of : Result ℕ SpanFault → Result ℤ StampFault) (good : (n : ℕ) → of (Ok n) ≡ in_moments (time n)) (bad : (why : SpanFault) → of (Err why) ≡ Err (BadSpan why)) where
   span_error : (value : Result ℕ SpanFault) (fault : StampFault) → span_of span ≡ value → of value ≡ Err fault → IsBadSpan span fault ⊎ (((n : ℕ) × (span_of span ≡ Ok n) × (IsMoment (time n) → ⊥)) × (fault ≡ OutOfRange))
   span_error (Ok n) fault e h = let out = is_outside (time n) fault (sym (good n) ∙ h) in inr ((n, e, out.1), out.0)
-  span_error (Err why) fault e h = let same = sym (bad why) ∙ h in inl (why, e, (cc))
+  span_error (Err why) fault e h = let same = sym (bad why) ∙ h in inl (why, (span_is_value span (Err why)).0 e, (cc))
 
 after_error : (second : ℤ) (span : List ℕ) (fault : StampFault) → after_second second (span_of span) ≡ Err fault
     → IsBadSpan span fault ⊎ (((time : ℤ) × LiesAfter second span time × (IsMoment time → ⊥)) × (fault ≡ OutOfRange))
 after_error second span fault h =
     elim (span_error span (λ n. micros_of second +ℤ pos n) (after_second second) (λ n. refl) (λ why. refl) (span_of span) fault refl h) [
       | inl bad ↦ inl bad
-      | inr out ↦ inr ((micros_of second +ℤ pos out.0.0, (out.0.0, out.0.1, omega (arith, signed_arith)), out.0.2), out.1)
+      | inr out ↦ inr ((micros_of second +ℤ pos out.0.0, (out.0.0, (span_is_value span (Ok out.0.0)).0 out.0.1, omega (arith, signed_arith)), out.0.2), out.1)
     ]
 
 before_error : (second : ℤ) (span : List ℕ) (fault : StampFault) → before_second second (span_of span) ≡ Err fault
@@ -304,7 +313,7 @@ before_error : (second : ℤ) (span : List ℕ) (fault : StampFault) → before_
 before_error second span fault h =
     elim (span_error span (λ n. micros_of second -ℤ pos n) (before_second second) (λ n. refl) (λ why. refl) (span_of span) fault refl h) [
       | inl bad ↦ inl bad
-      | inr out ↦ inr ((micros_of second -ℤ pos out.0.0, (out.0.0, out.0.1, omega (arith, signed_arith)), out.0.2), out.1)
+      | inr out ↦ inr ((micros_of second -ℤ pos out.0.0, (out.0.0, (span_is_value span (Ok out.0.0)).0 out.0.1, omega (arith, signed_arith)), out.0.2), out.1)
     ]
 
 error : (now : ℤ) (at : Setting) (form : Form) (fault : StampFault) → moment_of_form now at form ≡ Err fault → HasError now at form fault
@@ -319,9 +328,9 @@ error now at (civil ws) fault h = civil_error now at ws fault h
 wrong : (now : ℤ) (at : Setting) (form : Form) (fault : StampFault) → IsWrong now at form fault → moment_of_form now at form ≡ Err fault
 wrong now at nothing fault h = ap Err (sym h)
 wrong now at present fault h = absurd h
-wrong now at (later span) fault h = rw (h.1, h.2) refl
-wrong now at (earlier span) fault h = rw (h.1, h.2) refl
-wrong now at (counted span) fault h = rw (h.1, h.2) refl
+wrong now at (later span) fault h = rw ((span_is_value span (Err h.0)).1 h.1, h.2) refl
+wrong now at (earlier span) fault h = rw ((span_is_value span (Err h.0)).1 h.1, h.2) refl
+wrong now at (counted span) fault h = rw ((span_is_value span (Err h.0)).1 h.1, h.2) refl
 wrong now at (from_today shift ws) fault h = rw (zone-only at ws fault h) refl
 wrong now at (civil ws) fault (inl first) = rw (first-only at ws fault first) refl
 wrong now at (civil ws) fault (inr late) =

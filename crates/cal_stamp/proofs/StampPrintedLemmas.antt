@@ -16,37 +16,34 @@ use Rattle.jiff_core.specs.declared.civil.weekday.Weekday.TheVariants.{Sunday}
 use Rattle.cal_civil.proofs.DayLemmas.{epoch_day-date_of}
 use Rattle.cal_zone.proofs.YearLemmas.{year-from_1969, year-from_1970, year-to_2199}
 use Rattle.cal_zone.proofs.ZoneLemmas.{offset_at-in_range}
-use Rattle.cal_zone.specs.headline.Civil.{civil_of, shown_fields}
-use Rattle.cal_civil.specs.headline.Days.{date_of}
-use Rattle.cal_zone.specs.Instant.{IsInstant}
-use Rattle.cal_civil.specs.headline.OffsetText.{zeros}
-use Rattle.cal_zone.specs.headline.InstantText.{date_text, instant_text, shown_text, time_text, weekday_name}
-use Rattle.cal_civil.specs.LocalSecond.{IsLocalSecond}
-use Rattle.cal_civil.specs.headline.Local.{day_of, hour_of, minute_of, second_of, second_of_day}
-use Rattle.cal_zone.specs.headline.Place.{settle_of}
-use Rattle.cal_civil.specs.headline.Weekday.{short_name_of, week}
-use Rattle.cal_zone.specs.headline.Zone.{local_shown_at, utc, zone_of}
-use Rattle.cal_zone.specs.headline.ZoneTable.{ZoneMap, zone_named}
+use Rattle.cal_zone.specs.rules.Civil.{civil_of, shown_fields}
+use Rattle.cal_civil.specs.rules.Days.{date_of}
+use Rattle.cal_zone.specs.rules.Instant.{IsInstant, micros_of}
+use Rattle.cal_civil.specs.rules.OffsetText.{zeros}
+use Rattle.cal_zone.specs.rules.InstantText.{date_text, instant_text, shown_text, time_text, weekday_name}
+use Rattle.cal_civil.specs.rules.LocalSecond.{IsLocalSecond, day_of, hour_of, minute_of, second_of, second_of_day}
+use Rattle.cal_zone.specs.rules.Place.{settle_of}
+use Rattle.cal_civil.specs.rules.Weekday.{short_name_of, week}
+use Rattle.cal_zone.specs.rules.Zone.{local_shown_at, utc, zone_of}
+use Rattle.cal_zone.specs.rules.ZoneTable.{ZoneMap, zone_named}
 use Rattle.cal_zone.specs.declared.civil_fields.Civil.{Civil}
 use Rattle.cal_zone.specs.declared.zone.Zone.{Zone}
 use Rattle.cal_spec.proofs.WordsBetween.{words_only}
-use Rattle.cal_text.specs.headline.Separators.{is_colon, is_blank, words}
-use Rattle.cal_spec.specs.WordsOfText.{IsWord}
-use Rattle.cal_text.specs.TrimRule.{StartsSolid, IsTrimmed}
+use Rattle.cal_text.specs.rules.Separators.{is_colon, is_blank, words}
+use Rattle.cal_spec.specs.rules.WordsOfText.{IsWord}
+use Rattle.cal_text.specs.rules.TrimRule.{StartsSolid, IsTrimmed}
 use Rattle.cal_stamp.proofs.StampPrintedTexts.{IsClock, IsDayName, date_back, date_no_colon, date_solid, date_some, date_word, in_week, other_date_back, short_names, time_back, time_digit, time_solid, time_some, time_word, year_of}
 use Rattle.cal_zone.proofs.PlaceLemmas.{local_shown_at-UTC}
 use Rattle.cal_stamp.proofs.StampPrintedZones.{IsLastWord, last_byte, shown_last, shown_offset, shown_read, shown_unread, shown_word, utc_minutes}
 use Rattle.cal_stamp.proofs.StampRuleLemmas.{only}
-use Rattle.cal_text.specs.AndThen.{◌>>=◌}
-use Rattle.cal_zone.specs.headline.Moment.{micros_of}
-use Rattle.cal_zone.specs.Setting.{Setting}
-use Rattle.cal_stamp.specs.Stamp.{after_date, begins_with_digit, civil_time, fits_weekday, in_moments, moment_in, moment_of_form, moment_of_civil_stamp, settle_on, civil_stamp_in, zone_of_word}
-use Rattle.cal_stamp.specs.StampDate.{day_written}
-use Rattle.cal_stamp.specs.StampForm.{Form, civil, counted, earlier, later}
-use Rattle.cal_stamp.specs.StampPrinted.{ShowsMinutes, ShowsYear}
-use Rattle.cal_stamp.specs.StampRule.{FitsByEnd, FitsBySign, FitsByWords, HasForm, IsBehindSign, IsBeforeWord, IsRelativeDay}
-use Rattle.cal_stamp.specs.StampTime.{time_written}
-use Rattle.cal_stamp.specs.StampViews.{setting}
+use Rattle.cal_text.specs.rules.AndThen.{◌>>=◌}
+use Rattle.cal_zone.specs.rules.Setting.{Setting}
+use Rattle.cal_stamp.specs.computed.Stamp.{after_date, civil_time, fits_weekday, in_moments, moment_in, moment_of_form, moment_of_civil_stamp, settle_on, civil_stamp_in, zone_of_word}
+use Rattle.cal_stamp.specs.rules.StampTime.{begins_with_digit, time_written}
+use Rattle.cal_stamp.specs.rules.StampDate.{day_written}
+use Rattle.cal_stamp.specs.rules.StampRule.{Form, civil, counted, earlier, later, FitsByEnd, FitsBySign, FitsByWords, HasForm, IsBehindSign, IsBeforeWord, IsRelativeDay}
+use Rattle.cal_stamp.specs.rules.StampPrinted.{ShowsMinutes, ShowsYear}
+use Rattle.cal_stamp.specs.rules.StampViews.{setting}
 use Rattle.cal_stamp.specs.declared.fault.StampFault.TheVariants.{NoSuchDate, StrayWord}
 
 -- The form of a printed instant, which consists of a weekday, a date, a time and a zone. The names of definitions and

@@ -11,18 +11,17 @@ use Rattle.jiff.specs.Types.{Date, Weekday}
 use Rattle.jiff.specs.Words.{epoch_day, monday_zero, month_length, IsBetween, IsYear}
 use Rattle.jiff_core.proofs.CalendarLemmas.{days_in_month_bounds}
 use Rattle.jiff_core.specs.declared.civil.weekday.Weekday.TheVariants.{Monday, Sunday}
-use Rattle.cal_text.specs.headline.Separators.{is_point, is_colon, is_blank}
-use Rattle.cal_civil.specs.headline.OffsetText.{zeros}
-use Rattle.cal_civil.specs.headline.Weekday.{name_of, short_name_of, week}
-use Rattle.cal_civil.specs.headline.ZoneName.{begins_with_letter}
-use Rattle.cal_spec.specs.WeekdayNames.{day_named}
+use Rattle.cal_text.specs.rules.Separators.{is_point, is_colon, is_blank}
+use Rattle.cal_civil.specs.rules.OffsetText.{zeros}
+use Rattle.cal_civil.specs.rules.Weekday.{name_of, short_name_of, week}
+use Rattle.cal_civil.specs.rules.ZoneName.{begins_with_letter}
+use Rattle.cal_spec.specs.rules.WeekdayNames.{day_named}
 use Rattle.cal_text.proofs.General.{below_all, some_front, IsClear, Apart, clear_of, split_alone, split_at}
 use Rattle.cal_spec.proofs.ReadBackParts.{century_stays, number_printed, padded}
-use Rattle.cal_spec.specs.headline.GrammarRule.{IsNumber}
+use Rattle.cal_spec.specs.rules.GrammarRule.{IsNumber}
 use Rattle.cal_stamp.proofs.StampCivilRuleLemmas.{digit_first, digit_no_colon}
-use Rattle.cal_stamp.specs.Stamp.{begins_with_digit}
-use Rattle.cal_stamp.specs.StampDate.{date_numbers, date_of_pieces, day_due, day_of_date, day_written, digits_number, is_hyphen}
-use Rattle.cal_stamp.specs.StampTime.{clock_number, second_of_pieces, second_written, micros_due, time_numbers, time_of_pieces, time_written}
+use Rattle.cal_stamp.specs.rules.StampTime.{begins_with_digit, clock_number, second_of_pieces, second_written, micros_due, time_numbers, time_of_pieces, time_written}
+use Rattle.cal_stamp.specs.rules.StampDate.{date_numbers, date_of_pieces, day_due, day_of_date, day_written, digits_number, is_hyphen}
 use Rattle.cal_stamp.specs.declared.fault.StampFault.TheVariants.{NoSuchDate}
 use Rattle.cal_spec.proofs.SymbolLemmas.{digit_no_point}
 use Rattle.std.proofs.lemmas.List.Folds.{list_any-append}

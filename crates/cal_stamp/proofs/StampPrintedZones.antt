@@ -8,27 +8,27 @@ use Rattle.std.proofs.lemmas.List.Sums.{AllPass-from_list_all}
 use Rattle.jiff.proofs.SpanFacts.{signed_arith}
 use Rattle.jiff.specs.Types.{TimeZone, UTC}
 use Rattle.jiff.specs.Words.{nanos_of_seconds, offset_at, IsOffsetSeconds}
-use Rattle.cal_bytes.specs.headline.Bytes.{joined}
+use Rattle.cal_bytes.specs.rules.Bytes.{joined}
 use Rattle.cal_text.proofs.General.{list_all-both, clear_of, list_all-wider}
 use Rattle.cal_civil.proofs.OffsetWordLemmas.{offset-back, offset-found, two_printed, two}
 use Rattle.cal_zone.proofs.OffsetLemmas.{nearest}
 use Rattle.cal_zone.proofs.PlaceLemmas.{settle_of-UTC, settle_of-fixed_zone, local_shown_at-UTC}
 use Rattle.cal_zone.proofs.ZoneLemmas.{offset_at-in_range}
-use Rattle.cal_civil.specs.headline.OffsetText.{offset_text, sign_text, zeros}
-use Rattle.cal_zone.specs.headline.InstantText.{zone_word}
-use Rattle.cal_civil.specs.ReadOffset.{AreWholeMinutes, offset_in}
-use Rattle.cal_civil.specs.headline.OffsetWord.{IsOffsetWord}
-use Rattle.cal_zone.specs.headline.Place.{settle_of}
-use Rattle.cal_zone.specs.headline.Zone.{is_utc, is_utc_kind, local_shown_at, zone_of, zone_of_kind}
-use Rattle.cal_zone.specs.headline.FixedOffsetZone.{offset_of_seconds, fixed_offset_zone}
-use Rattle.cal_zone.specs.headline.ZoneTable.{ZoneMap, zone_named}
-use Rattle.cal_civil.specs.headline.ZoneName.{begins_with_letter, is_utc_name}
+use Rattle.cal_civil.specs.rules.OffsetText.{offset_text, sign_text, zeros}
+use Rattle.cal_zone.specs.rules.InstantText.{zone_word}
+use Rattle.cal_civil.specs.computed.ReadOffset.{AreWholeMinutes, offset_in}
+use Rattle.cal_civil.specs.rules.OffsetWord.{IsOffsetWord}
+use Rattle.cal_zone.specs.rules.Place.{settle_of}
+use Rattle.cal_zone.specs.rules.Zone.{is_utc, is_utc_kind, local_shown_at, zone_of, zone_of_kind}
+use Rattle.cal_zone.specs.rules.FixedOffsetZone.{offset_of_seconds, fixed_offset_zone}
+use Rattle.cal_zone.specs.rules.ZoneTable.{ZoneMap, zone_named}
+use Rattle.cal_civil.specs.rules.ZoneName.{begins_with_letter, is_utc_name}
 use Rattle.cal_zone.specs.declared.zone.Zone.{Zone}
 use Rattle.cal_zone.specs.declared.zone.ZoneKind.{ZoneKind}
 use Rattle.cal_zone.specs.declared.zone.ZoneKind.TheVariants.{Utc}
-use Rattle.cal_spec.specs.WordsOfText.{IsWord}
-use Rattle.cal_text.specs.headline.Separators.{is_blank}
-use Rattle.cal_stamp.specs.Stamp.{zone_of_word}
+use Rattle.cal_spec.specs.rules.WordsOfText.{IsWord}
+use Rattle.cal_text.specs.rules.Separators.{is_blank}
+use Rattle.cal_stamp.specs.computed.Stamp.{zone_of_word}
 use Rattle.cal_stamp.specs.declared.fault.StampFault.TheVariants.{StrayWord}
 
 abbrev pub last_byte : List ℕ → ℕ

@@ -8,22 +8,23 @@ use Rattle.jiff_core.proofs.CalendarLemmas.{days_from_civil-day_count}
 use Rattle.jiff_core.proofs.MarchLemmas.{day_count-late}
 use Rattle.jiff_core.specs.Calendar.{days_from_civil, weekday_number}
 use Rattle.cal_span.specs.declared.span.fault.SpanFault.TheVariants.{BadNumber, UnknownUnit, Empty as NoPair}
-use Rattle.cal_civil.specs.ReadOffset.{hour_minute_in, offset_in, two_digits}
-use Rattle.cal_zone.specs.headline.Place.{datetime_of, settle_of}
-use Rattle.cal_span.specs.UnitSpellings.{spellings_of}
-use Rattle.cal_span.specs.SpanValue.{span_of, pairs_in, words_in, worth_of, is_number, number_worth, unit_named}
-use Rattle.cal_civil.specs.headline.Weekday.{name_of}
-use Rattle.cal_zone.specs.headline.Zone.{local_shown_at}
-use Rattle.cal_zone.specs.headline.FixedOffsetZone.{offset_of_seconds, fixed_offset_zone}
-use Rattle.cal_civil.specs.headline.ZoneName.{is_utc_name}
-use Rattle.cal_spec.specs.WeekdayNames.{day_named}
-use Rattle.cal_text.specs.headline.Trim.{trim_matches, trim_end_matches, trim_start_matches}
-use Rattle.cal_text.specs.headline.Separators.{words}
-use Rattle.cal_zone.specs.Setting.{Setting}
-use Rattle.cal_stamp.specs.Stamp.{moment_in, in_moments, today, settle_on, moment_of_civil_stamp, zone_by_words}
-use Rattle.cal_stamp.specs.StampDate.{digits_number, date_numbers, day_of_date, day_written}
-use Rattle.cal_stamp.specs.StampForm.{form_of, form_by_end, day_shift}
-use Rattle.cal_stamp.specs.StampTime.{clock_number, fraction_in, second_written, time_numbers, time_written}
+use Rattle.cal_civil.specs.computed.ReadOffset.{hour_minute_in, offset_in, two_digits}
+use Rattle.cal_zone.specs.rules.Place.{datetime_of, settle_of}
+use Rattle.cal_span.specs.rules.UnitSpellings.{spellings_of}
+use Rattle.cal_span.specs.computed.SpanValue.{span_of, pairs_in, words_in}
+use Rattle.cal_span.specs.rules.PairValue.{worth_of, is_number, number_worth, unit_named}
+use Rattle.cal_civil.specs.rules.Weekday.{name_of}
+use Rattle.cal_zone.specs.rules.Zone.{local_shown_at}
+use Rattle.cal_zone.specs.rules.FixedOffsetZone.{offset_of_seconds, fixed_offset_zone}
+use Rattle.cal_civil.specs.rules.ZoneName.{is_utc_name}
+use Rattle.cal_spec.specs.rules.WeekdayNames.{day_named}
+use Rattle.cal_text.specs.rules.Trim.{trim_matches, trim_end_matches, trim_start_matches}
+use Rattle.cal_text.specs.rules.Separators.{words}
+use Rattle.cal_zone.specs.rules.Setting.{Setting}
+use Rattle.cal_stamp.specs.computed.Stamp.{moment_in, in_moments, today, settle_on, moment_of_civil_stamp, zone_by_words}
+use Rattle.cal_stamp.specs.rules.StampDate.{digits_number, date_numbers, day_of_date, day_written}
+use Rattle.cal_stamp.specs.computed.StampForm.{form_of, form_by_end, day_shift}
+use Rattle.cal_stamp.specs.rules.StampTime.{clock_number, fraction_in, second_written, time_numbers, time_written}
 use Rattle.cal_stamp.specs.declared.fault.StampFault.{StampFault}
 use Rattle.cal_stamp.specs.declared.fault.StampFault.TheVariants.{Empty, BadWeekday, BadDate, BadTime, NoSuchDate, WrongWeekday, BadSpan, NoSuchZone, StrayWord, OutOfRange}
 use Rattle.cal_zone.proofs.YearLemmas.{days_from_civil-1970}

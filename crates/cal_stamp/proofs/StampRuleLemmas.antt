@@ -11,10 +11,10 @@ use Rattle.std.proofs.lemmas.List.Sums.{AllPass-from_list_all, suffix_len_is, su
 use Rattle.std.proofs.lemmas.Slice.Eq.{bytes_eq-Decides}
 use Rattle.cal_text.proofs.TrimLemmas.{trim_is, trim_only}
 use Rattle.cal_text.proofs.WordLemmas.{is_solid, last_blank, no_blank}
-use Rattle.cal_text.specs.headline.Trim.{trim_matches}
-use Rattle.cal_text.specs.headline.Separators.{is_blank, words}
-use Rattle.cal_stamp.specs.StampForm.{Form, present, later, earlier, counted, from_today, civil, day_shift, form_of, form_by_end, form_of_solid, form_of_words, form_by_day, form_by_ago, form_by_left}
-use Rattle.cal_stamp.specs.StampRule.{IsNothing, IsPresent, IsBehindSign, IsBeforeWord, IsRelativeDay, IsCivilForm, OrElse, FitsByWords, FitsByEnd, FitsBySign, FitsFirst, HasForm}
+use Rattle.cal_text.specs.rules.Trim.{trim_matches}
+use Rattle.cal_text.specs.rules.Separators.{is_blank, words}
+use Rattle.cal_stamp.specs.rules.StampRule.{Form, present, later, earlier, counted, from_today, civil, IsNothing, IsPresent, IsBehindSign, IsBeforeWord, IsRelativeDay, IsCivilForm, OrElse, FitsByWords, FitsByEnd, FitsBySign, FitsFirst, HasForm}
+use Rattle.cal_stamp.specs.computed.StampForm.{day_shift, form_of, form_by_end, form_of_solid, form_of_words, form_by_day, form_by_ago, form_by_left}
 
 -- There is at most one form
 

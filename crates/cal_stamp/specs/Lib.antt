@@ -1,11 +1,2 @@
-pub mod Stamp
-pub mod StampCivilRule
-pub mod StampDate
-pub mod StampFault
-pub mod StampFaultRule
-pub mod StampForm
-pub mod StampMomentRule
-pub mod StampPrinted
-pub mod StampRule
-pub mod StampTime
-pub mod StampViews
+pub mod computed
+pub mod rules

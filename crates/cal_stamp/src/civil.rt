@@ -3,11 +3,12 @@
 ghost use Rattle.std.specs.Prelude.{◌≡◌, ◌≤◌, pos, neg_ℤ, IfOk, IfSome};
 ghost use Rattle.std.specs.List.{list_any};
 ghost use Rattle.jiff.specs.Words.{IsBetween};
-ghost use Rattle.cal_zone.specs.Setting.{setting_seen};
-ghost use Rattle.cal_text.specs.headline.Separators.{is_colon, words};
-ghost use Rattle.cal_stamp.specs.Stamp.{begins_with_digit, after_date, after_weekday, civil_time, fits_weekday, moment_of_civil_stamp, civil_stamp_in};
-ghost use Rattle.cal_stamp.specs.StampViews.{micros_or_fault, civil_stamp_seen, civil_stamp_or_fault};
-ghost use Rattle.cal_civil.specs.headline.Local.{last_day};
+ghost use Rattle.cal_zone.specs.rules.Setting.{setting_seen};
+ghost use Rattle.cal_text.specs.rules.Separators.{is_colon, words};
+ghost use Rattle.cal_stamp.specs.rules.StampTime.{begins_with_digit};
+ghost use Rattle.cal_stamp.specs.computed.Stamp.{after_date, after_weekday, civil_time, fits_weekday, moment_of_civil_stamp, civil_stamp_in};
+ghost use Rattle.cal_stamp.specs.rules.StampViews.{micros_or_fault, civil_stamp_seen, civil_stamp_or_fault};
+ghost use Rattle.cal_civil.specs.rules.LocalSecond.{last_day};
 
 use crate::StampFault;
 use crate::civil_stamp::CivilStamp;
@@ -112,7 +113,7 @@ fn begins_with_digit(word: &[u8]) -> bool
 /// Converts a civil time to a moment. If the civil time has no date, its day is the present day in its zone. Fails with
 /// `WrongWeekday` if a weekday is named and the day isn't this weekday, and otherwise with `OutOfRange` if the time is
 /// before the first moment or after the last.
-#[tactic(auto, unfolding(crate::specs::Stamp::moment_of_civil_stamp))]
+#[tactic(auto, unfolding(crate::specs::computed::Stamp::moment_of_civil_stamp))]
 pub(crate) fn moment_of_civil_stamp(now: Instant, stamp: CivilStamp) -> Result<Moment, StampFault>
     ensures { micros_or_fault result ≡ moment_of_civil_stamp now.secs (civil_stamp_seen stamp.entry) }
 {

@@ -2,8 +2,8 @@
 
 ghost use Rattle.std.specs.Prelude.{◌≡◌, ◌≤◌, pos, IfOk};
 ghost use Rattle.jiff.specs.Words.{IsBetween};
-ghost use Rattle.cal_stamp.specs.StampDate.{date_numbers, day_of_date, day_written, digits_number};
-ghost use Rattle.cal_civil.specs.headline.Local.{last_day};
+ghost use Rattle.cal_stamp.specs.rules.StampDate.{date_numbers, day_of_date, day_written, digits_number};
+ghost use Rattle.cal_civil.specs.rules.LocalSecond.{last_day};
 
 use crate::StampFault;
 use cal_civil::{FIRST_YEAR, LAST_YEAR};
@@ -25,7 +25,7 @@ struct DateNumbers {
 /// The year has one to four digits, the month and the day one or two (systemd.time(7), Parsing Timestamps). Fails with
 /// `BadDate` if `word` doesn't have this form. Years from 0 to 69 stand for 2000 to 2069, and years from 70 to 99 for
 /// 1970 to 1999. Fails with `NoSuchDate` if the date isn't a day from 1970-01-01 to 2199-12-31.
-#[tactic(auto, unfolding(crate::specs::StampDate::day_written))]
+#[tactic(auto, unfolding(crate::specs::rules::StampDate::day_written))]
 pub(crate) fn read_date(word: &[u8]) -> Result<i64, StampFault>
     ensures value { result ≡ day_written word.now }
     ensures range { IfOk result (IsBetween (pos 0) (pos last_day)) }
@@ -37,7 +37,7 @@ pub(crate) fn read_date(word: &[u8]) -> Result<i64, StampFault>
 }
 
 /// Parses the three numbers of a date. Returns `None` if `word` doesn't have the form of a date.
-#[tactic(auto, unfolding(crate::specs::StampDate::date_numbers))]
+#[tactic(auto, unfolding(crate::specs::rules::StampDate::date_numbers))]
 fn date_numbers(word: &[u8]) -> Option<DateNumbers>
     ensures { result ≡ date_numbers word.now }
 {
@@ -55,7 +55,7 @@ fn date_numbers(word: &[u8]) -> Option<DateNumbers>
 }
 
 /// Parses a number of 1 to `most` digits. Returns `None` if `word` is anything else.
-#[tactic(auto, unfolding(crate::specs::StampDate::digits_number))]
+#[tactic(auto, unfolding(crate::specs::rules::StampDate::digits_number))]
 pub(crate) fn read_number(word: &[u8], most: usize) -> Option<u16>
     requires { most ≤ 4 }
     ensures { result ≡ digits_number most word.now }
@@ -68,7 +68,7 @@ pub(crate) fn read_number(word: &[u8], most: usize) -> Option<u16>
 
 /// Returns the day number of a date, counted from 1970-01-01. Fails with `NoSuchDate` if the date isn't a day from
 /// 1970-01-01 to 2199-12-31.
-#[tactic(auto, unfolding(crate::specs::StampDate::day_of_date))]
+#[tactic(auto, unfolding(crate::specs::rules::StampDate::day_of_date))]
 fn day_of_date(year: u16, month: u16, day: u16) -> Result<i64, StampFault>
     ensures value { result ≡ day_of_date year month day }
     ensures range { IfOk result (IsBetween (pos 0) (pos last_day)) }

@@ -1,7 +1,7 @@
 //! The errors for timestamps.
 
 ghost use Rattle.std.specs.Prelude.{◌≡◌, ◌++◌, codes};
-ghost use Rattle.cal_span.specs.SpanFault.{message_of as span_message_of};
+ghost use Rattle.cal_span.specs.rules.SpanFault.{message_of as span_message_of};
 
 use cal_span::SpanFault;
 
@@ -51,7 +51,7 @@ pub enum StampFault {
 }
 
 impl StampFault {
-    ghost use Rattle.cal_stamp.specs.StampFault.{message_of};
+    ghost use Rattle.cal_stamp.specs.rules.StampFault.{message_of};
 
     /// Returns the message for users.
     pub fn words(&self) -> &str

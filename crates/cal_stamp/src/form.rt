@@ -2,8 +2,8 @@
 
 ghost use Rattle.std.specs.Prelude.{◌≡◌};
 ghost use Rattle.std.specs.Option.{option_map};
-ghost use Rattle.cal_stamp.specs.StampForm.{day_shift, form_by_end, form_of};
-ghost use Rattle.cal_stamp.specs.StampViews.{form_seen, shift_of};
+ghost use Rattle.cal_stamp.specs.computed.StampForm.{day_shift, form_by_end, form_of};
+ghost use Rattle.cal_stamp.specs.rules.StampViews.{form_seen, shift_of};
 
 use crate::text::{before_word, text_after_first};
 use cal_text::{first_word, trim_blanks};
@@ -36,7 +36,7 @@ pub(crate) enum Form<'a> {
 }
 
 /// Returns the first form that matches a timestamp (systemd.time(7), Parsing Timestamps).
-#[tactic(auto, unfolding(crate::specs::StampForm::form_of))]
+#[tactic(auto, unfolding(crate::specs::computed::StampForm::form_of))]
 pub(crate) fn form_of(text: &str) -> Form<'_>
     ensures { form_seen result ≡ form_of text.now }
 {
@@ -55,7 +55,7 @@ pub(crate) fn form_of(text: &str) -> Form<'_>
 
 /// Returns the form of a timestamp that has no leading or trailing blanks, is neither empty nor `now`, and doesn't
 /// begin with `+`, `-` or `@`.
-#[tactic(auto, unfolding(crate::specs::StampForm::form_by_end))]
+#[tactic(auto, unfolding(crate::specs::computed::StampForm::form_by_end))]
 fn form_by_end(text: &str) -> Form<'_>
     ensures { form_seen result ≡ form_by_end text.now }
 {
@@ -75,7 +75,7 @@ fn form_by_end(text: &str) -> Form<'_>
 }
 
 /// Parses `today`, `yesterday` or `tomorrow`. Returns `None` for anything else.
-#[tactic(auto, unfolding(crate::specs::StampForm::day_shift))]
+#[tactic(auto, unfolding(crate::specs::computed::StampForm::day_shift))]
 fn read_relative_day(word: &str) -> Option<RelativeDay>
     ensures { option_map shift_of result ≡ day_shift word.now }
 {

@@ -3,23 +3,22 @@
 
 ghost use Rattle.std.specs.Prelude.{◌≡◌, ◌++◌, ◌↔◌, ℕ, ℤ, pos, List, Ok, Err, codes, decimal};
 ghost use Rattle.jiff.specs.Types.{TimeZone};
-ghost use Rattle.cal_zone.specs.headline.Civil.{civil_of};
-ghost use Rattle.cal_zone.specs.Instant.{IsInstant, IsMoment};
-ghost use Rattle.cal_zone.specs.headline.InstantText.{instant_text};
-ghost use Rattle.cal_civil.specs.LocalSecond.{IsLocalSecond};
-ghost use Rattle.cal_zone.specs.headline.Zone.{utc, zone_of};
-ghost use Rattle.cal_zone.specs.headline.ZoneTable.{ZoneMap, zone_named};
+ghost use Rattle.cal_zone.specs.rules.Civil.{civil_of};
+ghost use Rattle.cal_zone.specs.rules.Instant.{IsInstant, IsMoment, micros_of};
+ghost use Rattle.cal_zone.specs.rules.InstantText.{instant_text};
+ghost use Rattle.cal_civil.specs.rules.LocalSecond.{IsLocalSecond};
+ghost use Rattle.cal_zone.specs.rules.Zone.{utc, zone_of};
+ghost use Rattle.cal_zone.specs.rules.ZoneTable.{ZoneMap, zone_named};
 ghost use Rattle.cal_zone.specs.declared.zone.Zone.{Zone};
-ghost use Rattle.cal_zone.specs.headline.Moment.{micros_of};
-ghost use Rattle.cal_zone.specs.Setting.{Setting};
-ghost use Rattle.cal_stamp.specs.Stamp.{CivilStamp, civil_time, moment_in};
-ghost use Rattle.cal_stamp.specs.StampCivilRule.{HasNoSuchDate, IsCivilTime};
-ghost use Rattle.cal_stamp.specs.StampFaultRule.{HasError};
-ghost use Rattle.cal_stamp.specs.StampForm.{Form, civil, counted, earlier, form_of, from_today, later};
-ghost use Rattle.cal_stamp.specs.StampMomentRule.{FallsOn, IsCivilMoment, IsDay, IsMidnight, LiesAfter, LiesBefore, MeansTime};
-ghost use Rattle.cal_stamp.specs.StampPrinted.{ShowsMinutes, ShowsYear};
-ghost use Rattle.cal_stamp.specs.StampRule.{HasForm};
-ghost use Rattle.cal_stamp.specs.StampViews.{setting};
+ghost use Rattle.cal_zone.specs.rules.Setting.{Setting};
+ghost use Rattle.cal_stamp.specs.rules.StampCivilRule.{CivilStamp, HasNoSuchDate, IsCivilTime};
+ghost use Rattle.cal_stamp.specs.computed.Stamp.{civil_time, moment_in};
+ghost use Rattle.cal_stamp.specs.rules.StampFaultRule.{HasError};
+ghost use Rattle.cal_stamp.specs.rules.StampRule.{Form, civil, counted, earlier, from_today, later, HasForm};
+ghost use Rattle.cal_stamp.specs.computed.StampForm.{form_of};
+ghost use Rattle.cal_stamp.specs.rules.StampMomentRule.{FallsOn, IsCivilMoment, IsDay, IsMidnight, LiesAfter, LiesBefore, MeansTime, ResolvesTo};
+ghost use Rattle.cal_stamp.specs.rules.StampPrinted.{ShowsMinutes, ShowsYear};
+ghost use Rattle.cal_stamp.specs.rules.StampViews.{setting};
 ghost use Rattle.cal_stamp.specs.declared.fault.StampFault.{StampFault};
 ghost use Rattle.cal_stamp.specs.declared.fault.StampFault.TheVariants.{NoSuchDate, OutOfRange, StrayWord, WrongWeekday};
 
@@ -86,6 +85,13 @@ pub fn weekdays_are_checked()
 pub fn first_error()
     ensures { (now : ℤ) (at : Setting) (text : List ℕ) (form : Form) (fault : StampFault) → HasForm text form
         → ((moment_in now at text ≡ Err fault) ↔ HasError now at form fault) }
+{}
+
+/// A text is a timestamp that resolves to a moment if and only if the rule of systemd.time(7), Parsing Timestamps, says
+/// so: the text's form stands for this moment, which is in the supported range. `read_stamp` returns this moment.
+pub fn one_moment()
+    ensures { (now : ℤ) (at : Setting) (text : List ℕ) (time : ℤ)
+        → (moment_in now at text ≡ Ok time) ↔ ResolvesTo now at text time }
 {}
 
 /// A timestamp (systemd.time(7), Parsing Timestamps) resolves to a time from the first moment to the last (0 to

@@ -3,12 +3,11 @@
 
 ghost use Rattle.std.specs.Prelude.{◌≡◌, ◌≤◌, ◌<◌, ◌+ℤ◌, ◌-ℤ◌, ◌*ℤ◌, pos, neg_ℤ, Ok};
 ghost use Rattle.jiff.specs.Words.{IsBetween};
-ghost use Rattle.cal_zone.specs.Instant.{IsInstant};
-ghost use Rattle.cal_zone.specs.headline.Zone.{local_shown_at, zone_of};
-ghost use Rattle.cal_zone.specs.headline.Moment.{micros_of, micros_per_second};
-ghost use Rattle.cal_stamp.specs.Stamp.{before_second, after_second, in_moments, settle_on, today};
-ghost use Rattle.cal_stamp.specs.StampViews.{shift_of, micros_or_fault};
-ghost use Rattle.cal_civil.specs.headline.Local.{max_offset, seconds_per_day};
+ghost use Rattle.cal_zone.specs.rules.Instant.{IsInstant, micros_of, micros_per_second};
+ghost use Rattle.cal_zone.specs.rules.Zone.{local_shown_at, zone_of};
+ghost use Rattle.cal_stamp.specs.computed.Stamp.{before_second, after_second, in_moments, settle_on, today};
+ghost use Rattle.cal_stamp.specs.rules.StampViews.{shift_of, micros_or_fault};
+ghost use Rattle.cal_civil.specs.rules.LocalSecond.{max_offset, seconds_per_day};
 
 use crate::StampFault;
 use crate::form::RelativeDay;
@@ -18,7 +17,7 @@ use cal_zone::{Instant, MICROS_PER_SECOND, Moment, Zone, civil, settle};
 
 /// Returns the moment at `micros` microseconds of Unix time. Fails with `OutOfRange` if `micros` is before the first
 /// moment or after the last.
-#[tactic(auto, unfolding(crate::specs::Stamp::in_moments))]
+#[tactic(auto, unfolding(crate::specs::computed::Stamp::in_moments))]
 pub(crate) fn moment_of(micros: i64) -> Result<Moment, StampFault>
     ensures { micros_or_fault result ≡ in_moments micros }
 {
@@ -53,7 +52,7 @@ pub(crate) fn before_second(second: i64, span: Span) -> Result<Moment, StampFaul
 }
 
 /// Returns the number of the day that the zone's clock shows at `now`, counted from 1970-01-01.
-#[tactic(auto, unfolding(crate::specs::Stamp::today))]
+#[tactic(auto, unfolding(crate::specs::computed::Stamp::today))]
 pub(crate) fn today(now: Instant, zone: Zone) -> i64
     ensures value { result ≡ today now.secs (zone_of zone.entry) }
     ensures range { IsBetween (neg_ℤ (pos 2)) (pos 84_008) result }
@@ -74,7 +73,7 @@ fn local_second(now: Instant, zone: Zone) -> i64
 ///
 /// A local time that the zone's clock skips is moved forward by the length of the gap. If the clock shows the local
 /// time twice, the first occurrence is used (systemd.time(7), Parsing Timestamps).
-#[tactic(auto, unfolding(crate::specs::Stamp::settle_on))]
+#[tactic(auto, unfolding(crate::specs::computed::Stamp::settle_on))]
 pub(crate) fn settle_on(zone: Zone, day: i64, micros: u64) -> Result<Moment, StampFault>
     requires day { IsBetween (neg_ℤ (pos 3)) (pos 84_009) day }
     requires micros { micros ≤ 90_000_000_000 }
@@ -103,7 +102,7 @@ fn with_micros(second: i64, micros: u64) -> i64
 }
 
 /// Returns the day number of yesterday, today or tomorrow on the zone's clock, counted from 1970-01-01.
-#[tactic(auto, unfolding(crate::specs::Stamp::today))]
+#[tactic(auto, unfolding(crate::specs::computed::Stamp::today))]
 pub(crate) fn relative_day_number(now: Instant, zone: Zone, day: RelativeDay) -> i64
     ensures value { result ≡ today now.secs (zone_of zone.entry) +ℤ shift_of day }
     ensures range { IsBetween (neg_ℤ (pos 3)) (pos 84_009) result }

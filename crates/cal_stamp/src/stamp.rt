@@ -1,11 +1,11 @@
 //! Parsing timestamps.
 
 ghost use Rattle.std.specs.Prelude.{◌≡◌};
-ghost use Rattle.cal_zone.specs.Setting.{setting_seen};
-ghost use Rattle.cal_zone.specs.headline.Zone.{zone_of};
-ghost use Rattle.cal_zone.specs.headline.ZoneTable.{zone_named};
-ghost use Rattle.cal_stamp.specs.Stamp.{moment_in};
-ghost use Rattle.cal_stamp.specs.StampViews.{setting, micros_or_fault};
+ghost use Rattle.cal_zone.specs.rules.Setting.{setting_seen};
+ghost use Rattle.cal_zone.specs.rules.Zone.{zone_of};
+ghost use Rattle.cal_zone.specs.rules.ZoneTable.{zone_named};
+ghost use Rattle.cal_stamp.specs.computed.Stamp.{moment_in};
+ghost use Rattle.cal_stamp.specs.rules.StampViews.{setting, micros_or_fault};
 
 use crate::StampFault;
 use crate::civil::{moment_of_civil_stamp, read_civil};
@@ -50,7 +50,7 @@ pub fn read_stamp(
 }
 
 /// Parses a timestamp as [`read_stamp`] does, with the present and the zones of a setting.
-#[tactic(auto, unfolding(crate::specs::Stamp::moment_in))]
+#[tactic(auto, unfolding(crate::specs::computed::Stamp::moment_in))]
 pub fn read_stamp_in(text: &str, setting: Setting<'_>) -> Result<Moment, StampFault>
     ensures { micros_or_fault result ≡ moment_in setting.entry.now.secs (setting_seen setting.entry) text.now }
 {

@@ -2,7 +2,7 @@
 
 ghost use Rattle.std.specs.Prelude.{◌≡◌, ◌<◌, drop, length, slice_index};
 ghost use Rattle.std.specs.Option.{option_copied};
-ghost use Rattle.cal_stamp.specs.StampForm.{before_word};
+ghost use Rattle.cal_stamp.specs.computed.StampForm.{before_word};
 
 use cal_text::last_word;
 

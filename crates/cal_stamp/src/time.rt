@@ -1,7 +1,7 @@
 //! Parsing the time of day of a timestamp.
 
 ghost use Rattle.std.specs.Prelude.{◌≡◌, ◌≤◌, IfSome, IfOk};
-ghost use Rattle.cal_stamp.specs.StampTime.{both, clock_number, fraction_in, second_written, time_by, time_numbers, time_written};
+ghost use Rattle.cal_stamp.specs.rules.StampTime.{both, clock_number, fraction_in, second_written, time_by, time_numbers, time_written};
 
 use crate::StampFault;
 use crate::date::read_number;
@@ -16,7 +16,7 @@ const KEPT_DIGITS: usize = 6;
 /// Parses a time of day and returns the microseconds after midnight. A time of day is `H:M`, `H:M:S`, or `H:M:S.`
 /// followed by one or more digits, of which the first six are used (systemd.time(7), Parsing Timestamps). H is from 0
 /// to 23, M and S are from 0 to 59, and each has one or two digits. Fails with `BadTime` for anything else.
-#[tactic(auto, unfolding(crate::specs::StampTime::time_written))]
+#[tactic(auto, unfolding(crate::specs::rules::StampTime::time_written))]
 pub(crate) fn read_time(word: &[u8]) -> Result<u64, StampFault>
     ensures value { result ≡ time_written word.now }
     ensures bound { IfOk result (λ micros. micros ≤ 90_000_000_000) }
@@ -25,7 +25,7 @@ pub(crate) fn read_time(word: &[u8]) -> Result<u64, StampFault>
 }
 
 /// Parses a time of day and returns the microseconds after midnight, or `None` if `word` is not a time.
-#[tactic(auto, unfolding(crate::specs::StampTime::time_numbers))]
+#[tactic(auto, unfolding(crate::specs::rules::StampTime::time_numbers))]
 fn time_numbers(word: &[u8]) -> Option<u64>
     ensures value { result ≡ time_numbers word.now }
     ensures bound { IfSome result (λ micros. micros ≤ 90_000_000_000) }
@@ -56,7 +56,7 @@ fn time_of(hour: &[u8], minute: &[u8], micros: Option<u64>) -> Option<u64>
 
 /// Parses the seconds of a time, which are either `S` alone or `S.` and one or more digits, and returns microseconds.
 /// Returns `None` for anything else.
-#[tactic(auto, unfolding(crate::specs::StampTime::second_written))]
+#[tactic(auto, unfolding(crate::specs::rules::StampTime::second_written))]
 fn read_second(word: &[u8]) -> Option<u64>
     ensures value { result ≡ second_written word.now }
     ensures bound { IfSome result (λ micros. micros ≤ 120_000_000) }
@@ -83,7 +83,7 @@ fn both(seconds: Option<u64>, micros: Option<u64>) -> Option<u64>
 }
 
 /// Parses a number of one or two digits that is at most `greatest`. Returns `None` for anything else.
-#[tactic(auto, unfolding(crate::specs::StampTime::clock_number))]
+#[tactic(auto, unfolding(crate::specs::rules::StampTime::clock_number))]
 fn clock_number(word: &[u8], greatest: u16) -> Option<u64>
     ensures value { result ≡ clock_number greatest word.now }
     ensures bound { IfSome result (λ number. number ≤ greatest) }
@@ -97,7 +97,7 @@ fn clock_number(word: &[u8], greatest: u16) -> Option<u64>
 
 /// Parses one or more digits of a fraction of a second and returns microseconds. Only the first six digits are used.
 /// Returns `None` for anything else.
-#[tactic(auto, unfolding(crate::specs::StampTime::fraction_in))]
+#[tactic(auto, unfolding(crate::specs::rules::StampTime::fraction_in))]
 fn read_fraction(digits: &[u8]) -> Option<u64>
     ensures value { result ≡ fraction_in digits.now }
     ensures bound { IfSome result (λ micros. micros ≤ 60_000_000) }

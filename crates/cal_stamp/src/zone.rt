@@ -1,12 +1,12 @@
 //! Parsing the zone of a timestamp.
 
 ghost use Rattle.std.specs.Prelude.{◌≡◌};
-ghost use Rattle.cal_zone.specs.Setting.{setting_seen};
-ghost use Rattle.cal_zone.specs.headline.Zone.{zone_of};
-ghost use Rattle.cal_zone.specs.headline.ZoneTable.{zone_named};
-ghost use Rattle.cal_text.specs.headline.Separators.{words};
-ghost use Rattle.cal_stamp.specs.Stamp.{zone_by_words, zone_of_word};
-ghost use Rattle.cal_stamp.specs.StampViews.{zone_or_fault};
+ghost use Rattle.cal_zone.specs.rules.Setting.{setting_seen};
+ghost use Rattle.cal_zone.specs.rules.Zone.{zone_of};
+ghost use Rattle.cal_zone.specs.rules.ZoneTable.{zone_named};
+ghost use Rattle.cal_text.specs.rules.Separators.{words};
+ghost use Rattle.cal_stamp.specs.computed.Stamp.{zone_by_words, zone_of_word};
+ghost use Rattle.cal_stamp.specs.rules.StampViews.{zone_or_fault};
 
 use crate::StampFault;
 use cal_civil::{begins_with_letter, read_offset};

@@ -1,6 +1,6 @@
 //! Buffered output.
 
-ghost use Rattle.cal_streams.specs.Output.{Flushes};
+ghost use Rattle.cal_streams.specs.rules.Output.{Flushes};
 ghost use Rattle.std.specs.Io.Buffered.{writer_inner};
 ghost use Rattle.std.specs.Prelude.{◌≡◌, ℕ, List, Option, None, not, true};
 

@@ -1,7 +1,7 @@
 //! Reading a source to its end.
 
 ghost use Rattle.std.specs.Prelude.{◌≡◌, false, MatchResult};
-ghost use Rattle.cal_streams.specs.Whole.{is_read_failed, GivesAll, IsWholeFault};
+ghost use Rattle.cal_streams.specs.rules.Whole.{is_read_failed, GivesAll, IsWholeFault};
 
 use cal_bytes::Source;
 use std::alloc::Global;

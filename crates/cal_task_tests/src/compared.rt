@@ -2,7 +2,7 @@
 
 ghost use Rattle.std.specs.List.Sorted.{IsStrictlySortedBy};
 ghost use Rattle.std.specs.Ordering.{int_cmp};
-ghost use Rattle.cal_plan.specs.Instants.{AreInstants};
+ghost use Rattle.cal_plan.specs.rules.Instants.{AreInstants};
 
 use crate::shared::{NOON, are_elapses, berlin, ensure, instant, is_instant, timer};
 use cal_compare::{CompareFault, base_before, between, first_difference, first_only, next_of_all};

@@ -3,14 +3,14 @@ use Rattle.std.proofs.Common.{◌≡◌, ℕ, ◌+◌, ◌<◌, ◌++◌, Bool, 
 use Rattle.std.specs.Prelude.{filter}
 use Rattle.std.proofs.lemmas.List.{map-append}
 use Rattle.std.proofs.lemmas.List.Elements.{filter-append}
-use Rattle.cal_spec.specs.headline.Fields.{Fields}
-use Rattle.cal_timer.specs.TimerEntries.{TimerLine, Timer}
-use Rattle.cal_timer.specs.TimerView.{shown}
+use Rattle.cal_spec.specs.rules.Fields.{Fields}
+use Rattle.cal_timer.specs.rules.TimerEntries.{TimerLine, Timer}
+use Rattle.cal_timer.specs.rules.TimerView.{shown}
 use Rattle.cal_timer.specs.declared.timer.TimerLine as declared_line
-use Rattle.cal_zone.specs.Setting.{Setting}
+use Rattle.cal_zone.specs.rules.Setting.{Setting}
 use Rattle.cal_plan.proofs.PlanLemmas.{all_zoned, shown_more}
-use Rattle.cal_plan.specs.ZoneFor.{first_unzoned, unzoned}
-use Rattle.cal_tasks.specs.IdleLines.{idle_as, idle_line, idle_lines}
+use Rattle.cal_plan.specs.rules.ZoneFor.{first_unzoned, unzoned}
+use Rattle.cal_tasks.specs.rules.IdleLines.{idle_as, idle_line, idle_lines}
 use Rattle.cal_tasks.specs.declared.idle.IdleKind.{IdleKind}
 use Rattle.cal_tasks.specs.declared.idle.IdleLine.{IdleLine}
 

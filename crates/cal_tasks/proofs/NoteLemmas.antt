@@ -4,14 +4,14 @@ use Rattle.std.specs.List.{All, Contains}
 use Rattle.std.proofs.lemmas.List.{append-nil, get_or-map, length-map}
 use Rattle.std.proofs.lemmas.List.Elements.{All-append, All-nil, All-push, All-same, All-weaker}
 use Rattle.jiff.specs.Types.{TimeZone}
-use Rattle.cal_spec.specs.headline.Fields.{Fields}
-use Rattle.cal_timer.specs.TimerView.{shown}
+use Rattle.cal_spec.specs.rules.Fields.{Fields}
+use Rattle.cal_timer.specs.rules.TimerView.{shown}
 use Rattle.cal_timer.specs.declared.timer.TimerLine as declared_line
-use Rattle.cal_zone.specs.Setting.{Setting}
-use Rattle.cal_plan.specs.ZoneFor.{zone_for}
-use Rattle.cal_zone.specs.headline.Place.{place_of}
-use Rattle.cal_zone.specs.headline.Zone.{local_shown_at}
-use Rattle.cal_tasks.specs.ClockNotes.{AddsNotesOf, IsNoteAmong, IsNoteOf, IsRepeated}
+use Rattle.cal_zone.specs.rules.Setting.{Setting}
+use Rattle.cal_plan.specs.rules.ZoneFor.{zone_for}
+use Rattle.cal_zone.specs.rules.Place.{place_of}
+use Rattle.cal_zone.specs.rules.Zone.{local_shown_at}
+use Rattle.cal_tasks.specs.rules.ClockNotes.{AddsNotesOf, IsNoteAmong, IsNoteOf, IsRepeated}
 use Rattle.cal_tasks.specs.declared.clock_note.ClockNote.{ClockNote}
 
 pub no_notes : (tz : TimeZone) (fields : Fields) (old : List ClockNote) → AddsNotesOf tz fields old old

@@ -1,4 +1,1 @@
-pub mod ClockNotes
-pub mod IdleLines
-pub mod LoadedElapses
-pub mod When
+pub mod rules

@@ -1,10 +1,10 @@
 //! The elapses of one timer (systemd.timer(5), OnCalendar=).
 
 ghost use Rattle.std.specs.Prelude.{◌≡◌, ◌≢◌, None, IfOk, MatchResult, map, take};
-ghost use Rattle.cal_zone.specs.Setting.{setting_seen};
-ghost use Rattle.cal_plan.specs.ZoneFor.{IsUnzoned};
+ghost use Rattle.cal_zone.specs.rules.Setting.{setting_seen};
+ghost use Rattle.cal_plan.specs.rules.ZoneFor.{IsUnzoned};
 ghost use Rattle.cal_plan.specs.declared.plan_fault.PlanFault.TheVariants.{NoMemory};
-ghost use Rattle.cal_tasks.specs.LoadedElapses.{elapses_in, setting_for, unzoned_line};
+ghost use Rattle.cal_tasks.specs.rules.LoadedElapses.{elapses_in, setting_for, unzoned_line};
 
 use crate::clocked::Clocked;
 use cal_elapse::Elapses;

@@ -5,14 +5,14 @@ ghost use Rattle.std.specs.Prelude.{◌≡◌, ◌≢◌, ◌++◌, [], ◌∷�
 ghost use Rattle.std.specs.List.{list_any};
 ghost use Rattle.std.specs.Ordering.{int_eq};
 ghost use Rattle.std.specs.Set.{is_member};
-ghost use Rattle.cal_zone.specs.Setting.{setting_seen};
-ghost use Rattle.cal_elapse.specs.RemainingElapses.{remaining_elapses};
-ghost use Rattle.cal_timer.specs.TimerView.{shown};
-ghost use Rattle.cal_plan.specs.ZoneFor.{IsUnzoned, first_unzoned, lacks_zone};
-ghost use Rattle.cal_plan.specs.TimerElapses.{lists_shown};
+ghost use Rattle.cal_zone.specs.rules.Setting.{setting_seen};
+ghost use Rattle.cal_elapse.specs.computed.RemainingElapses.{remaining_elapses};
+ghost use Rattle.cal_timer.specs.rules.TimerView.{shown};
+ghost use Rattle.cal_plan.specs.rules.ZoneFor.{IsUnzoned, first_unzoned, lacks_zone};
+ghost use Rattle.cal_plan.specs.rules.TimerElapses.{lists_shown};
 ghost use Rattle.cal_plan.specs.declared.plan_fault.PlanFault.TheVariants.{NoMemory};
-ghost use Rattle.cal_tasks.specs.IdleLines.{elapses_of_line, idle_as, idle_lines, never_elapses, next_elapses, suppresses_nothing};
-ghost use Rattle.cal_tasks.specs.LoadedElapses.{lists_of_loaded, setting_for, unzoned_line};
+ghost use Rattle.cal_tasks.specs.rules.IdleLines.{elapses_of_line, idle_as, idle_lines, never_elapses, next_elapses, suppresses_nothing};
+ghost use Rattle.cal_tasks.specs.rules.LoadedElapses.{lists_of_loaded, setting_for, unzoned_line};
 
 use crate::clocked::Clocked;
 use crate::elapses::{elapses_in, setting_for, take_first};
@@ -203,7 +203,7 @@ fn has_any(elapses: &mut Elapses<'_>, instants: &[Instant]) -> bool
 
 /// Creates the iterator over all instants after the present at which the expression on `line` elapses. The zone of the
 /// expression must be known.
-#[tactic(auto, unfolding(cal_plan::specs::TimerElapses::timed_entry))]
+#[tactic(auto, unfolding(cal_plan::specs::rules::TimerElapses::timed_entry))]
 fn elapses_of_line<'a>(
     alloc: Global,
     setting: Setting<'a>,

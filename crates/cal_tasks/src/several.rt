@@ -4,11 +4,11 @@
 ghost use Rattle.std.specs.Prelude.{◌≡◌, ◌≢◌, ◌-ℤ◌, pos, IfErr, IfOk, MatchResult, IsPermutation, IsSorted, map, option_map};
 ghost use Rattle.std.specs.Int.{int_max};
 ghost use Rattle.std.specs.Option.{option_or};
-ghost use Rattle.cal_compare.specs.Difference.{IsDifference, first_only_in};
-ghost use Rattle.cal_compare.specs.SeveralTimers.{by_instant, elapse_seen, ended, next_of_each, range_of_each};
-ghost use Rattle.cal_plan.specs.ZoneFor.{IsUnzoned};
+ghost use Rattle.cal_compare.specs.rules.Difference.{IsDifference, first_only_in};
+ghost use Rattle.cal_compare.specs.rules.SeveralTimers.{by_instant, elapse_seen, ended, next_of_each, range_of_each};
+ghost use Rattle.cal_plan.specs.rules.ZoneFor.{IsUnzoned};
 ghost use Rattle.cal_plan.specs.declared.plan_fault.PlanFault.TheVariants.{NoMemory};
-ghost use Rattle.cal_tasks.specs.LoadedElapses.{elapses_in, first_unzoned_line, unzoned_line};
+ghost use Rattle.cal_tasks.specs.rules.LoadedElapses.{elapses_in, first_unzoned_line, unzoned_line};
 
 use crate::clocked::Clocked;
 use crate::elapses::elapses_in;

@@ -2,8 +2,8 @@
 
 ghost use Rattle.std.specs.Prelude.{◌≡◌, pos, neg_ℤ};
 ghost use Rattle.jiff.specs.Words.{IsBetween};
-ghost use Rattle.cal_civil.specs.headline.Local.{max_offset};
-ghost use Rattle.cal_zone.specs.headline.Zone.{local_shown_at, zone_of};
+ghost use Rattle.cal_civil.specs.rules.LocalSecond.{max_offset};
+ghost use Rattle.cal_zone.specs.rules.Zone.{local_shown_at, zone_of};
 
 use cal_zone::{Instant, Zone, civil};
 

@@ -1,16 +1,15 @@
 //! The search for local times that a clock change skips or repeats (systemd.time(7), Calendar Events).
 
 ghost use Rattle.std.specs.Prelude.{◌≡◌, ◌≤◌, ◌≤ℤ◌, pos, IfOk, IfSome, OnOk, Some, length, map, true};
-ghost use Rattle.cal_civil.specs.headline.Local.{seconds_in_all};
+ghost use Rattle.cal_civil.specs.rules.LocalSecond.{seconds_in_all, IsLocalSecond};
 ghost use Rattle.std.specs.List.{All};
-ghost use Rattle.cal_civil.specs.LocalSecond.{IsLocalSecond};
-ghost use Rattle.cal_elapse.specs.Masks.{sets_in};
-ghost use Rattle.cal_timer.specs.TimerView.{shown};
-ghost use Rattle.cal_zone.specs.Setting.{setting_seen};
-ghost use Rattle.cal_zone.specs.headline.Place.{place_of};
-ghost use Rattle.cal_zone.specs.headline.Zone.{zone_of};
-ghost use Rattle.cal_tasks.specs.ClockNotes.{AddsNotesOf, IsChange, IsMatch, IsNoteAmong, IsRepeated, max_notes};
-ghost use Rattle.cal_tasks.specs.LoadedElapses.{lists_of_loaded, setting_for};
+ghost use Rattle.cal_elapse.specs.computed.Masks.{sets_in};
+ghost use Rattle.cal_timer.specs.rules.TimerView.{shown};
+ghost use Rattle.cal_zone.specs.rules.Setting.{setting_seen};
+ghost use Rattle.cal_zone.specs.rules.Place.{place_of};
+ghost use Rattle.cal_zone.specs.rules.Zone.{zone_of};
+ghost use Rattle.cal_tasks.specs.rules.ClockNotes.{AddsNotesOf, IsChange, IsMatch, IsNoteAmong, IsRepeated, max_notes};
+ghost use Rattle.cal_tasks.specs.rules.LoadedElapses.{lists_of_loaded, setting_for};
 
 use crate::clock_note::{ClockChange, ClockNote};
 use crate::clocked::Clocked;

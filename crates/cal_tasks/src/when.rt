@@ -1,10 +1,10 @@
 //! Parsing of the two instants between which the verb `between` lists elapses.
 
 ghost use Rattle.std.specs.Prelude.{◌≡◌, IfOk, option_map};
-ghost use Rattle.cal_zone.specs.Setting.{setting_seen};
-ghost use Rattle.cal_spec.specs.WeekdayNames.{leading_letters};
-ghost use Rattle.cal_text.specs.headline.Separators.{words};
-ghost use Rattle.cal_tasks.specs.When.{IsUnlessNoMemory, begin_with_weekday, fields_unless_dated, first_elapse, first_if_some, is_dated, next_weekday_time, setting_without_names, weekday_time_in, when_in};
+ghost use Rattle.cal_zone.specs.rules.Setting.{setting_seen};
+ghost use Rattle.cal_spec.specs.rules.WeekdayNames.{leading_letters};
+ghost use Rattle.cal_text.specs.rules.Separators.{words};
+ghost use Rattle.cal_tasks.specs.rules.When.{IsUnlessNoMemory, begin_with_weekday, fields_unless_dated, first_elapse, first_if_some, is_dated, next_weekday_time, setting_without_names, weekday_time_in, when_in};
 
 use crate::clocked::Clocked;
 use cal_elapse::Elapses;

@@ -4,8 +4,8 @@ use Rattle.std.specs.List.{AllByRecursion, suffix_len}
 use Rattle.std.proofs.Math.Numerals.{one-add}
 use Rattle.std.proofs.lemmas.List.{reverse-append, reverse-reverse, length-reverse, take-append-drop}
 use Rattle.std.proofs.lemmas.List.Sums.{suffix_len-le-length}
-use Rattle.cal_text.specs.TrimRule.{StartsSolid, IsTrimmed, IsUnindented}
-use Rattle.cal_text.specs.headline.Trim.{trim_matches, trim_end_matches, trim_start_matches}
+use Rattle.cal_text.specs.rules.TrimRule.{StartsSolid, IsTrimmed, IsUnindented}
+use Rattle.cal_text.specs.rules.Trim.{trim_matches, trim_end_matches, trim_start_matches}
 use Rattle.cal_text.proofs.General.{all_append, all_reverse}
 use Rattle.std.proofs.Math.Seq.{take-append_seam}
 

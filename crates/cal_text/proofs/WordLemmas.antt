@@ -9,8 +9,8 @@ use Rattle.std.proofs.lemmas.List.Folds.{list_any_at, list_any_none}
 use Rattle.std.proofs.lemmas.List.Sums.{prefix_len_passes, prefix_len_stops, prefix_len-le-length}
 use Rattle.std.proofs.lemmas.List.Splits.{slice_split_first, slice_split_none}
 use Rattle.std.proofs.lemmas.Str.{IsCharBoundary-end, IsCharBoundary-before_ascii, IsCharBoundary-after_ascii}
-use Rattle.cal_text.specs.headline.Separators.{is_blank, words}
-use Rattle.cal_text.specs.headline.Trim.{trim_start_matches}
+use Rattle.cal_text.specs.rules.Separators.{is_blank, words}
+use Rattle.cal_text.specs.rules.Trim.{trim_start_matches}
 use Rattle.cal_text.proofs.General.{boundary_at, in_suffix}
 use Rattle.std.specs.Prelude.{reverse}
 

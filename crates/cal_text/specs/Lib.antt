@@ -1,3 +1,1 @@
-pub mod AndThen
-pub mod TrimRule
-pub mod headline
+pub mod rules

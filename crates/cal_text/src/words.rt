@@ -3,8 +3,8 @@
 
 ghost use Rattle.std.specs.Prelude.{◌≡◌, ◌≤◌, ◌∷◌, [], MatchOption, false, length, not, true};
 ghost use Rattle.std.specs.List.{after_last, before_last, list_any, prefix_len, suffix_len, position_or_len};
-ghost use Rattle.cal_text.specs.headline.Trim.{trim_matches, trim_end_matches, trim_start_matches};
-ghost use Rattle.cal_text.specs.headline.Separators.{is_blank, words};
+ghost use Rattle.cal_text.specs.rules.Trim.{trim_matches, trim_end_matches, trim_start_matches};
+ghost use Rattle.cal_text.specs.rules.Separators.{is_blank, words};
 
 /// Returns the first word of `text` and everything after it, or `None` if `text` is empty or has only blanks.
 pub fn first_word(text: &str) -> Option<(&str, &str)>
@@ -19,14 +19,14 @@ pub fn first_word(text: &str) -> Option<(&str, &str)>
 }
 
 /// Returns `text` without leading and trailing blanks.
-#[tactic(auto, unfolding(crate::specs::headline::Trim::trim_matches))]
+#[tactic(auto, unfolding(crate::specs::rules::Trim::trim_matches))]
 pub fn trim_blanks(text: &str) -> &str
     ensures { result.now ≡ trim_matches is_blank text.now }
 {
     trim_blanks_end(trim_blanks_start(text))
 }
 
-#[tactic(auto, unfolding(crate::specs::headline::Trim::trim_start_matches))]
+#[tactic(auto, unfolding(crate::specs::rules::Trim::trim_start_matches))]
 fn trim_blanks_start(text: &str) -> &str
     ensures { result.now ≡ trim_start_matches is_blank text.now }
 {
@@ -34,7 +34,7 @@ fn trim_blanks_start(text: &str) -> &str
 }
 
 /// Returns `text` without trailing blanks.
-#[tactic(auto, unfolding(crate::specs::headline::Trim::trim_end_matches))]
+#[tactic(auto, unfolding(crate::specs::rules::Trim::trim_end_matches))]
 pub fn trim_blanks_end(text: &str) -> &str
     ensures { result.now ≡ trim_end_matches is_blank text.now }
 {

@@ -1,5 +1,1 @@
-pub mod TimerEntries
-pub mod TimerFault
-pub mod TimerRule
-pub mod TimerView
-pub mod headline
+pub mod rules

@@ -6,10 +6,10 @@ ghost use Rattle.std.specs.Prelude.{◌≡◌, MatchOption, map, true, false};
 ghost use Rattle.std.specs.List.{list_any};
 ghost use Rattle.std.specs.Option.{option_map};
 ghost use Rattle.std.specs.Str.{bytes_eq};
-ghost use Rattle.cal_timer.specs.headline.Assignments.{assignment_of, is_header, section_of};
-ghost use Rattle.cal_lines.specs.LineView.{line_at};
-ghost use Rattle.cal_timer.specs.TimerView.{shown_assignment};
-ghost use Rattle.cal_timer.specs.headline.TimerText.{is_exception, is_exception_reset, is_expression, is_reset};
+ghost use Rattle.cal_timer.specs.rules.Assignments.{assignment_of, is_header, section_of};
+ghost use Rattle.cal_lines.specs.rules.LineView.{line_at};
+ghost use Rattle.cal_timer.specs.rules.TimerView.{shown_assignment};
+ghost use Rattle.cal_timer.specs.rules.TimerText.{is_exception, is_exception_reset, is_expression, is_reset};
 
 use cal_bytes::is_among;
 use cal_lines::trim;
@@ -43,7 +43,7 @@ pub struct Assignment<'t> {
 impl Assignment<'_> {
     /// Returns whether the assignment clears the list of expressions: its value is empty, and its key is `OnCalendar`,
     /// `OnActiveSec`, `OnBootSec`, `OnStartupSec`, `OnUnitActiveSec` or `OnUnitInactiveSec`.
-    #[tactic(auto, unfolding(crate::specs::headline::TimerText::is_reset))]
+    #[tactic(auto, unfolding(crate::specs::rules::TimerText::is_reset))]
     pub fn is_reset(self) -> bool
         ensures { result ≡ is_reset (shown_assignment self.entry) }
     {
@@ -51,7 +51,7 @@ impl Assignment<'_> {
     }
 
     /// Returns whether the assignment is an expression: `OnCalendar` with a value.
-    #[tactic(auto, unfolding(crate::specs::headline::TimerText::is_expression))]
+    #[tactic(auto, unfolding(crate::specs::rules::TimerText::is_expression))]
     pub fn is_expression(self) -> bool
         ensures { result ≡ is_expression (shown_assignment self.entry) }
     {
@@ -59,7 +59,7 @@ impl Assignment<'_> {
     }
 
     /// Returns whether the assignment clears the list of exceptions: `X-ExceptOnCalendar` with an empty value.
-    #[tactic(auto, unfolding(crate::specs::headline::TimerText::is_exception_reset))]
+    #[tactic(auto, unfolding(crate::specs::rules::TimerText::is_exception_reset))]
     pub fn is_exception_reset(self) -> bool
         ensures { result ≡ is_exception_reset (shown_assignment self.entry) }
     {
@@ -67,7 +67,7 @@ impl Assignment<'_> {
     }
 
     /// Returns whether the assignment is an exception: `X-ExceptOnCalendar` with a value.
-    #[tactic(auto, unfolding(crate::specs::headline::TimerText::is_exception))]
+    #[tactic(auto, unfolding(crate::specs::rules::TimerText::is_exception))]
     pub fn is_exception(self) -> bool
         ensures { result ≡ is_exception (shown_assignment self.entry) }
     {
@@ -89,7 +89,7 @@ pub fn section(line: &str) -> Option<&[u8]>
 
 /// Parses the line with this number as an assignment: the key is before the first `=`, and the value is after it.
 /// Returns `None` if the line has no `=`.
-#[tactic(auto, unfolding(crate::specs::headline::Assignments::assignment_of))]
+#[tactic(auto, unfolding(crate::specs::rules::Assignments::assignment_of))]
 pub fn read_assignment(number: u32, line: &str) -> Option<Assignment<'_>>
     ensures { option_map shown_assignment result ≡ assignment_of (line_at number line.now) }
 {

@@ -43,7 +43,7 @@ pub enum TimerFault {
 }
 
 impl TimerFault {
-    ghost use Rattle.cal_timer.specs.TimerFault.{line_of, message_of};
+    ghost use Rattle.cal_timer.specs.rules.TimerFault.{line_of, message_of};
 
     /// Returns the message for users. For [`TimerFault::BadLine`], this is the message of the [`SpecFault`]; for
     /// [`TimerFault::NoMemory`], it is empty.

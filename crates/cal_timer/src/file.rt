@@ -3,11 +3,11 @@
 
 ghost use Rattle.std.specs.Prelude.{◌≡◌, ◌≢◌, ◌+◌, ◌≤◌, ◌↔◌, ◌==◌, ℕ, List, Ok, Err, Result, MatchResult, IsTrue, false, length, count_by};
 ghost use Rattle.std.specs.Result.{IsErrOf};
-ghost use Rattle.cal_streams.specs.Whole.{is_read_failed};
+ghost use Rattle.cal_streams.specs.rules.Whole.{is_read_failed};
 ghost use Rattle.cal_streams.specs.declared.whole.WholeFault.{WholeFault};
-ghost use Rattle.cal_spec.specs.Expr.{expr_in};
-ghost use Rattle.cal_timer.specs.TimerEntries.{timer_file_limit, timer_in, timer_of, timer_text, ReadsWhole};
-ghost use Rattle.cal_timer.specs.headline.TimerText.{without_mark};
+ghost use Rattle.cal_spec.specs.computed.Expr.{expr_in};
+ghost use Rattle.cal_timer.specs.rules.TimerEntries.{timer_file_limit, timer_in, timer_of, timer_text, ReadsWhole};
+ghost use Rattle.cal_timer.specs.rules.TimerText.{without_mark};
 
 use crate::{Timer, TimerFault, TimerLists};
 use cal_bytes::Source;
@@ -48,7 +48,7 @@ pub fn read_timer<R: Source>(alloc: Global, input: &mut R) -> Result<Timer, Time
 }
 
 /// Parses a timer file from its bytes.
-#[tactic(auto, unfolding(crate::specs::TimerEntries::timer_in, crate::specs::TimerEntries::broken_line))]
+#[tactic(auto, unfolding(crate::specs::rules::TimerEntries::timer_in, crate::specs::rules::TimerEntries::broken_line))]
 fn read_bytes(alloc: Global, bytes: &[u8]) -> Result<Timer, TimerFault>
     requires { length bytes.now ≤ timer_file_limit }
     ensures { MatchResult result
@@ -70,7 +70,7 @@ fn line_after(bytes: &[u8]) -> u32
 }
 
 /// Parses a timer file from its text.
-#[tactic(auto, using(crate::proofs::ListedLemmas::lists_from_entries, crate::proofs::ListedLemmas::lists_from_fault), unfolding(crate::specs::TimerEntries::timer_of))]
+#[tactic(auto, using(crate::proofs::ListedLemmas::lists_from_entries, crate::proofs::ListedLemmas::lists_from_fault), unfolding(crate::specs::rules::TimerEntries::timer_of))]
 fn read_utf8(alloc: Global, text: &str) -> Result<Timer, TimerFault>
     requires { length text.now ≤ timer_file_limit }
     ensures { MatchResult result
@@ -83,7 +83,7 @@ fn read_utf8(alloc: Global, text: &str) -> Result<Timer, TimerFault>
 }
 
 /// Removes a byte order mark from the start of the text, if there is one.
-#[tactic(auto, unfolding(crate::specs::headline::TimerText::without_mark))]
+#[tactic(auto, unfolding(crate::specs::rules::TimerText::without_mark))]
 pub fn without_mark(text: &str) -> &str
     ensures mark { result.now ≡ without_mark text.now }
     ensures shorter { length result.now ≤ length text.now }

@@ -5,15 +5,15 @@
 ghost use Rattle.std.specs.Prelude.{◌≡◌, ◌∷◌, ◌++◌, [], ℕ, Bool, List, Ok, Result, codes, false, filter, true, if◌then◌else◌};
 ghost use Rattle.std.specs.List.{list_any};
 ghost use Rattle.std.specs.Str.{bytes_eq};
-ghost use Rattle.cal_spec.specs.headline.Fields.{Fields};
+ghost use Rattle.cal_spec.specs.rules.Fields.{Fields};
 ghost use Rattle.cal_spec.specs.declared.spec_fault.SpecFault.{SpecFault};
-ghost use Rattle.cal_timer.specs.headline.Assignments.{Assignment, is_header, section_of, timer_lines};
-ghost use Rattle.cal_lines.specs.headline.Lines.{Line};
-ghost use Rattle.cal_timer.specs.TimerRule.{JudgesTimer};
+ghost use Rattle.cal_timer.specs.rules.Assignments.{Assignment, is_header, section_of, timer_lines};
+ghost use Rattle.cal_lines.specs.rules.Lines.{Line};
+ghost use Rattle.cal_timer.specs.rules.TimerRule.{JudgesTimer};
 ghost use Rattle.cal_timer.specs.declared.fault.TimerFault.{TimerFault};
-ghost use Rattle.cal_timer.specs.TimerEntries.{Timer, lists_of};
-ghost use Rattle.cal_timer.specs.TimerView.{entries_or_fault, resumed};
-ghost use Rattle.cal_timer.specs.headline.TimerText.{excepted, is_exception, is_exception_reset, is_expression, is_reset, listed};
+ghost use Rattle.cal_timer.specs.rules.TimerEntries.{Timer, lists_of};
+ghost use Rattle.cal_timer.specs.rules.TimerView.{entries_or_fault, resumed};
+ghost use Rattle.cal_timer.specs.rules.TimerText.{excepted, is_exception, is_exception_reset, is_expression, is_reset, listed};
 
 /// A line belongs to the section `Timer` if the last header before the line opens this section. Lines before the first
 /// header belong to the section if the argument `inside` of `timer_lines` is `true`. A header itself belongs to no

@@ -2,13 +2,13 @@
 //! exception is an expression after `X-ExceptOnCalendar=`; when it elapses, the timer doesn't.
 
 ghost use Rattle.std.specs.Prelude.{◌≡◌, ◌≢◌, ◌+◌, ◌<◌, ◌^◌, ◌∷◌, List, Some, Ok, Err, IfErr, MatchResult, false, length, map};
-ghost use Rattle.cal_spec.specs.Expr.{expr_in};
-ghost use Rattle.cal_timer.specs.headline.Assignments as assignments;
-ghost use Rattle.cal_timer.specs.headline.Assignments.{assignments_in};
-ghost use Rattle.cal_lines.specs.LineView.{line_at};
-ghost use Rattle.cal_timer.specs.TimerView.{shown_assignment, changed, empty_lists, with_assignment, resumed, shown};
-ghost use Rattle.cal_lines.specs.headline.Lines.{Line, logical_lines};
-ghost use Rattle.cal_timer.specs.TimerEntries.{bad_line, entry_of, some_entries};
+ghost use Rattle.cal_spec.specs.computed.Expr.{expr_in};
+ghost use Rattle.cal_timer.specs.rules.Assignments as assignments;
+ghost use Rattle.cal_timer.specs.rules.Assignments.{assignments_in};
+ghost use Rattle.cal_lines.specs.rules.LineView.{line_at};
+ghost use Rattle.cal_timer.specs.rules.TimerView.{shown_assignment, changed, empty_lists, with_assignment, resumed, shown};
+ghost use Rattle.cal_lines.specs.rules.Lines.{Line, logical_lines};
+ghost use Rattle.cal_timer.specs.rules.TimerEntries.{bad_line, entry_of, some_entries};
 
 use crate::assignments::{Assignment, read_assignment, section};
 use crate::{Timer, TimerFault, TimerLine};
@@ -33,9 +33,9 @@ pub struct TimerLists {
 
 impl Model for TimerLists {
     ghost use Rattle.std.specs.Prelude.{map};
-    ghost use Rattle.cal_spec.specs.headline.Fields.{Fields};
-    ghost use Rattle.cal_timer.specs.TimerEntries.{Timer};
-    ghost use Rattle.cal_timer.specs.TimerView.{shown};
+    ghost use Rattle.cal_spec.specs.rules.Fields.{Fields};
+    ghost use Rattle.cal_timer.specs.rules.TimerEntries.{Timer};
+    ghost use Rattle.cal_timer.specs.rules.TimerView.{shown};
 
     ghost Value = { Timer Fields };
 
@@ -171,7 +171,7 @@ fn change(
 
 /// Adds the expression of an assignment to a list. If the list is full, fails with `TooMany` without parsing the
 /// expression.
-#[tactic(auto, unfolding(crate::specs::TimerView::with_assignment))]
+#[tactic(auto, unfolding(crate::specs::rules::TimerView::with_assignment))]
 fn add_line(
     alloc: Global,
     list: &mut Vec<TimerLine>,

@@ -2,7 +2,7 @@
 //! expression after `X-ExceptOnCalendar=`; when it elapses, the timer doesn't.
 
 ghost use Rattle.std.specs.Prelude.{◌≡◌, map};
-ghost use Rattle.cal_timer.specs.TimerView.{shown};
+ghost use Rattle.cal_timer.specs.rules.TimerView.{shown};
 
 use cal_spec::Expr;
 use std::marker::Model;
@@ -30,9 +30,9 @@ pub struct Timer {
 
 impl Model for Timer {
     ghost use Rattle.std.specs.Prelude.{map};
-    ghost use Rattle.cal_spec.specs.headline.Fields.{Fields};
-    ghost use Rattle.cal_timer.specs.TimerEntries.{Timer};
-    ghost use Rattle.cal_timer.specs.TimerView.{shown};
+    ghost use Rattle.cal_spec.specs.rules.Fields.{Fields};
+    ghost use Rattle.cal_timer.specs.rules.TimerEntries.{Timer};
+    ghost use Rattle.cal_timer.specs.rules.TimerView.{shown};
 
     ghost Value = { Timer Fields };
 

@@ -1,7 +1,7 @@
 //! The command line as `clap` parses it: a command with a subcommand for each verb.
 
 ghost use Rattle.std.specs.Prelude.{◌<◌, IfErr, IfSome, length, string_bytes};
-ghost use Rattle.cal_timers_command.specs.Questions.{HasText};
+ghost use Rattle.cal_timers_command.specs.rules.Questions.{HasText};
 
 use crate::command_fault::CommandFault;
 use crate::help_texts::{BETWEEN, LINT, LIST, NEXT, PROGRAM, SAME, SHOW, USAGE};

@@ -1,7 +1,7 @@
 //! Parsing of the arguments into a question, from the matches that `clap` returns.
 
 ghost use Rattle.std.specs.Prelude.{IfErr};
-ghost use Rattle.cal_timers_command.specs.Questions.{HasText};
+ghost use Rattle.cal_timers_command.specs.rules.Questions.{HasText};
 
 use crate::command_fault::CommandFault;
 use crate::command_line::{FIRST, SECOND, TARGET, parse};

@@ -2,8 +2,8 @@
 
 ghost use Rattle.std.specs.Prelude.{◌≡◌, true, vec_len};
 ghost use Rattle.std.specs.Option.{ForSome};
-ghost use Rattle.cal_zone.specs.Instant.{IsInstant};
-ghost use Rattle.cal_timers_command.specs.Questions.{IsElapseCount, fits_verb};
+ghost use Rattle.cal_zone.specs.rules.Instant.{IsInstant};
+ghost use Rattle.cal_timers_command.specs.rules.Questions.{IsElapseCount, fits_verb};
 
 /// A verb: what a question asks for.
 #[derive(Clone, Copy, PartialEq, Eq, Debug)]

@@ -2,8 +2,8 @@
 
 ghost use Rattle.std.specs.Prelude.{◌≡◌, ◌≤◌, IfErr, IfOk, IfSome};
 ghost use Rattle.std.specs.Option.{ForSome};
-ghost use Rattle.cal_zone.specs.Instant.{IsInstant};
-ghost use Rattle.cal_timers_command.specs.Questions.{HasText, IsElapseCount};
+ghost use Rattle.cal_zone.specs.rules.Instant.{IsInstant};
+ghost use Rattle.cal_timers_command.specs.rules.Questions.{HasText, IsElapseCount};
 
 use crate::command_fault::CommandFault;
 use crate::value_option::{COUNT, NOW, ROOT, ValueOption, ZONE};

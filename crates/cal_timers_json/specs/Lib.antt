@@ -1,1 +1,1 @@
-pub mod Document
+pub mod rules

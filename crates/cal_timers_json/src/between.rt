@@ -1,7 +1,7 @@
 //! The document of `between`: the elapses of several timers.
 
 ghost use Rattle.std.specs.Prelude.{◌≡◌, IfOk, map, string_bytes};
-ghost use Rattle.cal_timers_json.specs.Document.{IsDocument};
+ghost use Rattle.cal_timers_json.specs.rules.Document.{IsDocument};
 
 use crate::document::document;
 use crate::texts::local_text;

@@ -1,7 +1,7 @@
 //! Converting a value to a JSON document.
 
 ghost use Rattle.std.specs.Prelude.{IfOk, string_bytes};
-ghost use Rattle.cal_timers_json.specs.Document.{IsDocument};
+ghost use Rattle.cal_timers_json.specs.rules.Document.{IsDocument};
 
 use serde::Serialize;
 use std::alloc::{AllocError, Global};

@@ -1,7 +1,7 @@
 //! The document of `list`: the next elapse of each timer.
 
 ghost use Rattle.std.specs.Prelude.{◌≡◌, ◌++◌, IfOk, OnOk, Some, None, map, string_bytes};
-ghost use Rattle.cal_timers_json.specs.Document.{IsDocument};
+ghost use Rattle.cal_timers_json.specs.rules.Document.{IsDocument};
 
 use crate::document::document;
 use crate::texts::{left_text, local_text};

@@ -2,7 +2,7 @@
 
 ghost use Rattle.std.specs.Prelude.{◌≡◌, ◌↔◌, ◌++◌, IfOk, IsTrue, OnOk, None, map, string_bytes};
 ghost use Rattle.std.specs.Option.{option_to_list};
-ghost use Rattle.cal_timers_json.specs.Document.{IsDocument};
+ghost use Rattle.cal_timers_json.specs.rules.Document.{IsDocument};
 
 use crate::document::document;
 use crate::texts::local_text;

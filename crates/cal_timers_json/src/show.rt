@@ -1,8 +1,8 @@
 //! The document of `show` and `next`: the files, expressions, exceptions, elapses and notes of timers.
 
 ghost use Rattle.std.specs.Prelude.{◌≡◌, IfOk, map, length, string_bytes};
-ghost use Rattle.cal_spec.specs.headline.ExprText.{expr_text};
-ghost use Rattle.cal_timers_json.specs.Document.{IsDocument};
+ghost use Rattle.cal_spec.specs.rules.ExprText.{expr_text};
+ghost use Rattle.cal_timers_json.specs.rules.Document.{IsDocument};
 
 use crate::document::document;
 use crate::texts::{clock_text, left_text, local_text, normal_text};

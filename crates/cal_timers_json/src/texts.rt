@@ -2,8 +2,8 @@
 //! them.
 
 ghost use Rattle.std.specs.Prelude.{◌≡◌, IfOk, string_bytes};
-ghost use Rattle.cal_zone.specs.headline.InstantText.{instant_text};
-ghost use Rattle.cal_spec.specs.headline.ExprText.{expr_text};
+ghost use Rattle.cal_zone.specs.rules.InstantText.{instant_text};
+ghost use Rattle.cal_spec.specs.rules.ExprText.{expr_text};
 
 use cal_bytes::ShortText;
 use cal_span::{Span, format_span};

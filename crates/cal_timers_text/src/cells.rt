@@ -3,7 +3,7 @@
 ghost use Rattle.std.specs.Prelude.{◌≡◌, ◌++◌, OnOk, length, string_bytes, true};
 ghost use Rattle.std.specs.Char.{is_control};
 ghost use Rattle.std.specs.Str.{chars};
-ghost use Rattle.cal_timers_text.specs.PrintableText.{code_text, printable_text};
+ghost use Rattle.cal_timers_text.specs.rules.PrintableText.{code_text, printable_text};
 
 use std::alloc::AllocError;
 

@@ -1,10 +1,10 @@
 //! Instants, the time until an instant, and calendar expressions, all as text.
 
 ghost use Rattle.std.specs.Prelude.{◌≡◌, ◌++◌, ◌≤ℤ◌, ◌<ℤ◌, IfOk, OnOk, codes, length, string_bytes};
-ghost use Rattle.cal_text.specs.headline.Separators.{words};
-ghost use Rattle.cal_zone.specs.headline.InstantText.{instant_text};
-ghost use Rattle.cal_spec.specs.headline.ExprText.{expr_text};
-ghost use Rattle.cal_timers_text.specs.Left.{two_units, two_words};
+ghost use Rattle.cal_text.specs.rules.Separators.{words};
+ghost use Rattle.cal_zone.specs.rules.InstantText.{instant_text};
+ghost use Rattle.cal_spec.specs.rules.ExprText.{expr_text};
+ghost use Rattle.cal_timers_text.specs.rules.Left.{two_units, two_words};
 
 use cal_bytes::ShortText;
 use cal_span::{Span, format_span};

@@ -4,7 +4,7 @@ use Rattle.std.specs.Prelude.{IfOk, MatchResult}
 use Rattle.std.specs.List.{filter_map}
 use Rattle.std.specs.Option.{option_to_list}
 use Rattle.std.proofs.lemmas.List.Elements.{filter_map-append}
-use Rattle.cal_units.specs.Aliases.{Alias, shown_alias}
+use Rattle.cal_units.specs.rules.Aliases.{Alias, shown_alias}
 use Rattle.cal_units.specs.declared.aliases.Alias as links
 use Rattle.cal_units.specs.declared.fault.UnitFault.{UnitFault}
 

@@ -3,12 +3,12 @@ use Rattle.std.proofs.Common.{◌≡◌, ℕ, List, [], ◌∷◌, codes, map, r
 use Rattle.std.specs.Map.{lookup}
 use Rattle.std.specs.Option.{unwrap_or}
 use Rattle.std.specs.Str.{bytes_eq}
-use Rattle.cal_drop_ins.specs.UnitName.{is_stem, template_of, unit_kind_of, unit_stem, without_suffix}
-use Rattle.cal_units.specs.Aliases.{aliases_in, stems_of}
-use Rattle.cal_units.specs.Machine.{Entry, Machine}
-use Rattle.cal_units.specs.Machine.Entry.{Missing, Empty, File, Folder, Link}
-use Rattle.cal_units.specs.Units.{Unit, after_prefix, alias_of, file_stem, stem_in, unit_on, unit_paths}
-use Rattle.cal_units.specs.Units.Unit.{Unfound, TemplateOnly, MaskedBy, FoundAt, Endless}
+use Rattle.cal_drop_ins.specs.rules.UnitName.{is_stem, template_of, unit_kind_of, unit_stem, without_suffix}
+use Rattle.cal_units.specs.rules.Aliases.{aliases_in, stems_of}
+use Rattle.cal_units.specs.rules.Machine.{Entry, Machine}
+use Rattle.cal_units.specs.rules.Machine.Entry.{Missing, Empty, File, Folder, Link}
+use Rattle.cal_units.specs.rules.Units.{Unit, after_prefix, alias_of, file_stem, stem_in, unit_on, unit_paths}
+use Rattle.cal_units.specs.rules.Units.Unit.{Unfound, TemplateOnly, MaskedBy, FoundAt, Endless}
 
 -- what is at the paths of a machine
 abbrev entries : List (List ℕ × Entry)

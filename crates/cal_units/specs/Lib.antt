@@ -1,5 +1,1 @@
-pub mod Aliases
-pub mod Faults
-pub mod Files
-pub mod Machine
-pub mod Units
+pub mod rules

@@ -4,10 +4,10 @@
 ghost use Rattle.std.specs.Prelude.{◌≡◌, ◌≢◌, ◌++◌, ◌∷◌, [], All, IfErr, IfOk, MatchResult, OnOk, map, option_map, string_bytes};
 ghost use Rattle.std.specs.List.{filter_map};
 ghost use Rattle.std.specs.Option.{option_to_list};
-ghost use Rattle.cal_units.specs.Aliases.{alias_at, alias_named, alias_of_unit, alias_unless_own, aliases_below, aliases_in, is_link, shown_alias};
-ghost use Rattle.cal_units.specs.Faults.{IsAliasFault, IsListedFault, fault_if_err};
-ghost use Rattle.cal_units.specs.Machine.{Machine, shown_entry};
-ghost use Rattle.cal_units.specs.Units.{shown_unit};
+ghost use Rattle.cal_units.specs.rules.Aliases.{alias_at, alias_named, alias_of_unit, alias_unless_own, aliases_below, aliases_in, is_link, shown_alias};
+ghost use Rattle.cal_units.specs.rules.Faults.{IsAliasFault, IsListedFault, fault_if_err};
+ghost use Rattle.cal_units.specs.rules.Machine.{Machine, shown_entry};
+ghost use Rattle.cal_units.specs.rules.Units.{shown_unit};
 ghost use Rattle.cal_units.specs.declared.fault.UnitFault.TheVariants.{NoMemory};
 
 use crate::fault::UnitFault;

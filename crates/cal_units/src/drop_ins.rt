@@ -2,10 +2,10 @@
 
 ghost use Rattle.std.specs.Prelude.{◌≡◌, ◌<◌, ◌≤◌, ◌++◌, ◌∷◌, [], IfErr, IfOk, OnOk, length, map, not, filter, reverse, if◌then◌else◌, string_bytes};
 ghost use Rattle.std.specs.List.{flat_map};
-ghost use Rattle.cal_drop_ins.specs.DropIns.{candidates, drop_ins, shown_drop_in};
-ghost use Rattle.cal_drop_ins.specs.Folders.{folders};
-ghost use Rattle.cal_units.specs.Faults.{IfAt, IsDropInFault, IsDropInReason, IsReadFault, max_drop_ins};
-ghost use Rattle.cal_units.specs.Machine.{Machine, disk_of, is_null, shown_entry};
+ghost use Rattle.cal_drop_ins.specs.rules.DropIns.{candidates, drop_ins, shown_drop_in};
+ghost use Rattle.cal_drop_ins.specs.rules.Folders.{folders};
+ghost use Rattle.cal_units.specs.rules.Faults.{IfAt, IsDropInFault, IsDropInReason, IsReadFault, max_drop_ins};
+ghost use Rattle.cal_units.specs.rules.Machine.{Machine, disk_of, is_null, shown_entry};
 ghost use Rattle.cal_units.specs.declared.fault.UnitFault.TheVariants.{NoMemory};
 
 use crate::fault::{Reason, UnitFault};
@@ -41,7 +41,7 @@ pub struct DropIns {
 ///   count, too.
 ///
 /// Fails with [`UnitFault::NoMemory`] if allocation fails.
-#[tactic(auto, unfolding(cal_drop_ins::specs::DropIns::drop_ins))]
+#[tactic(auto, unfolding(cal_drop_ins::specs::rules::DropIns::drop_ins))]
 pub fn find_drop_ins<T: Tree>(
     alloc: Global,
     tree: &T,

@@ -1,7 +1,7 @@
 //! The errors in finding and reading the files of units.
 
 ghost use Rattle.std.specs.Prelude.{◌≡◌};
-ghost use Rattle.cal_units.specs.Faults.{IsAt, IsOfTree};
+ghost use Rattle.cal_units.specs.rules.Faults.{IsAt, IsOfTree};
 ghost use Rattle.cal_units.specs.declared.fault.UnitFault.TheVariants.{NoMemory};
 
 use crate::tree::TreeFault;

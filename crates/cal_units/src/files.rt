@@ -1,9 +1,9 @@
 //! Reading the files of a unit.
 
 ghost use Rattle.std.specs.Prelude.{◌≡◌, ◌++◌, ◌∷◌, [], IfErr, IfOk, None, OnOk, map, option_map, string_bytes};
-ghost use Rattle.cal_units.specs.Faults.{IsUnitFileFault};
-ghost use Rattle.cal_units.specs.Files.{file_at, files_at, shown_unit_text};
-ghost use Rattle.cal_units.specs.Machine.{Machine};
+ghost use Rattle.cal_units.specs.rules.Faults.{IsUnitFileFault};
+ghost use Rattle.cal_units.specs.rules.Files.{file_at, files_at, shown_unit_text};
+ghost use Rattle.cal_units.specs.rules.Machine.{Machine};
 
 use crate::fault::{Reason, UnitFault};
 use crate::locations::look;

@@ -3,9 +3,9 @@
 
 ghost use Rattle.std.specs.Prelude.{◌≡◌, ◌++◌, ◌∷◌, [], IfErr, IfOk, IfSome, OnOk, map, string_bytes};
 ghost use Rattle.std.specs.Option.{option_map};
-ghost use Rattle.cal_units.specs.Faults.{IsReadFault};
-ghost use Rattle.cal_units.specs.Machine.{Machine, shown_entry};
-ghost use Rattle.cal_units.specs.Units.{first_there, is_there, linked, location_at, location_in, location_of_link, shown_location, unit_path, unit_paths};
+ghost use Rattle.cal_units.specs.rules.Faults.{IsReadFault};
+ghost use Rattle.cal_units.specs.rules.Machine.{Machine, shown_entry};
+ghost use Rattle.cal_units.specs.rules.Units.{first_there, is_there, linked, location_at, location_in, location_of_link, shown_location, unit_path, unit_paths};
 ghost use Rattle.cal_units.specs.declared.fault.UnitFault.TheVariants.{NoMemory};
 
 use crate::drop_ins::NULL_DEVICE;
@@ -112,7 +112,7 @@ fn linked(alloc: Global, stem: &str, file: &str, alias: Option<&str>) -> Result<
 }
 
 /// Returns the paths at which the unit's file can be, the most important first.
-#[tactic(auto, unfolding(crate::specs::Units::unit_paths))]
+#[tactic(auto, unfolding(crate::specs::rules::Units::unit_paths))]
 pub(crate) fn unit_paths(
     alloc: Global,
     path: &[String],

@@ -1,11 +1,11 @@
 //! The stems for which the drop-ins of a unit are read: all its names without the suffix `.timer`.
 
 ghost use Rattle.std.specs.Prelude.{◌≡◌, ◌++◌, IfErr, IfOk, OnOk, map, reverse, string_bytes};
-ghost use Rattle.cal_drop_ins.specs.DropIns.{drop_ins};
-ghost use Rattle.cal_drop_ins.specs.Folders.{folders};
-ghost use Rattle.cal_units.specs.Aliases.{shown_alias, stem_if_of, stems_leading_to, unit_stems};
-ghost use Rattle.cal_units.specs.Faults.{IsDropInFault};
-ghost use Rattle.cal_units.specs.Machine.{Machine, disk_of};
+ghost use Rattle.cal_drop_ins.specs.rules.DropIns.{drop_ins};
+ghost use Rattle.cal_drop_ins.specs.rules.Folders.{folders};
+ghost use Rattle.cal_units.specs.rules.Aliases.{shown_alias, stem_if_of, stems_leading_to, unit_stems};
+ghost use Rattle.cal_units.specs.rules.Faults.{IsDropInFault};
+ghost use Rattle.cal_units.specs.rules.Machine.{Machine, disk_of};
 
 use crate::aliases::Alias;
 use crate::drop_ins::{DropIns, find_drop_ins};

@@ -1,7 +1,7 @@
 //! Access to a machine: its folders, files and links, and the variables of the environment.
 
 ghost use Rattle.std.specs.Prelude.{◌≡◌, ◌≢◌, ⊤, ℕ, List, false, true, map, option_map, string_bytes, IfErr, IfOk, IfSome};
-ghost use Rattle.cal_units.specs.Machine.{Machine, shown_entry};
+ghost use Rattle.cal_units.specs.rules.Machine.{Machine, shown_entry};
 ghost use Rattle.cal_units.specs.declared.tree.TreeFault.TheVariants.{NoMemory};
 
 use cal_bytes::Source;

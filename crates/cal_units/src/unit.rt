@@ -2,10 +2,10 @@
 //! its suffix `.timer`.
 
 ghost use Rattle.std.specs.Prelude.{◌≡◌, ◌++◌, ◌∷◌, [], IfErr, IfOk, map, string_bytes};
-ghost use Rattle.cal_units.specs.Faults.{IsLinkFault, IsUnitFault};
-ghost use Rattle.cal_units.specs.Machine.{Machine};
-ghost use Rattle.cal_units.specs.Units.{follow, is_template, named_unit, shown_unit, unit_on};
-ghost use Rattle.cal_units.specs.Units.Unit.{Endless};
+ghost use Rattle.cal_units.specs.rules.Faults.{IsLinkFault, IsUnitFault};
+ghost use Rattle.cal_units.specs.rules.Machine.{Machine};
+ghost use Rattle.cal_units.specs.rules.Units.{follow, is_template, named_unit, shown_unit, unit_on};
+ghost use Rattle.cal_units.specs.rules.Units.Unit.{Endless};
 
 use crate::fault::{Reason, UnitFault};
 use crate::locations::{Location, find_location};

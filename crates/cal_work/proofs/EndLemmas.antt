@@ -3,18 +3,18 @@ use Rattle.std.proofs.Common.{arith, ◌≡◌, ℕ, Bool, true, false, List, []
 use Rattle.std.specs.Io.KnownBytes.{append_known}
 use Rattle.std.proofs.KnownBytes.{Appends-kept}
 use Rattle.std.proofs.lemmas.Bool.{false≢true}
-use Rattle.cal_bytes.specs.Writes.{AppendsFront, Writes}
-use Rattle.cal_streams.specs.Output.{Flushes}
-use Rattle.cal_work.specs.Outcome.{outcome, out_text, err_text, ended_status}
-use Rattle.cal_report.specs.headline.ReportLines.{Report}
-use Rattle.cal_work.specs.Stop.{Stop, command_outlet, command_stop, command_text, fault_stop, outlet_of, shown_stop, stop_text}
-use Rattle.cal_work.specs.System.{Known}
-use Rattle.cal_work.specs.WorkSteps.{StopsAs, StopEnds, EndsAs, AnsweredArguments, IsFlushed, ReportsOn, ReportsStop, status_by, WritesOf}
-use Rattle.cal_work.specs.Works.{Reaches, ReportsFault, Works}
+use Rattle.cal_bytes.specs.rules.Writes.{AppendsFront, Writes}
+use Rattle.cal_streams.specs.rules.Output.{Flushes}
+use Rattle.cal_work.specs.rules.Outcome.{outcome, out_text, err_text, ended_status}
+use Rattle.cal_report.specs.rules.ReportLines.{Report}
+use Rattle.cal_work.specs.rules.Stop.{Stop, command_outlet, command_stop, command_text, fault_stop, outlet_of, shown_stop, stop_text}
+use Rattle.cal_work.specs.rules.System.{Known}
+use Rattle.cal_work.specs.computed.WorkSteps.{StopsAs, StopEnds, EndsAs, AnsweredArguments, IsFlushed, ReportsOn, ReportsStop, status_by, WritesOf}
+use Rattle.cal_work.specs.rules.Works.{Reaches, ReportsFault, Works}
 use Rattle.cal_request.specs.declared.request.RunFault.{RunFault}
 use Rattle.cal_request.specs.declared.request.RunFault.TheVariants.{OutFailed, ErrFailed, NoMemory}
 use Rattle.cal_request.specs.declared.request.Status.{Status}
-use Rattle.cal_command.specs.CommandFault.{CommandFault, usage, help, bad_value, no_memory, shown_fault}
+use Rattle.cal_command.specs.rules.CommandFault.{CommandFault, usage, help, bad_value, no_memory, shown_fault}
 use Rattle.cal_zone.specs.declared.zone_files.LoadFault.TheVariants.{ReadFailed, Zone}
 use Rattle.cal_zone.specs.declared.zone_fault.ZoneFault.TheVariants as zone
 use Rattle.cal_work.specs.declared.stop.Outlet.{Outlet}

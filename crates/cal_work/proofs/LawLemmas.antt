@@ -5,22 +5,22 @@ use Rattle.std.specs.Prelude.{IsSome}
 use Rattle.std.specs.FinMap.{empty}
 use Rattle.std.proofs.lemmas.Bool.{false≢true}
 use Rattle.std.proofs.lemmas.Bool.Decides.{nat_tests}
-use Rattle.cal_zone.specs.ZoneFile.{file_limit}
-use Rattle.cal_zone.specs.headline.ZoneTable.{ZoneMap}
-use Rattle.cal_civil.specs.headline.ZoneName.{is_zone_name}
+use Rattle.cal_zone.specs.rules.ZoneFile.{file_limit}
+use Rattle.cal_zone.specs.rules.ZoneTable.{ZoneMap}
+use Rattle.cal_civil.specs.rules.ZoneName.{is_zone_name}
 use Rattle.cal_streams.specs.declared.whole.WholeFault.{WholeFault}
 use Rattle.cal_streams.specs.declared.whole.WholeFault.TheVariants as whole
-use Rattle.cal_timer.specs.TimerEntries.{timer_file_limit}
-use Rattle.cal_command.specs.Ask.{Ask, ZoneItem}
-use Rattle.cal_command.specs.CommandFault.{CommandFault}
-use Rattle.cal_command.specs.CommandLine.{ask_in, takes_arguments}
-use Rattle.cal_work.specs.Outcome.{World, ZoneFound, and_then, loaded, or_load_stop, table_by, local_by, present_by, run_by, run_on, asked_at, outcome, outcome_of}
-use Rattle.cal_request.specs.RequestKind.{RequestKind, for_file, for_texts, kind_by}
-use Rattle.cal_request.specs.headline.Request.{Request}
-use Rattle.cal_work.specs.Stop.{Stop}
-use Rattle.cal_work.specs.System.{Known, Seen, GivesTime, SeesBytes, is_cut}
-use Rattle.cal_work.specs.WorkLaw.{TellsAll, taken_of, known_seen, known_time, known_zones, known_file, known_world, known_outcome, IsOr}
-use Rattle.cal_work.specs.Works.{SeesZones, SeesFor, Fits, FitsArguments}
+use Rattle.cal_timer.specs.rules.TimerEntries.{timer_file_limit}
+use Rattle.cal_command.specs.rules.Ask.{Ask, ZoneItem}
+use Rattle.cal_command.specs.rules.CommandFault.{CommandFault}
+use Rattle.cal_command.specs.rules.CommandLine.{ask_in, takes_arguments}
+use Rattle.cal_work.specs.rules.Outcome.{World, ZoneFound, and_then, loaded, or_load_stop, table_by, local_by, present_by, run_by, run_on, asked_at, outcome, outcome_of}
+use Rattle.cal_request.specs.rules.RequestKind.{RequestKind, for_file, for_texts, kind_by}
+use Rattle.cal_request.specs.rules.Request.{Request}
+use Rattle.cal_work.specs.rules.Stop.{Stop}
+use Rattle.cal_work.specs.rules.System.{Known, Seen, GivesTime, SeesBytes, is_cut}
+use Rattle.cal_work.specs.rules.WorkLaw.{TellsAll, taken_of, known_seen, known_time, known_zones, known_file, known_world, known_outcome, IsOr}
+use Rattle.cal_work.specs.rules.Works.{SeesZones, SeesFor, Fits, FitsArguments}
 use Rattle.cal_zone.specs.declared.zone_files.LoadFault.{LoadFault}
 use Rattle.cal_command.proofs.CommandLineLemmas.{taken_arguments}
 use Rattle.cal_text.proofs.General.{some_none}

@@ -9,31 +9,31 @@ use Rattle.std.proofs.lemmas.Bool.Decides.{nat_tests}
 use Rattle.jiff.specs.Placed.{IsPosixZone}
 use Rattle.jiff.specs.Types.{TimeZone}
 use Rattle.jiff.specs.Words.{read_whole as rule_read}
-use Rattle.cal_bytes.specs.Writes.{AppendsFront, Writes}
-use Rattle.cal_streams.specs.Whole.{GivesAll, CameBeyond, is_read_failed}
-use Rattle.cal_zone.specs.headline.Zone.{is_utc, utc, zone_of}
-use Rattle.cal_zone.specs.ZoneFile.{file_limit}
-use Rattle.cal_zone.specs.headline.ZoneTable.{ZoneMap, zone_named}
-use Rattle.cal_civil.specs.headline.ZoneName.{is_utc_name, is_zone_name}
+use Rattle.cal_bytes.specs.rules.Writes.{AppendsFront, Writes}
+use Rattle.cal_streams.specs.rules.Whole.{GivesAll, CameBeyond, is_read_failed}
+use Rattle.cal_zone.specs.rules.Zone.{is_utc, utc, zone_of}
+use Rattle.cal_zone.specs.rules.ZoneFile.{file_limit}
+use Rattle.cal_zone.specs.rules.ZoneTable.{ZoneMap, zone_named}
+use Rattle.cal_civil.specs.rules.ZoneName.{is_utc_name, is_zone_name}
 use Rattle.cal_streams.specs.declared.whole.WholeFault.{WholeFault}
 use Rattle.cal_streams.specs.declared.whole.WholeFault.TheVariants as whole
 use Rattle.cal_zone.specs.declared.zone.Zone.{Zone as ClockZone}
 use Rattle.cal_zone.specs.declared.zone_fault.ZoneFault.TheVariants as zone
-use Rattle.cal_timer.specs.TimerEntries.{timer_file_limit}
+use Rattle.cal_timer.specs.rules.TimerEntries.{timer_file_limit}
 use Rattle.cal_stamp.specs.declared.fault.StampFault.{StampFault}
-use Rattle.cal_command.specs.Ask.{Ask, LocalZone, in_utc, at_offset, by_rule, of_name, ZoneItem}
-use Rattle.cal_command.specs.CommandFault.{CommandFault, usage, help, bad_value, no_memory, shown_fault}
-use Rattle.cal_command.specs.CommandLine.{IsAskOf}
-use Rattle.cal_zone.specs.LoadZone.{IsLoaded, IsLoadFault, is_load_read_failed}
-use Rattle.cal_work.specs.Outcome.{ZoneFound, and_then, loaded, table_by, local_by, present_by, run_by, run_on, asked_at, outcome, outcome_of, out_text, err_text}
-use Rattle.cal_report.specs.RunReport.{IsReported, ReadsFile, base_in, file_report, texts_report}
-use Rattle.cal_report.specs.headline.ReportLines.{Report}
-use Rattle.cal_request.specs.RequestKind.{for_file, for_texts, kind_of}
-use Rattle.cal_request.specs.headline.Request.{Request}
-use Rattle.cal_work.specs.Stop.{Stop, command_outlet, command_stop, is_out_failure, is_err_failure, exit_status, load_stop, name_stop, rule_stop, shown_stop, unopened_stop, memory_stop, stops_for_out, stops_for_err}
-use Rattle.cal_work.specs.System.{Known, Opens, GivesTime, Comes, Seen, Sees, SeesBytes}
-use Rattle.cal_work.specs.WorkSteps.{StopsAs, Loads, ReadsZones, FindsLocal, IsBadRule, EndsAs, Runs, Answered, AnsweredArguments, ran}
-use Rattle.cal_work.specs.Works.{SeesFor, SeesZones, ReadsZone}
+use Rattle.cal_command.specs.rules.Ask.{Ask, LocalZone, in_utc, at_offset, by_rule, of_name, ZoneItem}
+use Rattle.cal_command.specs.rules.CommandFault.{CommandFault, usage, help, bad_value, no_memory, shown_fault}
+use Rattle.cal_command.specs.rules.CommandLine.{IsAskOf}
+use Rattle.cal_zone.specs.rules.LoadZone.{IsLoaded, IsLoadFault, is_load_read_failed}
+use Rattle.cal_work.specs.rules.Outcome.{ZoneFound, and_then, loaded, table_by, local_by, present_by, run_by, run_on, asked_at, outcome, outcome_of, out_text, err_text}
+use Rattle.cal_report.specs.rules.RunReport.{IsReported, ReadsFile, base_in, file_report, texts_report}
+use Rattle.cal_report.specs.rules.ReportLines.{Report}
+use Rattle.cal_request.specs.rules.RequestKind.{for_file, for_texts, kind_of}
+use Rattle.cal_request.specs.rules.Request.{Request}
+use Rattle.cal_work.specs.rules.Stop.{Stop, command_outlet, command_stop, is_out_failure, is_err_failure, exit_status, load_stop, name_stop, rule_stop, shown_stop, unopened_stop, memory_stop, stops_for_out, stops_for_err}
+use Rattle.cal_work.specs.rules.System.{Known, Opens, GivesTime, Comes, Seen, Sees, SeesBytes}
+use Rattle.cal_work.specs.computed.WorkSteps.{StopsAs, Loads, ReadsZones, FindsLocal, IsBadRule, EndsAs, Runs, Answered, AnsweredArguments, ran}
+use Rattle.cal_work.specs.rules.Works.{SeesFor, SeesZones, ReadsZone}
 use Rattle.cal_command.specs.declared.command_fault.CommandFault as declared_fault
 use Rattle.cal_zone.specs.declared.zone_files.LoadFault.{LoadFault}
 use Rattle.cal_zone.specs.declared.zone_files.LoadFault.TheVariants.{ReadFailed, Zone}

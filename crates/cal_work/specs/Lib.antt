@@ -1,6 +1,2 @@
-pub mod Outcome
-pub mod Stop
-pub mod System
-pub mod WorkLaw
-pub mod WorkSteps
-pub mod Works
+pub mod computed
+pub mod rules

@@ -4,18 +4,18 @@
 //! opening the timer file, and the run. The first step that fails ends the work; the steps after it aren't done.
 
 ghost use Rattle.std.specs.Prelude.{◌≡◌, ℕ, List, Option, Result, Ok, Err, Some, None, true, false, is_err, map, option_map, IfOk, IfErr};
-ghost use Rattle.cal_bytes.specs.Writes.{Writes};
-ghost use Rattle.cal_command.specs.Ask.{shown_local, shown_ask, shown_item};
-ghost use Rattle.cal_command.specs.LocalZone.{IsLocalOffset};
-ghost use Rattle.cal_work.specs.Outcome.{instant_in};
-ghost use Rattle.cal_report.specs.headline.ReportLines.{Report};
-ghost use Rattle.cal_request.specs.RequestView.{asked};
-ghost use Rattle.cal_request.specs.Status.{is_out_failed, is_err_failed};
-ghost use Rattle.cal_work.specs.Stop as stops;
-ghost use Rattle.cal_work.specs.Stop.{stops_for_out, stops_for_err, load_stop, rule_stop, unopened_stop};
-ghost use Rattle.cal_work.specs.System.{Opens};
-ghost use Rattle.cal_work.specs.WorkSteps.{is_out_cut, is_err_cut, ran, status_by, Answered, AnsweredArguments, EndsAs, FindsLocal, HasRules, IsFlushed, IsBadRule, Loads, Presents, Reads, ReadsZones, Runs, StopsAs, ReportsStop, WritesOf};
-ghost use Rattle.cal_work.specs.Works.{Reaches, ReportsFault, Works};
+ghost use Rattle.cal_bytes.specs.rules.Writes.{Writes};
+ghost use Rattle.cal_command.specs.rules.Ask.{shown_local, shown_ask, shown_item};
+ghost use Rattle.cal_command.specs.rules.LocalZone.{IsLocalOffset};
+ghost use Rattle.cal_work.specs.rules.Outcome.{instant_in};
+ghost use Rattle.cal_report.specs.rules.ReportLines.{Report};
+ghost use Rattle.cal_request.specs.rules.RequestView.{asked};
+ghost use Rattle.cal_request.specs.rules.Status.{is_out_failed, is_err_failed};
+ghost use Rattle.cal_work.specs.rules.Stop as stops;
+ghost use Rattle.cal_work.specs.rules.Stop.{stops_for_out, stops_for_err, load_stop, rule_stop, unopened_stop};
+ghost use Rattle.cal_work.specs.rules.System.{Opens};
+ghost use Rattle.cal_work.specs.computed.WorkSteps.{is_out_cut, is_err_cut, ran, status_by, Answered, AnsweredArguments, EndsAs, FindsLocal, HasRules, IsFlushed, IsBadRule, Loads, Presents, Reads, ReadsZones, Runs, StopsAs, ReportsStop, WritesOf};
+ghost use Rattle.cal_work.specs.rules.Works.{Reaches, ReportsFault, Works};
 
 use crate::stop::{Outlet, Stop, exit_status, write_stop};
 use crate::system::System;
@@ -233,7 +233,7 @@ fn read_system_clock<S: System>(system: &S) -> Result<Instant, Stop>
 }
 
 /// Returns the instant `secs` seconds after 1970-01-01 00:00:00 UTC, or `None` if it is outside the supported range.
-#[tactic(auto, unfolding(crate::specs::Outcome::instant_in))]
+#[tactic(auto, unfolding(crate::specs::rules::Outcome::instant_in))]
 fn instant_in(secs: i64) -> Option<Instant>
     ensures { option_map (λ now. now.secs) result ≡ instant_in secs }
 {

@@ -1,9 +1,9 @@
 //! Why the program stops before everything is done, what it reports then, and its exit status.
 
 ghost use Rattle.std.specs.Prelude.{◌≡◌, [], false};
-ghost use Rattle.cal_bytes.specs.Puts.{Puts};
-ghost use Rattle.cal_command.specs.CommandFault.{shown_fault};
-ghost use Rattle.cal_work.specs.Stop.{command_outlet, command_stop, command_text, exit_status, fault_stop, load_outlet, load_stop, outlet_of, own_line, shown_stop, stop_text, unopened_line, zones_line};
+ghost use Rattle.cal_bytes.specs.rules.Puts.{Puts};
+ghost use Rattle.cal_command.specs.rules.CommandFault.{shown_fault};
+ghost use Rattle.cal_work.specs.rules.Stop.{command_outlet, command_stop, command_text, exit_status, fault_stop, load_outlet, load_stop, outlet_of, own_line, shown_stop, stop_text, unopened_line, zones_line};
 
 use cal_bytes::{Sink, WriteFault, put_all, put_pieces};
 use cal_command::CommandFault;
@@ -188,7 +188,7 @@ fn write_unopened<W: Sink>(out: &mut W, path: &str) -> Result<(), WriteFault>
 }
 
 /// Writes an error line that begins with the program's name.
-#[tactic(auto, unfolding(crate::specs::Stop::own_line))]
+#[tactic(auto, unfolding(crate::specs::rules::Stop::own_line))]
 fn write_own<W: Sink>(out: &mut W, message: &str) -> Result<(), WriteFault>
     requires { W.is_failed out.old ≡ false }
     ensures { Puts W.Sink out.old out.new result (own_line message.now) }

@@ -1,7 +1,7 @@
 //! The system that the program runs on: its files and its clock. Arguments and outputs are passed separately.
 
 ghost use Rattle.std.specs.Prelude.{◌≡◌, false, option_map, IfSome};
-ghost use Rattle.cal_work.specs.System.{nothing_known, GivesTime, Opens, Known};
+ghost use Rattle.cal_work.specs.rules.System.{nothing_known, GivesTime, Opens, Known};
 
 use cal_bytes::Source;
 

@@ -1,12 +1,12 @@
 //! Laws about the program's whole work. Each is a function that does nothing and whose contract is the law.
 
 ghost use Rattle.std.specs.Prelude.{◌≡◌, true, List, ℕ};
-ghost use Rattle.cal_command.specs.CommandLine.{ask_in, takes_arguments};
-ghost use Rattle.cal_command.specs.WorkedArguments.{daily_arguments};
-ghost use Rattle.cal_work.specs.Outcome.{World, outcome};
-ghost use Rattle.cal_work.specs.System.{Known};
-ghost use Rattle.cal_work.specs.WorkLaw.{IsOr, TellsAll, known_outcome, bare_system, daily_world};
-ghost use Rattle.cal_work.specs.Works.{FitsArguments};
+ghost use Rattle.cal_command.specs.rules.CommandLine.{ask_in, takes_arguments};
+ghost use Rattle.cal_command.specs.rules.WorkedArguments.{daily_arguments};
+ghost use Rattle.cal_work.specs.rules.Outcome.{World, outcome};
+ghost use Rattle.cal_work.specs.rules.System.{Known};
+ghost use Rattle.cal_work.specs.rules.WorkLaw.{IsOr, TellsAll, known_outcome, bare_system, daily_world};
+ghost use Rattle.cal_work.specs.rules.Works.{FitsArguments};
 
 /// If everything about a system's files and clock is known, no read fails, and `clap` accepts the arguments, then only
 /// one outcome is possible, unless memory runs out. The outcome can be computed from the arguments, the system and the

@@ -5,12 +5,12 @@ use Rattle.jiff.specs.Words.{civil_nanos, epoch_day, nanos_of_seconds, offset_at
 use Rattle.jiff_core.specs.Time.{time_seconds}
 use Rattle.jiff_core.proofs.CalendarLemmas.{days_in_month_bounds, weekday_number_bound}
 use Rattle.jiff.proofs.SpanFacts.{signed_arith}
-use Rattle.cal_zone.specs.CivilAt.{civil_at_offset, IsCivil}
-use Rattle.cal_zone.specs.headline.Civil.{civil_of}
+use Rattle.cal_zone.specs.rules.CivilAt.{civil_at_offset, IsCivil}
+use Rattle.cal_zone.specs.rules.Civil.{civil_of}
 use Rattle.cal_civil.proofs.DayLemmas.{date_of-epoch_day}
-use Rattle.cal_civil.specs.headline.Local.{day_of, second_of_day}
-use Rattle.cal_zone.specs.Instant.{IsInstant}
-use Rattle.cal_zone.specs.headline.Zone.{local_shown_at}
+use Rattle.cal_civil.specs.rules.LocalSecond.{day_of, second_of_day}
+use Rattle.cal_zone.specs.rules.Instant.{IsInstant}
+use Rattle.cal_zone.specs.rules.Zone.{local_shown_at}
 use Rattle.cal_zone.proofs.YearLemmas.{year-from_1969, year-to_2200}
 use Rattle.cal_zone.proofs.ZoneLemmas.{offset_at-in_range}
 

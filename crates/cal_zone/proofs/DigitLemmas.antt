@@ -2,7 +2,7 @@
 use Rattle.std.proofs.Common.{◌≡◌, ◌+◌, ◌/◌, ◌%◌, ◌<◌, ◌≤◌, ℕ, decimal, [], ◌∷◌, ◌++◌, refl, arith}
 use Rattle.std.proofs.lemmas.Bool.{cases_lt}
 use Rattle.std.proofs.lemmas.Fmt.{decimal_digit, decimal_step}
-use Rattle.cal_civil.specs.headline.OffsetText.{zeros}
+use Rattle.cal_civil.specs.rules.OffsetText.{zeros}
 use Rattle.jiff.proofs.SpanFacts.{signed_arith}
 
 below_ten : (n : ℕ) → n < 10 → zeros 2 n ++ decimal n ≡ (48 + n / 10) ∷ (48 + n % 10) ∷ []

@@ -6,14 +6,14 @@ use Rattle.std.proofs.lemmas.List.{append-nil, append_assoc}
 use Rattle.jiff.specs.Types.{TimeZone}
 use Rattle.jiff.specs.Words.{nanos_of_seconds, offset_at, weekday_of}
 use Rattle.jiff.proofs.SpanFacts.{signed_arith}
-use Rattle.cal_bytes.specs.headline.Bytes.{joined}
-use Rattle.cal_zone.specs.CivilAt.{at_second}
-use Rattle.cal_zone.specs.headline.Civil.{civil_of}
-use Rattle.cal_civil.specs.headline.Days.{date_of}
-use Rattle.cal_zone.specs.FormattedDay.{day_text}
-use Rattle.cal_zone.specs.headline.InstantText.{date_text, instant_text, shown_text, time_text, weekday_name, zone_word}
-use Rattle.cal_civil.specs.headline.Local.{day_of, second_of_day, hour_of, minute_of, second_of}
-use Rattle.cal_zone.specs.headline.Zone.{is_utc, local_shown_at, zone_of}
+use Rattle.cal_bytes.specs.rules.Bytes.{joined}
+use Rattle.cal_zone.specs.rules.CivilAt.{at_second}
+use Rattle.cal_zone.specs.rules.Civil.{civil_of}
+use Rattle.cal_civil.specs.rules.Days.{date_of}
+use Rattle.cal_zone.specs.computed.FormattedDay.{day_text}
+use Rattle.cal_zone.specs.rules.InstantText.{date_text, instant_text, shown_text, time_text, weekday_name, zone_word}
+use Rattle.cal_civil.specs.rules.LocalSecond.{day_of, second_of_day, hour_of, minute_of, second_of}
+use Rattle.cal_zone.specs.rules.Zone.{is_utc, local_shown_at, zone_of}
 use Rattle.cal_zone.specs.declared.civil_fields.Civil.{Civil}
 use Rattle.cal_zone.specs.declared.zone.Zone.{Zone}
 

@@ -21,11 +21,11 @@ use Rattle.jiff_tz.specs.PosixRule as ByPosix
 use Rattle.jiff_tz.specs.Tzif as OfTable
 use Rattle.jiff_tz.specs.Tzif.{count_at, rule_after, transition_at, type_after}
 use Rattle.jiff_tz.proofs.TzifLemmas.{le_no, le_yes}
-use Rattle.cal_civil.specs.headline.Days.{date_of}
-use Rattle.cal_civil.specs.headline.Local.{day_of}
-use Rattle.cal_zone.specs.InstantOffsetRange.{IsInstantOffsetRangeAt, IsBeforeTransition}
-use Rattle.cal_zone.specs.headline.Place.{datetime_of}
-use Rattle.cal_zone.specs.LocalOffsetRange.{HasConstantOffset, year_end}
+use Rattle.cal_civil.specs.rules.Days.{date_of}
+use Rattle.cal_civil.specs.rules.LocalSecond.{day_of}
+use Rattle.cal_zone.specs.computed.InstantOffsetRange.{IsInstantOffsetRangeAt, IsBeforeTransition}
+use Rattle.cal_zone.specs.rules.Place.{datetime_of}
+use Rattle.cal_zone.specs.computed.LocalOffsetRange.{HasConstantOffset, year_end}
 use Rattle.cal_zone.specs.declared.instant_offset_range.InstantOffsetRange.{InstantOffsetRange}
 use Rattle.cal_civil.proofs.DayLemmas.{epoch_day-date_of}
 use Rattle.cal_zone.proofs.LocalOffsetRangeLemmas.{floor_second-whole, offset_between, offset_after_table, offset_standard, rule_after_table}

@@ -3,9 +3,9 @@
 use Rattle.std.proofs.Common.{◌≡◌, None, Some, ℤ, pos, ◌≤ℤ◌, ◌<ℤ◌, arith}
 use Rattle.jiff.proofs.SpanFacts.{signed_arith}
 use Rattle.jiff.specs.Types.{TimeZone}
-use Rattle.cal_zone.specs.PlaceAt.{IsLocalAt}
-use Rattle.cal_zone.specs.headline.Place.{place_of}
-use Rattle.cal_zone.specs.headline.Zone.{local_shown_at}
+use Rattle.cal_zone.specs.computed.PlaceAt.{IsLocalAt}
+use Rattle.cal_zone.specs.rules.Place.{place_of}
+use Rattle.cal_zone.specs.rules.Zone.{local_shown_at}
 use Rattle.cal_zone.proofs.PlaceLemmas.{place_of-Some}
 
 -- if the clock shows a time outside the years 1970 to 2199 at an instant, this instant isn't the place of any local

@@ -19,15 +19,14 @@ use Rattle.jiff_tz.specs.PosixRule.{ambiguous_at_by, dst_at_by, match_some}
 use Rattle.jiff_tz.specs.PosixRule as ByPosix
 use Rattle.jiff_tz.specs.PosixText.{dst_view, tz_view}
 use Rattle.std.specs.Option.{option_map}
-use Rattle.cal_zone.specs.LocalOffsetRange.{HaveSameOffsets}
+use Rattle.cal_zone.specs.computed.LocalOffsetRange.{HaveSameOffsets}
 use Rattle.jiff_tz.specs.Tzif as OfTable
 use Rattle.jiff_tz.specs.Tzif.{ambiguous_after, civil_count_at, civil_end, civil_start, count_at, floor_second, is_inside, no_transition, rule_after, transition_at, type_after}
 use Rattle.jiff_tz.specs.TzifText.{no_row, transition_text}
 use Rattle.jiff_tz.proofs.TzifLemmas.{le_no, le_yes, seconds_rise}
-use Rattle.cal_civil.specs.LocalSecond.{IsLocalSecond}
-use Rattle.cal_civil.specs.headline.Local.{day_of}
-use Rattle.cal_zone.specs.headline.Place.{datetime_of, place_of, settle_of, time_of}
-use Rattle.cal_zone.specs.Rules.{zone_of_table}
+use Rattle.cal_civil.specs.rules.LocalSecond.{IsLocalSecond, day_of}
+use Rattle.cal_zone.specs.rules.Place.{datetime_of, place_of, settle_of, time_of}
+use Rattle.cal_zone.specs.rules.Rules.{zone_of_table}
 use Rattle.cal_civil.proofs.DayLemmas.{epoch_day-date_of}
 use Rattle.cal_zone.proofs.PlaceLemmas.{by_the_offset, place_at-there, place_of-Some, place_of-tried}
 

@@ -5,7 +5,7 @@ use mathlib.Core.HLevel.{is_prop→PathP}
 use Rattle.jiff.proofs.SpanFacts.{signed_arith}
 use Rattle.jiff.specs.Types.{Offset}
 use Rattle.jiff.specs.Words.{IsOffsetSeconds}
-use Rattle.cal_zone.specs.headline.FixedOffsetZone.{offset_of_seconds}
+use Rattle.cal_zone.specs.rules.FixedOffsetZone.{offset_of_seconds}
 
 pub same_offset : (a b : Offset) → a.seconds ≡ b.seconds → a ≡ b
 same_offset a b e =

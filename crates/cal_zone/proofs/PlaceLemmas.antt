@@ -8,17 +8,16 @@ use Rattle.jiff.specs.Types.{AmbiguousOffset, DateTime, Fixed, Offset, TimeZone,
 use Rattle.jiff.specs.Words.{ambiguous_at, compatible_offset, civil_nanos, fixed_zone, instant_of, nanos_of_seconds, offset_at, picked_instant, IsEpochDay, IsOffsetSeconds}
 use Rattle.jiff.proofs.SpanFacts.{signed_arith}
 use Rattle.cal_civil.proofs.LocalLemmas.{local_arith}
-use Rattle.cal_civil.specs.LocalSecond.{CanSettle}
+use Rattle.cal_civil.specs.rules.LocalSecond.{CanSettle, day_of}
 use Rattle.cal_zone.specs.declared.zone.FixedOffset.{FixedOffset}
 use Rattle.cal_zone.specs.declared.zone.ZoneKind.TheVariants.{Offset as AtOffset, Rules as ByRules}
 use Rattle.cal_zone.specs.declared.zone.Zone.{Zone}
 use Rattle.cal_zone.specs.declared.rules.Rules.{Rules}
 use Rattle.std.specs.Borrow.{Bor}
 use Rattle.jiff.proofs.ZoneFacts.{offset_at-fixed_zone}
-use Rattle.cal_civil.specs.headline.Local.{day_of}
-use Rattle.cal_zone.specs.PlaceAt.{place_at}
-use Rattle.cal_zone.specs.headline.Place.{datetime_of, place_of, settle_of, time_of}
-use Rattle.cal_zone.specs.headline.Zone.{local_shown_at, offset_of, zone_of}
+use Rattle.cal_zone.specs.computed.PlaceAt.{place_at}
+use Rattle.cal_zone.specs.rules.Place.{datetime_of, place_of, settle_of, time_of}
+use Rattle.cal_zone.specs.rules.Zone.{local_shown_at, offset_of, zone_of}
 use Rattle.cal_civil.proofs.DayLemmas.{epoch_day-date_of}
 use Rattle.cal_zone.proofs.ZoneLemmas.{offset_at-in_range, zone_of-offset, zone_of-rules, zone_of-utc}
 

@@ -13,10 +13,10 @@ use Rattle.jiff_core.proofs.CalendarLemmas.{day_count-last_of_year, day_count-ye
 use Rattle.jiff_core.proofs.DateLemmas.{civil}
 use Rattle.jiff_tz.specs.Year.{year_of_nanos}
 use Rattle.jiff_tz.proofs.YearLemmas.{year_of_nanos-civil}
-use Rattle.cal_civil.specs.headline.Days.{date_of}
-use Rattle.cal_civil.specs.headline.Local.{day_of}
-use Rattle.cal_zone.specs.headline.Place.{datetime_of}
-use Rattle.cal_zone.specs.LocalOffsetRange.{year_end}
+use Rattle.cal_civil.specs.rules.Days.{date_of}
+use Rattle.cal_civil.specs.rules.LocalSecond.{day_of}
+use Rattle.cal_zone.specs.rules.Place.{datetime_of}
+use Rattle.cal_zone.specs.computed.LocalOffsetRange.{year_end}
 use Rattle.cal_zone.proofs.LocalOffsetRangeLemmas.{count_after_table, floor_second-whole}
 use Rattle.jiff_tz.specs.declared.tzif.Tzif.{Tzif as Table}
 use Rattle.jiff_tz.specs.Tzif as OfTable

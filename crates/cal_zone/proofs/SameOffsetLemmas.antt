@@ -19,12 +19,11 @@ use Rattle.jiff_tz.specs.PosixRule.{civil_max, civil_min, first_day, first_nanos
 use Rattle.jiff_tz.specs.PosixRule as ByPosix
 use Rattle.jiff_tz.specs.Tzif as OfTable
 use Rattle.jiff_tz.specs.Tzif.{count_at, rule_after, type_after}
-use Rattle.cal_civil.specs.headline.Days.{date_of}
-use Rattle.cal_civil.specs.LocalSecond.{IsLocalSecond}
-use Rattle.cal_civil.specs.headline.Local.{day_of}
-use Rattle.cal_zone.specs.headline.Place.{datetime_of}
-use Rattle.cal_zone.specs.Rules.{zone_of_table}
-use Rattle.cal_zone.specs.LocalOffsetRange.{HaveSameOffsets, HasConstantOffset, IsClearOfTransition, year_end}
+use Rattle.cal_civil.specs.rules.Days.{date_of}
+use Rattle.cal_civil.specs.rules.LocalSecond.{IsLocalSecond, day_of}
+use Rattle.cal_zone.specs.rules.Place.{datetime_of}
+use Rattle.cal_zone.specs.rules.Rules.{zone_of_table}
+use Rattle.cal_zone.specs.computed.LocalOffsetRange.{HaveSameOffsets, HasConstantOffset, IsClearOfTransition, year_end}
 use Rattle.cal_civil.proofs.DayLemmas.{epoch_day-date_of}
 use Rattle.cal_zone.proofs.InstantOffsetRangeLemmas.{ordered_in, window_in, year_order}
 use Rattle.cal_zone.proofs.PlaceLemmas.{civil_nanos-datetime_of}

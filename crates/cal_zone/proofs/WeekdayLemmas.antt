@@ -4,8 +4,8 @@ use Rattle.std.specs.Prelude.{slice_index_or}
 use Rattle.jiff.specs.Words.{monday_zero}
 use Rattle.jiff_core.specs.declared.civil.weekday.Weekday.{Weekday}
 use Rattle.jiff_core.specs.declared.civil.weekday.Weekday.TheVariants.{Monday, Tuesday, Wednesday, Thursday, Friday, Saturday, Sunday}
-use Rattle.cal_zone.specs.headline.InstantText.{weekday_name}
-use Rattle.cal_civil.specs.headline.Weekday.{week, short_name_of}
+use Rattle.cal_zone.specs.rules.InstantText.{weekday_name}
+use Rattle.cal_civil.specs.rules.Weekday.{week, short_name_of}
 
 in_week : (day : Weekday) → day ≡ slice_index_or week (monday_zero day) Sunday
 in_week Monday = refl

@@ -9,7 +9,7 @@ use Rattle.jiff_core.specs.Calendar.{days_from_civil}
 use Rattle.jiff_core.proofs.CalendarLemmas.{days_from_civil-day_count}
 use Rattle.jiff_core.proofs.MarchLemmas.{day_count-early, day_count-late}
 use Rattle.cal_civil.proofs.DayLemmas.{epoch_day-date_of}
-use Rattle.cal_civil.specs.headline.Local.{civil_date, seconds_in_all, seconds_in_all-is}
+use Rattle.cal_civil.specs.rules.LocalSecond.{civil_date, seconds_in_all, seconds_in_all-is}
 
 pub days_from_civil-1970 : days_from_civil (pos 1970) 1 1 ≡ pos 0
 days_from_civil-1970 =

@@ -11,7 +11,7 @@ use Rattle.cal_zone.specs.declared.rules.Rules.{Rules}
 use Rattle.cal_zone.specs.declared.zone.FixedOffset.{FixedOffset}
 use Rattle.cal_zone.specs.declared.zone.ZoneKind.TheVariants.{Utc, Offset as AtOffset, Rules as ByRules}
 use Rattle.cal_zone.specs.declared.zone.Zone.{Zone}
-use Rattle.cal_zone.specs.headline.Zone.{offset_of, zone_of, zone_of_kind}
+use Rattle.cal_zone.specs.rules.Zone.{offset_of, zone_of, zone_of_kind}
 use Rattle.cal_zone.proofs.OffsetLemmas.{nearest, same_offset}
 use Rattle.jiff.proofs.ZoneFacts.{offset_at-UTC, offset_at-fixed_zone}
 

@@ -15,9 +15,9 @@ use Rattle.std.proofs.lemmas.Bool.{false_from_ne_true}
 use Rattle.std.proofs.lemmas.Slice.Eq.{bytes_eq-Decides}
 use Rattle.std.proofs.lemmas.Map.Text.{btree_map_updates_text, is_eq-slice_cmp}
 use Rattle.jiff.specs.Types.{TimeZone, UTC}
-use Rattle.cal_zone.specs.AddedZones.{zone_map_in}
-use Rattle.cal_zone.specs.headline.ZoneTable.{ZoneMap, zone_named}
-use Rattle.cal_civil.specs.headline.ZoneName.{is_utc_name}
+use Rattle.cal_zone.specs.rules.AddedZones.{zone_map_in}
+use Rattle.cal_zone.specs.rules.ZoneTable.{ZoneMap, zone_named}
+use Rattle.cal_civil.specs.rules.ZoneName.{is_utc_name}
 
 find-lookup : (q : List ℕ) (es : List (String Global × TimeZone))
     → find (slice_cmp nat_cmp) q (map (λ entry. (string_bytes entry.0, entry.1)) es) ≡ lookup (is_at (λ key. slice_cmp nat_cmp q (string_bytes key))) es

@@ -1,14 +1,2 @@
-pub mod AddedZones
-pub mod CivilAt
-pub mod FormattedDay
-pub mod Instant
-pub mod InstantOffsetRange
-pub mod LoadFault
-pub mod LoadZone
-pub mod LocalOffsetRange
-pub mod PlaceAt
-pub mod Rules
-pub mod Setting
-pub mod ZoneFault
-pub mod ZoneFile
-pub mod headline
+pub mod computed
+pub mod rules

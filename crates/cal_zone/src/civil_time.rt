@@ -2,9 +2,9 @@
 ghost use Rattle.std.specs.Prelude.{◌≡◌};
 ghost use Rattle.jiff.specs.Types.{TimeZone};
 ghost use Rattle.jiff.specs.Words.{nanos_of_seconds, offset_at};
-ghost use Rattle.cal_zone.specs.CivilAt.{civil_at_offset, IsCivil};
-ghost use Rattle.cal_zone.specs.headline.Civil.{civil_of};
-ghost use Rattle.cal_zone.specs.headline.Zone.{offset_of, zone_of};
+ghost use Rattle.cal_zone.specs.rules.CivilAt.{civil_at_offset, IsCivil};
+ghost use Rattle.cal_zone.specs.rules.Civil.{civil_of};
+ghost use Rattle.cal_zone.specs.rules.Zone.{offset_of, zone_of};
 
 use crate::zone::{FixedOffset, ZoneKind};
 use crate::{Civil, Instant, Zone};

@@ -3,9 +3,9 @@
 ghost use Rattle.std.specs.Prelude.{◌≡◌, ◌+◌, ◌*◌, ◌≤◌, ◌++◌, ◌-ℤ◌, ◌≤ℤ◌, ◌<ℤ◌, length, pos};
 ghost use Rattle.jiff.specs.Words.{IsBetween};
 ghost use Rattle.cal_bytes.specs.declared.short_text.TheConstants.{SHORT_TEXT_ROOM};
-ghost use Rattle.cal_zone.specs.InstantOffsetRange.{IsInstantOffsetRangeAt};
-ghost use Rattle.cal_zone.specs.FormattedDay.{HasShortTexts, IsFormattedDay, text_on};
-ghost use Rattle.cal_zone.specs.headline.Zone.{zone_of};
+ghost use Rattle.cal_zone.specs.computed.InstantOffsetRange.{IsInstantOffsetRangeAt};
+ghost use Rattle.cal_zone.specs.computed.FormattedDay.{HasShortTexts, IsFormattedDay, text_on};
+ghost use Rattle.cal_zone.specs.rules.Zone.{zone_of};
 
 use crate::civil_time::civil_at;
 use crate::instant_offset_range::InstantOffsetRange;

@@ -1,6 +1,6 @@
 //! Instants: whole seconds of Unix time.
 ghost use Rattle.std.specs.Prelude.{◌≡◌, ◌↔◌, IsSome, IfSome};
-ghost use Rattle.cal_zone.specs.Instant.{IsInstant};
+ghost use Rattle.cal_zone.specs.rules.Instant.{IsInstant};
 
 /// A number of whole seconds of Unix time, from 0 to 7,258,211,998. The upper limit is the last second of the year 2199
 /// at the UTC offset farthest west, -25:59:59.

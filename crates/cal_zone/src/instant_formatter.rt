@@ -3,11 +3,11 @@
 
 ghost use Rattle.std.specs.Prelude.{◌≡◌, ◌+◌, ◌≤◌, ◌++◌, length};
 ghost use Rattle.cal_bytes.specs.declared.short_text.TheConstants.{SHORT_TEXT_ROOM};
-ghost use Rattle.cal_zone.specs.CivilAt.{IsCivil};
-ghost use Rattle.cal_zone.specs.headline.Civil.{civil_of};
-ghost use Rattle.cal_zone.specs.headline.InstantText.{instant_text};
-ghost use Rattle.cal_zone.specs.InstantOffsetRange.{IsInstantOffsetRangeAt};
-ghost use Rattle.cal_zone.specs.headline.Zone.{zone_of};
+ghost use Rattle.cal_zone.specs.rules.CivilAt.{IsCivil};
+ghost use Rattle.cal_zone.specs.rules.Civil.{civil_of};
+ghost use Rattle.cal_zone.specs.rules.InstantText.{instant_text};
+ghost use Rattle.cal_zone.specs.computed.InstantOffsetRange.{IsInstantOffsetRangeAt};
+ghost use Rattle.cal_zone.specs.rules.Zone.{zone_of};
 
 use crate::civil_time::civil_at;
 use crate::formatted_day::FormattedDay;
@@ -30,9 +30,9 @@ pub struct InstantFormatter<'z> {
 
 impl<'z> Model for InstantFormatter<'z> {
     ghost use Rattle.cal_zone.specs.declared.zone.Zone.{Zone};
-    ghost use Rattle.cal_zone.specs.InstantOffsetRange.{IsInstantOffsetRange};
-    ghost use Rattle.cal_zone.specs.FormattedDay.{IsFormattedDay};
-    ghost use Rattle.cal_zone.specs.headline.Zone.{zone_of};
+    ghost use Rattle.cal_zone.specs.computed.InstantOffsetRange.{IsInstantOffsetRange};
+    ghost use Rattle.cal_zone.specs.computed.FormattedDay.{IsFormattedDay};
+    ghost use Rattle.cal_zone.specs.rules.Zone.{zone_of};
 
     ghost Value = { Zone };
 

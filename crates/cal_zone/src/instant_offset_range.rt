@@ -5,10 +5,10 @@
 
 ghost use Rattle.std.specs.Prelude.{◌≡◌, option_map, pos};
 ghost use Rattle.jiff_tz.specs.PosixRule.{transition_view};
-ghost use Rattle.cal_civil.specs.LocalSecond.{CanSettle};
-ghost use Rattle.cal_zone.specs.InstantOffsetRange.{IsInstantOffsetRangeAt, IsBeforeTransitionUntil};
-ghost use Rattle.cal_zone.specs.LocalOffsetRange.{HasConstantOffset};
-ghost use Rattle.cal_zone.specs.headline.Zone.{zone_of};
+ghost use Rattle.cal_civil.specs.rules.LocalSecond.{CanSettle};
+ghost use Rattle.cal_zone.specs.computed.InstantOffsetRange.{IsInstantOffsetRangeAt, IsBeforeTransitionUntil};
+ghost use Rattle.cal_zone.specs.computed.LocalOffsetRange.{HasConstantOffset};
+ghost use Rattle.cal_zone.specs.rules.Zone.{zone_of};
 
 use crate::civil_time::fixed_offset;
 use crate::local_offset_range::year_after;

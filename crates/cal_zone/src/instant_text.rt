@@ -2,11 +2,11 @@
 
 ghost use Rattle.std.specs.Prelude.{◌≡◌, ◌+◌, ◌<◌, ◌≤◌, decimal, ◌++◌, false, length};
 ghost use Rattle.std.specs.Int.{IsInRange};
-ghost use Rattle.cal_bytes.specs.Puts.{Puts};
-ghost use Rattle.cal_zone.specs.CivilAt.{IsCivil};
-ghost use Rattle.cal_zone.specs.FormattedDay.{day_text};
-ghost use Rattle.cal_civil.specs.headline.OffsetText.{zeros};
-ghost use Rattle.cal_zone.specs.headline.InstantText.{weekday_name, instant_text, shown_text, time_text, zone_word};
+ghost use Rattle.cal_bytes.specs.rules.Puts.{Puts};
+ghost use Rattle.cal_zone.specs.rules.CivilAt.{IsCivil};
+ghost use Rattle.cal_zone.specs.computed.FormattedDay.{day_text};
+ghost use Rattle.cal_civil.specs.rules.OffsetText.{zeros};
+ghost use Rattle.cal_zone.specs.rules.InstantText.{weekday_name, instant_text, shown_text, time_text, zone_word};
 ghost use Rattle.cal_bytes.specs.declared.short_text.TheConstants.{SHORT_TEXT_ROOM};
 
 use crate::{Civil, Instant, Zone, civil};
@@ -20,7 +20,7 @@ use jiff_core::civil::Weekday;
 ///
 /// Examples are `Sat 2020-02-29 00:00:00 UTC`, and `Thu 1970-01-01 00:53:28 +00:53:28` for an offset that isn't a whole
 /// number of minutes. At most 84 bytes are appended.
-#[tactic(auto, unfolding(crate::specs::headline::InstantText::instant_text))]
+#[tactic(auto, unfolding(crate::specs::rules::InstantText::instant_text))]
 pub fn push_instant(text: &mut ShortText, zone: Zone, instant: Instant)
     requires room { length text.old.items + 84 ≤ SHORT_TEXT_ROOM }
     ensures text { text.new.items ≡ text.old.items ++ instant_text zone.entry instant.secs }
@@ -46,7 +46,7 @@ pub fn write_instant<W: Sink>(out: &mut W, zone: Zone, instant: Instant) -> Resu
 
 /// Appends everything in a printed instant that comes before the zone: the weekday, the date and the time, each
 /// followed by a space.
-#[tactic(auto, unfolding(crate::specs::headline::InstantText::shown_text, crate::specs::FormattedDay::day_text))]
+#[tactic(auto, unfolding(crate::specs::rules::InstantText::shown_text, crate::specs::computed::FormattedDay::day_text))]
 fn push_civil(text: &mut ShortText, shown: &Civil)
     requires ranges { IsCivil shown.now }
     requires room { length text.old.items + 44 ≤ SHORT_TEXT_ROOM }
@@ -59,7 +59,7 @@ fn push_civil(text: &mut ShortText, shown: &Civil)
 }
 
 /// Appends the weekday and the date, each followed by a space: `Sat 2020-02-29 `.
-#[tactic(auto, unfolding(crate::specs::FormattedDay::day_text, crate::specs::headline::InstantText::date_text))]
+#[tactic(auto, unfolding(crate::specs::computed::FormattedDay::day_text, crate::specs::rules::InstantText::date_text))]
 pub(crate) fn push_day(text: &mut ShortText, shown: &Civil)
     requires ranges { IsCivil shown.now }
     requires room { length text.old.items + 26 ≤ SHORT_TEXT_ROOM }
@@ -89,7 +89,7 @@ pub(crate) fn push_day(text: &mut ShortText, shown: &Civil)
 }
 
 /// Appends a time of day, such as `09:30:00`.
-#[tactic(auto, unfolding(crate::specs::headline::InstantText::time_text))]
+#[tactic(auto, unfolding(crate::specs::rules::InstantText::time_text))]
 pub(crate) fn push_time(text: &mut ShortText, hour: u8, minute: u8, second: u8)
     requires hour { hour < 100 }
     requires minute { minute < 100 }
@@ -120,7 +120,7 @@ fn two_digits(number: u8) -> [u8; 2]
 }
 
 /// Appends the last word of a printed instant: `UTC` if `is_utc`, and otherwise the UTC offset.
-#[tactic(auto, unfolding(crate::specs::headline::InstantText::zone_word))]
+#[tactic(auto, unfolding(crate::specs::rules::InstantText::zone_word))]
 pub(crate) fn push_zone(text: &mut ShortText, is_utc: bool, offset: i32)
     requires room { length text.old.items + 40 ≤ SHORT_TEXT_ROOM }
     ensures text { text.new.items ≡ text.old.items ++ zone_word is_utc offset }

@@ -6,16 +6,16 @@ ghost use Rattle.std.specs.Prelude.{◌≡◌, ℕ, ◌/◌, ◌<◌, ℤ, pos, 
 ghost use Rattle.std.specs.FinMap.{insert};
 ghost use Rattle.jiff.specs.Types.{Date, Fold, Gap, Offset, TimeZone, UTC, Unambiguous};
 ghost use Rattle.jiff.specs.Words.{ambiguous_at, civil_nanos, epoch_day, fixed_zone, nanos_of_seconds, offset_at, picked_instant, IsBetween, IsEpochDay, IsOffsetSeconds};
-ghost use Rattle.cal_civil.specs.headline.Days.{date_of};
-ghost use Rattle.cal_civil.specs.headline.OffsetText.{offset_text};
-ghost use Rattle.cal_civil.specs.headline.Local.{civil_date, day_of, seconds_in_all, seconds_per_day, first_year, last_year};
-ghost use Rattle.cal_civil.specs.ReadOffset.{AreWholeMinutes, offset_in};
-ghost use Rattle.cal_civil.specs.headline.OffsetWord.{IsOffsetWord};
-ghost use Rattle.cal_zone.specs.PlaceAt.{place_at};
-ghost use Rattle.cal_zone.specs.headline.Place.{datetime_of, place_of, settle_of};
-ghost use Rattle.cal_zone.specs.headline.Zone.{local_shown_at};
-ghost use Rattle.cal_zone.specs.headline.ZoneTable.{ZoneMap, zone_named};
-ghost use Rattle.cal_civil.specs.headline.ZoneName.{is_utc_name};
+ghost use Rattle.cal_civil.specs.rules.Days.{date_of};
+ghost use Rattle.cal_civil.specs.rules.OffsetText.{offset_text};
+ghost use Rattle.cal_civil.specs.rules.LocalSecond.{civil_date, day_of, seconds_in_all, seconds_per_day, first_year, last_year};
+ghost use Rattle.cal_civil.specs.computed.ReadOffset.{AreWholeMinutes, offset_in};
+ghost use Rattle.cal_civil.specs.rules.OffsetWord.{IsOffsetWord};
+ghost use Rattle.cal_zone.specs.computed.PlaceAt.{place_at};
+ghost use Rattle.cal_zone.specs.rules.Place.{datetime_of, place_of, settle_of};
+ghost use Rattle.cal_zone.specs.rules.Zone.{local_shown_at};
+ghost use Rattle.cal_zone.specs.rules.ZoneTable.{ZoneMap, zone_named};
+ghost use Rattle.cal_civil.specs.rules.ZoneName.{is_utc_name};
 
 /// Every day number in the range of `jiff`'s calendar has a date, and no other date has that day number.
 #[tactic(auto, using(cal_civil::proofs::DayLemmas::dates))]

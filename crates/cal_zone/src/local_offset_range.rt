@@ -8,11 +8,11 @@ ghost use Rattle.jiff.specs.Types.{Posix as ByRule};
 ghost use Rattle.jiff.specs.Words.{nanos_of_seconds, IsWithin};
 ghost use Rattle.jiff_tz.specs.Tzif.{count_at, type_after};
 ghost use Rattle.jiff_tz.specs.PosixRule.{transition_view};
-ghost use Rattle.cal_civil.specs.LocalSecond.{CanSettle, IsLocalSecond, IsNearSettled};
-ghost use Rattle.cal_zone.specs.headline.Place.{datetime_of};
-ghost use Rattle.cal_zone.specs.Rules.{zone_of_table};
-ghost use Rattle.cal_zone.specs.LocalOffsetRange.{HaveSameOffsetsUntil, HasConstantOffset, IsClearOfTransitionUntil, IsTransitionSecond, IsLocalOffsetRangeAt, year_end, transition_margin};
-ghost use Rattle.cal_zone.specs.headline.Zone.{zone_of};
+ghost use Rattle.cal_civil.specs.rules.LocalSecond.{CanSettle, IsLocalSecond, IsNearSettled};
+ghost use Rattle.cal_zone.specs.rules.Place.{datetime_of};
+ghost use Rattle.cal_zone.specs.rules.Rules.{zone_of_table};
+ghost use Rattle.cal_zone.specs.computed.LocalOffsetRange.{HaveSameOffsetsUntil, HasConstantOffset, IsClearOfTransitionUntil, IsTransitionSecond, IsLocalOffsetRangeAt, year_end, transition_margin};
+ghost use Rattle.cal_zone.specs.rules.Zone.{zone_of};
 
 use crate::places::datetime;
 use crate::zone::ZoneKind;

@@ -2,8 +2,8 @@
 //! first shows it.
 
 ghost use Rattle.std.specs.Prelude.{◌≡◌};
-ghost use Rattle.cal_zone.specs.PlaceAt.{IsLocalAt};
-ghost use Rattle.cal_zone.specs.headline.Zone.{local_shown_at, zone_of};
+ghost use Rattle.cal_zone.specs.computed.PlaceAt.{IsLocalAt};
+ghost use Rattle.cal_zone.specs.rules.Zone.{local_shown_at, zone_of};
 
 use crate::civil_time::offset_in;
 use crate::{Instant, Zone, place};
@@ -30,7 +30,7 @@ pub(crate) fn local_at(zone: Zone, instant: Instant) -> Option<i64>
 }
 
 /// Returns the local second that the zone's clock shows at `instant`, whether for the first or for the second time.
-#[tactic(auto, using(cal_civil::proofs::LocalLemmas::local_arith), unfolding(crate::specs::headline::Zone::local_shown_at))]
+#[tactic(auto, using(cal_civil::proofs::LocalLemmas::local_arith), unfolding(crate::specs::rules::Zone::local_shown_at))]
 fn local_shown_at(zone: Zone, instant: Instant) -> i64
     ensures { result ≡ local_shown_at (zone_of zone.entry) instant.secs }
 {

@@ -1,8 +1,7 @@
 //! Moments: whole microseconds of Unix time.
 
 ghost use Rattle.std.specs.Prelude.{◌≡◌, ◌↔◌, ◌/◌, pos, unsigned_abs, IsSome, IfSome};
-ghost use Rattle.cal_zone.specs.Instant.{IsMoment};
-ghost use Rattle.cal_zone.specs.headline.Moment.{micros_of, micros_per_second};
+ghost use Rattle.cal_zone.specs.rules.Instant.{IsMoment, micros_of, micros_per_second};
 
 use crate::Instant;
 

@@ -2,10 +2,10 @@
 //! shows them, and back. Within a cached range, a conversion is one subtraction or addition.
 
 ghost use Rattle.std.specs.Prelude.{◌≡◌, IfSome};
-ghost use Rattle.cal_civil.specs.LocalSecond.{IsLocalSecond};
-ghost use Rattle.cal_zone.specs.PlaceAt.{IsLocalAt};
-ghost use Rattle.cal_zone.specs.headline.Place.{place_of};
-ghost use Rattle.cal_zone.specs.headline.Zone.{zone_of};
+ghost use Rattle.cal_civil.specs.rules.LocalSecond.{IsLocalSecond};
+ghost use Rattle.cal_zone.specs.computed.PlaceAt.{IsLocalAt};
+ghost use Rattle.cal_zone.specs.rules.Place.{place_of};
+ghost use Rattle.cal_zone.specs.rules.Zone.{zone_of};
 
 use crate::local_offset_range::{LocalOffsetRange, local_range_at};
 use crate::locals::local_at;
@@ -33,8 +33,8 @@ pub struct PlaceCache<'z> {
 
 impl<'z> Model for PlaceCache<'z> {
     ghost use Rattle.cal_zone.specs.declared.zone.Zone.{Zone};
-    ghost use Rattle.cal_zone.specs.LocalOffsetRange.{IsLocalOffsetRange};
-    ghost use Rattle.cal_zone.specs.headline.Zone.{zone_of};
+    ghost use Rattle.cal_zone.specs.computed.LocalOffsetRange.{IsLocalOffsetRange};
+    ghost use Rattle.cal_zone.specs.rules.Zone.{zone_of};
 
     ghost Value = { Zone };
 
@@ -44,7 +44,7 @@ impl<'z> Model for PlaceCache<'z> {
 }
 
 impl<'z> PlaceCache<'z> {
-    ghost use Rattle.cal_zone.specs.LocalOffsetRange.{AreAtOffset};
+    ghost use Rattle.cal_zone.specs.computed.LocalOffsetRange.{AreAtOffset};
 
     /// Creates an empty cache for the zone.
     pub fn new(zone: Zone<'z>) -> PlaceCache<'z>

@@ -3,9 +3,9 @@
 
 ghost use Rattle.std.specs.Prelude.{◌≡◌, ◌-ℤ◌};
 ghost use Rattle.jiff.specs.Words.{IsOffsetSeconds};
-ghost use Rattle.cal_civil.specs.LocalSecond.{CanSettle, IsLocalSecond, IsNearSettled};
-ghost use Rattle.cal_zone.specs.headline.Place.{datetime_of, place_of, settle_of};
-ghost use Rattle.cal_zone.specs.headline.Zone.{local_shown_at, zone_of};
+ghost use Rattle.cal_civil.specs.rules.LocalSecond.{CanSettle, IsLocalSecond, IsNearSettled};
+ghost use Rattle.cal_zone.specs.rules.Place.{datetime_of, place_of, settle_of};
+ghost use Rattle.cal_zone.specs.rules.Zone.{local_shown_at, zone_of};
 
 use crate::zone::{FixedOffset, ZoneKind};
 use crate::{Rules, Zone};
@@ -83,7 +83,7 @@ fn settle_by(rules: &Rules, local: i64) -> i64
 
 /// Returns the local second that the clock shows at a second of Unix time, which must be in the range of the
 /// results of [`settle`].
-#[tactic(auto, using(cal_civil::proofs::LocalLemmas::local_arith), unfolding(crate::specs::headline::Zone::local_shown_at))]
+#[tactic(auto, using(cal_civil::proofs::LocalLemmas::local_arith), unfolding(crate::specs::rules::Zone::local_shown_at))]
 fn local_shown_by(rules: &Rules, second: i64) -> i64
     requires { IsNearSettled second }
     ensures { result ≡ local_shown_at rules.now second }

@@ -4,9 +4,9 @@ ghost use Rattle.std.specs.Prelude.{◌≡◌, ◌↔◌, ℤ, IsOk, IsSome, IfO
 ghost use Rattle.jiff.specs.Placed.{IsPosixZone};
 ghost use Rattle.jiff.specs.Types.{DateTime};
 ghost use Rattle.jiff.specs.Words.{ambiguous_at, next_at, offset_at, plain_zone, read_whole};
-ghost use Rattle.cal_civil.specs.LocalSecond.{IsLocalSecond};
-ghost use Rattle.cal_zone.specs.LocalOffsetRange.{HaveSameOffsetsUntil, IsLocalOffsetRangeAt};
-ghost use Rattle.cal_zone.specs.ZoneFile.{IsFileFault, IsFileZone};
+ghost use Rattle.cal_civil.specs.rules.LocalSecond.{IsLocalSecond};
+ghost use Rattle.cal_zone.specs.computed.LocalOffsetRange.{HaveSameOffsetsUntil, IsLocalOffsetRangeAt};
+ghost use Rattle.cal_zone.specs.rules.ZoneFile.{IsFileFault, IsFileZone};
 ghost use Rattle.cal_zone.specs.declared.zone_fault.ZoneFault.TheVariants.{BadRule};
 
 use crate::instant_offset_range::constant_offset_until;
@@ -38,7 +38,7 @@ impl Model for Rules {
 
     ghost Value = { TimeZone };
 
-    ghost use Rattle.cal_zone.specs.Rules.{zone_of_rules};
+    ghost use Rattle.cal_zone.specs.rules.Rules.{zone_of_rules};
 
     ghost view = { λ rules. zone_of_rules rules.kind };
 }

@@ -27,8 +27,8 @@ pub(crate) struct FixedOffset {
 }
 
 impl<'t> Zone<'t> {
-    ghost use Rattle.cal_zone.specs.headline.Zone.{is_utc, utc, zone_of};
-    ghost use Rattle.cal_zone.specs.headline.FixedOffsetZone.{fixed_offset_zone};
+    ghost use Rattle.cal_zone.specs.rules.Zone.{is_utc, utc, zone_of};
+    ghost use Rattle.cal_zone.specs.rules.FixedOffsetZone.{fixed_offset_zone};
 
     /// Returns UTC. In UTC, a local second and its place, the second of Unix time at which the clock shows it, are the
     /// same number.
@@ -42,7 +42,7 @@ impl<'t> Zone<'t> {
 
     /// Returns the zone with a fixed UTC offset of `seconds` seconds, from -93,599 to 93,599. Even with the offset 0,
     /// this zone is not the same as [`Zone::utc`]: instants in the two zones are printed differently.
-    #[tactic(auto, using(crate::proofs::ZoneLemmas::fixed), unfolding(crate::specs::headline::FixedOffsetZone::fixed_offset_zone))]
+    #[tactic(auto, using(crate::proofs::ZoneLemmas::fixed), unfolding(crate::specs::rules::FixedOffsetZone::fixed_offset_zone))]
     pub fn offset(seconds: i32) -> Zone<'static>
         requires { IsOffsetSeconds seconds }
         ensures zone { (offset : Offset) → offset.seconds ≡ seconds → zone_of result ≡ fixed_zone offset }
@@ -55,7 +55,7 @@ impl<'t> Zone<'t> {
     }
 
     /// Returns the zone with these rules.
-    #[tactic(auto, unfolding(crate::specs::headline::Zone::zone_of))]
+    #[tactic(auto, unfolding(crate::specs::rules::Zone::zone_of))]
     pub fn rules(rules: &'t Rules) -> Zone<'t>
         ensures zone { zone_of result ≡ rules.now }
         ensures distinct { is_utc result ≡ false }

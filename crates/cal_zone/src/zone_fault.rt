@@ -20,7 +20,7 @@ pub enum ZoneFault {
 }
 
 impl ZoneFault {
-    ghost use Rattle.cal_zone.specs.ZoneFault.{message_of};
+    ghost use Rattle.cal_zone.specs.rules.ZoneFault.{message_of};
 
     /// Returns the message for users, which is empty for [`ZoneFault::NoMemory`].
     pub fn words(&self) -> &str

@@ -1,7 +1,7 @@
 //! Loading of zone files into the table of zones.
 
 ghost use Rattle.std.specs.Prelude.{◌≡◌, false, MatchResult, OnErr};
-ghost use Rattle.cal_zone.specs.LoadZone.{is_load_read_failed, IsLoaded, IsLoadFault};
+ghost use Rattle.cal_zone.specs.rules.LoadZone.{is_load_read_failed, IsLoaded, IsLoadFault};
 
 use crate::{Rules, ZoneFault, ZoneName, ZoneTable};
 use cal_bytes::Source;
@@ -25,7 +25,7 @@ pub enum LoadFault {
 }
 
 impl LoadFault {
-    ghost use Rattle.cal_zone.specs.LoadFault.{message_of};
+    ghost use Rattle.cal_zone.specs.rules.LoadFault.{message_of};
 
     /// Returns the message for the user. For `Zone`, this is the message of the error inside, which is empty if memory
     /// ran out.

@@ -1,7 +1,7 @@
 //! The checked names of zones.
 
 ghost use Rattle.std.specs.Prelude.{◌≡◌, true, false, MatchOption};
-ghost use Rattle.cal_civil.specs.headline.ZoneName.{is_zone_name};
+ghost use Rattle.cal_civil.specs.rules.ZoneName.{is_zone_name};
 
 use cal_civil::is_zone_name;
 

@@ -20,23 +20,23 @@ pub struct ZoneTable {
 impl Model for ZoneTable {
     ghost use Rattle.std.specs.Coded.{coded_list, coded_ℕ};
     ghost use Rattle.std.specs.FinMap as map;
-    ghost use Rattle.cal_zone.specs.headline.ZoneTable.{ZoneMap};
+    ghost use Rattle.cal_zone.specs.rules.ZoneTable.{ZoneMap};
     ghost use Rattle.cal_zone.specs.contracts.rules.Rules.{the_row};
 
     ghost Value = { ZoneMap };
 
     ghost coded = { map.code (coded_list coded_ℕ) the_row.coded };
 
-    ghost use Rattle.cal_zone.specs.AddedZones.{zone_map_in};
+    ghost use Rattle.cal_zone.specs.rules.AddedZones.{zone_map_in};
 
     ghost view = { λ table. zone_map_in table.zones };
 }
 
 impl ZoneTable {
-    ghost use Rattle.cal_zone.specs.headline.Zone.{is_utc, zone_of};
-    ghost use Rattle.cal_civil.specs.headline.ZoneName.{is_utc_name};
-    ghost use Rattle.cal_zone.specs.AddedZones.{IsAddable, IsAddFault};
-    ghost use Rattle.cal_zone.specs.headline.ZoneTable.{zone_named};
+    ghost use Rattle.cal_zone.specs.rules.Zone.{is_utc, zone_of};
+    ghost use Rattle.cal_civil.specs.rules.ZoneName.{is_utc_name};
+    ghost use Rattle.cal_zone.specs.rules.AddedZones.{IsAddable, IsAddFault};
+    ghost use Rattle.cal_zone.specs.rules.ZoneTable.{zone_named};
 
     /// Creates an empty table, in which only `UTC` is found.
     pub fn new(alloc: Global) -> Self
@@ -93,7 +93,7 @@ impl ZoneTable {
 
     /// Returns the zone named `name`: UTC for `UTC`, ignoring case, and otherwise the zone that was added under exactly
     /// this name. Returns `None` if there is no such zone.
-    #[tactic(auto, unfolding(crate::specs::headline::Zone::zone_of, crate::specs::headline::ZoneTable::zone_named))]
+    #[tactic(auto, unfolding(crate::specs::rules::Zone::zone_of, crate::specs::rules::ZoneTable::zone_named))]
     pub fn find(&self, name: &str) -> Option<Zone<'_>>
         ensures zone { option_map zone_of result ≡ zone_named self.now name.now }
         ensures distinct { IfSome result (λ zone. is_utc zone ≡ is_utc_name name.now) }

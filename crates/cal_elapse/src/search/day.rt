@@ -2,11 +2,11 @@
 //! this module. This module calls `search::month` for the next month, and counts the months that are examined.
 
 ghost use Rattle.std.specs.Prelude.{◌≡◌, ◌+◌, ◌<◌, ◌≤◌, cond};
-ghost use Rattle.cal_elapse.specs.ExaminedMonths.{examined_from};
-ghost use Rattle.cal_elapse.specs.Masks.{sets_in};
-ghost use Rattle.cal_elapse.specs.Months.{day_in, first_day, month_in, months_in_all};
-ghost use Rattle.cal_elapse.specs.Search.{IsFirstPassing};
-ghost use Rattle.cal_civil.specs.headline.Local.{days_in_all};
+ghost use Rattle.cal_elapse.specs.rules.ExaminedMonths.{examined_from};
+ghost use Rattle.cal_elapse.specs.computed.Masks.{sets_in};
+ghost use Rattle.cal_elapse.specs.rules.Months.{day_in, first_day, month_in, months_in_all};
+ghost use Rattle.cal_elapse.specs.rules.Search.{IsFirstPassing};
+ghost use Rattle.cal_civil.specs.rules.LocalSecond.{days_in_all};
 
 use crate::Masks;
 use crate::month::{Month, month_at};

@@ -6,14 +6,13 @@
 
 ghost use Rattle.std.specs.Prelude.{◌≡◌, ◌+◌, ◌*◌, ◌≤◌, ◌<◌, true, pos, ◌≤ℤ◌, unsigned_abs};
 ghost use Rattle.std.specs.Option.{option_map};
-ghost use Rattle.cal_civil.specs.LocalSecond.{IsLocalSecond};
-ghost use Rattle.cal_civil.specs.headline.Local.{seconds_in_all, days_in_all, seconds_per_day};
-ghost use Rattle.cal_elapse.specs.ExaminedMonths.{IsSearch, examined_months};
-ghost use Rattle.cal_elapse.specs.Masks.{sets_in};
-ghost use Rattle.cal_elapse.specs.Search.{IsFirstLocal, IsFirstPassing};
-ghost use Rattle.cal_elapse.specs.SearchSteps.{day_to_start, second_on};
-ghost use Rattle.cal_spec.specs.headline.Match.{matches, time_in};
-ghost use Rattle.cal_elapse.specs.Months.{months_in_all};
+ghost use Rattle.cal_civil.specs.rules.LocalSecond.{IsLocalSecond, seconds_in_all, days_in_all, seconds_per_day};
+ghost use Rattle.cal_elapse.specs.rules.ExaminedMonths.{IsSearch, examined_months};
+ghost use Rattle.cal_elapse.specs.computed.Masks.{sets_in};
+ghost use Rattle.cal_elapse.specs.rules.Search.{IsFirstLocal, IsFirstPassing};
+ghost use Rattle.cal_elapse.specs.computed.SearchSteps.{day_to_start, second_on};
+ghost use Rattle.cal_spec.specs.rules.Match.{matches, time_in};
+ghost use Rattle.cal_elapse.specs.rules.Months.{months_in_all};
 
 pub(crate) mod day;
 pub(crate) mod month;

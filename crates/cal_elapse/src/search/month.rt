@@ -3,10 +3,10 @@
 //! each value that a field matches.
 
 ghost use Rattle.std.specs.Prelude.{◌≡◌, ◌+◌, ◌*◌, ◌/◌, ◌<◌, ◌≤◌};
-ghost use Rattle.cal_elapse.specs.Bits.{is_bit_in};
-ghost use Rattle.cal_elapse.specs.Masks.{sets_in};
-ghost use Rattle.cal_elapse.specs.Months.{month_in, months_in_all};
-ghost use Rattle.cal_elapse.specs.Search.{IsFirstPassing};
+ghost use Rattle.cal_elapse.specs.computed.Bits.{is_bit_in};
+ghost use Rattle.cal_elapse.specs.computed.Masks.{sets_in};
+ghost use Rattle.cal_elapse.specs.rules.Months.{month_in, months_in_all};
+ghost use Rattle.cal_elapse.specs.rules.Search.{IsFirstPassing};
 
 use crate::Masks;
 use crate::bits::{has_bit, lowest_bit, next_bit};
@@ -64,7 +64,7 @@ fn month_later(masks: &Masks, year: u32) -> Option<u32>
 }
 
 /// Returns whether the set `years` contains `year`, which is counted from 1970.
-#[tactic(auto, unfolding(crate::specs::Bits::is_bit_in))]
+#[tactic(auto, unfolding(crate::specs::computed::Bits::is_bit_in))]
 fn has_year(years: &[u64; 4], year: u32) -> bool
     requires { year < 256 }
     ensures { result ≡ is_bit_in years.now year }

@@ -4,17 +4,16 @@
 
 ghost use Rattle.std.specs.Prelude.{◌≡◌, ◌+◌, ◌-◌, ◌*◌, ◌/◌, ◌<◌, ◌≤◌, ◌≤ℤ◌, pos, true, false, max, None, IfSome, unsigned_abs, unwrap_or};
 ghost use Rattle.std.specs.Option.{option_map};
-ghost use Rattle.cal_civil.specs.LocalSecond.{IsLocalSecond};
-ghost use Rattle.cal_civil.specs.headline.Local.{seconds_in_all};
-ghost use Rattle.cal_elapse.specs.Search.{count_from};
-ghost use Rattle.cal_elapse.specs.RemainingMatches.{AreRemaining, HasMoreInHour, HasMoreInMinute, IsNextInMinute, IsRestOfMinute, NoneLeftInMinute, minute_matches};
-ghost use Rattle.cal_elapse.specs.ExaminedMonths.{IsSearch};
-ghost use Rattle.cal_elapse.specs.Masks.{sets_in};
-ghost use Rattle.cal_elapse.specs.MostMonths.{IsMostAfter};
-ghost use Rattle.cal_elapse.specs.SearchStart.{CanStart, begin_of};
-ghost use Rattle.cal_spec.specs.headline.Match.{matches};
-ghost use Rattle.cal_spec.specs.headline.Members.{sets_of};
-ghost use Rattle.cal_elapse.specs.Months.{months_in_all, minutes_in_all};
+ghost use Rattle.cal_civil.specs.rules.LocalSecond.{IsLocalSecond, seconds_in_all};
+ghost use Rattle.cal_elapse.specs.rules.Search.{count_from};
+ghost use Rattle.cal_elapse.specs.computed.RemainingMatches.{AreRemaining, HasMoreInHour, HasMoreInMinute, IsNextInMinute, IsRestOfMinute, NoneLeftInMinute, minute_matches};
+ghost use Rattle.cal_elapse.specs.rules.ExaminedMonths.{IsSearch};
+ghost use Rattle.cal_elapse.specs.computed.Masks.{sets_in};
+ghost use Rattle.cal_elapse.specs.rules.MostMonths.{IsMostAfter};
+ghost use Rattle.cal_elapse.specs.computed.SearchStart.{CanStart, begin_of};
+ghost use Rattle.cal_spec.specs.rules.Match.{matches};
+ghost use Rattle.cal_spec.specs.rules.Members.{sets_of};
+ghost use Rattle.cal_elapse.specs.rules.Months.{months_in_all, minutes_in_all};
 
 use crate::bits::{lowest_bit, with_bit, without_lowest};
 use crate::search::{Found, next_after, next_local};

@@ -2,11 +2,11 @@
 //! module. The search jumps from bit to bit of the masks, which have one bit for each value that a field matches.
 
 ghost use Rattle.std.specs.Prelude.{◌≡◌, ◌+◌, ◌*◌, ◌/◌, ◌<◌, ◌≤◌};
-ghost use Rattle.cal_elapse.specs.Masks.{sets_in};
-ghost use Rattle.cal_elapse.specs.Months.{minute_in, minutes_per_day};
-ghost use Rattle.cal_elapse.specs.Search.{IsFirstPassing};
-ghost use Rattle.cal_spec.specs.headline.Match.{time_in};
-ghost use Rattle.cal_civil.specs.headline.Local.{seconds_per_day};
+ghost use Rattle.cal_elapse.specs.computed.Masks.{sets_in};
+ghost use Rattle.cal_elapse.specs.rules.Months.{minute_in, minutes_per_day};
+ghost use Rattle.cal_elapse.specs.rules.Search.{IsFirstPassing};
+ghost use Rattle.cal_spec.specs.rules.Match.{time_in};
+ghost use Rattle.cal_civil.specs.rules.LocalSecond.{seconds_per_day};
 
 use crate::Masks;
 use crate::bits::{has_bit, lowest_bit, next_bit};
@@ -73,7 +73,7 @@ fn next_minute(masks: &Masks, from: u32) -> Option<u32>
 }
 
 /// Returns whether the expression matches the hour and the minute of the time `minute` minutes after midnight.
-#[tactic(auto, unfolding(crate::specs::Months::minute_in, crate::specs::Masks::sets_in))]
+#[tactic(auto, unfolding(crate::specs::rules::Months::minute_in, crate::specs::computed::Masks::sets_in))]
 pub(crate) fn has_minute(masks: &Masks, minute: u32) -> bool
     requires { minute < minutes_per_day }
     ensures { result ≡ minute_in (sets_in masks.now) minute }

@@ -2,9 +2,9 @@
 //! its next elapses, each with its distance from the present.
 
 ghost use Rattle.std.specs.Prelude.{◌≡◌, false};
-ghost use Rattle.cal_bytes.specs.Puts.{Puts};
-ghost use Rattle.cal_report.specs.TextReport.CalendarReport.{report_of_elapses};
-ghost use Rattle.cal_report.specs.Context.{asked_by};
+ghost use Rattle.cal_bytes.specs.rules.Puts.{Puts};
+ghost use Rattle.cal_report.specs.rules.TextReport.CalendarReport.{report_of_elapses};
+ghost use Rattle.cal_report.specs.rules.Context.{asked_by};
 
 use crate::context::Context;
 use crate::elapse_lines::put_elapses;

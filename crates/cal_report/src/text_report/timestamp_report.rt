@@ -2,11 +2,11 @@
 //! and in UTC, its Unix time, and its distance from the present.
 
 ghost use Rattle.std.specs.Prelude.{◌≡◌, ◌+◌, ◌≤◌, ◌++◌, false, length, unsigned_abs};
-ghost use Rattle.cal_bytes.specs.Puts.{Puts};
+ghost use Rattle.cal_bytes.specs.rules.Puts.{Puts};
 ghost use Rattle.cal_bytes.specs.declared.short_text.TheConstants.{SHORT_TEXT_ROOM};
 ghost use Rattle.cal_span.specs.declared.span.text.TheConstants.{SPAN_ROOM};
-ghost use Rattle.cal_report.specs.Context.{asked_by};
-ghost use Rattle.cal_report.specs.TextReport.TimestampReport.{moment_lines, timestamp_report, unix_text};
+ghost use Rattle.cal_report.specs.rules.Context.{asked_by};
+ghost use Rattle.cal_report.specs.rules.TextReport.TimestampReport.{moment_lines, timestamp_report, unix_text};
 
 use crate::context::Context;
 use crate::local_and_utc::LocalAndUtc;
@@ -16,7 +16,7 @@ use cal_zone::{Instant, MICROS_PER_SECOND, Moment, Zone};
 use itoa::Buffer;
 
 /// Writes the report of a timestamp. `text` is the timestamp as the user gave it, and `moment` is what it resolves to.
-#[tactic(auto, using(cal_bytes::proofs::PutLemmas::puts), unfolding(crate::specs::TextReport::TimestampReport::timestamp_report))]
+#[tactic(auto, using(cal_bytes::proofs::PutLemmas::puts), unfolding(crate::specs::rules::TextReport::TimestampReport::timestamp_report))]
 pub fn write_timestamp<W: Sink>(
     out: &mut W,
     context: Context<'_>,
@@ -48,7 +48,7 @@ fn put_moment<W: Sink>(
 }
 
 /// Appends the lines that describe the moment, without the label of the first line.
-#[tactic(auto, unfolding(crate::specs::TextReport::TimestampReport::moment_lines))]
+#[tactic(auto, unfolding(crate::specs::rules::TextReport::TimestampReport::moment_lines))]
 fn push_moment(text: &mut ShortText, formatter: &mut LocalAndUtc<'_>, now: Instant, moment: Moment)
     requires { length text.old.items + SPAN_ROOM + 276 ≤ SHORT_TEXT_ROOM }
     ensures { text.new.items ≡ text.old.items ++ moment_lines formatter.old now.secs moment.micros }
@@ -65,7 +65,7 @@ fn push_moment(text: &mut ShortText, formatter: &mut LocalAndUtc<'_>, now: Insta
 
 /// Appends `@` and the Unix time in seconds, followed by a point and six digits of microseconds unless these are 0.
 /// Appends at most 48 bytes.
-#[tactic(auto, unfolding(crate::specs::TextReport::TimestampReport::unix_text))]
+#[tactic(auto, unfolding(crate::specs::rules::TextReport::TimestampReport::unix_text))]
 fn push_unix(text: &mut ShortText, moment: Moment)
     requires room { length text.old.items + 48 ≤ SHORT_TEXT_ROOM }
     ensures text { text.new.items ≡ text.old.items ++ unix_text (unsigned_abs moment.micros) }

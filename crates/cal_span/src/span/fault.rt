@@ -27,7 +27,7 @@ pub enum SpanFault {
 }
 
 impl SpanFault {
-    ghost use Rattle.cal_span.specs.SpanFault.{message_of};
+    ghost use Rattle.cal_span.specs.rules.SpanFault.{message_of};
 
     /// Returns the message for users. `Display` prints the same.
     pub fn words(&self) -> &str

@@ -1,7 +1,7 @@
 //! The type of time spans.
 
 ghost use Rattle.std.specs.Prelude.{◌≡◌, ◌≤◌, ◌<◌, MatchOption};
-ghost use Rattle.cal_span.specs.SpanValue.{limit};
+ghost use Rattle.cal_span.specs.rules.PairValue.{limit};
 
 pub(crate) mod fault;
 pub(crate) mod number;

@@ -5,9 +5,9 @@
 ghost use Rattle.std.specs.Prelude.{◌≡◌, ◌≤◌, IsTrue, MatchOption, min, false, true};
 ghost use Rattle.std.specs.List.{list_all, position, before_first, after_first};
 ghost use Rattle.std.specs.Char.{is_ascii_digit};
-ghost use Rattle.cal_span.specs.headline.TimeUnit.{size_of};
-ghost use Rattle.cal_text.specs.headline.Separators.{is_point};
-ghost use Rattle.cal_span.specs.SpanValue.{is_number, fraction_worth, digits_worth};
+ghost use Rattle.cal_span.specs.rules.TimeUnit.{size_of};
+ghost use Rattle.cal_text.specs.rules.Separators.{is_point};
+ghost use Rattle.cal_span.specs.rules.PairValue.{is_number, fraction_worth, digits_worth};
 
 use crate::TimeUnit;
 use cal_text::{are_digits, decimal_value};

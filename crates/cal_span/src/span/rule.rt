@@ -1,13 +1,14 @@
 //! The law that parsing a time span follows the manual. A law is a function that does nothing; its contract is a
 //! statement that is proved for all arguments.
 
-ghost use Rattle.std.specs.Prelude.{◌≡◌, ℕ, List, Result, Some};
+ghost use Rattle.std.specs.Prelude.{◌≡◌, ◌↔◌, ℕ, List, Result, Some};
 ghost use Rattle.std.specs.List.{AllByRecursion};
 ghost use Rattle.cal_span.specs.declared.time_unit.TimeUnit.{TimeUnit};
 ghost use Rattle.cal_span.specs.declared.span.fault.SpanFault.{SpanFault};
-ghost use Rattle.cal_span.specs.UnitSpellings.{spellings_of};
-ghost use Rattle.cal_span.specs.SpanRule.{AreRuns, AreApart, ArePairs, Judges};
-ghost use Rattle.cal_span.specs.SpanValue.{Piece, Pair, characters, runs, pairs_of, unit_named, pairs_in, span_of};
+ghost use Rattle.cal_span.specs.rules.UnitSpellings.{spellings_of};
+ghost use Rattle.cal_span.specs.rules.SpanRule.{AreRuns, AreApart, ArePairs, HasSpanValue, Judges};
+ghost use Rattle.cal_span.specs.rules.PairValue.{Piece, Pair, characters, unit_named};
+ghost use Rattle.cal_span.specs.computed.SpanValue.{runs, pairs_of, pairs_in, span_of};
 
 /// By the rule of systemd.time(7), Parsing Time Spans, every text has either exactly one value or exactly one error,
 /// and `read_span` returns this value or error.
@@ -32,4 +33,6 @@ pub fn one_value()
     ensures found { (text : List ℕ) → Judges (pairs_in text) (span_of text) }
     ensures only { (pairs : List Pair) (a b : Result ℕ SpanFault)
         → Judges pairs a → Judges pairs b → a ≡ b }
+    // In one sentence: a text has this value or error if and only if `span_of` returns it.
+    ensures value { (text : List ℕ) (result : Result ℕ SpanFault) → (span_of text ≡ result) ↔ HasSpanValue text result }
 {}

@@ -2,14 +2,15 @@
 //! to microseconds. Units whose count is zero are left out.
 
 ghost use Rattle.std.specs.Prelude.{◌≡◌, ◌+◌, ◌≤◌, ℕ, List, [], ◌∷◌, ◌++◌, length, false, decimal};
-ghost use Rattle.cal_span.specs.SpanValue.{limit, span_of};
-ghost use Rattle.cal_bytes.specs.Puts.{Puts};
-ghost use Rattle.cal_bytes.specs.headline.Bytes.{joined};
-ghost use Rattle.cal_span.specs.headline.TimeUnit.{unit_name};
+ghost use Rattle.cal_span.specs.rules.PairValue.{limit};
+ghost use Rattle.cal_span.specs.computed.SpanValue.{span_of};
+ghost use Rattle.cal_bytes.specs.rules.Puts.{Puts};
+ghost use Rattle.cal_bytes.specs.rules.Bytes.{joined};
+ghost use Rattle.cal_span.specs.rules.TimeUnit.{unit_name};
 ghost use Rattle.cal_bytes.specs.declared.short_text.TheConstants.{SHORT_TEXT_ROOM};
 ghost use Rattle.cal_span.specs.declared.span.text.TheConstants.{SPAN_ROOM};
-ghost use Rattle.cal_span.specs.SpanTextRule.{IsSpanText};
-ghost use Rattle.cal_span.specs.headline.SpanText.{span_text, counts_in_row, positive, counts_of};
+ghost use Rattle.cal_span.specs.rules.SpanTextRule.{IsSpanText};
+ghost use Rattle.cal_span.specs.rules.SpanText.{span_text, counts_in_row, positive, counts_of};
 
 use crate::span::Span;
 use crate::time_unit::TimeUnit;

@@ -4,8 +4,9 @@ ghost use Rattle.std.specs.Prelude.{◌≡◌, ◌<◌, ◌∷◌, [], MatchOpti
 ghost use Rattle.std.specs.Option.{option_copied};
 ghost use Rattle.std.specs.List.{find, list_any};
 ghost use Rattle.std.specs.Str.{bytes_eq};
-ghost use Rattle.cal_span.specs.UnitSpellings.{spellings_of};
-ghost use Rattle.cal_span.specs.SpanValue.{pairs_in, unit_in, unit_named, worth_of, sum_with, span_of};
+ghost use Rattle.cal_span.specs.rules.UnitSpellings.{spellings_of};
+ghost use Rattle.cal_span.specs.computed.SpanValue.{pairs_in, sum_with, span_of};
+ghost use Rattle.cal_span.specs.rules.PairValue.{unit_in, unit_named, worth_of};
 
 use crate::span::number::Number;
 use crate::span::word::{CharKind, first_span_word};
@@ -21,7 +22,7 @@ use cal_bytes::is_among;
 /// If several pairs are invalid, the leftmost error is reported. In each pair, the number is checked first
 /// (`BadNumber`), then the unit (`UnknownUnit`), and then the sum of the pairs up to this one (`TooLarge`). If `text`
 /// is empty or blank, the error is `Empty`.
-#[tactic(auto, unfolding(crate::specs::SpanValue::span_of))]
+#[tactic(auto, unfolding(crate::specs::computed::SpanValue::span_of))]
 pub fn read_span(text: &str) -> Result<Span, SpanFault>
     ensures { MatchResult result
         (λ span. span_of text.now ≡ Ok span.micros)
@@ -106,7 +107,7 @@ fn unit_of(word: Option<&[u8]>) -> Option<TimeUnit>
 
 /// Returns the units that have a spelling with the same first byte as `word`, from the largest to the smallest.
 /// [`find_unit`] then compares `word` only with the spellings of these units.
-#[tactic(auto, unfolding(crate::specs::SpanValue::unit_named, crate::specs::UnitSpellings::spellings_of))]
+#[tactic(auto, unfolding(crate::specs::rules::PairValue::unit_named, crate::specs::rules::UnitSpellings::spellings_of))]
 fn units_by_initial(word: &[u8]) -> &'static [TimeUnit]
     ensures { find (λ unit. list_any (bytes_eq word.now) (spellings_of unit)) result.now ≡ unit_named word.now }
 {

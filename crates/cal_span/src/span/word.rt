@@ -2,7 +2,8 @@
 //! blanks only separate words (systemd.time(7), Parsing Time Spans).
 
 ghost use Rattle.std.specs.Prelude.{◌≡◌, ◌≤◌, ◌<◌, ◌∷◌, [], MatchOption, length, take, drop};
-ghost use Rattle.cal_span.specs.SpanValue.{characters, words_in, front_of, after_front};
+ghost use Rattle.cal_span.specs.rules.PairValue.{characters};
+ghost use Rattle.cal_span.specs.computed.SpanValue.{words_in, front_of, after_front};
 
 /// The kind of a character in a time span.
 #[derive(Clone, Copy, PartialEq, Eq)]

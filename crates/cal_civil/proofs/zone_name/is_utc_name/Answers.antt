@@ -1,6 +1,6 @@
 use Rattle.std.proofs.Common.{rules}
 use Rattle.std.proofs.lemmas.Slice.Eq.{bytes_eq-Decides}
-use Rattle.cal_civil.specs.headline.ZoneName.{is_utc_name}
+use Rattle.cal_civil.specs.rules.ZoneName.{is_utc_name}
 use Rattle.cal_civil.proofs.zone_name.is_utc_name.Goals as goal
 
 pub returns : goal.returns

@@ -2,8 +2,8 @@ use Rattle.std.proofs.Common.{◌∙◌, ap, map, true}
 use Rattle.std.proofs.lemmas.Result.{IfOk-weaker}
 use Rattle.clap.specs.Simple.{app_of_fields, on_top}
 use Rattle.clap.specs.Words.{App}
-use Rattle.cal_request.specs.Verb.{all_verbs}
-use Rattle.cal_command.specs.CommandLine.{verb_shape, with_subcommands}
+use Rattle.cal_request.specs.rules.Verb.{all_verbs}
+use Rattle.cal_command.specs.rules.CommandLine.{verb_shape, with_subcommands}
 use Rattle.cal_command.proofs.clap_command.build_command.Goals as goal
 
 pub returns : goal.returns

@@ -1,7 +1,7 @@
 use Rattle.std.proofs.Common.{◌≡◌, drop, false, map}
 use Rattle.clap.specs.Words.{app_of}
 use Rattle.clap.specs.declared.builder.command.Command.TheViews.{out-Command as fields_of}
-use Rattle.cal_command.specs.CommandLine.{shown_option, with_rules}
+use Rattle.cal_command.specs.rules.CommandLine.{shown_option, with_rules}
 use Rattle.cal_command.proofs.clap_command.with_options.Given as goal
 
 -- adding the remaining options to the command yields the command with all options

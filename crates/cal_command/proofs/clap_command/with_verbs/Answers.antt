@@ -1,5 +1,5 @@
 use Rattle.std.proofs.Common.{◌+◌, ◌∙◌, ap, drop, map, sym}
-use Rattle.cal_command.specs.CommandLine.{verb_shape, with_subcommands}
+use Rattle.cal_command.specs.rules.CommandLine.{verb_shape, with_subcommands}
 use Rattle.clap.specs.Words.{app_of, with_subcommand}
 use Rattle.cal_text.proofs.General.{items_end}
 use Rattle.cal_command.proofs.CommandLineLemmas.{next_mapped}

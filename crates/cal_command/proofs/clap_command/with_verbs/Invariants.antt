@@ -1,6 +1,6 @@
 use Rattle.std.proofs.Common.{◌≡◌, drop, map}
 use Rattle.clap.specs.Words.{app_of}
-use Rattle.cal_command.specs.CommandLine.{verb_shape, with_subcommands}
+use Rattle.cal_command.specs.rules.CommandLine.{verb_shape, with_subcommands}
 use Rattle.cal_command.proofs.clap_command.with_verbs.Given as goal
 
 -- adding the subcommands of the remaining verbs to the command yields the command with all subcommands

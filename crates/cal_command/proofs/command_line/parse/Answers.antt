@@ -1,8 +1,8 @@
 use Rattle.std.proofs.Common.{◌∙◌, ap, map, sym}
 use Rattle.clap.specs.Words.{fault_of, is_simple, is_simple_and_free, kind_of, subcommand_of, takes}
-use Rattle.cal_command.specs.CommandFault.{shown_fault}
-use Rattle.cal_command.specs.CommandLine.{faults_in, parsed_in, takes_arguments}
-use Rattle.cal_command.specs.VerbMatches.{verb_matches_in}
+use Rattle.cal_command.specs.rules.CommandFault.{shown_fault}
+use Rattle.cal_command.specs.rules.CommandLine.{faults_in, parsed_in, takes_arguments}
+use Rattle.cal_command.specs.rules.VerbMatches.{verb_matches_in}
 use Rattle.cal_command.proofs.CommandLineLemmas.{is_free_command, is_simple_command, reported_fault}
 use Rattle.cal_command.proofs.command_line.parse.Goals as goal
 

@@ -1,6 +1,6 @@
 use Rattle.std.proofs.Common.{◌∙◌, rules, sym}
-use Rattle.cal_command.specs.OptionValues.{count_in}
-use Rattle.cal_request.specs.Verb.{max_iterations}
+use Rattle.cal_command.specs.rules.OptionValues.{count_in}
+use Rattle.cal_request.specs.rules.Verb.{max_iterations}
 use Rattle.cal_command.proofs.OptionLemmas.{number_between-range}
 use Rattle.cal_command.proofs.option_values.count_in.Goals as goal
 

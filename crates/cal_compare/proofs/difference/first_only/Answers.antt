@@ -1,8 +1,8 @@
 use Rattle.std.proofs.Common.{◌≡◌, ◌∙◌, List, ℤ, ap, slice_get, subst, sym}
-use Rattle.cal_rising.specs.Merge.{merged}
-use Rattle.cal_rising.specs.RisingList.{without}
+use Rattle.cal_rising.specs.rules.Merge.{merged}
+use Rattle.cal_rising.specs.rules.RisingList.{without}
 use Rattle.cal_compare.proofs.DifferenceLemmas.{instants_left, merge_of_two}
-use Rattle.cal_plan.specs.Instants.{AreInstants}
+use Rattle.cal_plan.specs.rules.Instants.{AreInstants}
 use Rattle.cal_compare.proofs.difference.first_only.Goals as goal
 
 pub new-requires : goal.new-requires

@@ -1,7 +1,7 @@
 -- The results for the timers before the loop's index, followed by the results for the remaining timers, are the results
 -- for all timers.
 use Rattle.std.proofs.Common.{◌≡◌, ◌++◌, map, drop}
-use Rattle.cal_compare.specs.SeveralTimers.{elapse_seen, ended, index_if_ended, next_of_each, next_of_one, of_each}
+use Rattle.cal_compare.specs.rules.SeveralTimers.{elapse_seen, ended, index_if_ended, next_of_each, next_of_one, of_each}
 use Rattle.cal_compare.proofs.next.take_next.Given as goal
 
 abbrev pub invariant-loop-timer : goal.invariant-loop-timer

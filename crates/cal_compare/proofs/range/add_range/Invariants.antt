@@ -1,7 +1,7 @@
 -- The elapses appended so far, followed by those in the range that the timer has yet to return, are all its elapses in
 -- the range.
 use Rattle.std.proofs.Common.{◌≡◌, ◌++◌, length, map}
-use Rattle.cal_compare.specs.SeveralTimers.{elapse_seen, range_of_one}
+use Rattle.cal_compare.specs.rules.SeveralTimers.{elapse_seen, range_of_one}
 use Rattle.cal_compare.proofs.range.add_range.Given as goal
 
 abbrev pub invariant-loop-instant : goal.invariant-loop-instant

@@ -1,7 +1,7 @@
 use Rattle.std.proofs.Common.{◌≡◌, ◌++◌, ◌∙◌, List, ℤ, ap, arith, map, sym}
 use Rattle.std.proofs.lemmas.List.{append-nil, drop_all}
 use Rattle.cal_compare.proofs.OrderLemmas.{same_elapses}
-use Rattle.cal_compare.specs.SeveralTimers.{elapse_seen, of_each, range_of_each, range_of_one}
+use Rattle.cal_compare.specs.rules.SeveralTimers.{elapse_seen, of_each, range_of_each, range_of_one}
 use Rattle.cal_compare.proofs.range.between.Goals as goal
 
 pub returns-clause-all : goal.returns-clause-all

@@ -1,7 +1,7 @@
 -- The elapses of the timers before the loop's index, followed by those that the remaining timers have in the range, are
 -- the elapses of all timers in the range.
 use Rattle.std.proofs.Common.{◌≡◌, ◌++◌, map, drop}
-use Rattle.cal_compare.specs.SeveralTimers.{elapse_seen, of_each, range_of_each, range_of_one}
+use Rattle.cal_compare.specs.rules.SeveralTimers.{elapse_seen, of_each, range_of_each, range_of_one}
 use Rattle.cal_compare.proofs.range.between.Given as goal
 
 abbrev pub invariant-loop-timer : goal.invariant-loop-timer

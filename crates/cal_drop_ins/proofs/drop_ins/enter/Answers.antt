@@ -1,5 +1,5 @@
 use Rattle.std.proofs.Common.{◌∙◌, ap, map}
-use Rattle.cal_drop_ins.specs.DropIns.{shown_pair}
+use Rattle.cal_drop_ins.specs.rules.DropIns.{shown_pair}
 use Rattle.cal_drop_ins.proofs.DropInLemmas.{shown_insert}
 use Rattle.cal_drop_ins.proofs.drop_ins.enter.Goals as goal
 

@@ -1,5 +1,5 @@
 use Rattle.std.proofs.Common.{refl}
-use Rattle.cal_drop_ins.specs.DropIns.{by_name}
+use Rattle.cal_drop_ins.specs.rules.DropIns.{by_name}
 use Rattle.cal_drop_ins.proofs.DropInLemmas.{file_more}
 use Rattle.cal_drop_ins.proofs.drop_ins.enter_all.Goals as goal
 

@@ -1,6 +1,6 @@
 use Rattle.std.proofs.Common.{◌∙◌, sym, ap, append-nil, map, string_bytes, ◌++◌}
 use Rattle.std.proofs.lemmas.List.{map-append}
-use Rattle.cal_drop_ins.specs.DropIns.{candidates, shown_drop_in}
+use Rattle.cal_drop_ins.specs.rules.DropIns.{candidates, shown_drop_in}
 use Rattle.cal_drop_ins.proofs.DropInLemmas.{candidate_more, candidates_none}
 use Rattle.cal_drop_ins.proofs.drop_ins.push_candidates.Goals as goal
 

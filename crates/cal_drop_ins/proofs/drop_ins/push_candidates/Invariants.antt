@@ -1,5 +1,5 @@
 use Rattle.std.proofs.Common.{◌≡◌, ◌++◌, map, string_bytes}
-use Rattle.cal_drop_ins.specs.DropIns.{candidates, shown_drop_in}
+use Rattle.cal_drop_ins.specs.rules.DropIns.{candidates, shown_drop_in}
 use Rattle.cal_drop_ins.proofs.drop_ins.push_candidates.Given as goal
 
 -- the drop-ins among the names so far have been appended

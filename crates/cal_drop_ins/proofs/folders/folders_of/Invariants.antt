@@ -1,5 +1,5 @@
 use Rattle.std.proofs.Common.{◌≡◌, map, take, reverse, string_bytes}
-use Rattle.cal_drop_ins.specs.Folders.{folders}
+use Rattle.cal_drop_ins.specs.rules.Folders.{folders}
 use Rattle.cal_drop_ins.proofs.folders.folders_of.Given as goal
 
 -- the folders so far are those of a unit that has only the stems before the loop's index

@@ -1,5 +1,5 @@
 use Rattle.std.proofs.Common.{◌≡◌, ◌++◌, map, take, string_bytes}
-use Rattle.cal_drop_ins.specs.Folders.{name_folders}
+use Rattle.cal_drop_ins.specs.rules.Folders.{name_folders}
 use Rattle.cal_drop_ins.proofs.folders.push_name_folders.Given as goal
 
 -- the folders below the roots before the loop's index have been appended

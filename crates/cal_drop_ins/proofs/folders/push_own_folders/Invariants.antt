@@ -1,5 +1,5 @@
 use Rattle.std.proofs.Common.{◌≡◌, ◌++◌, map, take, string_bytes}
-use Rattle.cal_drop_ins.specs.Folders.{own_folder}
+use Rattle.cal_drop_ins.specs.rules.Folders.{own_folder}
 use Rattle.cal_drop_ins.proofs.folders.push_own_folders.Given as goal
 
 -- the folders of the stems before the loop's index have been appended

@@ -1,6 +1,6 @@
 use Rattle.std.proofs.Common.{◌≡◌, arith, true}
 use Rattle.std.proofs.lemmas.Str.{IsCharBoundary-after_ascii}
-use Rattle.cal_drop_ins.specs.Folders.{is_dash_within}
+use Rattle.cal_drop_ins.specs.rules.Folders.{is_dash_within}
 use Rattle.cal_drop_ins.proofs.FolderLemmas.{dash_is_ascii}
 use Rattle.cal_drop_ins.proofs.folders.push_prefix.Goals as goal
 

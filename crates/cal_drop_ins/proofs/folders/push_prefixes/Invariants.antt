@@ -1,5 +1,5 @@
 use Rattle.std.proofs.Common.{◌≡◌, ◌++◌, map}
-use Rattle.cal_drop_ins.specs.Folders.{prefixes_within}
+use Rattle.cal_drop_ins.specs.rules.Folders.{prefixes_within}
 use Rattle.cal_drop_ins.proofs.folders.push_prefixes.Given as goal
 
 abbrev pub invariant-loop-index : goal.invariant-loop-index

@@ -1,5 +1,5 @@
 use Rattle.std.proofs.Common.{◌≡◌, map, take, string_bytes}
-use Rattle.cal_drop_ins.specs.Folders.{type_folder}
+use Rattle.cal_drop_ins.specs.rules.Folders.{type_folder}
 use Rattle.cal_drop_ins.proofs.folders.type_folders.Given as goal
 
 -- the folders so far are those below the roots before the loop's index

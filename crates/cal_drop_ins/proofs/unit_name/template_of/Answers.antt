@@ -1,6 +1,6 @@
 use Rattle.std.proofs.Common.{◌<◌, arith, length}
 use Rattle.std.proofs.lemmas.Str.{IsCharBoundary-after_ascii}
-use Rattle.cal_drop_ins.specs.UnitName.{stem_base}
+use Rattle.cal_drop_ins.specs.rules.UnitName.{stem_base}
 use Rattle.cal_drop_ins.proofs.FolderLemmas.{at_sign_is_ascii}
 use Rattle.cal_drop_ins.proofs.unit_name.template_of.Goals as goal
 

@@ -1,6 +1,6 @@
 use Rattle.std.proofs.Common.{◌==◌, ℕ, ap}
 use Rattle.std.proofs.lemmas.Nat.Bits.{shr_and_one}
-use Rattle.cal_elapse.specs.Bits.{is_bit}
+use Rattle.cal_elapse.specs.computed.Bits.{is_bit}
 use Rattle.cal_elapse.proofs.bits.has_bit.Goals as goal
 
 pub returns : goal.returns

@@ -1,7 +1,7 @@
 use Rattle.std.proofs.Common.{◌-◌}
 use Rattle.cal_elapse.proofs.MasksLemmas.{filled_none}
-use Rattle.cal_spec.specs.Expr.{members_of}
-use Rattle.cal_spec.specs.headline.Members.{sets_of}
+use Rattle.cal_spec.specs.computed.Expr.{members_of}
+use Rattle.cal_spec.specs.rules.Members.{sets_of}
 use Rattle.cal_spec.specs.declared.field.Field.TheVariants.{Day}
 use Rattle.cal_elapse.proofs.masks_of.counts_from_end.Goals as goal
 

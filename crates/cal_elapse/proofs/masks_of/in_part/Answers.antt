@@ -1,5 +1,5 @@
 use Rattle.std.proofs.Common.{◌≡◌, ◌&&◌, ◌+◌, ◌-◌, min, Some, None, nat_le, nat_lt, sym, ◌∙◌}
-use Rattle.cal_elapse.specs.Masks.{last_number}
+use Rattle.cal_elapse.specs.computed.Masks.{last_number}
 use Rattle.cal_elapse.proofs.PartLemmas.{part_in_slot_values}
 use Rattle.cal_elapse.proofs.masks_of.in_part.Goals as goal
 use Rattle.cal_text.proofs.General.{and_true}

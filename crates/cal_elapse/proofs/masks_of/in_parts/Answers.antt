@@ -1,10 +1,10 @@
 use Rattle.std.proofs.Common.{◌&&◌, ◌+◌, List, nat_lt, sym, ap, ◌∙◌, arith, Bool, false, ◌≡◌}
 use Rattle.std.specs.List.{list_any}
 use Rattle.std.proofs.lemmas.List.{take_all}
-use Rattle.cal_elapse.specs.Bits.{is_bit}
+use Rattle.cal_elapse.specs.computed.Bits.{is_bit}
 use Rattle.cal_elapse.proofs.BitLemmas.{is_bit-none, is_bit-or}
 use Rattle.cal_elapse.proofs.PartLemmas.{parts_more}
-use Rattle.cal_spec.specs.headline.Members.{part_has}
+use Rattle.cal_spec.specs.rules.Members.{part_has}
 use Rattle.cal_spec.specs.declared.field.Part.{Part}
 use Rattle.cal_elapse.proofs.masks_of.in_parts.Goals as goal
 

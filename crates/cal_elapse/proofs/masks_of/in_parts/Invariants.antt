@@ -1,9 +1,9 @@
 -- The mask contains exactly the values that the parts before the current one match.
 use Rattle.std.proofs.Common.{◌≡◌, ◌&&◌, ◌+◌, ℕ, nat_lt, take}
 use Rattle.std.specs.List.{list_any}
-use Rattle.cal_elapse.specs.Bits.{is_bit}
-use Rattle.cal_elapse.specs.Masks.{AreSlotValues}
-use Rattle.cal_spec.specs.headline.Members.{part_has}
+use Rattle.cal_elapse.specs.computed.Bits.{is_bit}
+use Rattle.cal_elapse.specs.computed.Masks.{AreSlotValues}
+use Rattle.cal_spec.specs.rules.Members.{part_has}
 use Rattle.cal_spec.specs.declared.slot.Slot.{Slot}
 use Rattle.cal_elapse.proofs.masks_of.in_parts.Given as goal
 

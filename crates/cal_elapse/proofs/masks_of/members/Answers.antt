@@ -1,7 +1,7 @@
 use Rattle.std.proofs.Common.{◌&&◌, ◌+◌, Bool, List, Option, nat_lt, sym, ap, ◌∙◌}
-use Rattle.cal_elapse.specs.Masks.{slot_of}
+use Rattle.cal_elapse.specs.computed.Masks.{slot_of}
 use Rattle.cal_elapse.proofs.PartLemmas.{members_by, whole_slot_values}
-use Rattle.cal_spec.specs.headline.Members.{component_has}
+use Rattle.cal_spec.specs.rules.Members.{component_has}
 use Rattle.cal_spec.specs.declared.field.Part.{Part}
 use Rattle.cal_elapse.proofs.masks_of.members.Goals as goal
 

@@ -1,6 +1,6 @@
 use Rattle.std.proofs.Common.{◌≡◌, arith, false, sym}
-use Rattle.cal_elapse.specs.Masks.{sets_in}
-use Rattle.cal_elapse.specs.Months.{month_in}
+use Rattle.cal_elapse.specs.computed.Masks.{sets_in}
+use Rattle.cal_elapse.specs.rules.Months.{month_in}
 use Rattle.cal_elapse.proofs.ExaminedMonthLemmas.{none_of_month}
 use Rattle.cal_elapse.proofs.match_test.has_day.Goals as goal
 

@@ -1,8 +1,8 @@
 use Rattle.std.proofs.Common.{◌≡◌, ◌&&◌, ◌/◌, ◌%◌, true, false, arith, refl}
-use Rattle.cal_elapse.specs.Bits.{is_bit}
-use Rattle.cal_elapse.specs.Masks.{sets_in}
-use Rattle.cal_elapse.specs.Months.{minute_in}
-use Rattle.cal_spec.specs.headline.Match.{time_in}
+use Rattle.cal_elapse.specs.computed.Bits.{is_bit}
+use Rattle.cal_elapse.specs.computed.Masks.{sets_in}
+use Rattle.cal_elapse.specs.rules.Months.{minute_in}
+use Rattle.cal_spec.specs.rules.Match.{time_in}
 use Rattle.cal_elapse.proofs.CarryLemmas.{split_at}
 use Rattle.cal_elapse.proofs.TimeLemmas.{seconds_split}
 use Rattle.cal_elapse.proofs.match_test.has_time.Goals as goal

@@ -1,7 +1,7 @@
 use Rattle.std.proofs.Common.{to_z, of_z, w16, arith}
 use Rattle.std.proofs.lemmas.Int.{to_z_pos}
 use Rattle.jiff.proofs.SpanFacts.{signed_arith}
-use Rattle.cal_elapse.specs.Months.{length_of}
+use Rattle.cal_elapse.specs.rules.Months.{length_of}
 use Rattle.cal_elapse.proofs.MonthLemmas.{first_is}
 use Rattle.cal_elapse.proofs.month.month_at.Goals as goal
 

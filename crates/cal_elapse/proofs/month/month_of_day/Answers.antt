@@ -1,7 +1,7 @@
 use Rattle.std.proofs.Common.{◌≡◌, ◌+◌, ◌*◌, ap, sym, ◌∙◌, arith}
 use Rattle.jiff.specs.Types.{Date}
-use Rattle.cal_civil.specs.headline.Local.{civil_date}
-use Rattle.cal_elapse.specs.Months.{month_of}
+use Rattle.cal_civil.specs.rules.LocalSecond.{civil_date}
+use Rattle.cal_elapse.specs.rules.Months.{month_of}
 use Rattle.cal_elapse.proofs.MonthLemmas.{index_by, length_by, located, year_word}
 use Rattle.cal_elapse.proofs.month.month_of_day.Goals as goal
 

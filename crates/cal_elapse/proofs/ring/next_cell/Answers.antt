@@ -1,7 +1,7 @@
 use Rattle.std.proofs.Common.{◌≡◌, ◌∙◌, ◌+◌, ◌/◌, arith, ap, drop, sym, Some}
 use Rattle.std.specs.List.{position}
 use Rattle.std.proofs.lemmas.List.{get_or-drop, length-drop}
-use Rattle.cal_elapse.specs.Bits.{is_set}
+use Rattle.cal_elapse.specs.computed.Bits.{is_set}
 use Rattle.cal_elapse.proofs.CellLemmas.{found_here, found_later, no_word_set, position-first}
 use Rattle.cal_elapse.proofs.ring.next_cell.Goals as goal
 

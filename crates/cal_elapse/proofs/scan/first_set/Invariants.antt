@@ -1,5 +1,5 @@
 use Rattle.std.proofs.Common.{◌≡◌, ◌<◌, ℕ, false, get_or}
-use Rattle.cal_elapse.specs.Bits.{is_set}
+use Rattle.cal_elapse.specs.computed.Bits.{is_set}
 use Rattle.cal_elapse.proofs.scan.first_set.Given as goal
 
 -- all words before the index `at` are 0

@@ -1,5 +1,5 @@
 use Rattle.std.proofs.Common.{◌≡◌, ◌*◌, ◌<◌, ℕ, false, get_or}
-use Rattle.cal_elapse.specs.Bits.{is_set}
+use Rattle.cal_elapse.specs.computed.Bits.{is_set}
 use Rattle.cal_elapse.proofs.scan.zeros_in_front.Given as goal
 
 -- all words in the groups of 32 that have been tested so far are 0

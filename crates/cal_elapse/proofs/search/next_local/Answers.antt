@@ -1,10 +1,10 @@
 use Rattle.std.proofs.lemmas.Int.{ints}
-use Rattle.cal_civil.specs.headline.Local.{seconds_in_all-is}
+use Rattle.cal_civil.specs.rules.LocalSecond.{seconds_in_all-is}
 use Rattle.std.proofs.Common.{◌≡◌, ◌+◌, ◌*◌, ◌/◌, ℕ, Some, arith, pos, subst, sym, unsigned_abs}
 use Rattle.cal_civil.proofs.LocalLemmas.{local_arith}
-use Rattle.cal_elapse.specs.Masks.{sets_in}
-use Rattle.cal_elapse.specs.Months.{day_in}
-use Rattle.cal_elapse.specs.Search.{IsFirstPassing, NonePasses}
+use Rattle.cal_elapse.specs.computed.Masks.{sets_in}
+use Rattle.cal_elapse.specs.rules.Months.{day_in}
+use Rattle.cal_elapse.specs.rules.Search.{IsFirstPassing, NonePasses}
 use Rattle.cal_elapse.proofs.ExaminedMonthLemmas.{examined_end}
 use Rattle.cal_elapse.proofs.SearchLemmas.{first_found, none_found}
 use Rattle.cal_elapse.proofs.search.next_local.Goals as goal

@@ -2,9 +2,9 @@ use Rattle.std.proofs.Common.{rules, subst, sym, w64}
 use Rattle.cal_civil.proofs.LocalLemmas.{local_arith}
 use Rattle.std.proofs.lemmas.Int.{to_z-of_z}
 use Rattle.std.proofs.Common.{arith}
-use Rattle.cal_zone.specs.Instant.{IsInstant}
-use Rattle.cal_zone.specs.headline.Zone.{zone_of}
-use Rattle.cal_elapse.specs.Ring.{IsNear}
+use Rattle.cal_zone.specs.rules.Instant.{IsInstant}
+use Rattle.cal_zone.specs.rules.Zone.{zone_of}
+use Rattle.cal_elapse.specs.computed.Ring.{IsNear}
 use Rattle.cal_elapse.proofs.WindowLemmas.{put_instant, put_near}
 use Rattle.cal_elapse.proofs.window.put_place.Goals as goal
 

@@ -1,5 +1,5 @@
 use Rattle.cal_text.proofs.TrimLemmas.{trim_is, trim_only}
-use Rattle.cal_lines.specs.headline.Lines.{is_blank_or_return}
+use Rattle.cal_lines.specs.rules.Lines.{is_blank_or_return}
 use Rattle.cal_lines.proofs.laws.one_trimmed_text.Goals as goal
 
 pub returns : goal.returns

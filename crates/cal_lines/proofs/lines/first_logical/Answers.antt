@@ -1,6 +1,6 @@
 use Rattle.std.proofs.Common.{rules, string_bytes}
-use Rattle.cal_lines.specs.LineView.{plain_line}
-use Rattle.cal_lines.specs.headline.Lines.{plain_lines}
+use Rattle.cal_lines.specs.rules.LineView.{plain_line}
+use Rattle.cal_lines.specs.rules.Lines.{plain_lines}
 use Rattle.cal_lines.proofs.GroupLemmas.{logical_begins, logical_ends, logical_goes_on, logical_none, logical_stops}
 use Rattle.cal_lines.proofs.lines.first_logical.Goals as goal
 use Rattle.cal_lines.proofs.lines.first_logical.Goals.{else-loop-goes_on-test, then-loop-goes_on-test+in_default-first_plain}

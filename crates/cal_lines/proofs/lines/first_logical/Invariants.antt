@@ -3,7 +3,7 @@
 use Rattle.std.proofs.Common.{◌≡◌, ◌+◌, ◌≤◌, ◌<◌, length, string_bytes}
 use denote.Shadow.{shadow}
 use denote.Text.{Utf8}
-use Rattle.cal_lines.specs.headline.Lines.{logical_lines, plain_lines}
+use Rattle.cal_lines.specs.rules.Lines.{logical_lines, plain_lines}
 use Rattle.cal_lines.proofs.GroupLemmas.{goes_on_in}
 use Rattle.cal_lines.proofs.lines.first_logical.Given as goal
 

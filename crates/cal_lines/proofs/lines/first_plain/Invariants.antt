@@ -3,7 +3,7 @@
 use Rattle.std.proofs.Common.{◌≡◌, ◌+◌, ◌≤◌, length}
 use denote.Shadow.{shadow}
 use denote.Text.{Utf8}
-use Rattle.cal_lines.specs.headline.Lines.{plain_lines}
+use Rattle.cal_lines.specs.rules.Lines.{plain_lines}
 use Rattle.cal_lines.proofs.lines.first_plain.Given as goal
 
 abbrev pub invariant-loop-line : goal.invariant-loop-line

@@ -1,7 +1,7 @@
 use Rattle.std.proofs.Common.{◌∙◌, arith}
 use Rattle.std.proofs.lemmas.List.Sums.{suffix_len-le-length}
-use Rattle.cal_text.specs.headline.Trim.{trim_end_matches}
-use Rattle.cal_lines.specs.headline.Lines.{is_blank_or_return}
+use Rattle.cal_text.specs.rules.Trim.{trim_end_matches}
+use Rattle.cal_lines.specs.rules.Lines.{is_blank_or_return}
 use Rattle.cal_lines.proofs.LineLemmas.{blank_is_ascii}
 use Rattle.cal_lines.proofs.lines.trim_end.Goals as goal
 use Rattle.cal_text.proofs.General.{end_boundary}

@@ -1,6 +1,6 @@
 use Rattle.std.proofs.Common.{◌∙◌, ap, drop}
-use Rattle.cal_text.specs.headline.Trim.{trim_start_matches}
-use Rattle.cal_lines.specs.headline.Lines.{is_blank_or_return}
+use Rattle.cal_text.specs.rules.Trim.{trim_start_matches}
+use Rattle.cal_lines.specs.rules.Lines.{is_blank_or_return}
 use Rattle.cal_lines.proofs.LineLemmas.{blank_is_ascii}
 use Rattle.cal_lines.proofs.lines.trim_start.Goals as goal
 use Rattle.cal_text.proofs.General.{front_boundary}

@@ -1,8 +1,8 @@
 use Rattle.std.proofs.Common.{◌≡◌, ◌==◌}
 use Rattle.std.specs.List.{list_any, slice_split}
 use Rattle.std.specs.Option.{option_copied}
-use Rattle.cal_bytes.specs.SplitPieces.{left, pieces_after}
-use Rattle.cal_lint.specs.Systemd252.{piece_is_rejected_for}
+use Rattle.cal_bytes.specs.computed.SplitPieces.{left, pieces_after}
+use Rattle.cal_lint.specs.rules.Systemd252.{piece_is_rejected_for}
 use Rattle.cal_lint.proofs.older_systemd.any_piece.Given as goal
 
 -- no piece so far makes systemd 252 reject the expression, so one of the remaining pieces does if and only if one of

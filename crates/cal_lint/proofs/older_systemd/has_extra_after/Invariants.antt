@@ -1,7 +1,7 @@
 use Rattle.std.proofs.Common.{◌≡◌}
 use Rattle.std.specs.Option.{option_copied}
-use Rattle.cal_bytes.specs.SplitPieces.{left, pieces_after}
-use Rattle.cal_lint.specs.Systemd252.{has_extra_after, is_space}
+use Rattle.cal_bytes.specs.computed.SplitPieces.{left, pieces_after}
+use Rattle.cal_lint.specs.rules.Systemd252.{has_extra_after, is_space}
 use Rattle.cal_lint.proofs.older_systemd.has_extra_after.Given as goal
 
 -- systemd 252 skips all additional spaces so far, so the rest has one that systemd 252 doesn't skip if and only if the

@@ -1,6 +1,6 @@
 use Rattle.std.proofs.Common.{◌≡◌, ◌++◌, length, map}
 use Rattle.std.specs.List.{flat_map}
-use Rattle.cal_lint.specs.Findings.{findings_in, found_problems, shown_finding, timer_faults}
+use Rattle.cal_lint.specs.rules.Findings.{findings_in, found_problems, shown_finding, timer_faults}
 use Rattle.cal_lint.proofs.problems.findings.Given as goal
 
 -- the problems found so far, followed by those of the remaining assignments, are the problems of all assignments

@@ -1,9 +1,9 @@
 use Rattle.std.proofs.Common.{◌≡◌, ◌++◌, false, length, map, codes}
 use Rattle.std.specs.Prelude.{filter}
-use Rattle.cal_lines.specs.headline.Lines.{logical_lines}
-use Rattle.cal_timer.specs.headline.TimerText.{without_mark}
-use Rattle.cal_read.specs.SectionAssignments.{section_assignments, shown_owned_assignment}
-use Rattle.cal_lint.specs.UnknownKeys.{has_unknown_key}
+use Rattle.cal_lines.specs.rules.Lines.{logical_lines}
+use Rattle.cal_timer.specs.rules.TimerText.{without_mark}
+use Rattle.cal_read.specs.rules.SectionAssignments.{section_assignments, shown_owned_assignment}
+use Rattle.cal_lint.specs.rules.UnknownKeys.{has_unknown_key}
 use Rattle.cal_lint.proofs.unknown_keys.find_unknown_keys.Given as goal
 
 -- the assignments found so far, followed by those of the remaining assignments that have unknown keys, are all

@@ -1,6 +1,6 @@
 use Rattle.std.proofs.Common.{map, take}
-use Rattle.cal_timer.specs.TimerView.{shown}
-use Rattle.cal_load.specs.Expressions.{AreOf}
+use Rattle.cal_timer.specs.rules.TimerView.{shown}
+use Rattle.cal_load.specs.rules.Expressions.{AreOf}
 use Rattle.cal_load.proofs.expressions.load_expressions.Given as goal
 
 -- the lines have the texts and the fields of the expressions before the loop's index

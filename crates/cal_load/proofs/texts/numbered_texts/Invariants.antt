@@ -1,7 +1,7 @@
 use Rattle.std.proofs.Common.{◌≡◌, ◌+◌, ◌<◌, ◌^◌, ◌++◌, All, drop, length, map}
-use Rattle.cal_read.specs.TimerTexts.{assignments_of}
-use Rattle.cal_units.specs.Files.{shown_unit_text}
-use Rattle.cal_load.specs.Loaded.{assignments_from, assignments_of_files, bytes_in}
+use Rattle.cal_read.specs.rules.TimerTexts.{assignments_of}
+use Rattle.cal_units.specs.rules.Files.{shown_unit_text}
+use Rattle.cal_load.specs.rules.Loaded.{assignments_from, assignments_of_files, bytes_in}
 use Rattle.cal_load.proofs.texts.numbered_texts.Given as goal
 
 -- Every text so far is short enough for the numbers of its lines to fit into 32 bits. The assignments of the texts so

@@ -1,7 +1,7 @@
 use Rattle.std.proofs.Common.{All, map, string_bytes}
-use Rattle.cal_units.specs.Aliases.{shown_alias}
-use Rattle.cal_units.specs.Machine.{Machine}
-use Rattle.cal_load.specs.Loaded.{IsTimerOn}
+use Rattle.cal_units.specs.rules.Aliases.{shown_alias}
+use Rattle.cal_units.specs.rules.Machine.{Machine}
+use Rattle.cal_load.specs.rules.Loaded.{IsTimerOn}
 use Rattle.cal_load.proofs.timers.load_all.Given as goal
 
 abbrev pub invariant-loop-name : goal.invariant-loop-name

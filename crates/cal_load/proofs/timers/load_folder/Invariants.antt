@@ -1,7 +1,7 @@
 use Rattle.std.proofs.Common.{ℕ, List, All}
-use Rattle.cal_units.specs.Aliases.{Alias}
-use Rattle.cal_units.specs.Machine.{Machine}
-use Rattle.cal_load.specs.Loaded.{IsTimerOn}
+use Rattle.cal_units.specs.rules.Aliases.{Alias}
+use Rattle.cal_units.specs.rules.Machine.{Machine}
+use Rattle.cal_load.specs.rules.Loaded.{IsTimerOn}
 use Rattle.cal_load.proofs.timers.load_folder.Given as goal
 
 abbrev pub invariant-loop-name : goal.invariant-loop-name

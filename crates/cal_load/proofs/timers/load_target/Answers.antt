@@ -1,6 +1,6 @@
 use Rattle.std.proofs.Common.{map, string_bytes}
 use Rattle.std.proofs.lemmas.Result.{on_ok_weaker}
-use Rattle.cal_units.specs.Aliases.{shown_alias}
+use Rattle.cal_units.specs.rules.Aliases.{shown_alias}
 use Rattle.cal_load.proofs.TimerLemmas.{timers_more}
 use Rattle.cal_load.proofs.timers.load_target.Goals as goal
 

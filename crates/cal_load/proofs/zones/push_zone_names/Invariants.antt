@@ -1,6 +1,6 @@
 use Rattle.std.proofs.Common.{◌≡◌, ◌++◌, map, take, string_bytes}
-use Rattle.cal_timer.specs.TimerView.{shown}
-use Rattle.cal_load.specs.Loaded.{zone_names_in}
+use Rattle.cal_timer.specs.rules.TimerView.{shown}
+use Rattle.cal_load.specs.rules.Loaded.{zone_names_in}
 use Rattle.cal_load.proofs.zones.push_zone_names.Given as goal
 
 abbrev pub invariant-loop-line : goal.invariant-loop-line

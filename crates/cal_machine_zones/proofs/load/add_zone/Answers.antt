@@ -1,6 +1,6 @@
 use Rattle.std.proofs.Common.{◌≡◌, Some, ap, rules, sym, ◌∙◌}
 use Rattle.std.specs.Option.{option_map}
-use Rattle.cal_machine_zones.specs.ZoneFiles.{zone_path}
+use Rattle.cal_machine_zones.specs.rules.ZoneFiles.{zone_path}
 use Rattle.cal_machine_zones.proofs.ZoneLemmas.{free_is_other, loaded_on}
 use Rattle.cal_machine_zones.proofs.load.add_zone.Goals as goal
 

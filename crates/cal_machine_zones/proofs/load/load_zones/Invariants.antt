@@ -2,10 +2,10 @@ use Rattle.std.proofs.Common.{◌≡◌, ℕ, List, map, take, string_bytes}
 use Rattle.std.specs.Prelude.{◌||◌, is_some}
 use Rattle.std.specs.List.{list_any}
 use Rattle.std.specs.Str.{bytes_eq}
-use Rattle.cal_civil.specs.headline.ZoneName.{is_utc_name}
-use Rattle.cal_units.specs.Machine.{Machine}
-use Rattle.cal_zone.specs.headline.ZoneTable.{zone_named}
-use Rattle.cal_machine_zones.specs.ZoneFiles.{HasZonesOf}
+use Rattle.cal_civil.specs.rules.ZoneName.{is_utc_name}
+use Rattle.cal_units.specs.rules.Machine.{Machine}
+use Rattle.cal_zone.specs.rules.ZoneTable.{zone_named}
+use Rattle.cal_machine_zones.specs.rules.ZoneFiles.{HasZonesOf}
 use Rattle.cal_machine_zones.proofs.load.load_zones.Given as goal
 
 -- the table has UTC and the names before the loop's index, and their zones are those of the machine

@@ -1,7 +1,7 @@
 use Rattle.std.proofs.Common.{◌≡◌, get_or, length}
 use Rattle.std.proofs.lemmas.Slice.Zip.{zip_turn}
-use Rattle.cal_elapse.specs.Masks.{sets_in}
-use Rattle.cal_timer.specs.TimerView.{shown}
+use Rattle.cal_elapse.specs.computed.Masks.{sets_in}
+use Rattle.cal_timer.specs.rules.TimerView.{shown}
 use Rattle.cal_plan.proofs.AddedLemmas.{covered_at}
 use Rattle.cal_plan.proofs.merge.has_covering_exception.Goals as goal
 

@@ -1,8 +1,8 @@
 use Rattle.std.proofs.Common.{sym, ◌∙◌}
 use Rattle.cal_plan.proofs.AddedLemmas.{merge_added}
 use Rattle.cal_plan.proofs.PlanLemmas.{all_zoned, merge_instants}
-use Rattle.cal_plan.specs.TimerElapses.{IsMergeOf, lists_shown}
-use Rattle.cal_zone.specs.Setting.{setting_seen}
+use Rattle.cal_plan.specs.rules.TimerElapses.{IsMergeOf, lists_shown}
+use Rattle.cal_zone.specs.rules.Setting.{setting_seen}
 use Rattle.cal_plan.proofs.merge.merge_of.Goals as goal
 
 pub add_expressions-requires-clause-zones : goal.add_expressions-requires-clause-zones

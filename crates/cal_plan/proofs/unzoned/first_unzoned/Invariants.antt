@@ -1,8 +1,8 @@
 -- The first line with a missing zone, if there is one, is at the loop's index or after it.
 use Rattle.std.proofs.Common.{◌≡◌, drop, map}
-use Rattle.cal_timer.specs.TimerView.{shown}
-use Rattle.cal_zone.specs.Setting.{setting_seen}
-use Rattle.cal_plan.specs.ZoneFor.{first_unzoned}
+use Rattle.cal_timer.specs.rules.TimerView.{shown}
+use Rattle.cal_zone.specs.rules.Setting.{setting_seen}
+use Rattle.cal_plan.specs.rules.ZoneFor.{first_unzoned}
 use Rattle.cal_plan.proofs.unzoned.first_unzoned.Given as goal
 
 abbrev pub invariant-loop-line : goal.invariant-loop-line

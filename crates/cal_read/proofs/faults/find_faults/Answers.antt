@@ -1,5 +1,5 @@
 use Rattle.std.proofs.Common.{◌≡◌, ◌<◌, ◌∙◌, arith, length}
-use Rattle.cal_spec.specs.Expr.{expr_in}
+use Rattle.cal_spec.specs.computed.Expr.{expr_in}
 use Rattle.cal_read.proofs.TimerFaultsLemmas.{ended_files, files_counted, step_files}
 use Rattle.cal_read.proofs.faults.find_faults.Goals as goal
 

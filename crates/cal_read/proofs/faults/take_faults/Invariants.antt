@@ -1,9 +1,9 @@
 -- The errors so far, followed by those of the remaining assignments, are all errors of the text. Counting the remaining
 -- assignments as well gives the counts after the text.
 use Rattle.std.proofs.Common.{◌≡◌, ◌++◌, length, map}
-use Rattle.cal_spec.specs.Expr.{expr_in}
-use Rattle.cal_read.specs.TimerFaults.{counted_faults, counts_over, in_file}
-use Rattle.cal_read.specs.TimerTexts.{assignments_at}
+use Rattle.cal_spec.specs.computed.Expr.{expr_in}
+use Rattle.cal_read.specs.rules.TimerFaults.{counted_faults, counts_over, in_file}
+use Rattle.cal_read.specs.rules.TimerTexts.{assignments_at}
 use Rattle.cal_read.proofs.faults.take_faults.Given as goal
 
 abbrev pub invariant-loop-owned : goal.invariant-loop-owned

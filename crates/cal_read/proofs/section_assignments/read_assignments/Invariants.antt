@@ -1,6 +1,6 @@
 use Rattle.std.proofs.Common.{◌≡◌, ◌++◌, false, length, map}
-use Rattle.cal_lines.specs.headline.Lines.{logical_lines}
-use Rattle.cal_read.specs.SectionAssignments.{section_assignments, shown_owned_assignment}
+use Rattle.cal_lines.specs.rules.Lines.{logical_lines}
+use Rattle.cal_read.specs.rules.SectionAssignments.{section_assignments, shown_owned_assignment}
 use Rattle.cal_read.proofs.section_assignments.read_assignments.Given as goal
 
 -- the assignments so far, followed by the remaining ones, are all assignments

@@ -1,7 +1,7 @@
 use Rattle.std.proofs.Common.{◌∙◌, ap, sym}
 use Rattle.std.specs.Str.{bytes_eq}
-use Rattle.cal_lines.specs.LineView.{line_at}
-use Rattle.cal_read.specs.SectionAssignments.{section_assignments}
+use Rattle.cal_lines.specs.rules.LineView.{line_at}
+use Rattle.cal_read.specs.rules.SectionAssignments.{section_assignments}
 use Rattle.cal_read.proofs.SectionAssignmentsLemmas.{header_opens, inside_gives, outside_none}
 use Rattle.cal_read.proofs.section_assignments.read_section_line.Goals as goal
 

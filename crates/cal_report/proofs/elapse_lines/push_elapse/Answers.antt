@@ -1,9 +1,9 @@
 use Rattle.std.proofs.Common.{codes}
 use Rattle.cal_bytes.proofs.ShortText.{pushed_first, pushed_more}
-use Rattle.cal_zone.specs.headline.InstantText.{instant_text}
-use Rattle.cal_report.specs.headline.ElapseLines.{elapse_text, label_text}
-use Rattle.cal_zone.specs.headline.Moment.{micros_of}
-use Rattle.cal_report.specs.headline.ReportLines.{distance_text, utc_line}
+use Rattle.cal_zone.specs.rules.InstantText.{instant_text}
+use Rattle.cal_report.specs.rules.ElapseLines.{elapse_text, label_text}
+use Rattle.cal_zone.specs.rules.Instant.{micros_of}
+use Rattle.cal_report.specs.rules.ReportLines.{distance_text, utc_line}
 use Rattle.cal_report.proofs.elapse_lines.push_elapse.Goals as goal
 
 pub returns-clause-text : goal.returns-clause-text

@@ -3,7 +3,7 @@
 -- the same as before the loop.
 use Rattle.std.proofs.Common.{◌≡◌, ◌+◌, ◌-◌, take}
 use Rattle.cal_bytes.proofs.PutLemmas.{PutsUpTo}
-use Rattle.cal_report.specs.headline.ElapseLines.{elapse_texts}
+use Rattle.cal_report.specs.rules.ElapseLines.{elapse_texts}
 use Rattle.cal_report.proofs.elapse_lines.put_more.Given as goal
 
 abbrev pub invariant-loop-number : goal.invariant-loop-number

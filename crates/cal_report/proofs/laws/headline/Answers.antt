@@ -1,36 +1,43 @@
 use Rattle.cal_report.proofs.AgainLemmas.{base_at}
+use Rattle.cal_report.proofs.BaseLemmas.{base_found, base_is}
 use Rattle.cal_report.proofs.HeadlineAccepted.{fine_file_is_accepted, fine_texts_are_accepted}
 use Rattle.cal_report.proofs.HeadlineEach.{each_is_answered, each_is_written}
 use Rattle.cal_report.proofs.HeadlineElapses.{elapses_are_instants, fold_has_its_first, gap_has_no_place, goes_on, in_parts, is_alone, is_shown}
 use Rattle.cal_report.proofs.HeadlineLemmas.{calendar_is_written, calendar_report_is, one_elapses, one_meaning, one_report, one_text, timer_is_written, timer_report_is}
+use Rattle.cal_report.specs.rules.Headline.{started_at}
 use Rattle.cal_report.proofs.laws.headline.Goals as goal
 
 pub returns-clause-calendar : goal.returns-clause-calendar
-returns-clause-calendar c = calendar_report_is c.one_normal_form_of_fields.ensures.only
+returns-clause-calendar c = λ asked read base es verb is_base. calendar_report_is asked read base es verb (base_is asked base is_base)
 
 pub returns-clause-each : goal.returns-clause-each
-returns-clause-each c = each_is_answered c.one_normal_form_of_fields.ensures.only c.one_normal_form_of_fields.ensures.some
+returns-clause-each c = λ asked read base verb is_base.
+    each_is_answered asked read base verb (base_is asked base is_base)
 
 pub returns-clause-timer : goal.returns-clause-timer
-returns-clause-timer c = timer_report_is c.one_normal_form_of_fields.ensures.only
+returns-clause-timer c = λ asked bytes base s verb is_base. timer_report_is asked bytes base s verb (base_is asked base is_base)
 
 pub returns-clause-written : goal.returns-clause-written
-returns-clause-written c = calendar_is_written c.one_normal_form_of_fields.ensures.only
+returns-clause-written c = λ asked base es old new failed status out_old out_new err_old err_new verb is_base.
+    calendar_is_written asked base es old new failed status out_old out_new err_old err_new verb (base_is asked base is_base)
 
 pub returns-clause-written_each : goal.returns-clause-written_each
-returns-clause-written_each c = each_is_written c.one_normal_form_of_fields.ensures.only c.one_normal_form_of_fields.ensures.some
+returns-clause-written_each c = λ asked base old new failed status out_old out_new err_old err_new verb is_base.
+    each_is_written asked base old new failed status out_old out_new err_old err_new verb (base_is asked base is_base)
 
 pub returns-clause-written_file : goal.returns-clause-written_file
-returns-clause-written_file c = timer_is_written c.one_normal_form_of_fields.ensures.only
+returns-clause-written_file c = λ asked base bytes s old new failed status out_old out_new err_old err_new verb is_base.
+    timer_is_written asked base bytes s old new failed status out_old out_new err_old err_new verb (base_is asked base is_base)
 
 pub returns-clause-accepted : goal.returns-clause-accepted
-returns-clause-accepted c = fine_texts_are_accepted c.one_normal_form_of_fields.ensures.some
+returns-clause-accepted c = λ asked read base verb is_base. fine_texts_are_accepted asked read base verb (base_is asked base is_base)
 
 pub returns-clause-accepted_file : goal.returns-clause-accepted_file
-returns-clause-accepted_file c = fine_file_is_accepted c.one_normal_form_of_fields.ensures.only c.one_normal_form_of_fields.ensures.some
+returns-clause-accepted_file c = λ asked bytes base verb is_base.
+    fine_file_is_accepted asked bytes base verb (base_is asked base is_base)
 
 pub returns-clause-one_meaning : goal.returns-clause-one_meaning
-returns-clause-one_meaning c = one_meaning c.one_normal_form_of_fields.ensures.only
+returns-clause-one_meaning c = one_meaning
 
 pub returns-clause-one_text : goal.returns-clause-one_text
 returns-clause-one_text c = one_text
@@ -42,10 +49,10 @@ pub returns-clause-one_list : goal.returns-clause-one_list
 returns-clause-one_list c = one_elapses
 
 pub returns-clause-instants : goal.returns-clause-instants
-returns-clause-instants c = elapses_are_instants
+returns-clause-instants c = λ asked base s xs now is_base. elapses_are_instants asked base s xs now (base_is asked base is_base)
 
 pub returns-clause-based : goal.returns-clause-based
-returns-clause-based c = base_at
+returns-clause-based c = λ asked secs is. base_found (started_at asked secs) secs (base_at asked secs is)
 
 pub returns-clause-again : goal.returns-clause-again
 returns-clause-again c = goes_on

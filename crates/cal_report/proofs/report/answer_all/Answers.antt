@@ -2,7 +2,7 @@ use Rattle.std.proofs.Common.{sym, ◌∙◌, ap, arith, List, [], length, ℕ, 
 use Rattle.std.specs.String.{string_bytes}
 use Rattle.cal_bytes.proofs.Pieces.{start, done, respell}
 use Rattle.cal_report.proofs.AnswerLemmas.{answered_before, err_more, err_none, goes_on-more, goes_on-none, out_more, out_none, reports_left, reports_left-all, reports_left-none, refusals-none, status_left, status_left-all, status_left-none, out_next, out_stops, err_next, err_stops, status_next}
-use Rattle.cal_report.specs.Answer.{error_lines}
+use Rattle.cal_report.specs.rules.Answer.{error_lines}
 use Rattle.cal_report.proofs.report.answer_all.Goals as goal
 use Rattle.std.proofs.lemmas.Result.{err_from_is_err_and}
 use Rattle.cal_text.proofs.General.{items_end, items_next}

@@ -3,10 +3,10 @@
 use Rattle.std.proofs.Common.{◌≡◌, false, drop, map, take}
 use Rattle.std.specs.String.{string_bytes}
 use Rattle.std.specs.Io.KnownBytes.{Appends}
-use Rattle.cal_bytes.specs.Writes.{Leaves}
-use Rattle.cal_report.specs.Answer.{reports_text, error_lines, texts_status}
-use Rattle.cal_report.specs.TextReport.{answer_by}
-use Rattle.cal_report.specs.Context.{asked_by}
+use Rattle.cal_bytes.specs.rules.Writes.{Leaves}
+use Rattle.cal_report.specs.rules.Answer.{reports_text, error_lines, texts_status}
+use Rattle.cal_report.specs.rules.TextReport.{answer_by}
+use Rattle.cal_report.specs.rules.Context.{asked_by}
 use Rattle.cal_report.proofs.AnswerLemmas.{GoesOn, reports_left, status_left}
 use Rattle.cal_report.proofs.report.answer_all.Given as goal
 

@@ -1,9 +1,8 @@
 use Rattle.std.proofs.Common.{◌≡◌, ◌∙◌, Err, sym, rules}
 use Rattle.std.proofs.KnownBytes.{Appends-nil}
-use Rattle.cal_report.specs.TextReport.{text_fault_message}
-use Rattle.cal_report.specs.Context.{asked_by}
-use Rattle.cal_report.specs.TextReport.{answer_by}
-use Rattle.cal_report.specs.TimerReport.{error_line_at}
+use Rattle.cal_report.specs.rules.TextReport.{text_fault_message, answer_by}
+use Rattle.cal_report.specs.rules.Context.{asked_by}
+use Rattle.cal_report.specs.rules.TimerReport.{error_line_at}
 use Rattle.cal_report.proofs.AnswerLemmas.{writes_nothing}
 use Rattle.cal_report.proofs.report.answer_one.Goals as goal
 

@@ -1,6 +1,6 @@
 use Rattle.std.proofs.Common.{ap, refl, sym, ◌∙◌}
 use Rattle.std.proofs.lemmas.Bool.{false≢true}
-use Rattle.cal_request.specs.Verb.{is_timer, seeks_elapses}
+use Rattle.cal_request.specs.rules.Verb.{is_timer, seeks_elapses}
 use Rattle.cal_report.proofs.ReportLemmas.{file_reported, is_cut, sought_by, texts_reported, timer_by}
 use Rattle.cal_report.proofs.report.run.Goals as goal
 

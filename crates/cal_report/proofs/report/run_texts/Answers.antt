@@ -1,7 +1,7 @@
 use Rattle.std.proofs.Common.{◌≡◌, ◌∙◌, Err, Ok, refl, sym}
-use Rattle.cal_report.specs.Context.{asked_in}
-use Rattle.cal_report.specs.RunReport.{answers_report, base_in}
-use Rattle.cal_report.specs.TimerReport.{error_line_at}
+use Rattle.cal_report.specs.rules.Context.{asked_in}
+use Rattle.cal_report.specs.rules.RunReport.{answers_report, base_in}
+use Rattle.cal_report.specs.rules.TimerReport.{error_line_at}
 use Rattle.cal_report.proofs.AnswerLemmas.{writes_nothing}
 use Rattle.cal_report.proofs.report.run_texts.Goals as goal
 

@@ -1,5 +1,5 @@
 use Rattle.std.proofs.Common.{◌≡◌}
-use Rattle.cal_report.specs.headline.ReportLines.{text_line}
+use Rattle.cal_report.specs.rules.ReportLines.{text_line}
 use Rattle.cal_report.proofs.report_lines.put_text.Goals as goal
 
 pub returns : goal.returns

@@ -2,8 +2,8 @@
 use Rattle.std.proofs.Common.{drop, map}
 use Rattle.std.specs.List.{flat_map}
 use Rattle.cal_bytes.proofs.PutLemmas.{PutsUpTo}
-use Rattle.cal_timer.specs.TimerView.{shown}
-use Rattle.cal_report.specs.TimerReport.{headings_text}
+use Rattle.cal_timer.specs.rules.TimerView.{shown}
+use Rattle.cal_report.specs.rules.TimerReport.{headings_text}
 use Rattle.cal_report.proofs.TimerLemmas.{line_text}
 use Rattle.cal_report.proofs.timer_report.put_headings.Given as goal
 

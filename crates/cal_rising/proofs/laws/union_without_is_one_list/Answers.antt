@@ -1,4 +1,4 @@
-use Rattle.cal_rising.specs.RisingList.{union}
+use Rattle.cal_rising.specs.rules.RisingList.{union}
 use Rattle.cal_rising.proofs.WithoutLemmas.{IsUnionWithout-only, IsUnionWithout-union, without-none}
 use Rattle.cal_rising.proofs.laws.union_without_is_one_list.Goals as goal
 

@@ -1,5 +1,5 @@
 use Rattle.std.proofs.Common.{◌∙◌, ◌≢◌, arith, get_or-set_other}
-use Rattle.cal_rising.specs.Merge.{advanced}
+use Rattle.cal_rising.specs.rules.Merge.{advanced}
 use Rattle.cal_rising.proofs.MergeLemmas.{changed_more}
 use Rattle.cal_rising.proofs.sources.advance_all_past.Goals as goal
 

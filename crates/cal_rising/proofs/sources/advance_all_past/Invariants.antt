@@ -1,5 +1,5 @@
 use Rattle.std.proofs.Common.{◌≡◌, ◌≤◌, ℕ, map, take, slice_index_or}
-use Rattle.cal_rising.specs.Merge.{Peeked, numbers, advanced}
+use Rattle.cal_rising.specs.rules.Merge.{Peeked, numbers, advanced}
 use Rattle.cal_rising.proofs.sources.advance_all_past.Given as goal
 
 -- the remaining numbers of each source visited so far are what `advanced` returns for the numbers that remained in this

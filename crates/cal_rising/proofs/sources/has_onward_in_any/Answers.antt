@@ -2,7 +2,7 @@ use Rattle.std.proofs.Common.{rules, ◌∙◌, List, ap, arith, length-set, map
 use Rattle.std.proofs.lemmas.Int.{to_z-of_z}
 use Rattle.std.specs.List.{list_any}
 use Rattle.std.specs.Set.{is_member}
-use Rattle.cal_rising.specs.Merge.{Peeked, numbers}
+use Rattle.cal_rising.specs.rules.Merge.{Peeked, numbers}
 use Rattle.cal_rising.proofs.WithoutLemmas.{any_replaced, behind_all, behind_here, behind_more}
 use Rattle.cal_rising.proofs.sources.has_onward_in_any.Goals as goal
 use Rattle.std.proofs.lemmas.List.{append-nil}

@@ -1,7 +1,7 @@
 use Rattle.std.proofs.Common.{◌≡◌, ◌≤ℤ◌, ℤ, map, int_eq}
 use Rattle.std.specs.List.{list_any}
 use Rattle.std.specs.Set.{is_member}
-use Rattle.cal_rising.specs.Merge.{numbers}
+use Rattle.cal_rising.specs.rules.Merge.{numbers}
 use Rattle.cal_rising.proofs.WithoutLemmas.{AreBehind}
 use Rattle.cal_rising.proofs.sources.has_onward_in_any.Given as goal
 

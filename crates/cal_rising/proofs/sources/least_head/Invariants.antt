@@ -1,6 +1,6 @@
 use Rattle.std.proofs.Common.{◌≡◌, map, take, slice_get}
-use Rattle.cal_rising.specs.Merge.{numbers}
-use Rattle.cal_rising.specs.RisingList.{union}
+use Rattle.cal_rising.specs.rules.Merge.{numbers}
+use Rattle.cal_rising.specs.rules.RisingList.{union}
 use Rattle.cal_rising.proofs.sources.least_head.Given as goal
 
 -- `least` is the smallest number read ahead from the sources visited so far

@@ -1,6 +1,6 @@
 use Rattle.std.proofs.Common.{◌∙◌, add-one, arith}
 use Rattle.std.proofs.Math.Seq.{map-set_same}
-use Rattle.cal_rising.specs.Merge.{numbers}
+use Rattle.cal_rising.specs.rules.Merge.{numbers}
 use Rattle.cal_rising.proofs.MergeLemmas.{has_head_more}
 use Rattle.cal_rising.proofs.sources.peek_all.Goals as goal
 

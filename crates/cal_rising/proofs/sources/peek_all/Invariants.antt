@@ -1,5 +1,5 @@
 use Rattle.std.proofs.Common.{◌≡◌, ◌<◌, ℕ, map, slice_index_or}
-use Rattle.cal_rising.specs.Merge.{HasHead, Peeked, numbers}
+use Rattle.cal_rising.specs.rules.Merge.{HasHead, Peeked, numbers}
 use Rattle.cal_rising.proofs.sources.peek_all.Given as goal
 
 -- all sources have the same remaining numbers as before, and for those visited so far, the first of these numbers has

@@ -1,5 +1,5 @@
 use Rattle.std.proofs.Common.{◌≡◌, drop}
-use Rattle.cal_spec.specs.Components.{first_value_fault}
+use Rattle.cal_spec.specs.computed.Components.{first_value_fault}
 use Rattle.cal_spec.proofs.components.first_fault.Given as goal
 
 -- the first error of all parts is the first error of the remaining parts, since the parts checked so far have none

@@ -1,6 +1,6 @@
 use Rattle.std.proofs.Common.{◌++◌, [], codes, arith, ap, sym, ◌∙◌}
 use Rattle.cal_bytes.proofs.PutLemmas.{put_cut, put_next, put_none, puts_nothing, text_respelled}
-use Rattle.cal_spec.specs.headline.ExprText.{part_text, parts_text}
+use Rattle.cal_spec.specs.rules.ExprText.{part_text, parts_text}
 use Rattle.cal_spec.proofs.TextLemmas.{parts_text-none, parts_text-first, part_text-comma}
 use Rattle.cal_spec.proofs.expr_text.put_parts.Goals as goal
 use Rattle.cal_text.proofs.General.{item_first}

@@ -3,7 +3,7 @@
 use Rattle.std.proofs.Common.{[], ◌++◌, drop, codes}
 use Rattle.std.specs.List.{flat_map}
 use Rattle.cal_bytes.proofs.PutLemmas.{PutsUpTo}
-use Rattle.cal_spec.specs.headline.ExprText.{part_text, parts_text}
+use Rattle.cal_spec.specs.rules.ExprText.{part_text, parts_text}
 use Rattle.cal_spec.proofs.expr_text.put_parts.Given as goal
 
 abbrev pub invariant-loop-part : goal.invariant-loop-part

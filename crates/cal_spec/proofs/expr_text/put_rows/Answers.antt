@@ -1,7 +1,7 @@
 use Rattle.std.proofs.Common.{ap, arith}
 use Rattle.std.specs.Option.{option_copied}
 use Rattle.cal_bytes.proofs.PutLemmas.{put_cut, put_next}
-use Rattle.cal_spec.specs.headline.ExprText.{row_text}
+use Rattle.cal_spec.specs.rules.ExprText.{row_text}
 use Rattle.cal_spec.proofs.expr_text.put_rows.Goals as goal
 use Rattle.cal_text.proofs.General.{item_first}
 

@@ -4,7 +4,7 @@ use Rattle.std.proofs.Common.{drop}
 use Rattle.std.specs.List.{flat_map}
 use Rattle.std.specs.Option.{option_copied}
 use Rattle.cal_bytes.proofs.PutLemmas.{PutsUpTo}
-use Rattle.cal_spec.specs.headline.ExprText.{row_text}
+use Rattle.cal_spec.specs.rules.ExprText.{row_text}
 use Rattle.cal_spec.proofs.expr_text.put_rows.Given as goal
 
 abbrev pub invariant-loop-row : goal.invariant-loop-row

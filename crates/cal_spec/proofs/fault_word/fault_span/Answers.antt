@@ -1,5 +1,5 @@
 use Rattle.std.proofs.Common.{◌≡◌, ◌-◌, ◌∙◌, ap, arith, refl, sym, take, is_ok, true}
-use Rattle.cal_spec.specs.Expr.{expr_in}
+use Rattle.cal_spec.specs.computed.Expr.{expr_in}
 use Rattle.cal_spec.proofs.FaultSpanLemmas.{accepted_before, accepted_up_to, trimmed_valid}
 use Rattle.cal_spec.proofs.fault_word.fault_span.Goals as goal
 

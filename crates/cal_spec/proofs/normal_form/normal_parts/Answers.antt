@@ -1,7 +1,7 @@
 use Rattle.std.proofs.Common.{◌∙◌}
 use Rattle.std.proofs.lemmas.List.Filters.{dedup_is}
-use Rattle.cal_spec.specs.NormalParts.{part_eq}
-use Rattle.cal_spec.specs.headline.NormalForm.{part_cmp}
+use Rattle.cal_spec.specs.computed.NormalParts.{part_eq}
+use Rattle.cal_spec.specs.rules.NormalForm.{part_cmp}
 use Rattle.cal_spec.proofs.NormalLemmas.{sorted_deduped}
 use Rattle.cal_spec.proofs.normal_form.normal_parts.Goals as goal
 

@@ -1,8 +1,8 @@
 use Rattle.std.proofs.Common.{get_or, arith}
 use Rattle.std.proofs.lemmas.List.{get_or_default}
 use Rattle.std.proofs.lemmas.List.Edits.{map_over_more}
-use Rattle.cal_spec.specs.NormalParts.{reduced}
-use Rattle.cal_spec.specs.headline.NormalForm.{point}
+use Rattle.cal_spec.specs.computed.NormalParts.{reduced}
+use Rattle.cal_spec.specs.rules.NormalForm.{point}
 use Rattle.cal_spec.proofs.normal_form.reduce_each.Goals as goal
 
 pub loop-part-preserved : goal.loop-part-preserved

@@ -1,7 +1,7 @@
 use Rattle.std.proofs.Common.{rules}
-use Rattle.cal_spec.specs.Views.{fields_of}
-use Rattle.cal_spec.specs.Grammar.{fields_in}
-use Rattle.cal_spec.specs.Reads.{GivesUnlessNoMemory}
+use Rattle.cal_spec.specs.computed.Views.{fields_of}
+use Rattle.cal_spec.specs.computed.Grammar.{fields_in}
+use Rattle.cal_spec.specs.computed.Reads.{GivesUnlessNoMemory}
 use Rattle.cal_spec.proofs.FieldLemmas.{gives_valid}
 use Rattle.cal_spec.proofs.read.read_fields.Goals as goal
 

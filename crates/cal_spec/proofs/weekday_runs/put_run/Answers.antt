@@ -1,8 +1,8 @@
 use Rattle.std.proofs.Common.{◌≡◌, ℕ, List, [], ◌∷◌, ◌++◌, arith, refl, sym}
 use Rattle.std.proofs.lemmas.List.Concat.{flat_map-append}
 use Rattle.cal_bytes.proofs.PutLemmas.{first_fails, last_ends, second_ends, text_respelled}
-use Rattle.cal_bytes.specs.headline.Bytes.{joined}
-use Rattle.cal_spec.specs.headline.WeekdayRuns.{day_name, run_text, text_after_first}
+use Rattle.cal_bytes.specs.rules.Bytes.{joined}
+use Rattle.cal_spec.specs.rules.WeekdayRuns.{day_name, run_text, text_after_first}
 use Rattle.cal_spec.proofs.WeekdayLemmas.{text_after_first-second, text_after_first-more}
 use Rattle.cal_spec.proofs.weekday_runs.put_run.Goals as goal
 

@@ -1,7 +1,7 @@
 use Rattle.std.proofs.Common.{◌+◌, ◌-◌, arith, refl}
 use Rattle.std.proofs.lemmas.List.{take_rest}
 use Rattle.cal_bytes.proofs.PutLemmas.{left_respelled, put_cut, put_next, put_none}
-use Rattle.cal_spec.specs.headline.WeekdayRuns.{runs_from}
+use Rattle.cal_spec.specs.rules.WeekdayRuns.{runs_from}
 use Rattle.cal_spec.proofs.WeekdayLemmas.{led-front, led-skip, runs_text-led}
 use Rattle.cal_spec.proofs.weekday_runs.put_runs.Goals as goal
 use Rattle.cal_spec.proofs.weekday_runs.put_runs.Goals.{then-len-gt0+in_ok-put_run, else-len-gt0}

@@ -1,7 +1,7 @@
 -- The writer hasn't failed, and what is still to be written is the text of the runs from the day `first` on.
 use Rattle.std.proofs.Common.{◌-◌, drop, length}
 use Rattle.cal_bytes.proofs.PutLemmas.{PutsUpTo}
-use Rattle.cal_spec.specs.headline.WeekdayRuns.{runs_from, runs_text}
+use Rattle.cal_spec.specs.rules.WeekdayRuns.{runs_from, runs_text}
 use Rattle.cal_spec.proofs.WeekdayLemmas.{led}
 use Rattle.cal_spec.proofs.weekday_runs.put_runs.Given as goal
 

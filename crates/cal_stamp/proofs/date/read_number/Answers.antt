@@ -3,7 +3,7 @@ use Rattle.std.specs.Char.{is_ascii_digit}
 use Rattle.std.specs.List.{list_all}
 use Rattle.std.specs.Str.Parse.{digits_value, AllDigits}
 use Rattle.std.proofs.lemmas.Bool.Decides.{nat_tests}
-use Rattle.cal_stamp.specs.StampDate.{digits_number}
+use Rattle.cal_stamp.specs.rules.StampDate.{digits_number}
 use Rattle.cal_stamp.proofs.date.read_number.Goals as goal
 use Rattle.std.proofs.lemmas.Bool.{and_parts}
 use Rattle.cal_text.proofs.General.{digit_below}

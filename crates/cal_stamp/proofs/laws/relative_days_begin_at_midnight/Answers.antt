@@ -1,4 +1,4 @@
-use Rattle.cal_stamp.specs.StampForm.{from_today}
+use Rattle.cal_stamp.specs.rules.StampRule.{from_today}
 use Rattle.cal_stamp.proofs.StampMomentRuleLemmas.{exactly}
 use Rattle.cal_stamp.proofs.laws.relative_days_begin_at_midnight.Goals as goal
 

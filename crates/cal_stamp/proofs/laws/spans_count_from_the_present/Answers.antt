@@ -1,4 +1,4 @@
-use Rattle.cal_stamp.specs.StampForm.{counted, earlier, later}
+use Rattle.cal_stamp.specs.rules.StampRule.{counted, earlier, later}
 use Rattle.cal_stamp.proofs.StampMomentRuleLemmas.{exactly}
 use Rattle.cal_stamp.proofs.laws.spans_count_from_the_present.Goals as goal
 

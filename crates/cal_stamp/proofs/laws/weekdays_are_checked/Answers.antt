@@ -1,4 +1,4 @@
-use Rattle.cal_stamp.specs.StampForm.{civil}
+use Rattle.cal_stamp.specs.rules.StampRule.{civil}
 use Rattle.cal_stamp.proofs.StampMomentRuleLemmas.{exactly, has_wrong_weekday}
 use Rattle.cal_stamp.proofs.laws.weekdays_are_checked.Goals as goal
 

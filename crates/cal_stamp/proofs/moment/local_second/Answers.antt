@@ -1,6 +1,6 @@
 use Rattle.std.proofs.Common.{arith}
 use Rattle.jiff.proofs.SpanFacts.{signed_arith}
-use Rattle.cal_zone.specs.headline.Zone.{zone_of}
+use Rattle.cal_zone.specs.rules.Zone.{zone_of}
 use Rattle.cal_stamp.proofs.StampLemmas.{local_shown_at-civil}
 use Rattle.cal_stamp.proofs.moment.local_second.Goals as goal
 

@@ -1,7 +1,7 @@
 use Rattle.std.proofs.Common.{[], ◌∷◌, pos, rules}
 use Rattle.std.specs.List.Sorted.{IsStrictlySortedBy}
 use Rattle.cal_rising.proofs.OrderLemmas.{all_at}
-use Rattle.cal_zone.specs.Instant.{IsInstant}
+use Rattle.cal_zone.specs.rules.Instant.{IsInstant}
 use Rattle.cal_task_tests.proofs.compared.only_one_of_two_lists.Goals as goal
 
 pub listed-requires-clause-rises : goal.listed-requires-clause-rises

@@ -1,8 +1,8 @@
 use Rattle.std.proofs.Common.{arith}
 use Rattle.cal_plan.proofs.PlanLemmas.{zoned_at}
-use Rattle.cal_zone.specs.Setting.{setting_seen}
+use Rattle.cal_zone.specs.rules.Setting.{setting_seen}
 use Rattle.cal_tasks.proofs.IdleLemmas.{idle_more}
-use Rattle.cal_tasks.specs.IdleLines.{never_elapses}
+use Rattle.cal_tasks.specs.rules.IdleLines.{never_elapses}
 use Rattle.cal_tasks.specs.declared.idle.IdleKind.TheVariants.{NeverElapses}
 use Rattle.cal_tasks.proofs.idle.add_never.Goals as goal
 

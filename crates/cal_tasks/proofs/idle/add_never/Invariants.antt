@@ -1,8 +1,8 @@
 -- Of the expressions before the loop's index, those that don't elapse after the present have been appended.
 use Rattle.std.proofs.Common.{◌≡◌, ◌++◌, map, take}
-use Rattle.cal_timer.specs.TimerView.{shown}
-use Rattle.cal_zone.specs.Setting.{setting_seen}
-use Rattle.cal_tasks.specs.IdleLines.{idle_as, never_elapses}
+use Rattle.cal_timer.specs.rules.TimerView.{shown}
+use Rattle.cal_zone.specs.rules.Setting.{setting_seen}
+use Rattle.cal_tasks.specs.rules.IdleLines.{idle_as, never_elapses}
 use Rattle.cal_tasks.specs.declared.idle.IdleKind.TheVariants.{NeverElapses}
 use Rattle.cal_tasks.proofs.idle.add_never.Given as goal
 

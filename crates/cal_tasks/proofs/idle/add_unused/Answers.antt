@@ -1,8 +1,8 @@
 use Rattle.std.proofs.Common.{arith, map}
 use Rattle.cal_plan.proofs.PlanLemmas.{zoned_at}
-use Rattle.cal_zone.specs.Setting.{setting_seen}
+use Rattle.cal_zone.specs.rules.Setting.{setting_seen}
 use Rattle.cal_tasks.proofs.IdleLemmas.{idle_more}
-use Rattle.cal_tasks.specs.IdleLines.{suppresses_nothing}
+use Rattle.cal_tasks.specs.rules.IdleLines.{suppresses_nothing}
 use Rattle.cal_tasks.specs.declared.idle.IdleKind.TheVariants.{SuppressesNothing}
 use Rattle.cal_tasks.proofs.idle.add_unused.Goals as goal
 

@@ -4,7 +4,7 @@ use Rattle.std.proofs.Common.{◌≡◌, drop, map}
 use Rattle.std.specs.List.{list_any}
 use Rattle.std.specs.Ordering.{int_eq}
 use Rattle.std.specs.Set.{is_member}
-use Rattle.cal_elapse.specs.RemainingElapses.{remaining_elapses}
+use Rattle.cal_elapse.specs.computed.RemainingElapses.{remaining_elapses}
 use Rattle.cal_tasks.proofs.idle.has_any.Given as goal
 
 abbrev pub invariant-loop-instant : goal.invariant-loop-instant

@@ -1,8 +1,8 @@
 use Rattle.std.proofs.Common.{◌++◌, ◌∙◌, List, ap, map}
-use Rattle.cal_timer.specs.TimerView.{shown}
-use Rattle.cal_zone.specs.Setting.{setting_seen}
+use Rattle.cal_timer.specs.rules.TimerView.{shown}
+use Rattle.cal_zone.specs.rules.Setting.{setting_seen}
 use Rattle.cal_zone.specs.declared.instant.Instant.{Instant}
-use Rattle.cal_tasks.specs.IdleLines.{idle_as, never_elapses, suppresses_nothing}
+use Rattle.cal_tasks.specs.rules.IdleLines.{idle_as, never_elapses, suppresses_nothing}
 use Rattle.cal_tasks.specs.declared.idle.IdleKind.TheVariants.{NeverElapses, SuppressesNothing}
 use Rattle.cal_tasks.specs.declared.idle.IdleLine.{IdleLine}
 use Rattle.cal_tasks.proofs.idle.idle_among.Goals as goal

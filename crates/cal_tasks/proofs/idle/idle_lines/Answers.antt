@@ -1,9 +1,9 @@
 use Rattle.std.proofs.Common.{ap, map}
-use Rattle.cal_timer.specs.TimerView.{shown}
-use Rattle.cal_zone.specs.Setting.{setting_seen}
+use Rattle.cal_timer.specs.rules.TimerView.{shown}
+use Rattle.cal_zone.specs.rules.Setting.{setting_seen}
 use Rattle.cal_zone.specs.declared.instant.Instant.{Instant}
 use Rattle.cal_tasks.proofs.IdleLemmas.{exceptions_zoned, idle_here, lines_zoned}
-use Rattle.cal_tasks.specs.LoadedElapses.{lists_of_loaded, setting_for}
+use Rattle.cal_tasks.specs.rules.LoadedElapses.{lists_of_loaded, setting_for}
 use Rattle.cal_tasks.proofs.idle.idle_lines.Goals as goal
 
 pub idle_among-requires-clause-lines : goal.idle_among-requires-clause-lines

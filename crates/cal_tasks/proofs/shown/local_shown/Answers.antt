@@ -1,7 +1,7 @@
 use Rattle.std.proofs.Common.{arith}
 use Rattle.jiff.proofs.SpanFacts.{signed_arith}
 use Rattle.cal_stamp.proofs.StampLemmas.{local_shown_at-civil}
-use Rattle.cal_zone.specs.headline.Zone.{zone_of}
+use Rattle.cal_zone.specs.rules.Zone.{zone_of}
 use Rattle.cal_tasks.proofs.shown.local_shown.Goals as goal
 
 pub returns-clause-value : goal.returns-clause-value

@@ -1,6 +1,6 @@
 use Rattle.std.proofs.Common.{◌∙◌, rules, w64}
 use Rattle.std.proofs.lemmas.Int.{to_z-of_z}
-use Rattle.cal_zone.specs.headline.Zone.{zone_of}
+use Rattle.cal_zone.specs.rules.Zone.{zone_of}
 use Rattle.cal_tasks.proofs.NoteLemmas.{one_note}
 use Rattle.cal_tasks.proofs.skipped.add_notes.Goals as goal
 

@@ -2,9 +2,9 @@
 -- the expression matches.
 use Rattle.std.proofs.Common.{◌≡◌}
 use Rattle.std.specs.Prelude.{IfSome}
-use Rattle.cal_elapse.specs.Masks.{sets_in}
-use Rattle.cal_zone.specs.headline.Zone.{zone_of}
-use Rattle.cal_tasks.specs.ClockNotes.{AddsNotesOf, IsMatch}
+use Rattle.cal_elapse.specs.computed.Masks.{sets_in}
+use Rattle.cal_zone.specs.rules.Zone.{zone_of}
+use Rattle.cal_tasks.specs.rules.ClockNotes.{AddsNotesOf, IsMatch}
 use Rattle.cal_tasks.proofs.skipped.add_notes.Given as goal
 
 abbrev pub invariant-loop : goal.invariant-loop

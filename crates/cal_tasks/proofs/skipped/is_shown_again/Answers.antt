@@ -1,6 +1,6 @@
 use Rattle.std.proofs.Common.{◌≡◌, ◌<ℤ◌, arith}
 use Rattle.cal_civil.proofs.LocalLemmas.{local_arith}
-use Rattle.cal_zone.specs.headline.Zone.{zone_of}
+use Rattle.cal_zone.specs.rules.Zone.{zone_of}
 use Rattle.cal_tasks.proofs.NoteLemmas.{repeated}
 use Rattle.cal_tasks.proofs.skipped.is_shown_again.Goals as goal
 

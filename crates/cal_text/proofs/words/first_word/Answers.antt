@@ -2,7 +2,7 @@ use Rattle.std.proofs.Common.{◌≡◌, ◌<◌, ap, sym, ◌∙◌, arith, len
 use Rattle.std.specs.List.{position_or_len}
 use Rattle.std.proofs.lemmas.Bool.Decides.{nat_tests}
 use Rattle.std.proofs.lemmas.List.{nil_from_length}
-use Rattle.cal_text.specs.headline.Separators.{is_blank, words}
+use Rattle.cal_text.specs.rules.Separators.{is_blank, words}
 use Rattle.cal_text.proofs.WordLemmas.{word_boundary, first_word, begins_with_word, words-trim_start_matches, words-nil}
 use Rattle.cal_text.proofs.words.first_word.Goals as goal
 use Rattle.cal_text.proofs.General.{boundary_at}

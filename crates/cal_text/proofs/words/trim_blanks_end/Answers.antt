@@ -1,6 +1,6 @@
 use Rattle.std.proofs.Common.{arith, ap, ◌∙◌, ◌-◌, length}
 use Rattle.std.specs.List.{suffix_len}
-use Rattle.cal_text.specs.headline.Separators.{is_blank}
+use Rattle.cal_text.specs.rules.Separators.{is_blank}
 use Rattle.cal_text.proofs.WordLemmas.{blank_ascii}
 use Rattle.cal_text.proofs.words.trim_blanks_end.Goals as goal
 use Rattle.cal_text.proofs.General.{boundary_at, end_boundary}

@@ -1,4 +1,4 @@
-use Rattle.cal_text.specs.headline.Separators.{is_blank}
+use Rattle.cal_text.specs.rules.Separators.{is_blank}
 use Rattle.cal_text.proofs.WordLemmas.{blank_ascii}
 use Rattle.cal_text.proofs.words.trim_blanks_start.Goals as goal
 use Rattle.cal_text.proofs.General.{front_boundary}

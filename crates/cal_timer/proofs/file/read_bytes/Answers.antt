@@ -1,8 +1,8 @@
 use Rattle.std.proofs.Common.{◌≡◌, ◌∙◌, true, arith}
 use Rattle.std.specs.Str.{is_utf8}
 use Rattle.std.proofs.lemmas.Str.{is_utf8-from_IsUtf8}
-use Rattle.cal_spec.specs.Expr.{expr_in}
-use Rattle.cal_timer.specs.TimerEntries.{broken_line, timer_in}
+use Rattle.cal_spec.specs.computed.Expr.{expr_in}
+use Rattle.cal_timer.specs.rules.TimerEntries.{broken_line, timer_in}
 use Rattle.cal_timer.proofs.TimerLemmas.{broken_bytes}
 use Rattle.cal_timer.proofs.file.read_bytes.Goals as goal
 

@@ -1,11 +1,11 @@
 use Rattle.std.proofs.Common.{◌≡◌, ◌∙◌, ap, sym, false, Ok}
 use Rattle.std.proofs.lemmas.Result.{MatchResult-weaker}
-use Rattle.cal_spec.specs.Expr.{expr_in}
-use Rattle.cal_lines.specs.headline.Lines.{logical_lines}
-use Rattle.cal_timer.specs.headline.Assignments.{assignments_in}
-use Rattle.cal_timer.specs.headline.TimerText.{without_mark}
-use Rattle.cal_timer.specs.TimerEntries.{timer_of}
-use Rattle.cal_timer.specs.TimerView.{empty_lists, resumed}
+use Rattle.cal_spec.specs.computed.Expr.{expr_in}
+use Rattle.cal_lines.specs.rules.Lines.{logical_lines}
+use Rattle.cal_timer.specs.rules.Assignments.{assignments_in}
+use Rattle.cal_timer.specs.rules.TimerText.{without_mark}
+use Rattle.cal_timer.specs.rules.TimerEntries.{timer_of}
+use Rattle.cal_timer.specs.rules.TimerView.{empty_lists, resumed}
 use Rattle.cal_timer.proofs.ListedLemmas.{lists_from_entries}
 use Rattle.cal_timer.proofs.file.read_utf8.Goals as goal
 

@@ -1,5 +1,5 @@
 use Rattle.std.proofs.Common.{◌≡◌, map, take, string_bytes}
-use Rattle.cal_spec.specs.headline.ExprText.{expr_text}
+use Rattle.cal_spec.specs.rules.ExprText.{expr_text}
 use Rattle.cal_timers_json.proofs.show.line_rows.Given as goal
 
 -- so far, there is one row for each line before the loop's index, with the normal form of the line's expression

@@ -2,7 +2,7 @@ use Rattle.std.proofs.Common.{◌≡◌, ◌++◌, ◌∙◌, ap, sym, map-id, s
 use Rattle.std.proofs.lemmas.Iterator.{YieldsList-from_chars}
 use Rattle.std.proofs.lemmas.Iterator.Consumers.{YieldsList-end}
 use Rattle.std.specs.List.{flat_map}
-use Rattle.cal_timers_text.specs.PrintableText.{printable_char}
+use Rattle.cal_timers_text.specs.rules.PrintableText.{printable_char}
 use Rattle.cal_timers_text.proofs.cells.push_printable.Goals as goal
 
 -- after the loop, all characters of the text have been appended as they are printed

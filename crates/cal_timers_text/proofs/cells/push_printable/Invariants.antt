@@ -1,6 +1,6 @@
 use Rattle.std.proofs.Common.{◌≡◌, ◌++◌, string_bytes}
 use Rattle.std.specs.List.{flat_map}
-use Rattle.cal_timers_text.specs.PrintableText.{printable_char}
+use Rattle.cal_timers_text.specs.rules.PrintableText.{printable_char}
 use Rattle.cal_timers_text.proofs.cells.push_printable.Given as goal
 
 -- the printed forms of the characters that the loop has visited have been appended

@@ -1,6 +1,6 @@
 use Rattle.std.proofs.Common.{List, ℕ, map, string_bytes}
 use Rattle.std.proofs.lemmas.Result.{err_from_is_err_and}
-use Rattle.cal_units.specs.Faults.{IsEndless}
+use Rattle.cal_units.specs.rules.Faults.{IsEndless}
 use Rattle.cal_units.proofs.FaultLemmas.{link_weaker}
 use Rattle.cal_units.proofs.aliases.alias_at.Goals as goal
 

@@ -1,8 +1,8 @@
 use Rattle.std.proofs.Common.{◌≡◌, [], map, take, string_bytes}
 use Rattle.std.specs.List.{All, flat_map}
-use Rattle.cal_units.specs.Aliases.{aliases_below, shown_alias}
-use Rattle.cal_units.specs.Faults.{IsListedFault}
-use Rattle.cal_units.specs.Machine.{Machine}
+use Rattle.cal_units.specs.rules.Aliases.{aliases_below, shown_alias}
+use Rattle.cal_units.specs.rules.Faults.{IsListedFault}
+use Rattle.cal_units.specs.rules.Machine.{Machine}
 use Rattle.cal_units.proofs.aliases.find_aliases.Given as goal
 
 -- if there is no error so far, the aliases found are those in the folders before the loop's index; each error so far is

@@ -2,7 +2,7 @@ use Rattle.std.proofs.Common.{◌++◌, ◌∙◌, ap, map, string_bytes, sym}
 use Rattle.std.specs.List.{filter_map}
 use Rattle.std.proofs.lemmas.List.{map-append}
 use Rattle.std.proofs.lemmas.Result.{IfOk-weaker}
-use Rattle.cal_units.specs.Aliases.{alias_named, shown_alias}
+use Rattle.cal_units.specs.rules.Aliases.{alias_named, shown_alias}
 use Rattle.cal_units.proofs.AliasLemmas.{name_more}
 use Rattle.cal_units.proofs.FaultLemmas.{listed_more}
 use Rattle.cal_units.proofs.aliases.push_named.Goals as goal

@@ -1,8 +1,8 @@
 use Rattle.std.proofs.Common.{◌≡◌, ◌++◌, [], map, string_bytes}
 use Rattle.std.specs.List.{All, filter_map}
-use Rattle.cal_units.specs.Aliases.{alias_named, shown_alias}
-use Rattle.cal_units.specs.Faults.{IsListedFault}
-use Rattle.cal_units.specs.Machine.{Machine}
+use Rattle.cal_units.specs.rules.Aliases.{alias_named, shown_alias}
+use Rattle.cal_units.specs.rules.Faults.{IsListedFault}
+use Rattle.cal_units.specs.rules.Machine.{Machine}
 use Rattle.cal_units.proofs.aliases.push_named.Given as goal
 
 -- if there is no error so far, there was none before the loop, and the aliases with the names that the loop has visited

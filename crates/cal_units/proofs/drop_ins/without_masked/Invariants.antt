@@ -1,5 +1,5 @@
 use Rattle.std.proofs.Common.{◌≡◌, filter, map, not, string_bytes}
-use Rattle.cal_units.specs.Machine.{Machine, is_null}
+use Rattle.cal_units.specs.rules.Machine.{Machine, is_null}
 use Rattle.cal_units.proofs.drop_ins.without_masked.Given as goal
 
 -- of the paths that the loop has visited, all but the links to `/dev/null` have been kept

@@ -1,6 +1,6 @@
 use Rattle.std.proofs.Common.{◌≡◌, ◌∷◌, map, take, string_bytes}
-use Rattle.cal_units.specs.Files.{files_at, shown_unit_text}
-use Rattle.cal_units.specs.Machine.{Machine}
+use Rattle.cal_units.specs.rules.Files.{files_at, shown_unit_text}
+use Rattle.cal_units.specs.rules.Machine.{Machine}
 use Rattle.cal_units.proofs.files.read_files.Given as goal
 
 -- the unit's file and the drop-ins before the loop's index have been read

@@ -1,7 +1,7 @@
 use Rattle.std.proofs.Common.{◌≡◌, drop, map, string_bytes}
 use Rattle.std.specs.Prelude.{slice_get}
 use Rattle.std.specs.List.{filter_map}
-use Rattle.cal_units.specs.Units.{stem_in}
+use Rattle.cal_units.specs.rules.Units.{stem_in}
 use Rattle.cal_units.proofs.links.alias_of.Given as goal
 
 -- searching the remaining folders for the one to which the link leads has the same result as searching all folders

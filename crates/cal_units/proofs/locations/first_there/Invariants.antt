@@ -1,6 +1,6 @@
 use Rattle.std.proofs.Common.{◌≡◌, drop, map, string_bytes}
-use Rattle.cal_units.specs.Machine.{Machine}
-use Rattle.cal_units.specs.Units.{first_there}
+use Rattle.cal_units.specs.rules.Machine.{Machine}
+use Rattle.cal_units.specs.rules.Units.{first_there}
 use Rattle.cal_units.proofs.locations.first_there.Given as goal
 
 -- searching the remaining paths for the first that has a unit's file has the same result as searching all paths

@@ -1,5 +1,5 @@
 use Rattle.std.proofs.Common.{◌≡◌, ◌++◌, map, take, string_bytes}
-use Rattle.cal_units.specs.Units.{unit_path}
+use Rattle.cal_units.specs.rules.Units.{unit_path}
 use Rattle.cal_units.proofs.locations.push_paths.Given as goal
 
 abbrev pub invariant-loop-folder : goal.invariant-loop-folder

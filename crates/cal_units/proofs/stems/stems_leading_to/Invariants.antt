@@ -1,5 +1,5 @@
 use Rattle.std.proofs.Common.{◌≡◌, map, take}
-use Rattle.cal_units.specs.Aliases.{shown_alias, stems_leading_to}
+use Rattle.cal_units.specs.rules.Aliases.{shown_alias, stems_leading_to}
 use Rattle.cal_units.proofs.stems.stems_leading_to.Given as goal
 
 -- so far, the stems are those of the aliases before the loop's index that belong to the unit whose own stem is `own`

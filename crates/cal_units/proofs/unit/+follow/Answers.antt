@@ -1,10 +1,10 @@
 use Rattle.std.proofs.Common.{◌≡◌, ◌-◌, ◌∙◌, arith, ap, map, sym, suc, string_bytes}
 use Rattle.std.proofs.lemmas.List.{map-append}
 use Rattle.std.proofs.lemmas.Result.{IfErr-weaker, IfOk-weaker}
-use Rattle.cal_units.specs.Machine.{Machine}
-use Rattle.cal_units.specs.Units.{follow, location_in, shown_location}
-use Rattle.cal_units.specs.Units.Location.{AliasOf}
-use Rattle.cal_units.specs.Units.Unit.{Endless}
+use Rattle.cal_units.specs.rules.Machine.{Machine}
+use Rattle.cal_units.specs.rules.Units.{follow, location_in, shown_location}
+use Rattle.cal_units.specs.rules.Units.Location.{AliasOf}
+use Rattle.cal_units.specs.rules.Units.Unit.{Endless}
 use Rattle.cal_units.proofs.FaultLemmas.{link_weaker}
 use Rattle.cal_units.proofs.UnitLemmas.{follow_alias}
 use Rattle.cal_units.proofs.unit.+follow.Goals as goal

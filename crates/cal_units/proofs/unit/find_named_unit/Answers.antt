@@ -1,8 +1,8 @@
 use Rattle.std.proofs.Common.{◌≡◌, [], ◌∙◌, ap, map, sym, string_bytes}
 use Rattle.std.proofs.lemmas.Result.{IfErr-weaker, IfOk-weaker}
-use Rattle.cal_units.specs.Machine.{Machine}
-use Rattle.cal_units.specs.Units.{follow, named_unit}
-use Rattle.cal_units.specs.Units.Unit.{Endless}
+use Rattle.cal_units.specs.rules.Machine.{Machine}
+use Rattle.cal_units.specs.rules.Units.{follow, named_unit}
+use Rattle.cal_units.specs.rules.Units.Unit.{Endless}
 use Rattle.cal_units.proofs.FaultLemmas.{link_weaker}
 use Rattle.cal_units.proofs.unit.find_named_unit.Goals as goal
 

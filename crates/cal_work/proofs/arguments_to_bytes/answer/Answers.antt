@@ -1,6 +1,6 @@
-use Rattle.cal_zone.specs.headline.Zone.{utc}
-use Rattle.cal_command.specs.Ask.{shown_local}
-use Rattle.cal_work.specs.Stop.{rule_stop}
+use Rattle.cal_zone.specs.rules.Zone.{utc}
+use Rattle.cal_command.specs.rules.Ask.{shown_local}
+use Rattle.cal_work.specs.rules.Stop.{rule_stop}
 use Rattle.cal_work.proofs.WorkLemmas.{clock_stops, local_refused, local_stops, ran_whole, stops_other, zones_stop}
 use Rattle.cal_work.proofs.arguments_to_bytes.answer.Goals as goal
 use Rattle.std.proofs.lemmas.Result.{err_from_is_err_and}

@@ -1,5 +1,5 @@
 use Rattle.std.proofs.Common.{None, refl}
-use Rattle.cal_work.specs.Outcome.{present_by}
+use Rattle.cal_work.specs.rules.Outcome.{present_by}
 use Rattle.cal_work.proofs.arguments_to_bytes.find_present.Goals as goal
 
 pub returns-in-Some : goal.returns-in-Some

@@ -1,8 +1,8 @@
 use Rattle.std.proofs.Common.{◌≡◌, Ok, refl, sym, ap, rules}
 use Rattle.jiff.specs.Types.{Offset}
 use Rattle.jiff.specs.Words.{fixed_zone}
-use Rattle.cal_zone.specs.headline.Zone.{utc, zone_of}
-use Rattle.cal_work.specs.Outcome.{local_by}
+use Rattle.cal_zone.specs.rules.Zone.{utc, zone_of}
+use Rattle.cal_work.specs.rules.Outcome.{local_by}
 use Rattle.cal_work.proofs.WorkLemmas.{finds_rule, finds_name, finds_no_name}
 use Rattle.cal_work.proofs.arguments_to_bytes.local_zone.Goals as goal
 

@@ -1,5 +1,5 @@
 use Rattle.std.proofs.Common.{arith, refl}
-use Rattle.cal_command.specs.Ask.{shown_item}
+use Rattle.cal_command.specs.rules.Ask.{shown_item}
 use Rattle.cal_work.proofs.WorkLemmas.{next_loaded, next_stops, none_left}
 use Rattle.cal_work.proofs.arguments_to_bytes.read_zones.Goals as goal
 use Rattle.cal_text.proofs.General.{items_end, items_next}

@@ -1,5 +1,5 @@
 use Rattle.std.proofs.Common.{◌≡◌, rules}
-use Rattle.cal_work.specs.WorkSteps.{ran}
+use Rattle.cal_work.specs.computed.WorkSteps.{ran}
 use Rattle.cal_work.proofs.WorkLemmas.{file_stops, texts_run, timer_runs}
 use Rattle.std.proofs.lemmas.Result.{err_from_is_err_and}
 use Rattle.cal_work.proofs.arguments_to_bytes.run_request.Goals as goal

@@ -1,5 +1,5 @@
 use Rattle.cal_bytes.proofs.PutLemmas.{text_respelled}
-use Rattle.cal_work.specs.Stop.{zones_line}
+use Rattle.cal_work.specs.rules.Stop.{zones_line}
 use Rattle.cal_work.proofs.stop.write_zones.Goals as goal
 
 pub returns : goal.returns

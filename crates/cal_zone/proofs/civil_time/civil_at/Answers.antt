@@ -2,8 +2,8 @@ use Rattle.std.proofs.Common.{◌≡◌, ◌∙◌, refl, sym, ap, arith}
 use Rattle.jiff.specs.Types.{Fixed, TimeZone}
 use Rattle.jiff.specs.Words.{civil_nanos, nanos_of_seconds, offset_at}
 use Rattle.jiff.proofs.SpanFacts.{signed_arith}
-use Rattle.cal_zone.specs.CivilAt.{civil_at_offset}
-use Rattle.cal_zone.specs.headline.Zone.{local_shown_at}
+use Rattle.cal_zone.specs.rules.CivilAt.{civil_at_offset}
+use Rattle.cal_zone.specs.rules.Zone.{local_shown_at}
 use Rattle.cal_zone.proofs.CivilLemmas.{civil_at_offset-civil_of, IsCivil-civil_at_offset}
 use Rattle.cal_zone.proofs.civil_time.civil_at.Goals as goal
 

@@ -5,7 +5,7 @@ use Rattle.jiff.specs.Words.{nanos_of_seconds, next_at, offset_at}
 use Rattle.jiff_tz.specs.declared.info.OffsetInfo.{OffsetInfo}
 use Rattle.std.specs.Option.{option_map}
 use Rattle.jiff_tz.specs.PosixRule.{transition_view}
-use Rattle.cal_zone.specs.InstantOffsetRange.{IsBeforeTransition}
+use Rattle.cal_zone.specs.computed.InstantOffsetRange.{IsBeforeTransition}
 use Rattle.cal_zone.proofs.InstantOffsetRangeLemmas.{constant_until_transition, max_before}
 use Rattle.cal_zone.proofs.instant_offset_range.instant_range_by_rules.Goals as goal
 

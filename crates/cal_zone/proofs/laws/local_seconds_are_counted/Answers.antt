@@ -1,4 +1,4 @@
-use Rattle.cal_civil.specs.headline.Local.{seconds_in_all-is}
+use Rattle.cal_civil.specs.rules.LocalSecond.{seconds_in_all-is}
 use Rattle.cal_zone.proofs.YearLemmas.{year_of_local, local_of_year}
 use Rattle.cal_zone.proofs.laws.local_seconds_are_counted.Goals as goal
 

@@ -6,7 +6,7 @@ use Rattle.jiff.specs.Words.{nanos_of_seconds}
 use Rattle.jiff_tz.specs.Tzif.{count_at, next_at}
 use Rattle.jiff_tz.specs.PosixRule.{transition_view}
 use Rattle.jiff_tz.specs.declared.info.OffsetInfo.{OffsetInfo}
-use Rattle.cal_zone.specs.LocalOffsetRange.{IsClearOfTransition}
+use Rattle.cal_zone.specs.computed.LocalOffsetRange.{IsClearOfTransition}
 use Rattle.cal_zone.proofs.SameOffsetLemmas.{same_offsets_by_next_after_table}
 use Rattle.cal_zone.proofs.LocalOffsetRangeLemmas.{all_later, same_offsets_after_table, same_offsets_without_dst, same_offsets_without_rule, length_of_copy}
 use Rattle.cal_zone.proofs.local_offset_range.range_end_after_table.Goals as goal

@@ -2,8 +2,8 @@ use Rattle.std.proofs.Common.{◌≡◌, ◌∙◌, ap, arith, inl, inr, to_z-of
 use Rattle.std.specs.Option.{option_map}
 use Rattle.cal_civil.proofs.LocalLemmas.{local_arith}
 use Rattle.jiff_tz.specs.PosixRule.{transition_view}
-use Rattle.cal_zone.specs.headline.Place.{datetime_of}
-use Rattle.cal_zone.specs.LocalOffsetRange.{year_end}
+use Rattle.cal_zone.specs.rules.Place.{datetime_of}
+use Rattle.cal_zone.specs.computed.LocalOffsetRange.{year_end}
 use Rattle.cal_zone.proofs.local_offset_range.range_end_before_transition.Goals as goal
 
 pub overflow_sub-before_change : goal.overflow_sub-before_change

@@ -4,7 +4,7 @@ use Rattle.cal_civil.proofs.LocalLemmas.{local_arith}
 use Rattle.jiff.specs.Words.{nanos_of_seconds}
 use Rattle.jiff_tz.specs.PosixRule.{next_at, transition_view}
 use Rattle.jiff_tz.specs.declared.info.OffsetInfo.{OffsetInfo}
-use Rattle.cal_zone.specs.LocalOffsetRange.{IsClearOfTransition}
+use Rattle.cal_zone.specs.computed.LocalOffsetRange.{IsClearOfTransition}
 use Rattle.cal_zone.proofs.LocalOffsetRangeLemmas.{same_offsets_standard}
 use Rattle.cal_zone.proofs.SameOffsetLemmas.{same_offsets_by_next}
 use Rattle.cal_zone.proofs.local_offset_range.range_end_by_rule.Goals as goal

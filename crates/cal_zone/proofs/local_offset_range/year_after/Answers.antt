@@ -1,7 +1,7 @@
 use Rattle.std.proofs.Common.{◌≡◌, ◌∙◌, ap, arith, to_z-of_z}
 use Rattle.jiff.proofs.SpanFacts.{signed_arith}
 use Rattle.jiff.specs.Words.{epoch_day}
-use Rattle.cal_zone.specs.headline.Place.{datetime_of}
+use Rattle.cal_zone.specs.rules.Place.{datetime_of}
 use Rattle.cal_zone.proofs.RuleLemmas.{year_end-december}
 use Rattle.cal_zone.proofs.local_offset_range.year_after.Goals as goal
 

@@ -1,6 +1,6 @@
 use Rattle.std.proofs.Common.{◌∙◌, map}
-use Rattle.cal_command.specs.Ask.{shown_answer}
-use Rattle.cal_command.specs.VerbMatches.{shown_matches}
+use Rattle.cal_command.specs.rules.Ask.{shown_answer}
+use Rattle.cal_command.specs.rules.VerbMatches.{shown_matches}
 use Rattle.cal_command.proofs.CommandLineLemmas.{read_answer}
 use Rattle.cal_command.proofs.ask.Ask.of_arguments.Goals as goal
 

@@ -1,6 +1,6 @@
 use Rattle.std.proofs.Common.{◌∙◌, rules, Option, arith, ◌≡◌, None, Some}
 use Rattle.clap.specs.Words.{subcommand_rows_of}
-use Rattle.cal_command.specs.VerbMatches.{verb_matches_in}
+use Rattle.cal_command.specs.rules.VerbMatches.{verb_matches_in}
 use Rattle.cal_command.proofs.verb_matches.VerbMatches.of.Goals as goal
 use Rattle.std.specs.Prelude.{option_map}
 

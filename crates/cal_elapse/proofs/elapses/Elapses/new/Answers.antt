@@ -1,4 +1,4 @@
-use Rattle.cal_elapse.specs.RemainingElapses.{remaining_elapses}
+use Rattle.cal_elapse.specs.computed.RemainingElapses.{remaining_elapses}
 use Rattle.cal_elapse.proofs.elapses.Elapses.new.Goals as goal
 
 pub returns-clause-rest : goal.returns-clause-rest

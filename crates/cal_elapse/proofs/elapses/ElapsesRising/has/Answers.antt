@@ -2,9 +2,9 @@ use Rattle.std.proofs.Common.{◌≡◌, ◌↔◌, ◌∙◌, ◌<ℤ◌, ℤ, 
 use Rattle.std.proofs.lemmas.Bool.{false≢true}
 use Rattle.cal_civil.proofs.LocalLemmas.{local_arith}
 use Rattle.std.specs.Set.{is_member}
-use Rattle.cal_elapse.specs.headline.Elapses.{IsPlace}
-use Rattle.cal_elapse.specs.RemainingElapses.{remaining_elapses}
-use Rattle.cal_elapse.specs.Window.{timed_of}
+use Rattle.cal_elapse.specs.rules.Elapses.{IsPlace}
+use Rattle.cal_elapse.specs.computed.RemainingElapses.{remaining_elapses}
+use Rattle.cal_elapse.specs.computed.Window.{timed_of}
 use Rattle.cal_elapse.specs.declared.window.Window.{Window}
 use Rattle.cal_elapse.proofs.ElapseSetLemmas.{in_rest, not_above, not_instant}
 use Rattle.cal_elapse.proofs.elapses.ElapsesRising.has.Goals as goal

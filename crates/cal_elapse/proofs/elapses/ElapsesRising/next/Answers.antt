@@ -1,5 +1,5 @@
 use Rattle.std.proofs.Common.{◌∙◌, ap, drop, slice_get, List, ℤ}
-use Rattle.cal_elapse.specs.RemainingElapses.{remaining_elapses}
+use Rattle.cal_elapse.specs.computed.RemainingElapses.{remaining_elapses}
 use Rattle.cal_elapse.proofs.ReadyLemmas.{remaining_elapses-same}
 use Rattle.cal_elapse.proofs.elapses.ElapsesRising.next.Goals as goal
 

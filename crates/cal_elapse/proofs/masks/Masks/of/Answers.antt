@@ -1,8 +1,8 @@
 use Rattle.std.proofs.Common.{◌≡◌, ◌&&◌, ◌+◌, ℕ, Bool, List, false, nat_le, get_or, length, ap, ◌∙◌, arith}
-use Rattle.cal_elapse.specs.Bits.{is_bit}
-use Rattle.cal_elapse.specs.Masks.{day_place, sets_in}
-use Rattle.cal_spec.specs.headline.Members.{component_has, sets_of}
-use Rattle.cal_spec.specs.headline.Slot.{day_slot}
+use Rattle.cal_elapse.specs.computed.Bits.{is_bit}
+use Rattle.cal_elapse.specs.computed.Masks.{day_place, sets_in}
+use Rattle.cal_spec.specs.rules.Members.{component_has, sets_of}
+use Rattle.cal_spec.specs.rules.Slot.{day_slot}
 use Rattle.cal_spec.specs.declared.slot.Slot.TheVariants.{Year, Month, Hour, Minute, Second}
 use Rattle.cal_elapse.proofs.MasksLemmas.{component_both, component_some, day_both, days_are, filled_end, filled_some, members_are, numbers_are, weekdays_are, weeks_repeat, years_end, years_filled}
 use Rattle.cal_elapse.proofs.masks.Masks.of.Goals as goal

@@ -1,5 +1,5 @@
 use Rattle.std.proofs.Common.{refl}
-use Rattle.cal_elapse.specs.Ring.{no_second}
+use Rattle.cal_elapse.specs.computed.Ring.{no_second}
 use Rattle.cal_elapse.proofs.RingLemmas.{empty_from, nothing_seen}
 use Rattle.cal_elapse.proofs.pending.Pending.new.Goals as goal
 

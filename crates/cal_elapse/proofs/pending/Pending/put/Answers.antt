@@ -1,6 +1,6 @@
 use Rattle.std.proofs.Common.{◌≡◌, ◌∙◌, List, ap, pos, w64, ℕ}
 use Rattle.std.proofs.lemmas.Int.{to_z-of_z}
-use Rattle.cal_elapse.specs.Bits.{is_bit_in}
+use Rattle.cal_elapse.specs.computed.Bits.{is_bit_in}
 use Rattle.cal_elapse.proofs.RingLemmas.{HasMore, near_there, put_answer, put_from, second_inside}
 use Rattle.cal_elapse.proofs.pending.Pending.put.Goals as goal
 

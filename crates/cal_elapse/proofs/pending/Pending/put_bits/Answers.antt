@@ -1,8 +1,8 @@
 use Rattle.std.proofs.Common.{◌∙◌, ◌||◌, ◌%◌, List, ap, arith, w64, ℕ}
 use Rattle.std.proofs.lemmas.Int.{to_z-of_z}
 use Rattle.jiff.proofs.SpanFacts.{signed_arith}
-use Rattle.cal_elapse.specs.Bits.{is_bit, is_bit_in}
-use Rattle.cal_elapse.specs.Ring.{cells_behind}
+use Rattle.cal_elapse.specs.computed.Bits.{is_bit, is_bit_in}
+use Rattle.cal_elapse.specs.computed.Ring.{cells_behind}
 use Rattle.cal_elapse.proofs.FillLemmas.{AreFilled, begun_least, filled_answer, filled_from, round_of_all}
 use Rattle.cal_elapse.proofs.RingLemmas.{rises-instants}
 use Rattle.cal_elapse.proofs.pending.Pending.put_bits.Goals as goal

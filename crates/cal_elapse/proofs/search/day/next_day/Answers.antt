@@ -1,7 +1,7 @@
 use Rattle.std.proofs.Common.{◌≡◌, ◌+◌, ℕ, suc, ap, ◌∙◌, subst, arith}
-use Rattle.cal_elapse.specs.Masks.{sets_in}
-use Rattle.cal_elapse.specs.Months.{day_in, first_day, first_day-suc}
-use Rattle.cal_elapse.specs.Search.{IsFirstPassing}
+use Rattle.cal_elapse.specs.computed.Masks.{sets_in}
+use Rattle.cal_elapse.specs.rules.Months.{day_in, first_day, first_day-suc}
+use Rattle.cal_elapse.specs.rules.Search.{IsFirstPassing}
 use Rattle.cal_elapse.proofs.CarryLemmas.{first_then, first_within}
 use Rattle.cal_elapse.proofs.MonthLemmas.{first_day-end, first_day-rises}
 use Rattle.cal_elapse.proofs.search.day.next_day.Goals as goal

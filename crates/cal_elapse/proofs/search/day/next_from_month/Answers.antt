@@ -1,9 +1,9 @@
 use Rattle.std.proofs.Common.{◌≡◌, ◌+◌, ◌-◌, ℕ, suc, Some, ap, sym, ◌∙◌, subst, refl, inl, inr, arith}
 use Rattle.std.proofs.lemmas.Bool.{cases_lt}
-use Rattle.cal_elapse.specs.Search.{count_from, IsFirstPassing, NonePasses}
-use Rattle.cal_elapse.specs.Masks.{sets_in}
-use Rattle.cal_elapse.specs.Months.{day_in, first_day, first_day-suc, length_of, month_in}
-use Rattle.cal_elapse.specs.Bits.{is_bit}
+use Rattle.cal_elapse.specs.rules.Search.{count_from, IsFirstPassing, NonePasses}
+use Rattle.cal_elapse.specs.computed.Masks.{sets_in}
+use Rattle.cal_elapse.specs.rules.Months.{day_in, first_day, first_day-suc, length_of, month_in}
+use Rattle.cal_elapse.specs.computed.Bits.{is_bit}
 use Rattle.cal_elapse.proofs.CarryLemmas.{first_then, first_within}
 use Rattle.cal_elapse.proofs.CountLemmas.{count_from-on}
 use Rattle.cal_elapse.proofs.ExaminedMonthLemmas.{count_step, first_in_month, examined_some, none_in_month}

@@ -1,7 +1,7 @@
 use Rattle.std.proofs.Common.{◌≡◌, ◌+◌, ◌-◌, ◌≤◌}
-use Rattle.cal_elapse.specs.Search.{count_from, NonePasses}
-use Rattle.cal_elapse.specs.Masks.{sets_in}
-use Rattle.cal_elapse.specs.Months.{day_in, first_day, month_in}
+use Rattle.cal_elapse.specs.rules.Search.{count_from, NonePasses}
+use Rattle.cal_elapse.specs.computed.Masks.{sets_in}
+use Rattle.cal_elapse.specs.rules.Months.{day_in, first_day, month_in}
 use Rattle.cal_elapse.proofs.search.day.next_from_month.Given as goal
 
 abbrev pub invariant-loop-next : goal.invariant-loop-next

@@ -1,6 +1,6 @@
 use Rattle.std.proofs.Common.{◌≡◌, false, arith}
-use Rattle.cal_elapse.specs.Masks.{sets_in}
-use Rattle.cal_elapse.specs.Months.{month_in}
+use Rattle.cal_elapse.specs.computed.Masks.{sets_in}
+use Rattle.cal_elapse.specs.rules.Months.{month_in}
 use Rattle.cal_elapse.proofs.ExaminedMonthLemmas.{first_in_month, none_in_month, none_of_month}
 use Rattle.cal_elapse.proofs.MonthLemmas.{length_bounds}
 use Rattle.cal_elapse.proofs.search.day.next_in_month.Goals as goal

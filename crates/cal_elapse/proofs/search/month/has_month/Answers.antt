@@ -1,5 +1,5 @@
 use Rattle.std.proofs.Common.{◌≡◌, ◌/◌, true, false}
-use Rattle.cal_elapse.specs.Bits.{is_bit_in}
+use Rattle.cal_elapse.specs.computed.Bits.{is_bit_in}
 use Rattle.cal_elapse.proofs.YearWordLemmas.{month_is}
 use Rattle.cal_elapse.proofs.search.month.has_month.Goals as goal
 

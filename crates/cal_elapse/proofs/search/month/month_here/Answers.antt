@@ -1,5 +1,5 @@
 use Rattle.std.proofs.Common.{◌/◌, ◌%◌, arith}
-use Rattle.cal_elapse.specs.Bits.{is_bit}
+use Rattle.cal_elapse.specs.computed.Bits.{is_bit}
 use Rattle.cal_elapse.proofs.CarryLemmas.{first_here, none_by_high, none_by_low}
 use Rattle.cal_elapse.proofs.YearWordLemmas.{months_split}
 use Rattle.cal_elapse.proofs.search.month.month_here.Goals as goal

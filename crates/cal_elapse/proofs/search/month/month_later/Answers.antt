@@ -1,5 +1,5 @@
 use Rattle.std.proofs.Common.{◌*◌, arith}
-use Rattle.cal_elapse.specs.Bits.{is_bit, is_bit_in}
+use Rattle.cal_elapse.specs.computed.Bits.{is_bit, is_bit_in}
 use Rattle.cal_elapse.proofs.CarryLemmas.{first_later, none_later}
 use Rattle.cal_elapse.proofs.YearWordLemmas.{months_split, no_months}
 use Rattle.cal_elapse.proofs.search.month.month_later.Goals as goal

@@ -1,6 +1,6 @@
 use Rattle.std.proofs.Common.{◌+◌, ◌*◌, Some, inl, inr, arith}
 use Rattle.std.proofs.lemmas.Bool.{cases_lt}
-use Rattle.cal_elapse.specs.Bits.{is_bit_in}
+use Rattle.cal_elapse.specs.computed.Bits.{is_bit_in}
 use Rattle.cal_elapse.proofs.CarryLemmas.{first_then, first_within}
 use Rattle.cal_elapse.proofs.YearWordLemmas.{first_in_word, none_in_word}
 use Rattle.cal_elapse.proofs.search.month.year_later.Goals as goal

@@ -1,6 +1,6 @@
 use Rattle.std.proofs.Common.{◌*◌}
-use Rattle.cal_elapse.specs.Bits.{is_bit_in}
-use Rattle.cal_elapse.specs.Search.{NonePasses}
+use Rattle.cal_elapse.specs.computed.Bits.{is_bit_in}
+use Rattle.cal_elapse.specs.rules.Search.{NonePasses}
 use Rattle.cal_elapse.proofs.search.month.year_later.Given as goal
 
 abbrev pub invariant-loop-word : goal.invariant-loop-word

@@ -1,5 +1,5 @@
 use Rattle.std.proofs.Common.{◌+◌, ◌*◌}
-use Rattle.cal_elapse.specs.Bits.{is_bit}
+use Rattle.cal_elapse.specs.computed.Bits.{is_bit}
 use Rattle.cal_elapse.proofs.CarryLemmas.{first_later}
 use Rattle.cal_elapse.proofs.TimeLemmas.{minutes_split, seconds_split}
 use Rattle.cal_elapse.proofs.search.time.first_second.Goals as goal

@@ -2,18 +2,18 @@ use Rattle.std.proofs.Common.{◌≡◌, ◌≤◌, ◌/◌, ◌∙◌, FitsSign
 use Rattle.std.proofs.lemmas.Int.{ints, to_z-of_z}
 use Rattle.cal_civil.proofs.LocalLemmas.{local_arith}
 use Rattle.jiff.specs.Types.{TimeZone}
-use Rattle.cal_civil.specs.LocalSecond.{IsLocalSecond}
+use Rattle.cal_civil.specs.rules.LocalSecond.{IsLocalSecond}
 use Rattle.cal_civil.proofs.LocalLemmas.{local_inside}
-use Rattle.cal_rising.specs.headline.Elements.{Has}
-use Rattle.cal_spec.specs.headline.Match.{matches}
+use Rattle.cal_rising.specs.rules.Elements.{Has}
+use Rattle.cal_spec.specs.rules.Match.{matches}
 use Rattle.cal_zone.proofs.PlaceLemmas.{within}
-use Rattle.cal_zone.specs.Instant.{IsInstant}
-use Rattle.cal_zone.specs.headline.Place.{place_of}
-use Rattle.cal_zone.specs.headline.Zone.{zone_of}
-use Rattle.cal_elapse.specs.Masks.{sets_in}
-use Rattle.cal_elapse.specs.Ring.{IsNear}
-use Rattle.cal_elapse.specs.RemainingMatches.{IsNextInHour}
-use Rattle.cal_elapse.specs.Window.{IsPlacedTo, IsReady, with_place}
+use Rattle.cal_zone.specs.rules.Instant.{IsInstant}
+use Rattle.cal_zone.specs.rules.Place.{place_of}
+use Rattle.cal_zone.specs.rules.Zone.{zone_of}
+use Rattle.cal_elapse.specs.computed.Masks.{sets_in}
+use Rattle.cal_elapse.specs.computed.Ring.{IsNear}
+use Rattle.cal_elapse.specs.computed.RemainingMatches.{IsNextInHour}
+use Rattle.cal_elapse.specs.computed.Window.{IsPlacedTo, IsReady, with_place}
 use Rattle.cal_elapse.specs.declared.search.searcher.Searcher.{Searcher}
 use Rattle.cal_elapse.specs.declared.window.Window.{Window}
 use Rattle.cal_elapse.proofs.MinuteLemmas.{hour_found}

@@ -1,6 +1,6 @@
 use Rattle.std.proofs.Common.{◌≡◌, ◌-◌, ◌/◌, ◌≤◌, unsigned_abs}
-use Rattle.cal_civil.specs.headline.Local.{seconds_in_all}
-use Rattle.cal_elapse.specs.Window.{IsPlacedTo}
+use Rattle.cal_civil.specs.rules.LocalSecond.{seconds_in_all}
+use Rattle.cal_elapse.specs.computed.Window.{IsPlacedTo}
 use Rattle.cal_elapse.proofs.window.Window.convert_hour.Given as goal
 
 abbrev pub invariant-loop-self : goal.invariant-loop-self

@@ -1,7 +1,7 @@
 use Rattle.std.proofs.Common.{◌-◌, ◌<◌, ◌≤◌, ◌≤ℤ◌, pos, ℕ, ℤ, ◌+◌, unsigned_abs, ◌∙◌, arith, ap, rules, w64}
 use Rattle.std.proofs.lemmas.Int.{ints, to_z-of_z}
-use Rattle.cal_civil.specs.headline.Local.{seconds_in_all}
-use Rattle.cal_elapse.specs.Window.{timed_by}
+use Rattle.cal_civil.specs.rules.LocalSecond.{seconds_in_all}
+use Rattle.cal_elapse.specs.computed.Window.{timed_by}
 use Rattle.cal_civil.proofs.LocalLemmas.{local_inside}
 use Rattle.cal_elapse.proofs.ReadyLemmas.{is_next, next_ready, placed_before, placed_to}
 use Rattle.cal_elapse.proofs.WindowLemmas.{near_ahead}

@@ -1,6 +1,6 @@
 use Rattle.std.proofs.Common.{◌≡◌, ◌-◌}
-use Rattle.cal_civil.specs.headline.Local.{seconds_in_all}
-use Rattle.cal_elapse.specs.Window.{IsReady, bound_of, timed_of}
+use Rattle.cal_civil.specs.rules.LocalSecond.{seconds_in_all}
+use Rattle.cal_elapse.specs.computed.Window.{IsReady, bound_of, timed_of}
 use Rattle.cal_elapse.proofs.window.Window.fill.Given as goal
 
 abbrev pub invariant-loop-ahead : goal.invariant-loop-ahead

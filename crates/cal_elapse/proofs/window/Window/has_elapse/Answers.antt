@@ -1,7 +1,7 @@
 use Rattle.std.proofs.Common.{None, rules, w64}
 use Rattle.std.proofs.lemmas.Int.{to_z-of_z}
-use Rattle.cal_zone.specs.PlaceAt.{IsLocalAt}
-use Rattle.cal_zone.specs.headline.Zone.{zone_of}
+use Rattle.cal_zone.specs.computed.PlaceAt.{IsLocalAt}
+use Rattle.cal_zone.specs.rules.Zone.{zone_of}
 use Rattle.cal_elapse.proofs.ElapseSetLemmas.{has-local, has-none}
 use Rattle.cal_elapse.proofs.window.Window.has_elapse.Goals as goal
 

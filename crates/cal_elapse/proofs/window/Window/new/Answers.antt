@@ -2,10 +2,10 @@ use Rattle.std.proofs.Common.{◌≡◌, ◌∙◌, ap, of_z, subst, to_z, unsig
 use Rattle.cal_civil.proofs.LocalLemmas.{local_arith}
 use Rattle.std.proofs.Common.{arith}
 use Rattle.cal_text.proofs.General.{max_from_zero}
-use Rattle.cal_zone.specs.Instant.{IsInstant}
-use Rattle.cal_elapse.specs.ExaminedMonths.{IsSearch}
-use Rattle.cal_elapse.specs.Masks.{sets_in}
-use Rattle.cal_elapse.specs.Window.{start_of, timed_by}
+use Rattle.cal_zone.specs.rules.Instant.{IsInstant}
+use Rattle.cal_elapse.specs.rules.ExaminedMonths.{IsSearch}
+use Rattle.cal_elapse.specs.computed.Masks.{sets_in}
+use Rattle.cal_elapse.specs.computed.Window.{start_of, timed_by}
 use Rattle.cal_elapse.proofs.MostMonthsLemmas.{search_examined}
 use Rattle.cal_elapse.proofs.ReadyLemmas.{begun_ready, timed_by-timed}
 use Rattle.cal_elapse.proofs.window.Window.new.Goals as goal

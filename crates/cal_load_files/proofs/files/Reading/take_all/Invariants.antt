@@ -1,6 +1,6 @@
 use Rattle.std.proofs.Common.{All}
-use Rattle.cal_units.specs.Machine.{Machine}
-use Rattle.cal_units.specs.Files.{IsStoredOn}
+use Rattle.cal_units.specs.rules.Machine.{Machine}
+use Rattle.cal_units.specs.rules.Files.{IsStoredOn}
 use Rattle.cal_load_files.proofs.files.Reading.take_all.Given as goal
 
 abbrev pub invariant-loop-name : goal.invariant-loop-name

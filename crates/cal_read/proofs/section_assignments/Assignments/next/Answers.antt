@@ -1,5 +1,5 @@
 use Rattle.std.proofs.Common.{◌∙◌, ap}
-use Rattle.cal_read.specs.SectionAssignments.{section_assignments}
+use Rattle.cal_read.specs.rules.SectionAssignments.{section_assignments}
 use Rattle.cal_read.proofs.SectionAssignmentsLemmas.{no_assignments}
 use Rattle.cal_read.proofs.section_assignments.Assignments.next.Goals as goal
 

@@ -1,9 +1,9 @@
 use Rattle.std.proofs.Common.{codes, unsigned_abs}
 use Rattle.cal_bytes.proofs.ShortText.{pushed_first, pushed_more}
-use Rattle.cal_zone.specs.headline.InstantText.{instant_text}
-use Rattle.cal_zone.specs.headline.Moment.{micros_of}
-use Rattle.cal_report.specs.headline.ReportLines.{distance_text, utc_line}
-use Rattle.cal_report.specs.TextReport.TimestampReport.{moment_lines, second_at, unix_text}
+use Rattle.cal_zone.specs.rules.InstantText.{instant_text}
+use Rattle.cal_zone.specs.rules.Instant.{micros_of}
+use Rattle.cal_report.specs.rules.ReportLines.{distance_text, utc_line}
+use Rattle.cal_report.specs.rules.TextReport.TimestampReport.{moment_lines, second_at, unix_text}
 use Rattle.cal_report.proofs.text_report.timestamp_report.push_moment.Goals as goal
 
 pub returns : goal.returns

@@ -1,7 +1,7 @@
 use Rattle.std.proofs.Common.{rules, ◌∙◌, List, ℤ, ap, false, sym, true, w64, slice_get, drop}
 use Rattle.std.proofs.lemmas.Int.{to_z-of_z}
-use Rattle.cal_rising.specs.Rises.{rises-union}
-use Rattle.cal_rising.specs.RisingList.{union, without}
+use Rattle.cal_rising.specs.computed.Rises.{rises-union}
+use Rattle.cal_rising.specs.rules.RisingList.{union, without}
 use Rattle.cal_rising.proofs.WithoutLemmas.{without-first}
 use Rattle.cal_rising.proofs.merge.MergeRising.next.Goals as goal
 use Rattle.cal_text.proofs.General.{list-no_first}

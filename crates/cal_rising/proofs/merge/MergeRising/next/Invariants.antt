@@ -1,6 +1,6 @@
 use Rattle.std.proofs.Common.{◌≡◌, true, length}
-use Rattle.cal_rising.specs.Merge.{merged}
-use Rattle.cal_rising.specs.RisingList.{union, without}
+use Rattle.cal_rising.specs.rules.Merge.{merged}
+use Rattle.cal_rising.specs.rules.RisingList.{union, without}
 use Rattle.cal_rising.proofs.merge.MergeRising.next.Given as goal
 
 -- the merge is marked as started, and the numbers that the merge has yet to return are the same as before the loop

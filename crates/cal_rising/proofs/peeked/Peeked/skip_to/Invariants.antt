@@ -1,6 +1,6 @@
 use Rattle.std.proofs.Common.{length}
-use Rattle.cal_rising.specs.Merge.{HasHead, numbers}
-use Rattle.cal_rising.specs.RisingList.{IsSameFrom}
+use Rattle.cal_rising.specs.rules.Merge.{HasHead, numbers}
+use Rattle.cal_rising.specs.rules.RisingList.{IsSameFrom}
 use Rattle.cal_rising.proofs.peeked.Peeked.skip_to.Given as goal
 
 -- from `number` upwards the source has the same numbers as at the start, and its first number, if any, was read ahead

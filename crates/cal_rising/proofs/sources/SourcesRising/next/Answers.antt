@@ -1,6 +1,6 @@
 use Rattle.std.proofs.Common.{rules, ◌∙◌, List, ℤ, w64, sym, ap, drop}
 use Rattle.std.proofs.lemmas.Int.{to_z-of_z}
-use Rattle.cal_rising.specs.RisingList.{union}
+use Rattle.cal_rising.specs.rules.RisingList.{union}
 use Rattle.cal_rising.proofs.MergeLemmas.{union-advanced}
 use Rattle.cal_rising.proofs.sources.SourcesRising.next.Goals as goal
 

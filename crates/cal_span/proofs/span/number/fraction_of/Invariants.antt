@@ -1,5 +1,5 @@
 use Rattle.std.proofs.Common.{◌≡◌, ◌≤◌, ◌+◌, ◌^◌, min, drop}
-use Rattle.cal_span.specs.SpanValue.{fraction_worth}
+use Rattle.cal_span.specs.rules.PairValue.{fraction_worth}
 use Rattle.cal_text.proofs.DigitLemmas.{top}
 use Rattle.cal_span.proofs.span.number.fraction_of.Given as goal
 

@@ -1,5 +1,5 @@
 use Rattle.cal_span.proofs.SpanPairRule.{are_pairs, only_pairs}
-use Rattle.cal_span.proofs.SpanRuleLemmas.{spelled_once, judges_span, one_judgement}
+use Rattle.cal_span.proofs.SpanRuleLemmas.{spelled_once, judges_span, one_judgement, span_is_value}
 use Rattle.cal_span.proofs.SpanRuns.{runs_cut, runs_longest, runs_only}
 use Rattle.cal_span.proofs.span.rule.one_value.Goals as goal
 
@@ -26,3 +26,6 @@ returns-clause-found c = judges_span
 
 pub returns-clause-only : goal.returns-clause-only
 returns-clause-only c = one_judgement
+
+pub returns-clause-value : goal.returns-clause-value
+returns-clause-value c = span_is_value

@@ -1,7 +1,7 @@
 use Rattle.std.proofs.Common.{◌∙◌, ◌++◌, ap, sym, arith, List, ℕ, ◌≡◌}
 use Rattle.std.proofs.lemmas.List.{append-nil, drop_all, append_assoc}
 use Rattle.cal_span.proofs.SpanCounts.{led, led_taken, led_skipped, counts_in_row-led}
-use Rattle.cal_span.specs.headline.SpanText.{positive, counts_of}
+use Rattle.cal_span.specs.rules.SpanText.{positive, counts_of}
 use Rattle.cal_span.proofs.span.text.push_counts.Goals as goal
 use Rattle.cal_span.proofs.span.text.push_counts.Goals.{then-rest-size, else-rest-size}
 

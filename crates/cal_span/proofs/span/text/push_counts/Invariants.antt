@@ -1,7 +1,7 @@
 -- Appending the counts of the remaining units to the text so far gives the same as appending the counts of all units to
 -- the initial text. Each unit so far has added at most 26 bytes.
 use Rattle.std.proofs.Common.{◌≡◌, ◌+◌, ◌*◌, ◌≤◌, ◌++◌, length, drop}
-use Rattle.cal_span.specs.headline.SpanText.{counts_in_row, positive, counts_of}
+use Rattle.cal_span.specs.rules.SpanText.{counts_in_row, positive, counts_of}
 use Rattle.cal_span.proofs.SpanCounts.{led}
 use Rattle.cal_span.proofs.span.text.push_counts.Given as goal
 

@@ -1,5 +1,5 @@
 use Rattle.std.proofs.Common.{◌≡◌, length}
-use Rattle.cal_span.specs.SpanValue.{pairs_in, judged, span_of}
+use Rattle.cal_span.specs.computed.SpanValue.{pairs_in, judged, span_of}
 use Rattle.cal_span.proofs.span.value.read_span.Given as goal
 
 -- adding the remaining pairs to the sum so far gives the value, or the error, of the whole text

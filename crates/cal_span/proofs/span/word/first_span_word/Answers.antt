@@ -1,6 +1,6 @@
 use Rattle.std.proofs.Common.{◌≡◌, length, take, drop, ◌-◌, arith, ap, ◌∙◌}
 use Rattle.std.proofs.lemmas.List.{take_rest, length-drop}
-use Rattle.cal_span.specs.SpanValue.{characters}
+use Rattle.cal_span.specs.rules.PairValue.{characters}
 use Rattle.cal_span.proofs.SpanWords.{first_word_is, word_length, no_word_is}
 use Rattle.cal_span.proofs.span.word.first_span_word.Goals as goal
 

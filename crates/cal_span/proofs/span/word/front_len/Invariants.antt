@@ -1,5 +1,6 @@
 use Rattle.std.proofs.Common.{◌≡◌, ◌≤◌, ◌-◌, ◌++◌, length, take, drop}
-use Rattle.cal_span.specs.SpanValue.{characters, front_of, after_front}
+use Rattle.cal_span.specs.rules.PairValue.{characters}
+use Rattle.cal_span.specs.computed.SpanValue.{front_of, after_front}
 use Rattle.cal_span.proofs.span.word.front_len.Given as goal
 
 -- the longest prefix that has only characters of the kind `kind` consists of the bytes so far and the longest such

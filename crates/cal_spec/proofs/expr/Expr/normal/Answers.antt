@@ -1,9 +1,9 @@
 use Rattle.std.proofs.Common.{◌≡◌, refl, sym, subst}
-use Rattle.cal_spec.specs.Expr.{IsExpr}
+use Rattle.cal_spec.specs.computed.Expr.{IsExpr}
 use Rattle.cal_spec.specs.declared.fields.Fields as declared_fields
-use Rattle.cal_spec.specs.Views.{fields_of}
-use Rattle.cal_spec.specs.NormalParts.{normal_fields}
-use Rattle.cal_spec.specs.headline.Slot.{day_slot}
+use Rattle.cal_spec.specs.computed.Views.{fields_of}
+use Rattle.cal_spec.specs.computed.NormalParts.{normal_fields}
+use Rattle.cal_spec.specs.rules.Slot.{day_slot}
 use Rattle.cal_spec.specs.declared.slot.Slot.TheVariants.{Year, Month, Hour, Minute, Second}
 use Rattle.cal_spec.proofs.NormalLemmas.{parts_from_sound}
 use Rattle.cal_spec.proofs.NormalFieldsLemmas.{fields_valid, fields_twice}

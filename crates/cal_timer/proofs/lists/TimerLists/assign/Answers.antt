@@ -1,7 +1,7 @@
 use Rattle.std.proofs.Common.{Err, Ok, map}
 use Rattle.std.proofs.lemmas.Result.{MatchResult-weaker, err_from_is_err_and}
-use Rattle.cal_spec.specs.Expr.{expr_in}
-use Rattle.cal_timer.specs.TimerView.{shown_assignment, shown}
+use Rattle.cal_spec.specs.computed.Expr.{expr_in}
+use Rattle.cal_timer.specs.rules.TimerView.{shown_assignment, shown}
 use Rattle.cal_timer.proofs.ResumedLemmas.{resumed_changed, resumed_fault}
 use Rattle.cal_timer.proofs.lists.TimerLists.assign.Goals as goal
 

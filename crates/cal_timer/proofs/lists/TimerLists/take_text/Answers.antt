@@ -1,9 +1,9 @@
 use Rattle.std.proofs.Common.{◌∙◌, ap}
 use Rattle.std.proofs.lemmas.Result.{err_from_is_err_and}
-use Rattle.cal_spec.specs.Expr.{expr_in}
-use Rattle.cal_timer.specs.headline.Assignments.{assignments_in}
-use Rattle.cal_lines.specs.headline.Lines.{logical_lines}
-use Rattle.cal_timer.specs.TimerView.{resumed}
+use Rattle.cal_spec.specs.computed.Expr.{expr_in}
+use Rattle.cal_timer.specs.rules.Assignments.{assignments_in}
+use Rattle.cal_lines.specs.rules.Lines.{logical_lines}
+use Rattle.cal_timer.specs.rules.TimerView.{resumed}
 use Rattle.cal_timer.proofs.ResumedLemmas.{no_lines}
 use Rattle.cal_timer.proofs.lists.TimerLists.take_text.Goals as goal
 

@@ -3,10 +3,10 @@
 use Rattle.std.proofs.Common.{◌≡◌, ◌+◌, ◌≤◌, length, false}
 use denote.Shadow.{shadow}
 use denote.Text.{Utf8}
-use Rattle.cal_spec.specs.Expr.{expr_in}
-use Rattle.cal_timer.specs.headline.Assignments.{assignments_in}
-use Rattle.cal_lines.specs.headline.Lines.{logical_lines}
-use Rattle.cal_timer.specs.TimerView.{resumed}
+use Rattle.cal_spec.specs.computed.Expr.{expr_in}
+use Rattle.cal_timer.specs.rules.Assignments.{assignments_in}
+use Rattle.cal_lines.specs.rules.Lines.{logical_lines}
+use Rattle.cal_timer.specs.rules.TimerView.{resumed}
 use Rattle.cal_timer.proofs.lists.TimerLists.take_text.Given as goal
 
 abbrev pub invariant-loop-line : goal.invariant-loop-line

@@ -1,10 +1,10 @@
 use Rattle.std.proofs.Common.{◌≡◌, ◌∙◌, ◌++◌, ◌+ℤ◌, ◌-ℤ◌, ◌≤ℤ◌, ◌<ℤ◌, ℤ, unsigned_abs, length, codes, pos, of_z, to_z, sym, ap, arith, w64}
 use Rattle.cal_civil.proofs.LocalLemmas.{local_arith}
 use Rattle.jiff.specs.Words.{nanos_of_seconds, offset_at}
-use Rattle.cal_zone.specs.CivilAt.{at_second}
-use Rattle.cal_zone.specs.FormattedDay.{day_text}
-use Rattle.cal_zone.specs.headline.InstantText.{zone_word}
-use Rattle.cal_zone.specs.headline.Zone.{is_utc, zone_of}
+use Rattle.cal_zone.specs.rules.CivilAt.{at_second}
+use Rattle.cal_zone.specs.computed.FormattedDay.{day_text}
+use Rattle.cal_zone.specs.rules.InstantText.{zone_word}
+use Rattle.cal_zone.specs.rules.Zone.{is_utc, zone_of}
 use Rattle.cal_zone.proofs.FormattedDayLemmas.{day_goes_on, seconds_shown, text_on_day}
 use Rattle.cal_zone.proofs.formatted_day.FormattedDay.of.Goals as goal
 use Rattle.cal_text.proofs.General.{min_from}

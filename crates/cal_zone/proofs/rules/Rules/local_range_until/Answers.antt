@@ -1,6 +1,6 @@
 use Rattle.std.proofs.Common.{◌≡◌, ◌∙◌, ap, Some, arith}
 use Rattle.cal_civil.proofs.LocalLemmas.{local_arith}
-use Rattle.cal_zone.specs.headline.Place.{place_of}
+use Rattle.cal_zone.specs.rules.Place.{place_of}
 use Rattle.cal_zone.proofs.PlaceLemmas.{within}
 use Rattle.cal_zone.proofs.LocalOffsetRangeLemmas.{place_of-same_offsets}
 use Rattle.cal_zone.proofs.rules.Rules.local_range_until.Goals as goal

@@ -1,7 +1,7 @@
 -- The zone of a zone file depends only on its table, and not on where in memory the table is.
 use Rattle.std.proofs.Common.{sym, ap, ◌∙◌}
 use Rattle.jiff.specs.Words.{offset_at, ambiguous_at, next_at}
-use Rattle.cal_zone.specs.Rules.{zone_of_rules}
+use Rattle.cal_zone.specs.rules.Rules.{zone_of_rules}
 use Rattle.cal_zone.proofs.rules.Rules.time_zone.Goals as goal
 
 pub returns-in-File : goal.returns-in-File

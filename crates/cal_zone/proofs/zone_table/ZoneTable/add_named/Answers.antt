@@ -1,7 +1,7 @@
 use Rattle.std.proofs.Common.{◌∙◌, sym, ap, is_some, Option, arith, ◌≡◌}
 use Rattle.std.specs.FinMap.{insert}
-use Rattle.cal_zone.specs.headline.Zone.{zone_of}
-use Rattle.cal_zone.specs.AddedZones.{zone_map_in, is_taken}
+use Rattle.cal_zone.specs.rules.Zone.{zone_of}
+use Rattle.cal_zone.specs.rules.AddedZones.{zone_map_in, is_taken}
 use Rattle.cal_zone.proofs.ZoneMapLemmas.{zone_map_in-insert}
 use Rattle.cal_zone.proofs.zone_table.ZoneTable.add_named.Goals as goal
 use Rattle.std.specs.Prelude.{option_map}

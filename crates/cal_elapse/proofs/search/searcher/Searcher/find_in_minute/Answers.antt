@@ -1,10 +1,10 @@
 use Rattle.std.proofs.Common.{◌≡◌, ◌+◌, ◌<◌, ◌+ℤ◌, ◌≤ℤ◌, ℕ, ℤ, arith, of_z, pos, refl, rules, subst, sym, to_z, unsigned_abs, w64}
 use Rattle.std.proofs.lemmas.Int.{to_z-of_z}
 use Rattle.jiff.proofs.SpanFacts.{signed_arith}
-use Rattle.cal_civil.specs.headline.Local.{seconds_in_all, seconds_in_all-is}
+use Rattle.cal_civil.specs.rules.LocalSecond.{seconds_in_all, seconds_in_all-is}
 use Rattle.cal_text.proofs.General.{pos_unsigned_abs, sum_whole}
-use Rattle.cal_elapse.specs.RemainingMatches.{AreRemaining, minute_matches}
-use Rattle.cal_elapse.specs.Masks.{sets_in}
+use Rattle.cal_elapse.specs.computed.RemainingMatches.{AreRemaining, minute_matches}
+use Rattle.cal_elapse.specs.computed.Masks.{sets_in}
 use Rattle.cal_elapse.proofs.MinuteLemmas.{left_behind, left_inside, search_minute}
 use Rattle.cal_elapse.proofs.search.searcher.Searcher.find_in_minute.Goals as goal
 

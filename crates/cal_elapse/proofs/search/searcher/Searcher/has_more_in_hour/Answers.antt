@@ -1,9 +1,9 @@
 use Rattle.std.proofs.Common.{◌≡◌, ap, arith, subst, true, unsigned_abs, ℕ}
 use Rattle.std.proofs.lemmas.Bool.Decides.{nat_tests}
 use Rattle.jiff.proofs.SpanFacts.{signed_arith}
-use Rattle.cal_spec.specs.headline.Match.{matches}
-use Rattle.cal_elapse.specs.RemainingMatches.{HasMoreInHour}
-use Rattle.cal_elapse.specs.Masks.{sets_in}
+use Rattle.cal_spec.specs.rules.Match.{matches}
+use Rattle.cal_elapse.specs.computed.RemainingMatches.{HasMoreInHour}
+use Rattle.cal_elapse.specs.computed.Masks.{sets_in}
 use Rattle.cal_elapse.proofs.MinuteLemmas.{more_later}
 use Rattle.cal_elapse.proofs.search.searcher.Searcher.has_more_in_hour.Goals as goal
 

@@ -2,12 +2,12 @@ use Rattle.std.proofs.Common.{◌+◌, IsSome, arith, option_map, subst, sym, un
 use Rattle.std.proofs.lemmas.Int.{to_z-of_z}
 use Rattle.cal_civil.proofs.LocalLemmas.{local_arith}
 use Rattle.std.proofs.lemmas.Option.{IfSome_then}
-use Rattle.cal_spec.specs.headline.Match.{matches}
-use Rattle.cal_civil.specs.headline.Local.{seconds_in_all}
-use Rattle.cal_elapse.specs.RemainingMatches.{IsNextInMinute}
-use Rattle.cal_elapse.specs.Search.{IsFirstPassing}
-use Rattle.cal_elapse.specs.Masks.{sets_in}
-use Rattle.cal_elapse.specs.MostMonths.{IsMostAfter}
+use Rattle.cal_spec.specs.rules.Match.{matches}
+use Rattle.cal_civil.specs.rules.LocalSecond.{seconds_in_all}
+use Rattle.cal_elapse.specs.computed.RemainingMatches.{IsNextInMinute}
+use Rattle.cal_elapse.specs.rules.Search.{IsFirstPassing}
+use Rattle.cal_elapse.specs.computed.Masks.{sets_in}
+use Rattle.cal_elapse.specs.rules.MostMonths.{IsMostAfter}
 use Rattle.cal_elapse.proofs.CountLemmas.{count_from-nothing}
 use Rattle.cal_elapse.proofs.FoundLemmas.{first_match, first_passing}
 use Rattle.cal_elapse.proofs.MinuteLemmas.{next_found}

@@ -1,5 +1,5 @@
 use Rattle.std.proofs.Common.{sym}
-use Rattle.cal_civil.specs.headline.Local.{seconds_in_all-is}
+use Rattle.cal_civil.specs.rules.LocalSecond.{seconds_in_all-is}
 use Rattle.cal_elapse.proofs.MinuteLemmas.{minutes_none, seconds_none}
 use Rattle.cal_elapse.proofs.search.searcher.Searcher.of.Goals as goal
 

@@ -1,12 +1,12 @@
 use Rattle.std.proofs.Common.{◌≡◌, ◌∙◌, ◌+◌, ◌-◌, Some, arith, of_z, refl, rules, subst, sym, to_z, unsigned_abs, w64, ℕ, ℤ, ◌-ℤ◌, ◌<◌, pos, ◌^◌}
 use Rattle.cal_civil.proofs.LocalLemmas.{local_arith}
 use Rattle.std.proofs.lemmas.Int.{to_z-of_z, ints}
-use Rattle.cal_civil.specs.headline.Local.{seconds_in_all-is}
-use Rattle.cal_spec.specs.headline.Match.{matches}
-use Rattle.cal_elapse.specs.Search.{count_from}
-use Rattle.cal_elapse.specs.RemainingMatches.{IsNextInMinute, NoneLeftInMinute}
-use Rattle.cal_elapse.specs.Masks.{sets_in}
-use Rattle.cal_elapse.specs.MostMonths.{IsMostAfter}
+use Rattle.cal_civil.specs.rules.LocalSecond.{seconds_in_all-is}
+use Rattle.cal_spec.specs.rules.Match.{matches}
+use Rattle.cal_elapse.specs.rules.Search.{count_from}
+use Rattle.cal_elapse.specs.computed.RemainingMatches.{IsNextInMinute, NoneLeftInMinute}
+use Rattle.cal_elapse.specs.computed.Masks.{sets_in}
+use Rattle.cal_elapse.specs.rules.MostMonths.{IsMostAfter}
 use Rattle.cal_elapse.specs.declared.masks.Masks.{Masks}
 use Rattle.cal_elapse.proofs.CountLemmas.{count_from-most, count_from-nothing, count_from-then}
 use Rattle.cal_text.proofs.General.{pos_unsigned_abs}

@@ -1,11 +1,10 @@
 use Rattle.std.proofs.Common.{◌≡◌, ◌+◌, ◌-◌, unsigned_abs}
-use Rattle.cal_civil.specs.LocalSecond.{IsLocalSecond}
-use Rattle.cal_civil.specs.headline.Local.{seconds_in_all}
-use Rattle.cal_spec.specs.headline.Match.{matches}
-use Rattle.cal_elapse.specs.Search.{count_from}
-use Rattle.cal_elapse.specs.RemainingMatches.{IsRestOfMinute}
-use Rattle.cal_elapse.specs.Masks.{sets_in}
-use Rattle.cal_elapse.specs.MostMonths.{IsMostAfter}
+use Rattle.cal_civil.specs.rules.LocalSecond.{IsLocalSecond, seconds_in_all}
+use Rattle.cal_spec.specs.rules.Match.{matches}
+use Rattle.cal_elapse.specs.rules.Search.{count_from}
+use Rattle.cal_elapse.specs.computed.RemainingMatches.{IsRestOfMinute}
+use Rattle.cal_elapse.specs.computed.Masks.{sets_in}
+use Rattle.cal_elapse.specs.rules.MostMonths.{IsMostAfter}
 use Rattle.cal_elapse.proofs.search.searcher.Searcher.search_minute.Given as goal
 
 abbrev pub invariant-loop-next : goal.invariant-loop-next

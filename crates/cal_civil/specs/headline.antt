@@ -1,8 +1,0 @@
--- The definitions of this crate that the law `headline` of cal_report depends on. A law is a statement that is proved
--- for all arguments.
-pub mod Days
-pub mod Local
-pub mod OffsetText
-pub mod OffsetWord
-pub mod Weekday
-pub mod ZoneName

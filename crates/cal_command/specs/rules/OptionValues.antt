@@ -1,0 +1,66 @@
+-- How the values of options are parsed: `--iterations` of systemd-analyze(1), and this project's own `--now`, `--zones`
+-- and `--local`. The value of `--base-time` is a timestamp, which isn't parsed here.
+use Rattle.std.specs.Prelude.{ℕ, ℤ, ◌&&◌, ◌==◌, Bool, pos, List, [], ◌∷◌, length, drop, Option, None, Some, codes, nat_eq, nat_lt, nat_le, if◌then◌else◌, unsigned_abs, option_and_then, option_map}
+use Rattle.std.specs.List.{after_first, before_first, list_any, slice_split, starts_with}
+use Rattle.std.specs.Str.{all_ascii_digits}
+use Rattle.std.specs.Str.Parse.{digits_value}
+use Rattle.cal_zone.specs.rules.Instant.{last_instant}
+use Rattle.cal_civil.specs.computed.ReadOffset.{offset_in}
+use Rattle.cal_civil.specs.rules.ZoneName.{is_utc_name, is_zone_name}
+use Rattle.cal_command.specs.rules.Ask.{LocalZone, in_utc, at_offset, by_rule, of_name, ZoneItem}
+use Rattle.cal_request.specs.rules.Verb.{max_iterations}
+use Rattle.cal_text.specs.rules.Separators.{is_equals, is_comma}
+
+-- the number that a text of digits stands for, if it is from `least` to `most`
+unfoldable pub number_between : ℕ → ℕ → List ℕ → Option ℕ
+number_between least most text =
+    let number = digits_value 10 text in
+    if nat_lt 0 (length text) && all_ascii_digits text && nat_le least number && nat_le number most
+    then Some number else None
+
+-- `--iterations`: a number of elapses, from 1 to `max_iterations`
+unfoldable pub count_in : List ℕ → Option ℕ
+count_in = number_between 1 max_iterations
+
+-- `--now`: an instant, written as `@` and its seconds
+unfoldable pub present_in : List ℕ → Option ℤ
+present_in [] = None
+present_in (byte ∷ bytes) = if byte == 64 then option_map pos (number_between 0 (unsigned_abs last_instant) bytes) else None
+
+-- the parts of a text before and after its first separator, or None if there is no separator
+abbrev pub parts_at : (ℕ → Bool) → List ℕ → Option (List ℕ × List ℕ)
+parts_at is_separator text =
+    if list_any is_separator text then Some (before_first is_separator text, after_first is_separator text) else None
+
+-- the item of `--zones` with this name and this path; None if the name doesn't have the form of a zone's name, or if
+-- the path is empty
+abbrev pub named_file : List ℕ × List ℕ → Option ZoneItem
+named_file parts =
+    if is_zone_name parts.0 && nat_lt 0 (length parts.1) then Some (record { name = parts.0; path = parts.1 }) else None
+
+-- parses an item of `--zones`, `NAME=FILE`, which is split at its first `=`
+unfoldable pub zone_item_in : List ℕ → Option ZoneItem
+zone_item_in item = option_and_then named_file (parts_at is_equals item)
+
+-- parses a list of items; None if one of them is invalid
+unfoldable pub zone_items_in : List (List ℕ) → Option (List ZoneItem)
+zone_items_in [] = Some []
+zone_items_in (item ∷ items) =
+    option_and_then (λ zone. option_map (λ zones. zone ∷ zones) (zone_items_in items)) (zone_item_in item)
+
+-- the maximum number of items of `--zones`
+abbrev pub max_zones : ℕ
+max_zones = 64
+
+-- `--zones`: items that are separated by commas, up to the maximum number
+unfoldable pub zones_in : List ℕ → Option (List ZoneItem)
+zones_in text =
+    let items = slice_split is_comma text in if nat_le (length items) max_zones then zone_items_in items else None
+
+-- `--local`: `UTC` (ignoring case), `posix:` and a rule, a name that has the form of a zone's name, or an offset
+unfoldable pub local_zone_in : List ℕ → Option LocalZone
+local_zone_in text =
+    if is_utc_name text then Some in_utc
+    else if starts_with nat_eq text (codes "posix:") then Some (by_rule (drop 6 text))
+    else if is_zone_name text then Some (of_name text)
+    else option_map at_offset (offset_in text)

@@ -1,0 +1,6 @@
+-- What the manuals and this project's own rules say. The laws and the contracts of this crate cite these definitions.
+pub mod Doubts
+pub mod Findings
+pub mod Hints
+pub mod Systemd252
+pub mod UnknownKeys

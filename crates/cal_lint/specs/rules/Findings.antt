@@ -1,0 +1,99 @@
+-- All problems of a timer's assignments, in the order of their lines: systemd.timer(5), Options. An exception is an
+-- expression after this project's key `X-ExceptOnCalendar=`. When an exception elapses, the timer doesn't.
+use Rattle.std.specs.Prelude.{ℕ, ◌==◌, Bool, false, not, ◌&&◌, ◌||◌, if◌then◌else◌, List, [], ◌∷◌, ◌++◌, codes, map, Option, None, Some, Result, Ok, Err}
+use Rattle.std.specs.List.{find, flat_map, list_any}
+use Rattle.std.specs.Option.{option_map, option_to_list}
+use Rattle.cal_lines.specs.rules.Lines.{logical_lines}
+use Rattle.cal_spec.specs.computed.Expr.{expr_in}
+use Rattle.cal_spec.specs.declared.spec_fault.SpecFault.{SpecFault}
+use Rattle.cal_timer.specs.rules.TimerFault.{line_of}
+use Rattle.cal_timer.specs.rules.Assignments.{Assignment}
+use Rattle.cal_timer.specs.rules.TimerText.{is_exception, is_expression, without_mark}
+use Rattle.cal_timer.specs.declared.fault.TimerFault.{TimerFault}
+use Rattle.cal_read.specs.rules.SectionAssignments.{section_assignments}
+use Rattle.cal_read.specs.rules.TimerFaults.{all_faults, in_file}
+use Rattle.cal_read.specs.declared.texts.FileFault.{FileFault}
+use Rattle.cal_lint.specs.rules.Doubts.{doubt_in}
+use Rattle.cal_lint.specs.rules.Systemd252.{rejection_in}
+use Rattle.cal_lint.specs.rules.UnknownKeys.{is_unknown_key}
+use Rattle.cal_lint.specs.declared.problems.Finding.{Finding}
+use Rattle.cal_lint.specs.declared.problems.ProblemKind.{ProblemKind}
+use Rattle.cal_lint.specs.declared.problems.ProblemKind.TheVariants.{Error, Warning}
+use Rattle.cal_lint.specs.declared.problems.Problem.{Problem}
+use Rattle.cal_lint.specs.declared.problems.Problem.TheVariants.{Invalid, UnknownKey, Rejected, Doubtful}
+
+-- whether the byte is a percent sign, which begins a specifier: systemd.unit(5), Specifiers
+abbrev pub is_percent : ℕ → Bool
+is_percent b = b == 37
+
+-- whether the assignment is an expression or an exception without specifiers; a value with specifiers isn't checked,
+-- since systemd replaces them when it loads the unit
+abbrev pub is_checked : Assignment → Bool
+is_checked a = (is_expression a || is_exception a) && not (list_any is_percent a.value)
+
+abbrev pub is_at : ℕ → Option ℕ → Bool
+is_at number None = false
+is_at number (Some line) = line == number
+
+-- whether an error belongs to the line with this number
+abbrev pub is_on : ℕ → FileFault → Bool
+is_on number found = is_at number (line_of found.fault)
+
+-- the first error in the line with this number, if there is one
+abbrev pub fault_on : List FileFault → ℕ → Option TimerFault
+fault_on faults number = option_map (λ found. found.fault) (find (is_on number) faults)
+
+-- what was found about a valid expression; None if nothing was found, or if the expression is invalid
+abbrev pub if_valid : {A : Type 0} → Result (Option A) SpecFault → Option A
+if_valid (Ok x) = x
+if_valid (Err e) = None
+
+-- the problems of a value that is a valid expression: why systemd 252 rejects it, and why it may not mean what its
+-- author thinks; none if the value is not a valid expression
+abbrev pub advice : List ℕ → List Problem
+advice value =
+    option_to_list (option_map Rejected (if_valid (rejection_in value)))
+    ++ option_to_list (option_map Doubtful (if_valid (doubt_in value)))
+
+abbrev pub value_problems : Option TimerFault → List ℕ → List Problem
+value_problems (Some fault) value = Invalid fault ∷ []
+value_problems None value = advice value
+
+-- the problems of an assignment; `faults` are all errors of the timer that has this assignment
+abbrev pub problems_of : List FileFault → Assignment → List Problem
+problems_of faults a =
+    if is_unknown_key a.key then UnknownKey ∷ []
+    else (if is_checked a then value_problems (fault_on faults a.number) a.value else [])
+
+abbrev pub problem_kind_of : Problem → ProblemKind
+problem_kind_of (Invalid fault) = Error
+problem_kind_of UnknownKey = Error
+problem_kind_of (Rejected rejection) = Error
+problem_kind_of (Doubtful doubt) = Warning
+
+-- what contracts see of a finding: its line, its kind and its problem
+pub record FoundProblem : Type 0 where
+  pub line : ℕ
+  pub kind : ProblemKind
+  pub problem : Problem
+
+abbrev pub problem_at : ℕ → Problem → FoundProblem
+problem_at number problem = record { line = number; kind = problem_kind_of problem; problem = problem }
+
+abbrev pub shown_finding : Finding → FoundProblem
+shown_finding finding = record { line = finding.line; kind = finding.kind; problem = finding.problem }
+
+abbrev pub found_problems : List FileFault → Assignment → List FoundProblem
+found_problems faults a = map (problem_at a.number) (problems_of faults a)
+
+-- the assignments in the sections `Timer` of a unit file, whose lines are numbered from 1
+abbrev pub timer_assignments : List ℕ → List Assignment
+timer_assignments text = section_assignments (codes "Timer") false (logical_lines 1 (without_mark text))
+
+-- all errors in the assignments of a unit file, as `find_faults` returns them
+abbrev pub timer_faults : List ℕ → List FileFault
+timer_faults text = map (in_file 0) (all_faults expr_in [] (timer_assignments text))
+
+-- the problems of all assignments, in order
+abbrev pub findings_in : List ℕ → List FoundProblem
+findings_in text = flat_map (found_problems (timer_faults text)) (timer_assignments text)

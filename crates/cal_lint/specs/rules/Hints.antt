@@ -1,0 +1,27 @@
+-- Common mistakes in invalid calendar expressions that concern the whole text, and not one of its words:
+-- systemd.time(7), Calendar Events and Parsing Time Spans.
+use Rattle.std.specs.Prelude.{ℕ, ◌==◌, Bool, ◌&&◌, ◌||◌, if◌then◌else◌, List, codes, Option, None, Some, is_ok}
+use Rattle.std.specs.List.{list_any}
+use Rattle.std.specs.Char.{is_ascii_alphabetic}
+use Rattle.std.specs.Str.{str_eq_ignore_ascii_case}
+use Rattle.cal_text.specs.rules.Separators.{is_equals}
+use Rattle.cal_span.specs.computed.SpanValue.{span_of}
+use Rattle.cal_lint.specs.declared.hints.Mistake.{Mistake}
+use Rattle.cal_lint.specs.declared.hints.Mistake.TheVariants.{Assignment, Comment, Now, Span}
+
+-- whether the byte begins a comment: `#` or `;`
+abbrev pub is_comment_mark : ℕ → Bool
+is_comment_mark b = (b == 35) || (b == 59)
+
+-- whether the text has a letter and is a time span; a number without a unit is a span too, in seconds, but in an
+-- expression it more likely stands for an hour
+abbrev pub is_span : List ℕ → Bool
+is_span text = list_any is_ascii_alphabetic text && is_ok (span_of text)
+
+-- the first mistake that concerns the whole text, if there is one; the text is an invalid expression
+unfoldable pub mistake_in : List ℕ → Option Mistake
+mistake_in text =
+    if list_any is_equals text then Some Assignment
+    else (if list_any is_comment_mark text then Some Comment
+    else (if str_eq_ignore_ascii_case text (codes "now") then Some Now
+    else (if is_span text then Some Span else None)))

@@ -1,0 +1,5 @@
+-- What the manuals and this project's own rules say. The laws and the contracts of this crate cite these definitions.
+pub mod Expressions
+pub mod Loaded
+pub mod LoadedTarget
+pub mod Position

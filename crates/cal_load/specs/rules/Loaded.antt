@@ -1,0 +1,104 @@
+-- Timers that are loaded from the files of a machine: systemd.unit(5), Description, and systemd.timer(5), OnCalendar=.
+use Rattle.std.specs.Prelude.{◌≡◌, ◌⊎◌, ◌+◌, ◌||◌, ℕ, false, List, [], ◌∷◌, ◌++◌, Ok, Err, codes, is_some, length, map, string_bytes}
+use Rattle.std.specs.List.{flat_map, list_any}
+use Rattle.std.specs.Option.{option_to_list}
+use Rattle.std.specs.Str.{bytes_eq}
+use Rattle.std.specs.Str.Lines.{lines}
+use Rattle.cal_civil.specs.rules.ZoneName.{is_utc_name}
+use Rattle.cal_drop_ins.specs.rules.DropIns.{drop_ins}
+use Rattle.cal_lines.specs.rules.Lines.{logical_lines}
+use Rattle.cal_machine_zones.specs.rules.ZoneFiles.{HasZonesOf}
+use Rattle.cal_spec.specs.computed.Expr.{expr_in}
+use Rattle.cal_spec.specs.rules.ZoneSuffix.{name_in}
+use Rattle.cal_spec.specs.rules.Fields.{Fields}
+use Rattle.cal_timer.specs.rules.Assignments.{Assignment, assignments_in}
+use Rattle.cal_timer.specs.rules.TimerText.{without_mark}
+use Rattle.cal_timer.specs.rules.TimerEntries.{TimerLine, lists_of}
+use Rattle.cal_timer.specs.rules.TimerView.{shown}
+use Rattle.cal_timer.specs.declared.fault.TimerFault.TheVariants.{NothingToDo}
+use Rattle.cal_units.specs.rules.Aliases.{Alias, stems_of}
+use Rattle.cal_units.specs.rules.Files.{UnitText, file_at, files_at, shown_unit_text}
+use Rattle.cal_units.specs.rules.Machine.{Machine, disk_of}
+use Rattle.cal_units.specs.rules.Units.{Unit, unit_on}
+use Rattle.cal_units.specs.rules.Units.Unit.{Unfound, TemplateOnly, MaskedBy, FoundAt, Endless}
+use Rattle.cal_zone.specs.rules.ZoneTable.{ZoneMap, zone_named}
+use Rattle.cal_load.specs.declared.calendar.Calendar as calendars
+use Rattle.cal_load.specs.declared.loaded.LoadedTimer.{LoadedTimer}
+
+-- the paths of a unit's files: its own file, and then its drop-ins, in the order in which they are read
+abbrev pub unit_file_paths : Machine → List (List ℕ) → List Alias → Unit → List (List ℕ)
+unit_file_paths machine path aliases Unfound = []
+unit_file_paths machine path aliases TemplateOnly = []
+unit_file_paths machine path aliases (MaskedBy file) = []
+unit_file_paths machine path aliases (FoundAt file followed own) =
+    file ∷ drop_ins (disk_of machine) path (stems_of aliases followed own)
+unit_file_paths machine path aliases Endless = []
+
+-- the files of the unit with this stem; `aliases` are the aliases on the machine
+abbrev pub unit_files : Machine → List (List ℕ) → List Alias → List ℕ → List UnitText
+unit_files machine path aliases stem = files_at machine (unit_file_paths machine path aliases (unit_on machine path stem))
+
+-- The assignments in the sections `Timer` of files. The first line of the first file has the number `first`, and the
+-- numbers continue from file to file.
+unfoldable pub assignments_from : ℕ → List (List ℕ) → List Assignment
+assignments_from first [] = []
+assignments_from first (text ∷ texts) =
+    assignments_in false (logical_lines first (without_mark text)) ++ assignments_from (first + length (lines text)) texts
+
+abbrev pub bytes_in : List UnitText → List (List ℕ)
+bytes_in files = map (λ file. file.bytes) files
+
+abbrev pub assignments_of_files : List UnitText → List Assignment
+assignments_of_files files = assignments_from 1 (bytes_in files)
+
+-- none of these assignments has an error, and the calendar has their expressions and exceptions, or nothing if there
+-- are no expressions
+abbrev pub IsCalendarBy : List Assignment → calendars.Calendar → Type 0
+IsCalendarBy assignments calendars.TheVariants.Nothing = lists_of expr_in assignments ≡ Err NothingToDo
+IsCalendarBy assignments (calendars.TheVariants.Timer timer) = lists_of expr_in assignments ≡ Ok timer
+IsCalendarBy assignments (calendars.TheVariants.Expressions list) = ⊥
+
+abbrev pub IsCalendarOf : List UnitText → calendars.Calendar → Type 0
+IsCalendarOf files calendar = IsCalendarBy (assignments_of_files files) calendar
+
+abbrev pub expressions_in : calendars.Calendar → List (TimerLine Fields)
+expressions_in calendars.TheVariants.Nothing = []
+expressions_in (calendars.TheVariants.Timer timer) = timer.expressions
+expressions_in (calendars.TheVariants.Expressions list) = map shown list.items
+
+abbrev pub exceptions_in : calendars.Calendar → List (TimerLine Fields)
+exceptions_in calendars.TheVariants.Nothing = []
+exceptions_in (calendars.TheVariants.Timer timer) = timer.exceptions
+exceptions_in (calendars.TheVariants.Expressions list) = []
+
+-- the names of the zones that these expressions name
+abbrev pub zone_names_in : List (TimerLine Fields) → List (List ℕ)
+zone_names_in entries = flat_map (λ entry. option_to_list (name_in entry.expr.zone)) entries
+
+-- the table has UTC and a zone for each of these names, and no other zones
+abbrev pub HasNames : ZoneMap → List (List ℕ) → Type 0
+HasNames table names = (name : List ℕ) → is_some (zone_named table name) ≡ (is_utc_name name || list_any (bytes_eq name) names)
+
+-- the table has UTC and the zones that the calendar names, as they are in the machine's zone files, and no other zones
+abbrev pub HasZones : Machine → calendars.Calendar → ZoneMap → Type 0
+HasZones machine calendar table =
+    HasNames table (zone_names_in (expressions_in calendar) ++ zone_names_in (exceptions_in calendar)) × HasZonesOf machine table
+
+-- the timer was read from these files of a machine
+pub record IsTimerReadFrom (machine : Machine) (files : List UnitText) (timer : LoadedTimer) : Type 0 where
+  pub has_files : map shown_unit_text timer.files.items ≡ files
+  pub has_calendar : IsCalendarOf files timer.calendar
+  pub has_zones : HasZones machine timer.calendar timer.zones
+
+-- the timer has the name of the unit with this stem, and was read from the unit's own file and its drop-ins
+abbrev pub IsUnitOn : Machine → List (List ℕ) → List Alias → List ℕ → LoadedTimer → Type 0
+IsUnitOn machine path aliases stem timer =
+    (string_bytes timer.name ≡ stem ++ codes ".timer") × IsTimerReadFrom machine (unit_files machine path aliases stem) timer
+
+-- the timer was read from a single file, and its name is the path of this file
+abbrev pub IsFileOn : Machine → LoadedTimer → Type 0
+IsFileOn machine timer = IsTimerReadFrom machine (file_at machine (string_bytes timer.name)) timer
+
+-- the timer is a unit of the machine (`IsUnitOn`) or a single file (`IsFileOn`)
+abbrev pub IsTimerOn : Machine → List (List ℕ) → List Alias → LoadedTimer → Type 0
+IsTimerOn machine path aliases timer = ((stem : List ℕ) × IsUnitOn machine path aliases stem timer) ⊎ IsFileOn machine timer

@@ -1,0 +1,19 @@
+-- What the manuals and this project's own rules say. The laws and the contracts of this crate cite these definitions.
+pub mod ExprText
+pub mod Fields
+pub mod FullYears
+pub mod GrammarRule
+pub mod Match
+pub mod Members
+pub mod NormalForm
+pub mod Shorthand
+pub mod Slot
+pub mod SpecFault
+pub mod UnparsedTexts
+pub mod ValidParts
+pub mod WeekdayNames
+pub mod WeekdayRuns
+pub mod WeekdayRunsRule
+pub mod Weekdays
+pub mod WordsOfText
+pub mod ZoneSuffix

@@ -1,0 +1,7 @@
+-- What the manuals and this project's own rules say. The laws and the contracts of this crate cite these definitions.
+pub mod Assignments
+pub mod TimerEntries
+pub mod TimerFault
+pub mod TimerRule
+pub mod TimerText
+pub mod TimerView

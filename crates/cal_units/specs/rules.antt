@@ -1,0 +1,6 @@
+-- What the manuals and this project's own rules say. The laws and the contracts of this crate cite these definitions.
+pub mod Aliases
+pub mod Faults
+pub mod Files
+pub mod Machine
+pub mod Units

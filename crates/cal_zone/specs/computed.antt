@@ -1,0 +1,6 @@
+-- What the code computes step by step, and in which states it keeps its values. Laws and contracts tie these
+-- definitions to those in `rules`.
+pub mod FormattedDay
+pub mod InstantOffsetRange
+pub mod LocalOffsetRange
+pub mod PlaceAt
