@@ -10,7 +10,7 @@ use Rattle.cal_elapse.specs.computed.Masks.{day_place}
 use Rattle.cal_elapse.proofs.BitLemmas.{is_bit-none}
 use Rattle.cal_spec.specs.rules.Members.{component_has, star_has, part_has, part_matches}
 use Rattle.cal_spec.specs.rules.Slot.{least, greatest, day_slot}
-use Rattle.cal_spec.specs.computed.ValidFields.{IsValidComponent}
+use Rattle.cal_spec.specs.rules.ValidFields.{IsValidComponent}
 use Rattle.cal_spec.specs.rules.ValidParts.{EndsAfter, IsValidPart, IsEndWithin, IsStep, IsWithin}
 use Rattle.cal_spec.specs.declared.field.Part.{Part}
 use Rattle.cal_spec.specs.declared.slot.Slot.{Slot}

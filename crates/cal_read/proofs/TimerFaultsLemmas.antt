@@ -10,7 +10,8 @@ use Rattle.cal_timer.specs.rules.Assignments.{Assignment}
 use Rattle.cal_timer.specs.rules.TimerText.{excepted, is_exception, is_exception_reset, is_expression, is_reset, listed, max_expressions}
 use Rattle.cal_timer.specs.rules.TimerEntries.{fault_following, fault_joining, first_fault}
 use Rattle.cal_read.specs.rules.TimerTexts.{IsFirstOf, assignments_at, assignments_of}
-use Rattle.cal_read.specs.rules.TimerFaults.{all_faults, count_with, counted_faults, counted_files, counts_over, counts_with, fault_at, faults_of, in_file}
+use Rattle.cal_read.specs.rules.TimerFaults.{all_faults, faults_of, in_file}
+use Rattle.cal_read.specs.computed.CountedFaults.{count_with, counted_faults, counted_files, counts_over, counts_with, fault_at}
 use Rattle.cal_read.specs.declared.faults.Counts.{Counts}
 use Rattle.cal_timer.specs.declared.fault.TimerFault.{TimerFault}
 use Rattle.cal_read.specs.declared.texts.FileFault.{FileFault}

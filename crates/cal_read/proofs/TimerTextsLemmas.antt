@@ -9,7 +9,7 @@ use Rattle.cal_timer.specs.rules.Assignments.{assignments_in}
 use Rattle.cal_timer.specs.rules.TimerText.{without_mark}
 use Rattle.cal_timer.specs.rules.TimerEntries.{Timer, lists_of, timer_of}
 use Rattle.cal_read.specs.rules.TimerTexts.{assignments_at, assignments_of}
-use Rattle.cal_timer.specs.rules.TimerView.{empty_lists, resumed}
+use Rattle.cal_timer.specs.computed.ResumedLists.{empty_lists, resumed}
 use Rattle.cal_timer.specs.declared.fault.TimerFault.{TimerFault}
 use Rattle.cal_read.specs.declared.texts.NumberedText.{NumberedText}
 use Rattle.cal_timer.proofs.ListedLemmas.{resumed_append, with_lists}

@@ -5,7 +5,8 @@ ghost use Rattle.std.specs.Prelude.{◌≡◌, ◌+◌, ◌<◌, ◌≤◌, ◌^
 ghost use Rattle.std.specs.Option.{option_to_list};
 ghost use Rattle.cal_spec.specs.computed.Expr.{expr_in};
 ghost use Rattle.cal_timer.specs.rules.TimerView.{shown_assignment};
-ghost use Rattle.cal_read.specs.rules.TimerFaults.{count_with, counted_faults, counts_over, counts_with, fault_at, fault_beside, faults_of, in_file};
+ghost use Rattle.cal_read.specs.computed.CountedFaults.{count_with, counted_faults, counts_over, counts_with, fault_at, fault_beside};
+ghost use Rattle.cal_read.specs.rules.TimerFaults.{faults_of, in_file};
 ghost use Rattle.cal_timer.specs.rules.TimerText.{max_expressions};
 ghost use Rattle.cal_read.specs.rules.TimerTexts.{assignments_at};
 

@@ -1,5 +1,5 @@
 -- Lemmas on what a whole run wrote and what it returned.
-use Rattle.std.proofs.Common.{arith, ◌≡◌, ℕ, ℤ, Bool, true, false, List, [], Option, Result, Ok, Err, IfOk, refl, sym, subst}
+use Rattle.std.proofs.Common.{arith, ◌≡◌, ℕ, ℤ, Bool, true, false, List, [], Option, Result, Ok, Err, IfOk, refl, sym, ◌∙◌, subst}
 use Rattle.std.proofs.lemmas.List.{append-nil}
 use Rattle.std.proofs.KnownBytes.{Appends-nil}
 use Rattle.std.specs.Io.KnownBytes.{Appends}
@@ -10,7 +10,7 @@ use Rattle.cal_request.specs.rules.Verb.{seeks_elapses}
 use Rattle.cal_request.specs.rules.RequestKind.{RequestKind, for_file, for_texts, kind_by, kind_of}
 use Rattle.cal_request.specs.rules.Request.{Request}
 use Rattle.cal_bytes.specs.rules.Writes.{AppendsFront, Writes}
-use Rattle.cal_report.specs.rules.RunReport.{ByReading, IsCut, IsCutAt, IsReported, ReadsFile, ReadsFor, base_in, file_report, report, report_on, texts_report, whole_report}
+use Rattle.cal_report.specs.rules.RunReport.{ByReading, IsCut, IsCutAt, IsReported, ReadsFile, ReadsFor, ReadsIfBased, base_in, file_report, report, report_on, texts_report, whole_report}
 use Rattle.cal_request.specs.declared.request.RunFault.{RunFault}
 use Rattle.cal_request.specs.declared.request.Status.{Status}
 use Rattle.cal_request.specs.declared.request.Status.TheVariants.{Fine, Refused}
@@ -19,6 +19,8 @@ use Rattle.cal_request.specs.declared.verb.Verb.TheVariants as verbs
 use Rattle.cal_request.specs.declared.verb.TextVerb.{TextVerb}
 use Rattle.cal_request.specs.declared.verb.TextVerb.TheVariants.{Calendar}
 use Rattle.cal_report.proofs.AnswerLemmas.{writes_nothing}
+use Rattle.cal_report.proofs.BaseLemmas.{base_found, base_is}
+use Rattle.cal_stamp.specs.declared.fault.StampFault.{StampFault}
 
 if_ok : {T E : Type 0} (r : Result T E) (P : Type 0) → P → IfOk r (λ x. P)
 if_ok (Ok x) P h = h
@@ -53,11 +55,17 @@ unfolding report
 texts_reported asked verb texts a b c d e failed r is works status out err =
     record {
       read = Ok [];
-      input = subst (λ kind. ReadsFor kind (base_in asked) a a (Ok [])) is (refl, refl);
+      input = subst (λ kind. ReadsFor kind asked a a (Ok [])) is (refl, refl);
       fails = works;
       holds = subst (λ kind. IsReported r b c d e (Ok []) (report_on asked (Ok []) kind)) is
           (record { status = status; had = if_ok r (HadMemory (Ok [])) nothing_had; out = out; err = err; unread = λ h. absurd (nothing_had h) });
     }
+
+reads_if_based : (asked : Request) (a b : Option (List ℕ)) (read : Result (List ℕ) WholeFault) (found : Result ℤ StampFault) → base_in asked ≡ found → ReadsFile found a b read → ReadsIfBased asked a b read
+reads_if_based asked a b read (Ok base) is reads =
+    record { based = λ other is_base. reads; baseless = λ none. absurd (none base (base_found asked base is)) }
+reads_if_based asked a b read (Err fault) is reads =
+    record { based = λ base is_base. (let e = sym (base_is asked base is_base) ∙ is in cc); baseless = λ none. reads }
 
 -- `ByReading` holds if the request is for this timer file, and the run agrees with the report for what it read from
 -- the file
@@ -68,7 +76,7 @@ unfolding report
 file_reported asked name read a b failed r out out' err err' is reads fails reported =
     record {
       read = read;
-      input = subst (λ kind. ReadsFor kind (base_in asked) a b read) is reads;
+      input = subst (λ kind. ReadsFor kind asked a b read) is (reads_if_based asked a b read (base_in asked) refl reads);
       fails = fails;
       holds = subst (λ kind. IsReported r out out' err err' read (report_on asked read kind)) is reported;
     }

@@ -33,9 +33,10 @@ ghost use Rattle.cal_request.specs.declared.verb.Verb.TheVariants.{Calendar, Tim
 /// instant alone; an iteration count n gives the first n, and starting again at any printed instant gives exactly the
 /// rest; want of memory aside.
 ///
-/// A matching instant is the place of a local second that matches: the instant at which the clock of the expression's
-/// zone first shows this local second. "Rising" means in increasing order. For a timer file, an elapse of an exception,
-/// which is an expression after `X-ExceptOnCalendar=`, is not a matching instant.
+/// A matching instant is the place of a local second that matches: the second of Unix time to which `jiff`'s compatible
+/// conversion takes this local second, if the clock of the expression's zone shows it then. "Rising" means in
+/// increasing order. For a timer file, an elapse of an exception, which is an expression after `X-ExceptOnCalendar=`, is
+/// not a matching instant.
 pub fn headline()
     // If every expression is accepted, the report shows each of them in order: its heading, and then its first elapses.
     ensures calendar { (asked : Request) (read : Result (List ℕ) WholeFault) (base : ℤ) (es : List Expression)
@@ -89,9 +90,9 @@ pub fn headline()
     ensures one_list { (ts exceptions : List Timed) (base : ℤ) (xs ys : List ℤ)
         → AreElapses ts exceptions base xs → AreElapses ts exceptions base ys → xs ≡ ys }
 
-    // Each elapse is an instant. Each instant can be given as the base time, by `@` and its seconds. If an elapse in a
-    // list becomes the base time, the elapses after this base time are exactly those that follow it in the list. So a
-    // list can be printed in parts.
+    // If the present is an instant, so is each elapse. Each instant can be given as the base time, by `@` and its
+    // seconds. If an elapse in a list becomes the base time, the elapses after this base time are exactly those that
+    // follow it in the list. So a list can be printed in parts.
     ensures instants { (asked : Request) (base : ℤ) (s : Schedule) (xs : List ℤ) → IsInstant asked.now
         → IsBase asked base → AreElapsesOf s base xs → AreInstants xs }
     ensures based { (asked : Request) (secs : ℤ) → IsInstant secs → IsBase (started_at asked secs) secs }
@@ -107,10 +108,10 @@ pub fn headline()
         × (local_shown_at tz i ≡ pos local) }
     ensures alone { (fields : Fields) (tz : TimeZone) (i j : ℤ) → IsPlace (timed fields tz) i
         → IsPlace (timed fields tz) j → local_shown_at tz i ≡ local_shown_at tz j → i ≡ j }
-    // A local second that the clock never shows (in a gap) has no instant. If `jiff` finds that the clock shows a local
-    // second twice (in a fold), and the local second has an instant, then this instant is the local second minus the
-    // UTC offset before the transition. The second occurrence would be the local second minus the UTC offset after the
-    // transition. If the offset before the transition is the larger one, the instant is earlier than that.
+    // A local second that the clock never shows (in a gap) has no place. If `jiff` finds that the clock shows a local
+    // second twice (in a fold), and the local second has a place, then this place is the local second minus the UTC
+    // offset before the transition. The second occurrence would be the local second minus the UTC offset after the
+    // transition. If the offset before the transition is the larger one, the place is earlier than that.
     ensures gap { (tz : TimeZone) (local : ℤ) → ((second : ℤ) → local_shown_at tz second ≡ local → ⊥)
         → place_of tz local ≡ None }
     ensures fold { (tz : TimeZone) (local i : ℤ) (before after : Offset)
@@ -120,8 +121,8 @@ pub fn headline()
 
 /// States how to continue a report of which only a prefix was written. Count the elapses whose first line is complete
 /// in the prefix. If there are any, run the same request with the last of them as its base time, and with `iterations`
-/// reduced by their number. This run prints exactly the remaining elapses, or `never` if none remain; its labels count
-/// from 1 again. If no elapse has a complete first line, run the original request again.
+/// reduced by their number. This run prints the headings and exactly the remaining elapses, or `never` if none remain;
+/// its labels count from 1 again. If no elapse has a complete first line, run the original request again.
 pub fn cut_output_resumes()
     // If the request is for one accepted calendar expression, its report can be continued after every prefix `front`.
     ensures calendar { (asked : Request) (read : Result (List ℕ) WholeFault) (base : ℤ) (e : Expression)

@@ -124,13 +124,13 @@ one_judgement ps a b by_a by_b = sym (only_value ps a by_a) ∙ only_value ps b 
 has_value : (text : List ℕ) → HasSpanValue text (span_of text)
 unfolding pairs_in words_in
 has_value text =
-    let has : HasPairs text (pairs_in text) = record { words = runs (characters text); cut = runs_cut text; apart = runs_longest text; paired = are_pairs (words_in text) } in
+    let has : HasPairs text (pairs_in text) = record { runs = runs (characters text); cut = runs_cut text; apart = runs_longest text; paired = are_pairs (words_in text) } in
     record { pairs = pairs_in text; has = has; judged = judges_span text }
 
 only_value_of : (text : List ℕ) (r : Result ℕ SpanFault) → HasSpanValue text r → span_of text ≡ r
 unfolding pairs_in words_in
 only_value_of text r h =
-    let words = runs_only text h.has.words h.has.cut h.has.apart in
+    let words = runs_only text h.has.runs h.has.cut h.has.apart in
     let same : h.pairs ≡ pairs_in text = only_pairs _ h.pairs h.has.paired ∙ ap (λ ws. pairs_of (filter (λ w. not (is_kind Blank w.kind)) ws)) words in
     one_judgement (pairs_in text) (span_of text) r (judges_span text) (subst (λ ps. Judges ps r) same h.judged)
 

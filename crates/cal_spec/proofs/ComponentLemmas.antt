@@ -8,7 +8,7 @@ use Rattle.cal_spec.specs.computed.Parts.{is_time, is_within, is_outside, is_bac
 use Rattle.cal_text.specs.rules.AndThen.{◌>>=◌}
 use Rattle.cal_spec.specs.computed.Reads.{unless}
 use Rattle.cal_spec.specs.rules.Slot.{least, greatest}
-use Rattle.cal_spec.specs.computed.ValidFields.{IsValidComponent}
+use Rattle.cal_spec.specs.rules.ValidFields.{IsValidComponent}
 use Rattle.cal_spec.specs.rules.ValidParts.{IsWithin, IsEndWithin, EndsAfter, IsStep, GoesOn, IsValidPart}
 use Rattle.cal_spec.specs.declared.field.Part.{Part}
 use Rattle.cal_spec.specs.declared.slot.Slot.{Slot}

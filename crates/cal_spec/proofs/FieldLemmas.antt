@@ -21,7 +21,7 @@ use Rattle.cal_text.specs.rules.AndThen.{◌>>=◌}
 use Rattle.cal_spec.specs.computed.Reads.{GivesUnlessNoMemory}
 use Rattle.cal_spec.specs.declared.fields.Fields as declared_fields
 use Rattle.cal_spec.specs.rules.Slot.{day_slot}
-use Rattle.cal_spec.specs.computed.ValidFields.{IsValidFields}
+use Rattle.cal_spec.specs.rules.ValidFields.{IsValidFields}
 use Rattle.cal_spec.specs.rules.WeekdayNames.{day_named, leading_letters, days_of}
 use Rattle.cal_spec.specs.computed.WeekdayLists.{items_of, without_comma, listed_days, is_like_shorthand, weekdays_of, weekdays_in}
 use Rattle.cal_spec.specs.rules.Weekdays.{days_until, is_in_weekday_range, set_of}
@@ -29,8 +29,8 @@ use Rattle.cal_spec.specs.computed.Words.{roles_of}
 use Rattle.cal_civil.specs.rules.ZoneName.{is_utc_name, is_zone_name}
 use Rattle.cal_civil.specs.computed.ReadOffset.{offset_in}
 use Rattle.cal_civil.proofs.OffsetWordLemmas.{offset-minutes}
-use Rattle.cal_spec.specs.computed.ParsedSuffix.{IsSuffixOption, suffix_due, suffix_in, suffix_of}
-use Rattle.cal_spec.specs.rules.ZoneSuffix.{ZoneSuffix, at_offset, kept_name, of_name}
+use Rattle.cal_spec.specs.rules.ZoneSuffix.{IsSuffixOption, ZoneSuffix, at_offset, kept_name, of_name}
+use Rattle.cal_spec.specs.computed.ParsedSuffix.{suffix_due, suffix_in, suffix_of}
 use Rattle.cal_spec.specs.declared.field.Part.{Part}
 use Rattle.cal_spec.specs.declared.slot.Slot.{Slot}
 use Rattle.cal_spec.specs.declared.slot.Slot.TheVariants.{Year, Month, Hour, Minute, Second}

@@ -13,11 +13,10 @@ use Rattle.cal_spec.specs.rules.Fields.{Fields, counted_parts, parts_in}
 use Rattle.cal_spec.specs.computed.NormalParts.{IsNormal, IsNormalTo, normal_component, normal_fields, normal_parts, normal_second, starred}
 use Rattle.cal_spec.specs.rules.NormalForm.{IsStarred}
 use Rattle.cal_spec.specs.rules.Slot.{least, greatest, day_slot}
-use Rattle.cal_spec.specs.computed.ValidFields.{IsValidComponent, IsValidFields}
+use Rattle.cal_spec.specs.rules.ValidFields.{IsValidComponent, IsValidFields}
 use Rattle.cal_spec.specs.rules.ValidParts.{GoesOn, IsEndWithin, IsSecondWithin, IsValidPart, IsWithin}
 use Rattle.cal_spec.specs.rules.WeekdayRuns.{run_text, runs_text, weekdays_text}
-use Rattle.cal_spec.specs.computed.ParsedSuffix.{IsSuffixOption}
-use Rattle.cal_spec.specs.rules.ZoneSuffix.{ZoneSuffix, suffix_text}
+use Rattle.cal_spec.specs.rules.ZoneSuffix.{IsSuffixOption, ZoneSuffix, suffix_text}
 use Rattle.cal_spec.proofs.SuffixLemmas.{suffix_word}
 use Rattle.cal_spec.specs.declared.field.Part.{Part}
 use Rattle.cal_spec.specs.declared.slot.Slot.{Slot}

@@ -15,7 +15,7 @@ use Rattle.cal_spec.specs.rules.NormalForm.{each, normal_from_end, part_cmp, poi
 use Rattle.cal_rising.specs.rules.Elements.{Has}
 use Rattle.cal_spec.specs.rules.Slot.{day_slot}
 use Rattle.cal_spec.specs.rules.ValidParts.{EndsAfter, IsStep}
-use Rattle.cal_spec.specs.computed.ValidFields.{IsValidFields}
+use Rattle.cal_spec.specs.rules.ValidFields.{IsValidFields}
 use Rattle.cal_spec.specs.declared.field.Part.{Part}
 use Rattle.cal_spec.specs.declared.slot.Slot.{Slot}
 use Rattle.cal_spec.specs.declared.slot.Slot.TheVariants.{Year, Month, Hour, Minute, Second}

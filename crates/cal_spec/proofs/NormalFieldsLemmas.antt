@@ -14,7 +14,7 @@ use Rattle.cal_spec.specs.computed.NormalParts.{AreNormal, AreParts, IsNormal, I
 use Rattle.cal_spec.specs.rules.NormalForm.{AreNormalOf, IsNormalFieldsOf, IsNormalOf, IsNormalSecondOf, IsReduced, IsStarred, each, normal_from_end, part_cmp}
 use Rattle.cal_rising.specs.rules.Elements.{Has}
 use Rattle.cal_spec.specs.rules.Slot.{day_slot}
-use Rattle.cal_spec.specs.computed.ValidFields.{IsValidComponent, IsValidFields}
+use Rattle.cal_spec.specs.rules.ValidFields.{IsValidComponent, IsValidFields}
 use Rattle.cal_spec.specs.rules.ValidParts.{IsValidPart}
 use Rattle.cal_spec.specs.declared.field.Part.{Part}
 use Rattle.cal_spec.specs.declared.slot.Slot.{Slot}

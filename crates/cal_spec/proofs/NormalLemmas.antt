@@ -17,7 +17,7 @@ use Rattle.cal_rising.proofs.OrderLemmas.{contains_from_has, has_from_contains, 
 use Rattle.cal_spec.specs.computed.NormalParts.{part_eq, normal_parts, reduced, IsPart, AreParts, in_order}
 use Rattle.cal_spec.specs.rules.NormalForm.{part_cmp}
 use Rattle.cal_rising.specs.rules.Elements.{Has}
-use Rattle.cal_spec.specs.computed.ValidFields.{IsValidComponent}
+use Rattle.cal_spec.specs.rules.ValidFields.{IsValidComponent}
 use Rattle.cal_spec.specs.rules.ValidParts.{IsValidPart}
 use Rattle.cal_spec.specs.declared.field.Part.{Part}
 use Rattle.cal_spec.specs.declared.slot.Slot.{Slot}

@@ -13,15 +13,15 @@ use Rattle.cal_spec.specs.rules.Fields.{Fields}
 use Rattle.cal_spec.specs.computed.Grammar.{fields_at, fields_in}
 use Rattle.cal_spec.specs.computed.NormalParts.{normal_fields}
 use Rattle.cal_spec.specs.rules.Slot.{day_slot}
-use Rattle.cal_spec.specs.computed.ValidFields.{IsValidFields}
+use Rattle.cal_spec.specs.rules.ValidFields.{IsValidFields}
 use Rattle.cal_spec.specs.rules.WeekdayRuns.{runs_from, runs_text}
 use Rattle.cal_spec.specs.computed.WeekdayLists.{weekdays_in}
 use Rattle.cal_spec.specs.computed.Words.{after_weekdays, date_or_time, roles_of}
 use Rattle.cal_spec.specs.rules.UnparsedTexts.{WordRoles}
 use Rattle.cal_civil.specs.rules.ZoneName.{begins_with_letter}
 use Rattle.cal_civil.specs.rules.OffsetWord.{begins_zone, begins_with_sign, is_sign}
-use Rattle.cal_spec.specs.computed.ParsedSuffix.{IsSuffixOption, suffix_due, suffix_in}
-use Rattle.cal_spec.specs.rules.ZoneSuffix.{ZoneSuffix, suffix_text}
+use Rattle.cal_spec.specs.rules.ZoneSuffix.{IsSuffixOption, ZoneSuffix, suffix_text}
+use Rattle.cal_spec.specs.computed.ParsedSuffix.{suffix_due, suffix_in}
 use Rattle.cal_spec.proofs.SuffixLemmas.{suffix_word, letter_some}
 use Rattle.cal_spec.specs.declared.slot.Slot.TheVariants.{Year, Month, Hour, Minute, Second}
 use Rattle.cal_spec.proofs.LengthLemmas.{AreSmall, expr_length, small_component, small_second}

@@ -10,7 +10,7 @@ use Rattle.cal_civil.specs.rules.OffsetText.{zeros}
 use Rattle.cal_spec.specs.rules.ExprText.{component_text, number_text, optional_text, part_text, parts_text}
 use Rattle.cal_spec.specs.rules.GrammarRule.{IsNumber, IsNext, IsPartText, IsPartOf, IsComponent}
 use Rattle.cal_spec.specs.rules.FullYears.{with_century, with_full_years}
-use Rattle.cal_spec.specs.computed.ValidFields.{IsValidComponent}
+use Rattle.cal_spec.specs.rules.ValidFields.{IsValidComponent}
 use Rattle.cal_spec.specs.rules.ValidParts.{IsEndWithin, IsValidPart}
 use Rattle.cal_spec.specs.declared.field.Part.{Part}
 use Rattle.cal_spec.specs.declared.slot.Slot.{Slot}

@@ -9,7 +9,6 @@ pub mod NormalParts
 pub mod ParsedSuffix
 pub mod Parts
 pub mod Reads
-pub mod ValidFields
 pub mod Views
 pub mod WeekdayLists
 pub mod Words

@@ -10,6 +10,7 @@ pub mod Shorthand
 pub mod Slot
 pub mod SpecFault
 pub mod UnparsedTexts
+pub mod ValidFields
 pub mod ValidParts
 pub mod WeekdayNames
 pub mod WeekdayRuns

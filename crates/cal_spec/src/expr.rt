@@ -41,7 +41,7 @@ impl Expr {
     ghost use Rattle.cal_spec.specs.rules.Match.{matches};
     ghost use Rattle.cal_spec.specs.rules.Members.{sets_of};
     ghost use Rattle.cal_spec.specs.computed.NormalParts.{normal_fields};
-    ghost use Rattle.cal_spec.specs.computed.ValidFields.{IsValidFields};
+    ghost use Rattle.cal_spec.specs.rules.ValidFields.{IsValidFields};
     ghost use Rattle.cal_spec.specs.rules.ZoneSuffix.{name_in, offset_said};
 
     /// Brings parsed fields into their normal form. Doesn't allocate.

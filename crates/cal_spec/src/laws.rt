@@ -13,7 +13,7 @@ ghost use Rattle.cal_spec.specs.rules.Match.{matches};
 ghost use Rattle.cal_spec.specs.rules.Members.{component_has, sets_of};
 ghost use Rattle.cal_spec.specs.computed.NormalParts.{AreNormal, AreParts, IsPart, normal_component, normal_fields, normal_parts, normal_second};
 ghost use Rattle.cal_spec.specs.rules.NormalForm.{AreNormalOf, IsNormalFieldsOf, IsNormalOf, IsNormalSecondOf};
-ghost use Rattle.cal_spec.specs.computed.ValidFields.{IsValidFields};
+ghost use Rattle.cal_spec.specs.rules.ValidFields.{IsValidFields};
 ghost use Rattle.cal_spec.specs.rules.WeekdayRunsRule.{AreWeekdayRuns};
 ghost use Rattle.cal_spec.specs.rules.WeekdayRuns.{Run, runs_from};
 ghost use Rattle.cal_spec.specs.rules.ZoneSuffix.{name_in, offset_said, ZoneSuffix};

@@ -6,7 +6,7 @@ ghost use Rattle.cal_spec.specs.computed.Expr.{expr_in};
 ghost use Rattle.cal_spec.specs.computed.Views.{fields_of, shown_word_roles};
 ghost use Rattle.cal_spec.specs.computed.Grammar.{fields_at, fields_in};
 ghost use Rattle.cal_spec.specs.computed.Reads.{GivesUnlessNoMemory};
-ghost use Rattle.cal_spec.specs.computed.ValidFields.{IsValidFields};
+ghost use Rattle.cal_spec.specs.rules.ValidFields.{IsValidFields};
 ghost use Rattle.cal_spec.specs.computed.WeekdayLists.{weekdays_in};
 
 use crate::date_and_time::{read_date, read_time, room_after};

@@ -16,8 +16,8 @@ use Rattle.cal_zone.proofs.PlaceLemmas.{settle_of-UTC, settle_of-fixed_zone, loc
 use Rattle.cal_zone.proofs.ZoneLemmas.{offset_at-in_range}
 use Rattle.cal_civil.specs.rules.OffsetText.{offset_text, sign_text, zeros}
 use Rattle.cal_zone.specs.rules.InstantText.{zone_word}
-use Rattle.cal_civil.specs.computed.ReadOffset.{AreWholeMinutes, offset_in}
-use Rattle.cal_civil.specs.rules.OffsetWord.{IsOffsetWord}
+use Rattle.cal_civil.specs.rules.OffsetWord.{AreWholeMinutes, IsOffsetWord}
+use Rattle.cal_civil.specs.computed.ReadOffset.{offset_in}
 use Rattle.cal_zone.specs.rules.Place.{settle_of}
 use Rattle.cal_zone.specs.rules.Zone.{is_utc, is_utc_kind, local_shown_at, zone_of, zone_of_kind}
 use Rattle.cal_zone.specs.rules.FixedOffsetZone.{offset_of_seconds, fixed_offset_zone}

@@ -12,9 +12,9 @@ use Rattle.cal_timer.specs.rules.Assignments.{Assignment}
 use Rattle.std.specs.Str.{bytes_eq}
 use Rattle.std.specs.Option.{option_or}
 use Rattle.std.proofs.lemmas.Bool.{and_right, and_parts, false_from_ne_true}
-use Rattle.cal_timer.specs.rules.TimerEntries.{TimerLine, Timer, bad_line, entries, entries_of, entry_of, fault_following, fault_joining, first_fault, lists_of, some_entries, unless_fault}
+use Rattle.cal_timer.specs.rules.TimerEntries.{TimerLine, Timer, bad_line, entries, entries_of, entry_of, fault_following, fault_joining, first_fault, lists_of, some_entries, unless_fault, entries_or_fault}
 use Rattle.cal_timer.specs.rules.TimerText.{excepted, exception_key, has_no_value, is_exception, is_exception_reset, is_expression, is_reset, listed, max_expressions, timer_keys}
-use Rattle.cal_timer.specs.rules.TimerView.{changed, empty_lists, entries_or_fault, with_assignment, resumed, with_list}
+use Rattle.cal_timer.specs.computed.ResumedLists.{changed, empty_lists, with_assignment, resumed, with_list}
 use Rattle.cal_timer.specs.declared.fault.TimerFault.{TimerFault}
 use Rattle.cal_timer.specs.declared.fault.TimerFault.TheVariants.{BadLine}
 use Rattle.cal_timer.proofs.ResumedLemmas.{joined_bad, joined_many, joined_read, resumed_changed, resumed_fault}

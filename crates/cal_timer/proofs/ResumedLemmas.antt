@@ -10,7 +10,7 @@ use Rattle.cal_text.specs.rules.Trim.{trim_matches}
 use Rattle.cal_lines.specs.rules.Lines.{Line, is_blank_or_return}
 use Rattle.cal_timer.specs.rules.TimerEntries.{TimerLine, Timer, bad_line, entry_of}
 use Rattle.cal_timer.specs.rules.TimerText.{is_exception, is_exception_reset, is_expression, is_reset, max_expressions}
-use Rattle.cal_timer.specs.rules.TimerView.{changed, with_assignment, resumed, with_list, with_read}
+use Rattle.cal_timer.specs.computed.ResumedLists.{changed, with_assignment, resumed, with_list, with_read}
 use Rattle.cal_timer.specs.declared.fault.TimerFault.{TimerFault}
 use Rattle.cal_timer.specs.declared.fault.TimerFault.TheVariants.{TooMany}
 

@@ -11,8 +11,8 @@ ghost use Rattle.cal_timer.specs.rules.Assignments.{Assignment, is_header, secti
 ghost use Rattle.cal_lines.specs.rules.Lines.{Line};
 ghost use Rattle.cal_timer.specs.rules.TimerRule.{JudgesTimer};
 ghost use Rattle.cal_timer.specs.declared.fault.TimerFault.{TimerFault};
-ghost use Rattle.cal_timer.specs.rules.TimerEntries.{Timer, lists_of};
-ghost use Rattle.cal_timer.specs.rules.TimerView.{entries_or_fault, resumed};
+ghost use Rattle.cal_timer.specs.rules.TimerEntries.{Timer, lists_of, entries_or_fault};
+ghost use Rattle.cal_timer.specs.computed.ResumedLists.{resumed};
 ghost use Rattle.cal_timer.specs.rules.TimerText.{excepted, is_exception, is_exception_reset, is_expression, is_reset, listed};
 
 /// A line belongs to the section `Timer` if the last header before the line opens this section. Lines before the first

@@ -6,7 +6,8 @@ ghost use Rattle.cal_spec.specs.computed.Expr.{expr_in};
 ghost use Rattle.cal_timer.specs.rules.Assignments as assignments;
 ghost use Rattle.cal_timer.specs.rules.Assignments.{assignments_in};
 ghost use Rattle.cal_lines.specs.rules.LineView.{line_at};
-ghost use Rattle.cal_timer.specs.rules.TimerView.{shown_assignment, changed, empty_lists, with_assignment, resumed, shown};
+ghost use Rattle.cal_timer.specs.rules.TimerView.{shown_assignment, shown};
+ghost use Rattle.cal_timer.specs.computed.ResumedLists.{changed, empty_lists, with_assignment, resumed};
 ghost use Rattle.cal_lines.specs.rules.Lines.{Line, logical_lines};
 ghost use Rattle.cal_timer.specs.rules.TimerEntries.{bad_line, entry_of, some_entries};
 
@@ -171,7 +172,7 @@ fn change(
 
 /// Adds the expression of an assignment to a list. If the list is full, fails with `TooMany` without parsing the
 /// expression.
-#[tactic(auto, unfolding(crate::specs::rules::TimerView::with_assignment))]
+#[tactic(auto, unfolding(crate::specs::computed::ResumedLists::with_assignment))]
 fn add_line(
     alloc: Global,
     list: &mut Vec<TimerLine>,

@@ -4,7 +4,7 @@ ghost use Rattle.std.specs.Prelude.{◌≡◌, ◌++◌, ◌≤ℤ◌, ◌<ℤ�
 ghost use Rattle.cal_text.specs.rules.Separators.{words};
 ghost use Rattle.cal_zone.specs.rules.InstantText.{instant_text};
 ghost use Rattle.cal_spec.specs.rules.ExprText.{expr_text};
-ghost use Rattle.cal_timers_text.specs.rules.Left.{two_units, two_words};
+ghost use Rattle.cal_timers_text.specs.rules.TimeLeft.{two_units, two_words};
 
 use cal_bytes::ShortText;
 use cal_span::{Span, format_span};

@@ -1,5 +1,5 @@
 -- The local second whose place is a given instant: it can only be the local second that the zone's clock shows at this
--- instant. The place of a local second is the second of Unix time at which the clock first shows it.
+-- instant.
 use Rattle.std.proofs.Common.{◌≡◌, None, Some, ℤ, pos, ◌≤ℤ◌, ◌<ℤ◌, arith}
 use Rattle.jiff.proofs.SpanFacts.{signed_arith}
 use Rattle.jiff.specs.Types.{TimeZone}

@@ -110,8 +110,7 @@ ambiguous_between z from local day some begun within =
     grind (arith, signed_arith, civil_seconds-datetime_of, civil_count_stays, outside, no_rule)
 
 -- if `local` is at least 93,599 seconds after `from`, and more than 93,599 seconds before the next transition after
--- `from`, then its place, the second of Unix time at which the clock first shows it, is `local` minus the UTC offset at
--- `from`
+-- `from`, then its place is `local` minus the UTC offset at `from`
 pub place_of-between : (z : Table) (from local : ℤ) → IsLocalSecond local → count_at z from < vec_len z.transitions → (from +ℤ pos 93_599) ≤ℤ local
     → (local +ℤ pos 93_599) <ℤ (transition_at z (count_at z from)).second
     → place_of (zone_of_table z) local ≡ Some (local -ℤ (type_after z (count_at z from)).offset.seconds)

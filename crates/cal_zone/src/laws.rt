@@ -1,7 +1,8 @@
 //! Laws of local seconds, dates, zones and offsets, for the proofs of other crates.
 //!
 //! A law is a function that does nothing at run time. Its contract states a fact, and a proof uses this fact by naming
-//! the function. The place of a local second is the second of Unix time at which a zone's clock first shows it.
+//! the function. The place of a local second is the second of Unix time that it is converted to, if the zone's clock
+//! shows it then.
 ghost use Rattle.std.specs.Prelude.{◌≡◌, ℕ, ◌/◌, ◌<◌, ℤ, pos, ◌≤ℤ◌, ◌<ℤ◌, ◌+ℤ◌, ◌-ℤ◌, ◌*ℤ◌, List, Some, None, false};
 ghost use Rattle.std.specs.FinMap.{insert};
 ghost use Rattle.jiff.specs.Types.{Date, Fold, Gap, Offset, TimeZone, UTC, Unambiguous};
@@ -9,8 +10,8 @@ ghost use Rattle.jiff.specs.Words.{ambiguous_at, civil_nanos, epoch_day, fixed_z
 ghost use Rattle.cal_civil.specs.rules.Days.{date_of};
 ghost use Rattle.cal_civil.specs.rules.OffsetText.{offset_text};
 ghost use Rattle.cal_civil.specs.rules.LocalSecond.{civil_date, day_of, seconds_in_all, seconds_per_day, first_year, last_year};
-ghost use Rattle.cal_civil.specs.computed.ReadOffset.{AreWholeMinutes, offset_in};
-ghost use Rattle.cal_civil.specs.rules.OffsetWord.{IsOffsetWord};
+ghost use Rattle.cal_civil.specs.rules.OffsetWord.{AreWholeMinutes, IsOffsetWord};
+ghost use Rattle.cal_civil.specs.computed.ReadOffset.{offset_in};
 ghost use Rattle.cal_zone.specs.computed.PlaceAt.{place_at};
 ghost use Rattle.cal_zone.specs.rules.Place.{datetime_of, place_of, settle_of};
 ghost use Rattle.cal_zone.specs.rules.Zone.{local_shown_at};

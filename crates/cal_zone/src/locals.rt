@@ -1,5 +1,5 @@
-//! Conversion from instants back to local seconds. The place of a local second is the instant at which the zone's clock
-//! first shows it.
+//! Conversion from instants back to local seconds. The place of a local second is the second of Unix time that it is
+//! converted to, if the zone's clock shows it then.
 
 ghost use Rattle.std.specs.Prelude.{◌≡◌};
 ghost use Rattle.cal_zone.specs.computed.PlaceAt.{IsLocalAt};

@@ -1,6 +1,6 @@
--- Which words are parsed as zones, and how `+hh:mm` and `-hh:mm` are parsed as UTC offsets. These two forms are this
--- project's own. For where a zone is allowed, see systemd.time(7), Calendar Events and Parsing Timestamps.
-use Rattle.std.specs.Prelude.{ℕ, ℤ, ◌+◌, ◌*◌, ◌≤◌, ◌%◌, ◌≡◌, ◌&&◌, ◌==◌, pos, neg_ℤ, unsigned_abs, nat_le, if◌then◌else◌, List, [], ◌∷◌, Option, None, Some, option_map}
+-- How `+hh:mm` and `-hh:mm` are parsed as UTC offsets. These two forms are this project's own. For where a zone is
+-- allowed, see systemd.time(7), Calendar Events and Parsing Timestamps.
+use Rattle.std.specs.Prelude.{ℕ, ℤ, ◌+◌, ◌*◌, ◌&&◌, ◌==◌, pos, neg_ℤ, nat_le, if◌then◌else◌, List, [], ◌∷◌, Option, None, Some, option_map}
 use Rattle.std.specs.Char.{is_ascii_digit}
 use Rattle.std.specs.Str.Parse.{digits_value}
 
@@ -27,8 +27,3 @@ offset_in [] = None
 offset_in (sign ∷ clock) =
     if sign == 43 then option_map pos (hour_minute_in clock)
     else (if sign == 45 then option_map (λ seconds. neg_ℤ (pos seconds)) (hour_minute_in clock) else None)
-
--- a UTC offset that a word can stand for: a whole number of minutes, at most 25:59 east or west of UTC
-pub record AreWholeMinutes (seconds : ℤ) : Type 0 where
-  pub near : unsigned_abs seconds ≤ 93_540
-  pub whole : unsigned_abs seconds % 60 ≡ 0

@@ -1,6 +1,6 @@
 -- Fixed UTC offsets, `+hh:mm` or `-hh:mm`. They can be written instead of the name of a zone. This form is this
 -- project's own. For where the name of a zone is allowed, see systemd.time(7), Calendar Events and Parsing Timestamps.
-use Rattle.std.specs.Prelude.{ℕ, ℤ, ◌+◌, ◌*◌, ◌≤◌, ◌≡◌, ◌⊎◌, ◌||◌, ◌==◌, Bool, true, false, pos, neg_ℤ, List, [], ◌∷◌, ◌++◌, length, codes}
+use Rattle.std.specs.Prelude.{ℕ, ℤ, ◌+◌, ◌*◌, ◌≤◌, ◌≡◌, ◌⊎◌, ◌||◌, ◌==◌, Bool, true, false, pos, neg_ℤ, List, [], ◌∷◌, ◌++◌, length, codes, ◌%◌, unsigned_abs}
 use Rattle.std.specs.Char.{is_ascii_digit}
 use Rattle.std.specs.List.{list_all}
 use Rattle.std.specs.Str.Parse.{digits_value}
@@ -44,3 +44,8 @@ pub record IsOffsetWord (word : List ℕ) (seconds : ℤ) : Type 0 where
 -- whether a word, at a position where a zone is allowed, is parsed as a zone: it begins with a letter or a sign
 abbrev pub begins_zone : List ℕ → Bool
 begins_zone word = begins_with_letter word || begins_with_sign word
+
+-- a UTC offset that a word can stand for: a whole number of minutes, at most 25:59 east or west of UTC
+pub record AreWholeMinutes (seconds : ℤ) : Type 0 where
+  pub near : unsigned_abs seconds ≤ 93_540
+  pub whole : unsigned_abs seconds % 60 ≡ 0

@@ -10,8 +10,8 @@ use Rattle.cal_spec.specs.rules.Fields.{Fields}
 use Rattle.cal_spec.specs.rules.Match.{matches}
 use Rattle.cal_spec.specs.rules.Members.{sets_of}
 
--- The meaning of an expression in a zone: which local seconds match, and the place of each local second. The place is
--- the instant to which the local second resolves, or `None` if the zone's clock skips it.
+-- The meaning of an expression in a zone: which local seconds match, and the place of each local second, or
+-- `None` if it has no place.
 pub record Timed : Type 0 where
   pub matches : ℕ → Bool
   pub place : ℕ → Option ℤ

@@ -6,8 +6,7 @@ use Rattle.cal_civil.specs.rules.LocalSecond.{seconds_in_all}
 use Rattle.cal_rising.specs.rules.RisingList.{union, without}
 use Rattle.cal_elapse.specs.rules.Elapses.{Timed}
 
--- the elapse set of an expression: the places of all local seconds that match; the place of a local second is the
--- instant at which the zone's clock first shows it
+-- the elapse set of an expression: the places of all local seconds that match
 unfoldable pub places : Timed → List ℤ
 places e = filter_map e.place (filter e.matches (range_with_len 0 seconds_in_all))
 

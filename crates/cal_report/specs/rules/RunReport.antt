@@ -9,6 +9,7 @@ use Rattle.cal_zone.specs.declared.instant.Instant.{Instant}
 use Rattle.cal_timer.specs.rules.TimerEntries.{ReadsWhole, timer_file_limit}
 use Rattle.cal_stamp.specs.rules.StampFault.{message_of}
 use Rattle.cal_stamp.specs.declared.fault.StampFault.{StampFault}
+use Rattle.cal_report.specs.rules.BaseTime.{IsBase}
 use Rattle.cal_report.specs.rules.Answer.{Answer, IsAnsweredBefore, error_line, reports_text, error_lines, texts_status}
 use Rattle.cal_request.specs.rules.RequestKind.{RequestKind, for_file, for_texts, kind_of}
 use Rattle.cal_request.specs.rules.Request.{Request}
@@ -72,17 +73,26 @@ report_on asked read (for_file name) = file_report asked name read
 unfoldable pub report : Request → Result (List ℕ) WholeFault → Report
 report asked read = report_on asked read (kind_of asked)
 
--- `read` is what reading a timer file returned: all of its bytes, or why reading them failed. The file is read only if
--- the base time is valid. If the base time is invalid, the file stays unchanged, and `read` is an empty list of bytes.
+-- the input stays unchanged, and `read` is an empty list of bytes
+abbrev pub IsUnread : Option (List ℕ) → Option (List ℕ) → Result (List ℕ) WholeFault → Type 0
+IsUnread old new read = (new ≡ old) × (read ≡ Ok [])
+
+-- `read` is what reading a timer file returned, given the result of parsing the base time: all bytes of the file, or why
+-- reading them failed. If the base time is invalid, the file stays unchanged, and `read` is an empty list of bytes.
 abbrev pub ReadsFile : Result ℤ StampFault → Option (List ℕ) → Option (List ℕ) → Result (List ℕ) WholeFault → Type 0
 ReadsFile (Ok base) old new read = ReadsWhole old new timer_file_limit read
-ReadsFile (Err fault) old new read = (new ≡ old) × (read ≡ Ok [])
+ReadsFile (Err fault) old new read = IsUnread old new read
 
--- `read` is what reading the input returned. If the request is for texts, the input stays unchanged, and `read` is an
--- empty list of bytes.
-abbrev pub ReadsFor : RequestKind → Result ℤ StampFault → Option (List ℕ) → Option (List ℕ) → Result (List ℕ) WholeFault → Type 0
-ReadsFor (for_texts verb texts) base old new read = (new ≡ old) × (read ≡ Ok [])
-ReadsFor (for_file name) base old new read = ReadsFile base old new read
+-- `read` is what reading the timer file returned: all of its bytes, or why reading them failed. The file is read if and
+-- only if the request has a base time.
+pub record ReadsIfBased (asked : Request) (old new : Option (List ℕ)) (read : Result (List ℕ) WholeFault) : Type 0 where
+  pub based : (base : ℤ) → IsBase asked base → ReadsWhole old new timer_file_limit read
+  pub baseless : ((base : ℤ) → IsBase asked base → ⊥) → IsUnread old new read
+
+-- `read` is what reading the input returned; only a request for a timer file reads it
+abbrev pub ReadsFor : RequestKind → Request → Option (List ℕ) → Option (List ℕ) → Result (List ℕ) WholeFault → Type 0
+ReadsFor (for_texts verb texts) asked old new read = IsUnread old new read
+ReadsFor (for_file name) asked old new read = ReadsIfBased asked old new read
 
 -- The bytes that a run wrote and its `result` agree with `report`. If the run returns `Ok`, it wrote the whole report
 -- and returns the report's status, and reading the input didn't run out of memory. If the run returns an error, it
@@ -99,7 +109,7 @@ pub record IsReported (result : Result Status RunFault) (out_old out_new err_old
 -- the input has failed, is true if and only if `read` says that a read failed.
 pub record ByReading (asked : Request) (old new : Option (List ℕ)) (failed : Bool) (holds_of : Result (List ℕ) WholeFault → Report → Type 0) : Type 0 where
   pub read : Result (List ℕ) WholeFault
-  pub input : ReadsFor (kind_of asked) (base_in asked) old new read
+  pub input : ReadsFor (kind_of asked) asked old new read
   pub fails : failed ≡ is_read_failed read
   pub holds : holds_of read (report asked read)
 

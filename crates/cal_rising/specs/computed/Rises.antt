@@ -1,5 +1,6 @@
 -- Proofs that a list stays strictly increasing if a number is inserted or numbers are left out, and that the union of
--- lists is always strictly increasing. The implementations of `Rising` use these proofs.
+-- lists is always strictly increasing. The remaining numbers of a source carry such a proof, so the proofs are here and
+-- not in `proofs`.
 use Rattle.std.specs.Prelude.{◌≡◌, not, List, [], ◌∷◌, ℤ}
 use Rattle.std.specs.BTreeSet.{insert_key}
 use Rattle.std.specs.Cmp.{IsTotalOrder, int_cmp_total}

@@ -1,5 +1,6 @@
 -- What the value of a time span is, stated as a rule and not as a computation: systemd.time(7), Parsing Time Spans. The
 -- law `one_value`, a statement that is proved for all texts, says that the functions of `SpanValue` follow this rule.
+-- The rule shares with them the characters of a text and the value of one pair (`PairValue`).
 use Rattle.std.specs.Prelude.{ℕ, ◌⊎◌, ◌+◌, ◌<◌, ◌≤◌, ◌≡◌, ⊤, false, not, List, [], ◌∷◌, ◌++◌, length, filter, Some, None, Result, Ok, Err}
 use Rattle.std.specs.List.{AllByRecursion, flat_map}
 use Rattle.cal_span.specs.declared.span.fault.SpanFault.{SpanFault}
@@ -95,10 +96,10 @@ Judges ps (Err fault) = IsFirstFault ps fault
 -- The characters of the text make up runs, each as long as possible. Without the runs of blanks, these runs form the
 -- pairs `pairs`.
 pub record HasPairs (text : List ℕ) (pairs : List Pair) : Type 0 where
-  pub words : List Piece
-  pub cut : AreRuns (characters text) words
-  pub apart : AreApart words
-  pub paired : ArePairs (filter (λ w. not (is_kind Blank w.kind)) words) pairs
+  pub runs : List Piece
+  pub cut : AreRuns (characters text) runs
+  pub apart : AreApart runs
+  pub paired : ArePairs (filter (λ w. not (is_kind Blank w.kind)) runs) pairs
 
 -- the text, read as a time span, has this value in microseconds (`Ok`) or this error (`Err`)
 pub record HasSpanValue (text : List ℕ) (result : Result ℕ SpanFault) : Type 0 where

@@ -5,7 +5,7 @@ use Rattle.cal_spec.specs.rules.Fields.{Fields}
 use Rattle.cal_spec.specs.computed.Grammar.{fields_in}
 use Rattle.cal_spec.specs.computed.NormalParts.{normal_fields}
 use Rattle.cal_text.specs.rules.AndThen.{◌>>=◌}
-use Rattle.cal_spec.specs.computed.ValidFields.{IsValidFields}
+use Rattle.cal_spec.specs.rules.ValidFields.{IsValidFields}
 use Rattle.cal_spec.specs.declared.field.Field.{Field}
 use Rattle.cal_spec.specs.declared.field.Field.TheVariants as field
 use Rattle.cal_spec.specs.declared.field.Part.{Part}

@@ -1,7 +1,7 @@
 -- Parsing of the zone at the end of a calendar expression: a name (systemd.time(7), Calendar Events), or a UTC offset,
 -- which systemd doesn't accept.
-use Rattle.std.specs.Prelude.{ℕ, ◌≡◌, true, if◌then◌else◌, List, [], ◌∷◌, Option, None, Some, option_map, Result, Ok, Err}
-use Rattle.cal_civil.specs.computed.ReadOffset.{AreWholeMinutes, offset_in}
+use Rattle.std.specs.Prelude.{ℕ, if◌then◌else◌, List, [], ◌∷◌, Option, None, Some, option_map, Result, Ok, Err}
+use Rattle.cal_civil.specs.computed.ReadOffset.{offset_in}
 use Rattle.cal_civil.specs.rules.ZoneName.{is_zone_name}
 use Rattle.cal_spec.specs.declared.spec_fault.SpecFault.{SpecFault}
 use Rattle.cal_spec.specs.declared.spec_fault.SpecFault.TheVariants.{StrayWord}
@@ -20,12 +20,3 @@ abbrev pub suffix_in : List (List ℕ) → Result (Option ZoneSuffix) SpecFault
 suffix_in [] = Ok None
 suffix_in (word ∷ []) = suffix_due (suffix_of word)
 suffix_in words = Err StrayWord
-
--- there is a word that is parsed as this zone
-abbrev pub IsSuffix : ZoneSuffix → Type 0
-IsSuffix (of_name name) = (is_zone_name name ≡ true) × (kept_name name ≡ name)
-IsSuffix (at_offset seconds) = AreWholeMinutes seconds
-
-abbrev pub IsSuffixOption : Option ZoneSuffix → Type 0
-IsSuffixOption None = Unit {0}
-IsSuffixOption (Some suffix) = IsSuffix suffix

@@ -1,5 +1,6 @@
 -- The normal form of a calendar expression: systemd.time(7), Calendar Events. Each range ends at the last number that
--- it reaches, and parts are sorted, without duplicates. Parts that overlap are kept.
+-- it reaches, and parts are sorted, without duplicates. Parts that overlap are kept. In the seconds, a single part `0/1`
+-- becomes `*`, and days `~*` become `-*`. A text spells fields (`Spells`) if they are the normal form of its own.
 use Rattle.std.specs.Prelude.{◌≡◌, ◌==◌, ℕ, ◌+◌, ◌-◌, ◌%◌, ◌<◌, ◌≤◌, Bool, false, if◌then◌else◌, List, [], ◌∷◌, Option, None, Some, unwrap_or}
 use Rattle.std.specs.List.Sorted.{IsStrictlySortedBy}
 use Rattle.std.specs.Option.{option_cmp}
@@ -39,6 +40,7 @@ abbrev pub IsReducedTo : ℕ → Option ℕ → Option ℕ → Part → Type 0
 IsReducedTo a None step q = q ≡ record { start = a; end = None; step = step }
 IsReducedTo a (Some b) step q = (e : ℕ) × IsLastReached a b (step_of step) e × (q ≡ range_to a e step)
 
+-- `q` is the normal form of the part `p`
 unfoldable pub IsReduced : Part → Part → Type 0
 IsReduced p q = IsReducedTo p.start p.end p.step q
 
@@ -69,6 +71,7 @@ abbrev pub IsStarred : List Part → Option (List Part) → Type 0
 IsStarred ps None = ps ≡ each ∷ []
 IsStarred ps (Some qs) = (qs ≡ ps) × (ps ≡ each ∷ [] → ⊥)
 
+-- the normal form of the seconds
 abbrev pub IsNormalSecondOf : Option (List Part) → Option (List Part) → Type 0
 IsNormalSecondOf None normal = normal ≡ None
 IsNormalSecondOf (Some raw) normal = (ps : List Part) × AreNormalOf raw ps × IsStarred ps normal

@@ -1,4 +1,5 @@
--- The weekdays that the items of a weekday list name: systemd.time(7), Calendar Events.
+-- The weekdays that words name, in timestamps and in the items of a weekday list: systemd.time(7), Calendar Events and
+-- Parsing Timestamps.
 use Rattle.std.specs.Prelude.{ℕ, ◌==◌, Bool, not, ◌&&◌, ◌||◌, if◌then◌else◌, List, [], ◌∷◌, take, drop, Option, None, Some}
 use Rattle.std.specs.List.{find, position_or_len}
 use Rattle.std.specs.Option.{option_map}
@@ -45,6 +46,7 @@ abbrev pub days_by : Option Weekday → List ℕ → Option WeekdayRange
 days_by None after = None
 days_by (Some first) after = days_from first after
 
--- parses an item: the name of a weekday, or two names joined by `..` or `-`; None if it is anything else
+-- the days that an item names: one weekday, or the days between two weekdays that are joined by `..` or `-`; None for
+-- any other item
 unfoldable pub days_of : List ℕ → Option WeekdayRange
 days_of item = days_by (day_named (leading_letters item)) (after_letters item)

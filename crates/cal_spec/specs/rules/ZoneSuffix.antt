@@ -1,8 +1,9 @@
 -- The zone at the end of a calendar expression: a name (systemd.time(7), Calendar Events), or a UTC offset, which
 -- systemd doesn't accept.
-use Rattle.std.specs.Prelude.{ℕ, ℤ, if◌then◌else◌, List, codes, Option, None, Some}
+use Rattle.std.specs.Prelude.{ℕ, ℤ, if◌then◌else◌, List, codes, Option, None, Some, ◌≡◌, true}
 use Rattle.cal_civil.specs.rules.OffsetText.{offset_text}
-use Rattle.cal_civil.specs.rules.ZoneName.{is_utc_name}
+use Rattle.cal_civil.specs.rules.ZoneName.{is_utc_name, is_zone_name}
+use Rattle.cal_civil.specs.rules.OffsetWord.{AreWholeMinutes}
 
 -- the name of a zone, or a UTC offset in seconds
 pub data ZoneSuffix : Type 0 where
@@ -29,3 +30,12 @@ abbrev pub offset_said : Option ZoneSuffix → Option ℤ
 offset_said None = None
 offset_said (Some (of_name name)) = None
 offset_said (Some (at_offset seconds)) = Some seconds
+
+-- there is a word that is parsed as this zone
+abbrev pub IsSuffix : ZoneSuffix → Type 0
+IsSuffix (of_name name) = (is_zone_name name ≡ true) × (kept_name name ≡ name)
+IsSuffix (at_offset seconds) = AreWholeMinutes seconds
+
+abbrev pub IsSuffixOption : Option ZoneSuffix → Type 0
+IsSuffixOption None = Unit {0}
+IsSuffixOption (Some suffix) = IsSuffix suffix

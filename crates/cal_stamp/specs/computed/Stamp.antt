@@ -51,8 +51,8 @@ before_second second (Err fault) = Err (BadSpan fault)
 unfoldable pub today : ℤ → TimeZone → ℤ
 today now zone = day_of (local_shown_at zone now)
 
--- The moment at which the zone's clock shows a time of day on this day, or `OutOfRange`. `micros` is the time of day,
--- in microseconds since midnight on the clock. A local time in a gap is moved forward by the length of the gap, and for
+-- The moment to which a time of day on this day is settled, or `OutOfRange`. `micros` is the time of day, in
+-- microseconds since midnight on the zone's clock. A local time in a gap is moved forward by the length of the gap, and for
 -- a local time in a fold the first occurrence is used.
 unfoldable pub settle_on : TimeZone → ℤ → ℕ → Result ℤ StampFault
 settle_on zone day micros =
@@ -131,6 +131,7 @@ moment_of_civil_stamp now c =
 
 -- Timestamps of all forms
 
+-- the moment of a timestamp of this form, or its error
 abbrev pub moment_of_form : ℤ → Setting → Form → Result ℤ StampFault
 moment_of_form now at nothing = Err Empty
 moment_of_form now at present = in_moments (micros_of now)

@@ -1,5 +1,6 @@
 -- What a civil time is, stated as a rule and not as a computation: systemd.time(7), Parsing Timestamps. The law
--- `one_civil_time`, a statement that is proved for all words, says that the functions of `Stamp` follow this rule.
+-- `one_civil_time`, a statement that is proved for all words, says that the functions of `Stamp` follow this rule. The
+-- rule shares with them the functions for single words, such as `day_written`.
 use Rattle.std.specs.Prelude.{ℕ, ◌≡◌, ◌⊎◌, ◌||◌, true, ℤ, List, [], ◌∷◌, ◌++◌, Option, None, Some, is_some, Ok, Err}
 use Rattle.std.specs.Option.{option_to_list}
 use Rattle.jiff.specs.Types.{TimeZone, Weekday}

@@ -42,9 +42,9 @@ abbrev pub FallsOn : Option Weekday → ℤ → Type 0
 FallsOn None day = Unit
 FallsOn (Some weekday) day = (week : ℤ) × (day +ℤ pos 3 ≡ week *ℤ pos 7 +ℤ pos (monday_zero weekday))
 
--- At the time `time`, the zone's clock shows a time of day on the day `day`. `micros` is the time of day, in
--- microseconds since midnight on the clock. A local time in a gap is moved forward by the length of the gap, and for a
--- local time in a fold the first occurrence is used.
+-- `time` is the time to which a time of day on the day `day` is settled. `micros` is the time of day, in microseconds
+-- since midnight on the zone's clock. A local time in a gap is moved forward by the length of the gap, and for a local
+-- time in a fold the first occurrence is used.
 pub record IsTimeOfDay (zone : TimeZone) (day : ℤ) (micros : ℕ) (time : ℤ) : Type 0 where
   pub second : ℕ
   pub rest : ℕ

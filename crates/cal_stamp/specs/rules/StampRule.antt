@@ -1,7 +1,7 @@
 -- The forms of timestamps, and which of them a text has, stated as a rule and not as a computation: systemd.time(7),
 -- Parsing Timestamps. The law `one_form`, a statement that is proved for all texts, says that the functions of
--- `StampForm` follow this rule. The seven forms are tried in the order in which they are defined below; `core` is the
--- text without leading and trailing blanks.
+-- `StampForm` follow this rule. The cases are tried in the order in which they are defined below; `core` is the text
+-- without leading and trailing blanks.
 use Rattle.std.specs.Prelude.{ℕ, ◌≡◌, ◌⊎◌, true, ℤ, pos, neg_ℤ, List, [], ◌∷◌, ◌++◌, codes}
 use Rattle.cal_text.specs.rules.TrimRule.{IsTrimmed}
 use Rattle.cal_text.specs.rules.Separators.{is_blank, words}
@@ -18,30 +18,30 @@ pub data Form : Type 0 where
   from_today : ℤ → List (List ℕ) → Form
   civil : List (List ℕ) → Form
 
--- form 1: an empty text
+-- an empty text
 abbrev pub IsNothing : List ℕ → Form → Type 0
 IsNothing core form = (core ≡ []) × (form ≡ nothing)
 
--- form 2: the word `now` and nothing else
+-- the word `now` and nothing else
 abbrev pub IsPresent : List ℕ → Form → Type 0
 IsPresent core form = (core ≡ codes "now") × (form ≡ present)
 
--- Form 3, with the sign `+` or `-`, and form 4, with `@`: a sign and a time span. So `+02:00` at the beginning of a
--- text isn't a UTC offset: it is read as a sign and a time span.
+-- The sign `+`, `-` or `@`, and a time span. So `+02:00` at the beginning of a text isn't a UTC offset: it is read as a
+-- sign and a time span.
 abbrev pub IsBehindSign : List ℕ → (List ℕ → Form) → List ℕ → Form → Type 0
 IsBehindSign sign means core form = (span : List ℕ) × (core ≡ sign ++ span) × (form ≡ means span)
 
--- form 5: a time span, a blank and the given word (`left` or `ago`)
+-- a time span, a blank and the given word (`left` or `ago`)
 abbrev pub IsBeforeWord : List ℕ → (List ℕ → Form) → List ℕ → Form → Type 0
 IsBeforeWord word means core form =
     (span : List ℕ) × (blank : ℕ) × (is_blank blank ≡ true) × (core ≡ span ++ (blank ∷ word)) × (form ≡ means span)
 
--- form 6: `today`, `yesterday` or `tomorrow`, and after it the words for a zone, if there are any
+-- `today`, `yesterday` or `tomorrow`, and after it the words for a zone, if there are any
 abbrev pub IsRelativeDay : List ℕ → ℤ → List ℕ → Form → Type 0
 IsRelativeDay word shift core form =
     (after : List (List ℕ)) × (words core ≡ word ∷ after) × (form ≡ from_today shift after)
 
--- form 7: any words; they are parsed as a civil time
+-- any words; they are parsed as a civil time
 abbrev pub IsCivilForm : List ℕ → Form → Type 0
 IsCivilForm core form = form ≡ civil (words core)
 
@@ -49,24 +49,24 @@ IsCivilForm core form = form ≡ civil (words core)
 abbrev pub OrElse : (List ℕ → Form → Type 0) → (List ℕ → Form → Type 0) → List ℕ → Form → Type 0
 OrElse P Q core form = P core form ⊎ (((other : Form) → P core other → ⊥) × Q core form)
 
--- the first of the forms 6 and 7 that matches
+-- a relative day, or else a civil time
 abbrev pub FitsByWords : List ℕ → Form → Type 0
 FitsByWords =
     OrElse (IsRelativeDay (codes "today") (pos 0))
     (OrElse (IsRelativeDay (codes "yesterday") (neg_ℤ (pos 1)))
     (OrElse (IsRelativeDay (codes "tomorrow") (pos 1)) IsCivilForm))
 
--- the first of the forms 5 to 7 that matches
+-- a time span before `left` or `ago`, or else one of the cases of `FitsByWords`
 abbrev pub FitsByEnd : List ℕ → Form → Type 0
 FitsByEnd = OrElse (IsBeforeWord (codes "left") later) (OrElse (IsBeforeWord (codes "ago") earlier) FitsByWords)
 
--- the first of the forms 3 to 7 that matches
+-- a time span after a sign, or else one of the cases of `FitsByEnd`
 abbrev pub FitsBySign : List ℕ → Form → Type 0
 FitsBySign =
     OrElse (IsBehindSign (codes "+") later)
     (OrElse (IsBehindSign (codes "-") earlier) (OrElse (IsBehindSign (codes "@") counted) FitsByEnd))
 
--- the first of the seven forms that matches
+-- the first case that matches
 abbrev pub FitsFirst : List ℕ → Form → Type 0
 FitsFirst = OrElse IsNothing (OrElse IsPresent FitsBySign)
 

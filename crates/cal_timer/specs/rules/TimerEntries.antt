@@ -9,11 +9,11 @@ use Rattle.cal_timer.specs.rules.Assignments.{Assignment, assignments_in}
 use Rattle.cal_lines.specs.rules.Lines.{logical_lines}
 use Rattle.cal_streams.specs.rules.Whole.{GivesAll, IsWholeFault}
 use Rattle.cal_streams.specs.declared.whole.WholeFault.{WholeFault}
-use Rattle.cal_streams.specs.declared.whole.WholeFault.TheVariants as whole
 use Rattle.cal_spec.specs.declared.spec_fault.SpecFault.{SpecFault}
 use Rattle.cal_timer.specs.declared.fault.TimerFault.{TimerFault}
 use Rattle.cal_timer.specs.declared.fault.TimerFault.TheVariants.{ReadFailed, TooLarge, NotUtf8, BadLine, TooMany, NothingToDo, NoMemory}
 use Rattle.cal_timer.specs.rules.TimerText.{excepted, is_exception, is_expression, listed, max_expressions, without_mark}
+use Rattle.cal_streams.specs.declared.whole.WholeFault.TheVariants as whole
 
 -- an entry of the list of expressions or of exceptions: the number of its line, its text, and the parsed expression
 pub record TimerLine (E : Type 0) : Type 0 where
@@ -113,3 +113,8 @@ timer_file_limit = 1_048_576
 abbrev pub ReadsWhole : Option (List ℕ) → Option (List ℕ) → ℕ → Result (List ℕ) WholeFault → Type 0
 ReadsWhole old new limit (Ok bytes) = GivesAll old new limit bytes
 ReadsWhole old new limit (Err fault) = IsWholeFault old new limit fault
+
+-- the entries of both lists, or the first error; unlike in `lists_of`, it is not an error if the list of expressions is
+-- empty
+unfoldable pub entries_or_fault : {E : Type 0} → (List ℕ → Result E SpecFault) → List Assignment → Result (Timer E) TimerFault
+entries_or_fault read assignments = unless_fault (first_fault read [] assignments) (Ok (entries read assignments))

@@ -1,5 +1,4 @@
--- Ranges of local seconds with a constant UTC offset. The place of a local second is the second of Unix time at which a
--- zone's clock first shows it.
+-- Ranges of local seconds with a constant UTC offset.
 use Rattle.std.specs.Prelude.{◌≡◌, ◌⊎◌, ◌<◌, ℕ, ℤ, pos, ◌+ℤ◌, ◌-ℤ◌, ◌*ℤ◌, ◌≤ℤ◌, ◌<ℤ◌, Option, Some, vec_len}
 use Rattle.jiff.specs.Types.{Offset, TimeZone}
 use Rattle.jiff.specs.Words.{ambiguous_at, nanos_of_seconds, offset_at}

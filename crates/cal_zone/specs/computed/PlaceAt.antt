@@ -1,6 +1,5 @@
 -- Trying one UTC offset to find the place of a local second, and the local second whose place is a given instant:
--- systemd.time(7), Calendar Events. The place of a local second is the second of Unix time at which a zone's clock
--- first shows it.
+-- systemd.time(7), Calendar Events.
 use Rattle.std.specs.Prelude.{ℤ, ◌-ℤ◌, Option, Some, None, if◌then◌else◌, ◌≡◌}
 use Rattle.std.specs.Ordering.{int_eq}
 use Rattle.jiff.specs.Types.{Offset, TimeZone}

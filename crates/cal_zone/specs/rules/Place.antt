@@ -33,7 +33,7 @@ unfoldable pub settle_of : TimeZone → ℤ → ℤ
 settle_of tz local = local -ℤ (compatible_offset (ambiguous_at tz (datetime_of local))).seconds
 
 -- The place of a local second: the second of Unix time that it is converted to, if the zone's clock shows the local
--- second then. So a local second that the clock skips has no place, and the place of one that the clock shows twice is
--- its first occurrence.
+-- second then. So a local second that the clock skips has no place. If the clock shows it twice, the conversion picks
+-- the first occurrence.
 unfoldable pub place_of : TimeZone → ℤ → Option ℤ
 place_of tz local = if int_eq (local_shown_at tz (settle_of tz local)) local then Some (settle_of tz local) else None

@@ -1,7 +1,8 @@
 use Rattle.std.proofs.Common.{◌≡◌, ◌∙◌, ◌++◌, ap, false, map}
 use Rattle.cal_spec.specs.computed.Expr.{expr_in}
 use Rattle.cal_timer.specs.rules.TimerView.{shown_assignment}
-use Rattle.cal_read.specs.rules.TimerFaults.{counted_faults, counts_over, in_file}
+use Rattle.cal_read.specs.computed.CountedFaults.{counted_faults, counts_over}
+use Rattle.cal_read.specs.rules.TimerFaults.{in_file}
 use Rattle.cal_read.specs.rules.TimerTexts.{assignments_at}
 use Rattle.cal_read.proofs.SectionAssignmentsLemmas.{assignments_of_timer}
 use Rattle.cal_read.proofs.TimerFaultsLemmas.{ended_counts, ended_faults, step_counts, step_faults}

@@ -2,7 +2,8 @@
 -- assignments as well gives the counts after the text.
 use Rattle.std.proofs.Common.{◌≡◌, ◌++◌, length, map}
 use Rattle.cal_spec.specs.computed.Expr.{expr_in}
-use Rattle.cal_read.specs.rules.TimerFaults.{counted_faults, counts_over, in_file}
+use Rattle.cal_read.specs.computed.CountedFaults.{counted_faults, counts_over}
+use Rattle.cal_read.specs.rules.TimerFaults.{in_file}
 use Rattle.cal_read.specs.rules.TimerTexts.{assignments_at}
 use Rattle.cal_read.proofs.faults.take_faults.Given as goal
 

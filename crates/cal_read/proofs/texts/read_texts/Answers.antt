@@ -1,6 +1,6 @@
 use Rattle.std.proofs.Common.{◌≡◌, ◌<◌, ◌∙◌, ap, sym, arith, length, Ok, Err}
 use Rattle.cal_spec.specs.computed.Expr.{expr_in}
-use Rattle.cal_timer.specs.rules.TimerView.{resumed}
+use Rattle.cal_timer.specs.computed.ResumedLists.{resumed}
 use Rattle.cal_timer.proofs.ListedLemmas.{first_from_entries, first_from_fault, lists_from_entries, lists_from_fault}
 use Rattle.cal_read.proofs.TimerTextsLemmas.{resumed_all, resumed_more, resumed_stops}
 use Rattle.cal_read.proofs.texts.read_texts.Goals as goal

@@ -5,7 +5,7 @@ use Rattle.cal_lines.specs.rules.Lines.{logical_lines}
 use Rattle.cal_timer.specs.rules.Assignments.{assignments_in}
 use Rattle.cal_timer.specs.rules.TimerText.{without_mark}
 use Rattle.cal_timer.specs.rules.TimerEntries.{timer_of}
-use Rattle.cal_timer.specs.rules.TimerView.{empty_lists, resumed}
+use Rattle.cal_timer.specs.computed.ResumedLists.{empty_lists, resumed}
 use Rattle.cal_timer.proofs.ListedLemmas.{lists_from_entries}
 use Rattle.cal_timer.proofs.file.read_utf8.Goals as goal
 

@@ -6,7 +6,7 @@ use denote.Text.{Utf8}
 use Rattle.cal_spec.specs.computed.Expr.{expr_in}
 use Rattle.cal_timer.specs.rules.Assignments.{assignments_in}
 use Rattle.cal_lines.specs.rules.Lines.{logical_lines}
-use Rattle.cal_timer.specs.rules.TimerView.{resumed}
+use Rattle.cal_timer.specs.computed.ResumedLists.{resumed}
 use Rattle.cal_timer.proofs.lists.TimerLists.take_text.Given as goal
 
 abbrev pub invariant-loop-line : goal.invariant-loop-line

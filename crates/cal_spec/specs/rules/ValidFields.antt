@@ -6,7 +6,7 @@ use Rattle.cal_spec.specs.declared.slot.Slot.{Slot}
 use Rattle.cal_spec.specs.rules.ValidParts.{IsValidPart}
 use Rattle.cal_spec.specs.rules.Fields.{Fields, counted_parts, max_counted_parts}
 use Rattle.cal_spec.specs.rules.Slot.{day_slot}
-use Rattle.cal_spec.specs.computed.ParsedSuffix.{IsSuffixOption}
+use Rattle.cal_spec.specs.rules.ZoneSuffix.{IsSuffixOption}
 use Rattle.cal_spec.specs.declared.slot.Slot.TheVariants.{Year, Month, Hour, Minute, Second}
 
 -- the values of a component are valid: the component is `*`, or it has one or more parts, all with valid values
