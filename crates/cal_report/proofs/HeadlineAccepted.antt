@@ -12,7 +12,6 @@ use Rattle.cal_zone.specs.rules.Zone.{zone_of}
 use Rattle.cal_spec.specs.computed.Expr.{expr_in}
 use Rattle.cal_spec.specs.rules.Fields.{Fields}
 use Rattle.cal_spec.specs.rules.NormalForm.{Spells}
-use Rattle.cal_text.specs.rules.AndThen.{◌>>=◌}
 use Rattle.cal_spec.specs.rules.ZoneSuffix.{ZoneSuffix, of_name, at_offset}
 use Rattle.cal_zone.specs.rules.FixedOffsetZone.{fixed_offset_zone}
 use Rattle.cal_spec.specs.declared.spec_fault.SpecFault.{SpecFault}

@@ -83,11 +83,11 @@ pub fn headline()
     // elapses are unique.
     ensures one_meaning { (asked : Request) (e f : Expression) → IsAccepted asked e → IsAccepted asked f
         → e.text ≡ f.text → e ≡ f }
-    ensures one_text { (asked : Request) (base : ℤ) (es : List Expression) (a b : List ℕ)
+    ensures one_output { (asked : Request) (base : ℤ) (es : List Expression) (a b : List ℕ)
         → AreReportsOf asked base es a → AreReportsOf asked base es b → a ≡ b }
     ensures one_report { (asked : Request) (base : ℤ) (s : Schedule) (a b : List ℕ)
         → IsReportOf asked base s a → IsReportOf asked base s b → a ≡ b }
-    ensures one_list { (ts exceptions : List Timed) (base : ℤ) (xs ys : List ℤ)
+    ensures one_list_of_elapses { (ts exceptions : List Timed) (base : ℤ) (xs ys : List ℤ)
         → AreElapses ts exceptions base xs → AreElapses ts exceptions base ys → xs ≡ ys }
 
     // If the present is an instant, so is each elapse. Each instant can be given as the base time, by `@` and its
@@ -106,7 +106,7 @@ pub fn headline()
     ensures shown { (fields : Fields) (tz : TimeZone) (i : ℤ) → IsPlace (timed fields tz) i
         → (local : ℕ) × (local < 7_258_118_400) × (matches (sets_of fields) local ≡ true)
         × (local_shown_at tz i ≡ pos local) }
-    ensures alone { (fields : Fields) (tz : TimeZone) (i j : ℤ) → IsPlace (timed fields tz) i
+    ensures shown_once { (fields : Fields) (tz : TimeZone) (i j : ℤ) → IsPlace (timed fields tz) i
         → IsPlace (timed fields tz) j → local_shown_at tz i ≡ local_shown_at tz j → i ≡ j }
     // A local second that the clock never shows (in a gap) has no place. If `jiff` finds that the clock shows a local
     // second twice (in a fold), and the local second has a place, then this place is the local second minus the UTC
@@ -141,7 +141,7 @@ pub fn cut_output_resumes()
     // is empty too.
     ensures accepted { (asked : Request) → asked.verb ≡ Calendar
         → (es : List Expression) × AreAcceptedAmong asked asked.texts es }
-    ensures one_list { (asked : Request) (texts : List (List ℕ)) (es fs : List Expression)
+    ensures one_list_of_expressions { (asked : Request) (texts : List (List ℕ)) (es fs : List Expression)
         → AreAcceptedAmong asked texts es → AreAcceptedAmong asked texts fs → es ≡ fs }
     ensures nothing { (asked : Request) (read : Result (List ℕ) WholeFault) (base : ℤ) → asked.verb ≡ Calendar
         → IsBase asked base → AreAcceptedAmong asked asked.texts [] → (report asked read).out ≡ [] }

@@ -34,8 +34,8 @@ returns-clause-one_place c = one_place
 pub returns-clause-accepted : goal.returns-clause-accepted
 returns-clause-accepted c = some_among
 
-pub returns-clause-one_list : goal.returns-clause-one_list
-returns-clause-one_list c = one_among
+pub returns-clause-one_list_of_expressions : goal.returns-clause-one_list_of_expressions
+returns-clause-one_list_of_expressions c = one_among
 
 pub returns-clause-nothing : goal.returns-clause-nothing
 returns-clause-nothing c = λ asked read base verb is_base. none_among asked read base verb (base_is asked base is_base)

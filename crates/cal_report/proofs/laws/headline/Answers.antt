@@ -39,14 +39,14 @@ returns-clause-accepted_file c = λ asked bytes base verb is_base.
 pub returns-clause-one_meaning : goal.returns-clause-one_meaning
 returns-clause-one_meaning c = one_meaning
 
-pub returns-clause-one_text : goal.returns-clause-one_text
-returns-clause-one_text c = one_text
+pub returns-clause-one_output : goal.returns-clause-one_output
+returns-clause-one_output c = one_text
 
 pub returns-clause-one_report : goal.returns-clause-one_report
 returns-clause-one_report c = one_report
 
-pub returns-clause-one_list : goal.returns-clause-one_list
-returns-clause-one_list c = one_elapses
+pub returns-clause-one_list_of_elapses : goal.returns-clause-one_list_of_elapses
+returns-clause-one_list_of_elapses c = one_elapses
 
 pub returns-clause-instants : goal.returns-clause-instants
 returns-clause-instants c = λ asked base s xs now is_base. elapses_are_instants asked base s xs now (base_is asked base is_base)
@@ -63,8 +63,8 @@ returns-clause-in_parts c = in_parts
 pub returns-clause-shown : goal.returns-clause-shown
 returns-clause-shown c = is_shown
 
-pub returns-clause-alone : goal.returns-clause-alone
-returns-clause-alone c = is_alone
+pub returns-clause-shown_once : goal.returns-clause-shown_once
+returns-clause-shown_once c = is_alone
 
 pub returns-clause-gap : goal.returns-clause-gap
 returns-clause-gap c = gap_has_no_place
