@@ -1,12 +1,15 @@
 """What ./build and ./test share: the crates, how much of the machine they may use, and a line of progress."""
 
 import os
-import re
+import resource
 import subprocess
 import sys
 import time
 
 ROOT = os.path.dirname(os.path.dirname(os.path.realpath(__file__)))
+# What the estimate of a crate's seconds is made of.
+LOADING_SECONDS = 20
+LINES_PER_SECOND = 7
 
 
 def libraries():
@@ -30,9 +33,31 @@ def libraries():
 
 
 def seconds():
-    """Returns the seconds that one processor takes to prove each crate, as crates.txt says."""
-    with open(f"{ROOT}/crates.txt") as file:
-        return {name: int(number) for name, number in re.findall(r"(?m)^(\w+):.*# (\d+)$", file.read())}
+    """Returns the processor seconds that proving each crate from nothing takes, as ./build measured it in this copy of the
+    repository, or else as the size of the crate suggests."""
+    return {name: measured_seconds(name) or estimated_seconds(name) for name in libraries()}
+
+
+def seconds_file(name):
+    return f"{ROOT}/crates/{name}/out/seconds"
+
+
+def measured_seconds(name):
+    try:
+        with open(seconds_file(name)) as file:
+            return int(file.read())
+    except (OSError, ValueError):
+        return None
+
+
+def estimated_seconds(name):
+    """Returns a rough estimate: loading the libraries below takes a fixed time, and each line of source adds to it."""
+    lines = 0
+    for folder, _, names in os.walk(f"{ROOT}/crates/{name}/src"):
+        for path in names:
+            with open(f"{folder}/{path}") as file:
+                lines += sum(1 for line in file)
+    return LOADING_SECONDS + lines // LINES_PER_SECOND
 
 
 def below(name, named):
@@ -50,6 +75,12 @@ def lanes(memory, each=1.0):
     with open("/proc/meminfo") as file:
         free = next(1024 * int(line.split()[1]) for line in file if line.startswith("MemAvailable:"))
     return max(1, min(int(each * len(os.sched_getaffinity(0))), free // memory))
+
+
+def processor_time():
+    """Returns the processor seconds of all commands that have ended."""
+    used = resource.getrusage(resource.RUSAGE_CHILDREN)
+    return used.ru_utime + used.ru_stime
 
 
 def clock(seconds):
