@@ -41,6 +41,7 @@ fn has_day(masks: &Masks, day: u32) -> bool
     if !has_month(masks, month.index) {
         return false;
     }
+    // This isn't a search: only the day's own month is formed, so no search counts it.
     let mut examined = 0;
     MonthDays::of(masks, month, &mut examined).has(day - month.first)
 }

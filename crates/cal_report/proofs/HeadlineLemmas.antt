@@ -37,7 +37,7 @@ use Rattle.cal_request.specs.declared.request.Status.{Status}
 use Rattle.cal_request.specs.declared.request.Status.TheVariants.{Fine, Refused}
 use Rattle.cal_request.specs.declared.verb.Verb.TheVariants as verb
 
--- Accepted expressions are parsed as the definitions say
+-- ## Accepted expressions
 
 zone_is_found : (asked : Request) (suffix : Option ZoneSuffix) (tz : TimeZone) → IsZoneFor asked suffix tz → zone_for (setting_of asked) suffix ≡ Some tz
 unfolding zone_for
@@ -45,7 +45,7 @@ zone_is_found asked None tz h = ap Some (sym h)
 zone_is_found asked (Some (of_name name)) tz h = h
 zone_is_found asked (Some (at_offset seconds)) tz h = ap Some (sym h)
 
--- Reports of expressions
+-- ## Reports of expressions
 
 -- the report of an accepted expression
 abbrev pub report_of : Request → ℤ → Expression → List ℕ
@@ -128,7 +128,7 @@ pub calendar_report_is : (asked : Request) (read : Result (List ℕ) WholeFault)
 calendar_report_is asked read base es verb sought texts all =
     rw (report_of_texts asked read base verb sought) (answers_report_is asked base es texts all)
 
--- Timer files
+-- ## Timer files
 
 -- assigning a valid expression or exception isn't an error if the list of its kind has fewer than `max_expressions`
 -- entries
@@ -275,7 +275,7 @@ timer_report_is asked bytes base s verb sought file all =
     rw (report_of_timer asked bytes base verb sought, file_is_answered asked bytes (timer_path asked.texts) base s file all)
     (timer_is_report asked base (entries_in bytes) s (file_entries asked bytes s file all), record { err = refl; status = refl })
 
--- What a run has written if it returns `Ok`
+-- ## What a run writes
 
 pub calendar_is_written : (asked : Request) (base : ℤ) (es : List Expression) (old new : Option (List ℕ)) (failed : Bool) (status : Status)
     (out_old out_new err_old err_new : Option (List ℕ)) → asked.verb ≡ verb.Calendar → base_in asked ≡ Ok base → asked.texts ≡ map (λ (e : Expression). e.text) es
@@ -294,7 +294,7 @@ timer_is_written asked base bytes s old new failed status out_old out_new err_ol
     = subst (λ (r : Result (List ℕ) WholeFault). IsReportOf asked base s (report asked r).out × IsFine (report asked r)) (sym read) (timer_report_is asked bytes base s verb sought file all) in
     ((report asked run.read).out, printed.0, run.holds.out, subst (Appends err_old err_new) printed.1.err run.holds.err, run.holds.status ∙ printed.1.status)
 
--- Reports and lists of elapses are unique
+-- ## Unique reports and lists of elapses
 
 pub one_elapses : (ts exceptions : List Timed) (base : ℤ) (xs ys : List ℤ) → AreElapses ts exceptions base xs → AreElapses ts exceptions base ys → xs ≡ ys
 one_elapses ts exceptions base xs ys h k = AreElapses-only ts exceptions base xs h ∙ sym (AreElapses-only ts exceptions base ys k)

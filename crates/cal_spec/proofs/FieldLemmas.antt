@@ -41,7 +41,7 @@ use Rattle.cal_spec.proofs.ComponentLemmas.{IsRead, component_read}
 use Rattle.cal_text.proofs.General.{some_piece}
 use Rattle.cal_spec.proofs.ReadLemmas.{bind_ok, cond_ok, three_ok, four_ok}
 
--- If parsing a date or a time succeeds, parsing each of its components succeeds
+-- ## The components of dates and times
 
 pub record DateRead (t : DateTexts) (d : DateFields) : Type 0 where
   pub year : component_of Year max_counted_parts t.year ≡ Ok d.year
@@ -100,7 +100,7 @@ pub time_found : (room : ℕ) (word : List ℕ) (h : TimeFields) → time_in_wor
 unfolding time_in_word
 time_found room word h at = time_found_by room word (time_texts word) h refl at
 
--- A parsed weekday list has seven values, one for each weekday, and at least one of them is `true`
+-- ## Weekday lists
 
 pub record ItemsRead (t : List ℕ) (ts : List (List ℕ)) (items : List WeekdayRange) : Type 0 where
   pub first : WeekdayRange
@@ -176,7 +176,7 @@ is_week (Some word) days at =
     let found = weekdays_found word days at in
     rw found.is at (week_of_items (without_comma word) found.items found.read)
 
--- Parsing a zone returns a valid zone
+-- ## Zones
 
 name_kept : (word : List ℕ) (utc : Bool) → is_zone_name word ≡ true → is_zone_name (cond utc (codes "UTC") word) ≡ true
 unfolding is_zone_name
@@ -208,7 +208,7 @@ is_zone [] (Some suffix) at = cc
 is_zone (w ∷ []) suffix at = zone_by w (is_zone_name w) suffix refl at
 is_zone (w ∷ v ∷ ws) suffix at = cc
 
--- If parsing a whole text succeeds, parsing its weekdays, its date, its time and its zone succeeds
+-- ## The words of a text
 
 abbrev pub fields_with : List Bool → DateFields → TimeFields → Option ZoneSuffix → Fields
 fields_with weekdays date time name = record {
@@ -267,7 +267,7 @@ text_found text f at =
     let read = cond_ok (ltb max_text_bytes (length text)) TextTooLong (fields_due (roles_of (words text))) f at in
     text_found_by text (roles_of (words text)) f (ltb-false max_text_bytes (length text) read.0) refl read.1
 
--- All parts of a year, month or day are counted; of an hour, minute or second, all parts but the first are counted
+-- ## Counted parts
 
 pub counted_date : (slot : Slot) (c : Option (List Part)) → is_time slot ≡ false → counted slot c ≡ parts_in c
 counted_date slot None test = refl
@@ -281,7 +281,7 @@ pub day_no_time : (from_end : Bool) → is_time (day_slot from_end) ≡ false
 day_no_time true = refl
 day_no_time false = refl
 
--- Parsed dates, times and whole texts have valid values, and no more counted parts than are allowed
+-- ## Valid values
 
 pub record IsDateRead (d : DateFields) : Type 0 where
   pub year : IsRead Year max_counted_parts d.year

@@ -30,7 +30,7 @@ pub err_of : {A B : Type 0} (r : Result A StampFault) (f : A → Result B StampF
 err_of (Ok x) f e h = inr (x, refl, h)
 err_of (Err g) f e h = inl (let same : g ≡ e = cc in ap Err same)
 
--- If words have a first error (`HasFirstError`), parsing the words fails with this error
+-- ## From the rule to the parser
 
 no_offset_by : (word : List ℕ) (found : Option ℤ) → offset_in word ≡ found → ((seconds : ℤ) → IsOffsetWord word seconds → ⊥) → offset_in word ≡ None
 no_offset_by word None e none = e
@@ -114,7 +114,7 @@ first-only at ws fault (inl h) =
 first-only at ws fault (inr h) =
     let r = h.are_read in ap (civil_time at) r.whole ∙ soon_only at h.weekday r.has_weekday.0 fault r.has_weekday.1 h.is_bad_date
 
--- If parsing words fails with an error, this error is the first error of the words (`HasFirstError`)
+-- ## From the parser to the rule
 
 name_missing : (found : Option TimeZone) (fault : StampFault) → name_found found ≡ Err fault → (found ≡ None) × (fault ≡ NoSuchZone)
 name_missing None fault h = (refl, cc)
@@ -236,7 +236,7 @@ first-found at (w ∷ ws) fault h =
       | inr other ↦ body at None None fault refl w ws (λ no. inr (other, no)) (rw other at h)
     ]
 
--- The error of the words after `today`, `yesterday` or `tomorrow`
+-- ## The words after `today`, `yesterday` and `tomorrow`
 
 zone_only : (at : Setting) (name : Option (List ℕ)) (zone : TimeZone) (word : List ℕ) (after : List (List ℕ)) (fault : StampFault) → NamesZone at name zone → IsNoLastWord at name word fault
     → zone_by_words at (option_to_list name ++ (word ∷ after)) ≡ Err fault

@@ -49,8 +49,8 @@ impl Rules {
 
     /// Parses a POSIX rule such as `CET-1CEST,M3.5.0,M10.5.0/3`.
     ///
-    /// Fails with [`ZoneFault::BadRule`] if and only if `jiff` can't parse the rule. Parsing doesn't allocate at
-    /// present, so `alloc` is unused.
+    /// Fails with [`ZoneFault::BadRule`] if and only if `jiff` can't parse the rule. `jiff` keeps a rule without
+    /// allocating, so `alloc` is unused; it belongs to the signature, as in every call that makes `Rules`.
     pub fn posix(alloc: Global, rule: &str) -> Result<Rules, ZoneFault>
         ensures read { IsOk result ↔ IsSome (read_whole rule.now) }
         ensures zone { IfOk result (IsPosixZone rule.now) }
