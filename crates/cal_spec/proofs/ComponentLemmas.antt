@@ -4,7 +4,8 @@ use Rattle.std.specs.List.{AllByRecursion, slice_split}
 use Rattle.std.proofs.lemmas.Bool.{and_parts, cases_Bool, leb-true, ltb-false, leb-false, eqb-false, not-false}
 use Rattle.cal_text.specs.rules.Separators.{is_comma}
 use Rattle.cal_spec.specs.computed.Components.{is_star, counted, room_in, part_due, parts_of, first_value_fault, parts_listed, component_of}
-use Rattle.cal_spec.specs.computed.Parts.{is_time, is_within, is_outside, is_backward, is_zero, reaches_no_further_value, fault_of}
+use Rattle.cal_spec.specs.computed.Parts.{is_time, is_within, is_outside, is_backward, is_zero, reaches_no_further_value, fault_of, part_of}
+use Rattle.cal_spec.specs.rules.FullYears.{with_full_years}
 use Rattle.cal_text.specs.rules.AndThen.{◌>>=◌}
 use Rattle.cal_spec.specs.computed.Reads.{unless}
 use Rattle.cal_spec.specs.rules.Slot.{least, greatest}
@@ -15,7 +16,7 @@ use Rattle.cal_spec.specs.declared.slot.Slot.{Slot}
 use Rattle.cal_spec.specs.declared.slot.Slot.TheVariants.{DayFromEnd}
 use Rattle.cal_spec.specs.declared.spec_fault.SpecFault.TheVariants.{OutOfField, BackwardRange, ZeroRepeat, NoRepeat, TooManyParts}
 use Rattle.cal_text.proofs.General.{some_piece, option_or_none}
-use Rattle.cal_spec.proofs.ReadLemmas.{bind_ok, unless_ok, cond_ok}
+use Rattle.cal_spec.proofs.ReadLemmas.{Follows, bind_ok, unless_ok, cond_ok}
 
 -- If a part passes the checks of its values, its values are valid
 
@@ -38,15 +39,15 @@ end_within slot a None test = tt
 end_within slot a (Some b) test =
     within_from slot b (and_parts (is_within slot a) (is_within slot b) (not-false (is_within slot a && is_within slot b) test)).1
 
-ends_after : (a : ℕ) (end : Option ℕ) → is_backward a end ≡ false → EndsAfter a end
+pub ends_after : (a : ℕ) (end : Option ℕ) → is_backward a end ≡ false → EndsAfter a end
 ends_after a None test = tt
 ends_after a (Some b) test = ltb-false b a test
 
-is_step : (step : Option ℕ) → is_zero step ≡ false → IsStep step
+pub is_step : (step : Option ℕ) → is_zero step ≡ false → IsStep step
 is_step None test = tt
 is_step (Some r) test = let some = eqb-false r 0 test in grind (arith, some)
 
-goes_on : (slot : Slot) (a : ℕ) (end step : Option ℕ) → reaches_no_further_value slot a end step ≡ false → GoesOn slot a end step
+pub goes_on : (slot : Slot) (a : ℕ) (end step : Option ℕ) → reaches_no_further_value slot a end step ≡ false → GoesOn slot a end step
 goes_on slot a (Some b) step test = tt
 goes_on slot a None None test = tt
 goes_on DayFromEnd a None (Some r) test = leb-false _ _ test
@@ -71,6 +72,15 @@ sound_parts slot (p ∷ ps) at =
     (sound_part slot p none.0, sound_parts slot ps none.1)
 
 -- Parsing returns one part for each text between commas, and no more parts than are allowed
+
+-- if `part_due` succeeds, then `room` isn't 0, and the result is the part that `part_of` returns, with two-digit years
+-- expanded
+pub part_due_is : (slot : Slot) (room : ℕ) (text : List ℕ) (p : Part) → part_due slot room text ≡ Ok p → (0 < room) × Follows (part_of slot text) (λ raw. Ok (with_full_years slot raw)) p
+unfolding part_due
+part_due_is slot room text p at =
+    let read = cond_ok (eqb room 0) TooManyParts (part_of slot text >>= λ raw. Ok (with_full_years slot raw)) p at in
+    let some = eqb-false room 0 read.0 in
+    (grind (arith, some), bind_ok (part_of slot text) (λ raw. Ok (with_full_years slot raw)) p read.1)
 
 pub part_due_ok : (slot : Slot) (room : ℕ) (text : List ℕ) (p : Part) → part_due slot room text ≡ Ok p → 0 < room
 unfolding part_due

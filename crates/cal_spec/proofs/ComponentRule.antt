@@ -18,8 +18,7 @@ use Rattle.cal_spec.specs.rules.ValidParts.{IsWithin, IsEndWithin, EndsAfter, Is
 use Rattle.cal_spec.specs.declared.field.Part.{Part}
 use Rattle.cal_spec.specs.declared.slot.Slot.{Slot}
 use Rattle.cal_spec.specs.declared.slot.Slot.TheVariants.{DayFromEnd}
-use Rattle.cal_spec.proofs.ComponentLemmas.{ListedRead, component_is, parts_of-cons, sound_parts}
-use Rattle.cal_spec.proofs.FaultLemmas.{part_due_is}
+use Rattle.cal_spec.proofs.ComponentLemmas.{ListedRead, component_is, part_due_is, parts_of-cons, sound_parts}
 use Rattle.cal_spec.proofs.PartRule.{part_found, part_only}
 use Rattle.cal_text.proofs.General.{some_piece, list_all-wider, list_all-both, IsClear, Apart, clear_of, split_join_with_byte}
 
@@ -28,26 +27,26 @@ use Rattle.cal_text.proofs.General.{some_piece, list_all-wider, list_all-both, I
 within_is : (slot : Slot) (n : ℕ) → IsWithin slot n → is_within slot n ≡ true
 within_is slot n h = and_from (leb (least slot) n) (leb n (greatest slot)) (le-leb (least slot) n h.0) (le-leb n (greatest slot) h.1)
 
-not_outside : (slot : Slot) (a : ℕ) (end : Option ℕ) → IsWithin slot a → IsEndWithin slot end → is_outside slot a end ≡ false
+pub not_outside : (slot : Slot) (a : ℕ) (end : Option ℕ) → IsWithin slot a → IsEndWithin slot end → is_outside slot a end ≡ false
 not_outside slot a None start_in end_in = not_from_true (is_within slot a) (within_is slot a start_in)
 not_outside slot a (Some b) start_in end_in =
     not_from_true (is_within slot a && is_within slot b) (and_from (is_within slot a) (is_within slot b) (within_is slot a start_in) (within_is slot b end_in))
 
-not_backward : (a : ℕ) (end : Option ℕ) → EndsAfter a end → is_backward a end ≡ false
+pub not_backward : (a : ℕ) (end : Option ℕ) → EndsAfter a end → is_backward a end ≡ false
 not_backward a None h = refl
 not_backward a (Some b) h = le-ltb b a h
 
-not_zero : (step : Option ℕ) → IsStep step → is_zero step ≡ false
+pub not_zero : (step : Option ℕ) → IsStep step → is_zero step ≡ false
 not_zero None h = refl
 not_zero (Some r) h = ne_eqb r 0 (λ e. omega (arith, h, e))
 
-reaches_further_value : (slot : Slot) (a : ℕ) (end step : Option ℕ) → GoesOn slot a end step → reaches_no_further_value slot a end step ≡ false
+pub reaches_further_value : (slot : Slot) (a : ℕ) (end step : Option ℕ) → GoesOn slot a end step → reaches_no_further_value slot a end step ≡ false
 reaches_further_value slot a (Some b) step h = refl
 reaches_further_value slot a None None h = refl
 reaches_further_value DayFromEnd a None (Some r) h = lt-leb a r h
 reaches_further_value slot a None (Some r) h = le-ltb _ _ h
 
-no_fault_of : (slot : Slot) (p : Part) → IsValidPart slot p → fault_of slot p ≡ None
+pub no_fault_of : (slot : Slot) (p : Part) → IsValidPart slot p → fault_of slot p ≡ None
 unfolding fault_of
 no_fault_of slot p sound =
     rw (not_outside slot p.start p.end sound.start_in sound.end_in, not_backward p.start p.end sound.forward, not_zero p.step sound.some_step, reaches_further_value slot p.start p.end p.step sound.goes_on) refl
@@ -58,7 +57,7 @@ no_first_fault slot (p ∷ ps) sound = rw (no_fault_of slot p sound.0) (no_first
 
 -- If parsing a component succeeds, the grammar allows the component
 
-parts_found : (slot : Slot) (room : ℕ) (ts : List (List ℕ)) (ps : List Part) → parts_of slot room ts ≡ Ok ps → AllZip (IsPartOf slot) ts ps
+pub parts_found : (slot : Slot) (room : ℕ) (ts : List (List ℕ)) (ps : List Part) → parts_of slot room ts ≡ Ok ps → AllZip (IsPartOf slot) ts ps
 parts_found slot room [] ps at = let none : [] ≡ ps = cc in rw (← none) tt
 parts_found slot room (t ∷ ts) ps at =
     let read = parts_of-cons slot room t ts ps at in
@@ -138,12 +137,12 @@ component_bytes slot text (Some ps) is = rw is.whole (joined_bytes slot is.texts
 
 -- If the grammar allows a component, parsing it succeeds
 
-part_due_only : (slot : Slot) (room : ℕ) (text : List ℕ) (p : Part) → IsPartOf slot text p → 0 < room → part_due slot room text ≡ Ok p
+pub part_due_only : (slot : Slot) (room : ℕ) (text : List ℕ) (p : Part) → IsPartOf slot text p → 0 < room → part_due slot room text ≡ Ok p
 unfolding part_due
 part_due_only slot room text p is some =
     rw (ne_eqb room 0 (λ e. omega (arith, e, some)), part_only slot text is.0 is.1) (ap Ok (sym is.2))
 
-parts_only : (slot : Slot) (room : ℕ) (ts : List (List ℕ)) (ps : List Part) → AllZip (IsPartOf slot) ts ps → length ps ≤ room → parts_of slot room ts ≡ Ok ps
+pub parts_only : (slot : Slot) (room : ℕ) (ts : List (List ℕ)) (ps : List Part) → AllZip (IsPartOf slot) ts ps → length ps ≤ room → parts_of slot room ts ≡ Ok ps
 parts_only slot room [] [] zip few = refl
 parts_only slot room [] (p ∷ ps) zip few = absurd zip
 parts_only slot room (t ∷ ts) [] zip few = absurd zip

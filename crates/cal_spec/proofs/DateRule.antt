@@ -6,9 +6,9 @@ use Rattle.std.proofs.lemmas.Bool.{or_cases, eqb-true, false≢true}
 use Rattle.std.proofs.lemmas.Bool.Decides.{nat_tests}
 use Rattle.std.proofs.lemmas.List.Splits.{join_with_byte-slice_split}
 use Rattle.cal_spec.specs.computed.Components.{counted}
-use Rattle.cal_spec.specs.computed.DateAndTime.{DateFields, TimeFields, is_tilde, is_date_sign, date_texts_by, time_texts_by, date_texts, time_texts, date_fields, time_fields, room_after, date_in_word, time_in_word}
+use Rattle.cal_spec.specs.computed.DateAndTime.{DateFields, TimeFields, date_texts_by, time_texts_by, date_texts, time_texts, date_fields, time_fields, room_after, date_in_word, time_in_word}
 use Rattle.cal_text.specs.rules.Separators.{is_colon}
-use Rattle.cal_spec.specs.rules.UnparsedTexts.{DateTexts, TimeTexts}
+use Rattle.cal_spec.specs.rules.UnparsedTexts.{DateTexts, TimeTexts, is_date_sign, is_tilde}
 use Rattle.cal_spec.specs.rules.Fields.{Fields, counted_parts, max_counted_parts}
 use Rattle.cal_spec.specs.rules.GrammarRule.{last_sign, IsDateShape, IsTimeShape, IsDate, IsTime, IsComponent}
 use Rattle.cal_spec.specs.rules.Slot.{day_slot}
@@ -86,7 +86,7 @@ date_by_found (s ∷ []) (a ∷ b ∷ []) t signs at =
 date_by_found (s ∷ u ∷ []) (a ∷ b ∷ c ∷ []) t signs at = three_by s u a b c t (is_tilde s) refl signs.0 signs.1.0 at
 date_by_found ss ts t signs at = cc
 
-date_shape_found : (word : List ℕ) (t : DateTexts) → date_texts word ≡ Some t → IsDateShape word t
+pub date_shape_found : (word : List ℕ) (t : DateTexts) → date_texts word ≡ Some t → IsDateShape word t
 unfolding date_texts
 date_shape_found word t at =
     rw woven_whole at (date_by_found (filter is_date_sign word) (slice_split is_date_sign word) t (filter_kept is_date_sign word) at)
@@ -108,7 +108,7 @@ three_only year month day false y m d =
 with_star : (t : DateTexts) → t.year ≡ codes "*" → record { year = codes "*"; month = t.month; day = t.day; from_end = t.from_end } ≡ t
 with_star t is = ap (λ (y : List ℕ). record { year = y; month = t.month; day = t.day; from_end = t.from_end }) (sym is)
 
-date_shape_only : (word : List ℕ) (t : DateTexts) → IsClear is_date_sign t.year → IsClear is_date_sign t.month → IsClear is_date_sign t.day → IsDateShape word t → date_texts word ≡ Some t
+pub date_shape_only : (word : List ℕ) (t : DateTexts) → IsClear is_date_sign t.year → IsClear is_date_sign t.month → IsClear is_date_sign t.day → IsDateShape word t → date_texts word ≡ Some t
 date_shape_only word t y m d (inl whole) = ap date_texts whole ∙ three_only t.year t.month t.day t.from_end y m d
 date_shape_only word t y m d (inr shape) = ap date_texts shape.1 ∙ two_only t.month t.day t.from_end m d ∙ ap Some (with_star t shape.0)
 
@@ -121,7 +121,7 @@ time_by_found (a ∷ b ∷ c ∷ []) t at =
     let made : record { hour = a; minute = b; second = c } ≡ t = cc in rw (← made) (inl refl)
 time_by_found ts t at = cc
 
-time_shape_found : (word : List ℕ) (t : TimeTexts) → time_texts word ≡ Some t → IsTimeShape word t
+pub time_shape_found : (word : List ℕ) (t : TimeTexts) → time_texts word ≡ Some t → IsTimeShape word t
 unfolding time_texts
 time_shape_found word t at = rw (join_with_byte-slice_split 58 word) at (time_by_found (slice_split is_colon word) t at)
 
@@ -137,7 +137,7 @@ time_three_only hour minute second h m s =
 with_zeros : (t : TimeTexts) → t.second ≡ codes "00" → record { hour = t.hour; minute = t.minute; second = codes "00" } ≡ t
 with_zeros t is = ap (λ (s : List ℕ). record { hour = t.hour; minute = t.minute; second = s }) (sym is)
 
-time_shape_only : (word : List ℕ) (t : TimeTexts) → IsClear is_colon t.hour → IsClear is_colon t.minute → IsClear is_colon t.second → IsTimeShape word t → time_texts word ≡ Some t
+pub time_shape_only : (word : List ℕ) (t : TimeTexts) → IsClear is_colon t.hour → IsClear is_colon t.minute → IsClear is_colon t.second → IsTimeShape word t → time_texts word ≡ Some t
 time_shape_only word t h m s (inl whole) = ap time_texts whole ∙ time_three_only t.hour t.minute t.second h m s
 time_shape_only word t h m s (inr shape) = ap time_texts shape.1 ∙ time_two_only t.hour t.minute h m ∙ ap Some (with_zeros t shape.0)
 

@@ -1,5 +1,6 @@
--- `expr_in` returns fields if and only if a text spells these fields by the rule (`Spells`).
-use Rattle.std.proofs.Common.{ℕ, ◌≡◌, List, Result, Ok, Err, refl, sym, ap, subst}
+-- `expr_in` returns fields if and only if a text spells these fields by the rule (`Spells`), and it fails with an error
+-- if and only if the text has this error (`HasFault`).
+use Rattle.std.proofs.Common.{ℕ, ◌≡◌, inl, inr, List, Result, Ok, Err, refl, sym, ap, subst}
 use Rattle.cal_text.specs.rules.AndThen.{◌>>=◌}
 use Rattle.cal_spec.specs.rules.Fields.{Fields}
 use Rattle.cal_spec.specs.rules.NormalForm.{IsNormalFieldsOf, Spells}
@@ -7,7 +8,10 @@ use Rattle.cal_spec.specs.computed.Expr.{expr_in}
 use Rattle.cal_spec.specs.computed.Grammar.{fields_in}
 use Rattle.cal_spec.specs.computed.NormalParts.{normal_fields}
 use Rattle.cal_spec.specs.declared.spec_fault.SpecFault.{SpecFault}
+use Rattle.cal_spec.specs.rules.GrammarFaultRule.{HasFault}
 use Rattle.cal_spec.proofs.FieldLemmas.{valid_fields}
+use Rattle.cal_spec.proofs.GrammarFaults.{fault_found, fault_only}
+use Rattle.cal_spec.proofs.ReadLemmas.{bind_err}
 use Rattle.cal_spec.proofs.NormalFieldsLemmas.{fields_are, fields_only}
 use Rattle.cal_spec.proofs.WholeRule.{valid_found, valid_only}
 
@@ -27,3 +31,12 @@ unfolding expr_in
 spelled_is_read text fields h =
     let found = valid_only text h.raw h.valid in
     rw found (ap Ok (sym (fields_only h.raw fields (valid_fields text h.raw found) h.normal)))
+
+pub rejected_found : (text : List ℕ) (e : SpecFault) → expr_in text ≡ Err e → HasFault text e
+unfolding expr_in
+rejected_found text e at =
+    elim (bind_err (fields_in text) (λ f. Ok (normal_fields f)) e at) [ inl wrong ↦ fault_found text e wrong | inr f ↦ absurd (let no = f.next in cc) ]
+
+pub rejected_only : (text : List ℕ) (e : SpecFault) → HasFault text e → expr_in text ≡ Err e
+unfolding expr_in
+rejected_only text e h = rw (fault_only text e h) refl

@@ -23,7 +23,8 @@ use Rattle.cal_spec.specs.declared.fields.Fields as declared_fields
 use Rattle.cal_spec.specs.rules.Slot.{day_slot}
 use Rattle.cal_spec.specs.rules.ValidFields.{IsValidFields}
 use Rattle.cal_spec.specs.rules.WeekdayNames.{day_named, leading_letters, days_of}
-use Rattle.cal_spec.specs.computed.WeekdayLists.{items_of, without_comma, listed_days, is_like_shorthand, weekdays_of, weekdays_in}
+use Rattle.cal_spec.specs.computed.WeekdayLists.{items_of, without_comma, listed_days, weekdays_of, weekdays_in}
+use Rattle.cal_spec.specs.rules.Shorthand.{is_like_shorthand}
 use Rattle.cal_spec.specs.rules.Weekdays.{days_until, is_in_weekday_range, set_of}
 use Rattle.cal_spec.specs.computed.Words.{roles_of}
 use Rattle.cal_civil.specs.rules.ZoneName.{is_utc_name, is_zone_name}
@@ -313,7 +314,7 @@ time_read room t h read = record {
 pub is_time_read : (room : ℕ) (word : List ℕ) (h : TimeFields) → time_in_word room word ≡ Ok h → IsTimeRead room h
 is_time_read room word h at = let found = time_found room word h at in time_read room found.texts h found.read
 
-few_parts : (weekdays : List Bool) (d : DateFields) (h : TimeFields) (name : Option ZoneSuffix) → IsDateRead d → IsTimeRead (room_after d) h → counted_parts (fields_with weekdays d h name) ≤ 240
+pub few_parts : (weekdays : List Bool) (d : DateFields) (h : TimeFields) (name : Option ZoneSuffix) → IsDateRead d → IsTimeRead (room_after d) h → counted_parts (fields_with weekdays d h name) ≤ 240
 unfolding counted_parts
 few_parts weekdays d h name date time =
     omega (arith, counted_date Year d.year refl, counted_date Month d.month refl, counted_date (day_slot d.from_end) d.day (day_no_time d.from_end), counted_time Hour h.hour refl, counted_time Minute h.minute refl, counted_time Second h.second refl, date.year.few, date.month.few, date.day.few, time.hour.few, time.minute.few, time.second.few)

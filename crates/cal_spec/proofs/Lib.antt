@@ -1,3 +1,4 @@
+mod FaultRows
 mod LengthLemmas
 mod MemberLemmas
 mod NormalFieldsLemmas
@@ -11,13 +12,16 @@ mod SuffixRows
 mod ReducedLemmas
 mod TextLemmas
 mod WeekdayLemmas
+pub mod ComponentFaults
 pub mod ComponentLemmas
 pub mod ComponentRule
+pub mod DateFaults
 pub mod DateRule
 pub mod ExprRule
-pub mod FaultLemmas
 pub mod FaultSpanLemmas
 pub mod FieldLemmas
+pub mod GrammarFaults
+pub mod PartFaults
 pub mod PartRule
 pub mod ReadBackParts
 pub mod ReadLemmas

@@ -7,6 +7,7 @@ use Rattle.std.proofs.lemmas.Bool.{ltb-false, le-ltb, and_parts, and_right, eqb-
 use Rattle.std.proofs.lemmas.List.{append-nil}
 use Rattle.cal_spec.specs.rules.GrammarRule.{IsNumber, IsNext, IsPartText}
 use Rattle.cal_text.specs.rules.Separators.{is_point, is_slash}
+use Rattle.cal_spec.specs.rules.PartFaultRule.{begins_with}
 use Rattle.cal_spec.specs.computed.Parts.{Symbol, digits, dots, slash, point, other, with_digit, with_byte, lone, symbols, starts_with_point, is_second, Counted, after_number, number_due, part_at_end, with_step, after_end, after_start, part_of}
 use Rattle.cal_spec.specs.rules.Slot.{max_number}
 use Rattle.cal_text.specs.rules.AndThen.{◌>>=◌}
@@ -14,7 +15,7 @@ use Rattle.cal_spec.specs.declared.field.Part.{Part}
 use Rattle.cal_spec.specs.declared.slot.Slot.{Slot}
 use Rattle.cal_spec.specs.declared.spec_fault.SpecFault.TheVariants.{NumberTooLarge, FractionalSecond}
 use Rattle.cal_spec.proofs.ReadLemmas.{bind_ok, cond_ok}
-use Rattle.cal_spec.proofs.SymbolLemmas.{IsSymbol, begins_with, symbols_lone, symbols_number, symbols_sound}
+use Rattle.cal_spec.proofs.SymbolLemmas.{IsSymbol, symbols_lone, symbols_number, symbols_sound}
 
 -- The symbols of a text determine the text
 
@@ -64,7 +65,7 @@ pub record NumberRead (ss : List Symbol) (r : Counted) : Type 0 where
 counted_is : (n : ℕ) (ss : List Symbol) (r : Counted) → record { number = n; after = ss } ≡ r → (n ≡ r.number) × (ss ≡ r.after)
 counted_is n ss r is = (ap (λ (c : Counted). c.number) is, ap (λ (c : Counted). c.after) is)
 
-digits_read : (slot : Slot) (ds : List ℕ) (ss : List Symbol) (r : Counted) → IsSymbol (digits ds) → after_number slot (digits_value 10 ds) ss ≡ Ok r → NumberRead (digits ds ∷ ss) r
+pub digits_read : (slot : Slot) (ds : List ℕ) (ss : List Symbol) (r : Counted) → IsSymbol (digits ds) → after_number slot (digits_value 10 ds) ss ≡ Ok r → NumberRead (digits ds ∷ ss) r
 digits_read slot ds ss r sound at =
     let small = cond_ok (ltb max_number (digits_value 10 ds)) NumberTooLarge (cond (is_second slot && starts_with_point ss) (Err FractionalSecond) (Ok (record { number = digits_value 10 ds; after = ss }))) r at in
     let whole = cond_ok (is_second slot && starts_with_point ss) FractionalSecond (Ok (record { number = digits_value 10 ds; after = ss })) r small.1 in
@@ -181,12 +182,12 @@ part_found slot text p at =
 
 -- If the grammar allows a part, parsing it succeeds
 
-number_due_is : (slot : Slot) (ds : List ℕ) (n : ℕ) (ss : List Symbol) → IsNumber ds n → starts_with_point ss ≡ false → number_due slot (digits ds ∷ ss) ≡ Ok (record { number = n; after = ss })
+pub number_due_is : (slot : Slot) (ds : List ℕ) (n : ℕ) (ss : List Symbol) → IsNumber ds n → starts_with_point ss ≡ false → number_due slot (digits ds ∷ ss) ≡ Ok (record { number = n; after = ss })
 number_due_is slot ds n ss number apart =
     rw (number.value, le-ltb max_number n number.small, and_right (is_second slot) (starts_with_point ss) apart) refl
 
 -- if no digit follows a number in a text, the digits of the number are one symbol
-number_symbols : (ds : List ℕ) (n : ℕ) (rest : List ℕ) → IsNumber ds n → begins_with is_ascii_digit rest ≡ false → symbols (ds ++ rest) ≡ digits ds ∷ symbols rest
+pub number_symbols : (ds : List ℕ) (n : ℕ) (rest : List ℕ) → IsNumber ds n → begins_with is_ascii_digit rest ≡ false → symbols (ds ++ rest) ≡ digits ds ∷ symbols rest
 number_symbols [] n rest number apart = absurd (omega (arith, number.some))
 number_symbols (d ∷ ds) n rest number apart =
     let parts = and_parts (is_ascii_digit d) (list_all is_ascii_digit ds) number.digits in

@@ -1,5 +1,5 @@
 -- Parsers that run one after the other: if all of them together succeed, each of them succeeds.
-use Rattle.std.proofs.Common.{◌≡◌, Bool, true, false, cond, Option, Some, None, Ok, Err, refl}
+use Rattle.std.proofs.Common.{◌≡◌, ◌⊎◌, inl, inr, Bool, true, false, cond, Option, Some, None, Ok, Err, refl, ap}
 use Rattle.std.specs.Prelude.{Result}
 use Rattle.cal_text.specs.rules.AndThen.{◌>>=◌}
 use Rattle.cal_spec.specs.computed.Reads.{unless}
@@ -14,6 +14,20 @@ pub record Follows {A B E : Type 0} (r : Result A E) (f : A → Result B E) (y :
 pub bind_ok : {A B E : Type 0} (r : Result A E) (f : A → Result B E) (y : B) → (r >>= f) ≡ Ok y → Follows r f y
 bind_ok (Ok x) f y at = record { value = x; first = refl; next = at }
 bind_ok (Err e) f y at = cc
+
+-- the first of two parsers fails, or it returns some value, for which the second fails
+pub record Fails {A B E : Type 0} (r : Result A E) (f : A → Result B E) (e : E) : Type 0 where
+  pub value : A
+  pub first : r ≡ Ok value
+  pub next : f value ≡ Err e
+
+pub bind_err : {A B E : Type 0} (r : Result A E) (f : A → Result B E) (e : E) → (r >>= f) ≡ Err e → (r ≡ Err e) ⊎ Fails r f e
+bind_err (Ok x) f e at = inr (record { value = x; first = refl; next = at })
+bind_err (Err d) f e at = let same : d ≡ e = cc in inl (ap Err same)
+
+pub unless_err : {A : Type 0} (o : Option SpecFault) (x : A) (e : SpecFault) → unless o x ≡ Err e → o ≡ Some e
+unless_err None x e at = cc
+unless_err (Some d) x e at = let same : d ≡ e = cc in ap Some same
 
 pub unless_ok : {A : Type 0} (o : Option SpecFault) (x y : A) → unless o x ≡ Ok y → (o ≡ None) × (x ≡ y)
 unless_ok None x y at = (refl, cc)

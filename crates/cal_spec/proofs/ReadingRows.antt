@@ -1,5 +1,9 @@
--- Examples of invalid texts and of the errors that parsing them returns, checked by computation.
+-- Examples of invalid texts and of their errors, checked by computation: parsing returns these errors, and the rule
+-- gives them.
 use Rattle.std.proofs.Common.{◌≡◌, codes, refl, Err, List, [], ◌∷◌, ℕ, map}
+use Rattle.std.specs.List.{AllByRecursion}
+use Rattle.cal_spec.specs.rules.GrammarFaultRule.{HasFault}
+use Rattle.cal_spec.proofs.GrammarFaults.{fault_found}
 use Rattle.cal_spec.specs.computed.Grammar.{fields_in, fields_at}
 use Rattle.cal_spec.specs.computed.Words.{roles_of}
 use Rattle.cal_text.specs.rules.Separators.{words}
@@ -56,8 +60,32 @@ rows =
     ∷ (codes "12:00 UTC +02:00", StrayWord)
     ∷ (codes "+02:00", BadTime)
     ∷ (codes "-5", BadDate)
+    ∷ (codes " \t", Empty)
+    ∷ (codes "monthy", UnknownShorthand)
+    ∷ (codes "bi-weekly", UnknownShorthand)
+    ∷ (codes "Mon..", BadWeekday)
+    ∷ (codes "Foo,Mon", BadWeekday)
+    ∷ (codes "1-2-3-4", BadDate)
+    ∷ (codes "12:", BadTime)
+    ∷ (codes "1:2:3:4", BadTime)
+    ∷ (codes "12:00 +2:00", StrayWord)
+    ∷ (codes "Mon +02:00 12:00", StrayWord)
+    ∷ (codes "0:0:10000.5", NumberTooLarge)
+    ∷ (codes "*:99..60", OutOfField)
+    ∷ (codes "7 UTC now", BadDate)
     ∷ []
 
 rows_at_fault : map (λ (row : Row). fields_in row.0) rows ≡ map (λ (row : Row). Err row.1) rows
 unfolding fields_in fields_at words roles_of shorthand_named day_named days_of listed_days weekdays_of date_texts time_texts date_fields time_fields date_in_word time_in_word part_due parts_listed component_of with_step after_end after_start part_of fault_of is_zone_name suffix_of offset_in hour_minute_in two_digits name_of
 rows_at_fault = refl
+
+faults_of_rows : (rs : List Row) → map (λ (row : Row). fields_in row.0) rs ≡ map (λ (row : Row). Err row.1) rs → AllByRecursion (λ (row : Row). HasFault row.0 row.1) rs
+faults_of_rows [] same = tt
+faults_of_rows (r ∷ rs) same =
+    let first : fields_in r.0 ≡ Err r.1 = cc in
+    let more : map (λ (row : Row). fields_in row.0) rs ≡ map (λ (row : Row). Err row.1) rs = cc in
+    (fault_found r.0 r.1 first, faults_of_rows rs more)
+
+-- the rule gives each text its error
+rows_have_faults : AllByRecursion (λ (row : Row). HasFault row.0 row.1) rows
+rows_have_faults = faults_of_rows rows rows_at_fault

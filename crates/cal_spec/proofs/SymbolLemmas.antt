@@ -6,11 +6,8 @@ use Rattle.std.specs.Char.{is_ascii_digit}
 use Rattle.std.proofs.lemmas.Bool.{and_parts, and_from, cases_Bool, leb-true, le-leb, ne_eqb}
 use Rattle.std.proofs.lemmas.List.{take-append-drop}
 use Rattle.cal_text.specs.rules.Separators.{is_point, is_slash}
+use Rattle.cal_spec.specs.rules.PartFaultRule.{begins_with}
 use Rattle.cal_spec.specs.computed.Parts.{Symbol, digits, dots, slash, point, other, with_digit, with_byte, lone, symbols}
-
-abbrev pub begins_with : (ℕ → Bool) → List ℕ → Bool
-begins_with p [] = false
-begins_with p (b ∷ bs) = p b
 
 pub digit_no_point : (b : ℕ) → is_ascii_digit b ≡ true → is_point b ≡ false
 digit_no_point b digit = ne_eqb b 46 (λ e. omega (arith, leb-true 48 b (and_parts (leb 48 b) (leb b 57) digit).0))
@@ -49,7 +46,7 @@ symbols_number b (d ∷ ds) rest digit all apart =
 
 -- the text before the first byte that isn't a digit consists of digits, and the remaining text doesn't begin with a
 -- digit
-front_digits : (bs : List ℕ) → (list_all is_ascii_digit (take (prefix_len is_ascii_digit bs) bs) ≡ true) × (begins_with is_ascii_digit (drop (prefix_len is_ascii_digit bs) bs) ≡ false)
+pub front_digits : (bs : List ℕ) → (list_all is_ascii_digit (take (prefix_len is_ascii_digit bs) bs) ≡ true) × (begins_with is_ascii_digit (drop (prefix_len is_ascii_digit bs) bs) ≡ false)
 front_digits [] = (refl, refl)
 front_digits (b ∷ bs) =
     let more = front_digits bs in

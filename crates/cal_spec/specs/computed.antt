@@ -3,7 +3,6 @@
 pub mod Components
 pub mod DateAndTime
 pub mod Expr
-pub mod Faults
 pub mod Grammar
 pub mod NormalParts
 pub mod ParsedSuffix

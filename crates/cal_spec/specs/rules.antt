@@ -1,11 +1,14 @@
 -- What the manuals and this project's own rules say. The laws and the contracts of this crate cite these definitions.
+pub mod ComponentFaultRule
 pub mod ExprText
 pub mod Fields
 pub mod FullYears
+pub mod GrammarFaultRule
 pub mod GrammarRule
 pub mod Match
 pub mod Members
 pub mod NormalForm
+pub mod PartFaultRule
 pub mod Shorthand
 pub mod Slot
 pub mod SpecFault

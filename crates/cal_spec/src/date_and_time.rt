@@ -3,7 +3,8 @@
 ghost use Rattle.std.specs.Prelude.{◌≡◌, ◌≤◌, ◌∷◌, [], MatchOption, filter};
 ghost use Rattle.std.specs.List.{position, slice_split};
 ghost use Rattle.std.specs.Option.{option_map};
-ghost use Rattle.cal_spec.specs.computed.DateAndTime.{is_date_sign, date_texts, time_texts, date_in_word, time_in_word, date_fields, time_fields, room_after};
+ghost use Rattle.cal_spec.specs.rules.UnparsedTexts.{is_date_sign};
+ghost use Rattle.cal_spec.specs.computed.DateAndTime.{date_texts, time_texts, date_in_word, time_in_word, date_fields, time_fields, room_after};
 ghost use Rattle.cal_spec.specs.computed.Views.{date_fields_in, time_fields_in, date_texts_in, time_texts_in};
 ghost use Rattle.cal_spec.specs.computed.Reads.{GivesUnlessNoMemory};
 ghost use Rattle.cal_spec.specs.rules.Fields.{max_counted_parts};

@@ -1,29 +1,32 @@
-//! Laws about which texts the parser accepts, and about the words of a text. Each law is a function with an empty body,
-//! whose contract states the law.
+//! Laws about which texts the parser accepts, about the errors of all others, and about the words of a text. Each law is
+//! a function with an empty body, whose contract states the law.
 
-ghost use Rattle.std.specs.Prelude.{◌≡◌, ◌↔◌, ℕ, List, Ok};
-ghost use Rattle.std.specs.Result.{result_err};
+ghost use Rattle.std.specs.Prelude.{◌≡◌, ◌↔◌, ◌⊎◌, ℕ, List, Ok, Err};
 ghost use Rattle.cal_spec.specs.computed.Expr.{expr_in};
-ghost use Rattle.cal_spec.specs.computed.Faults.{judgements_of};
-ghost use Rattle.cal_spec.specs.rules.Fields.{Fields};
 ghost use Rattle.cal_spec.specs.computed.Grammar.{fields_in};
-ghost use Rattle.cal_spec.specs.rules.WordsOfText.{AreWords};
+ghost use Rattle.cal_spec.specs.rules.Fields.{Fields};
+ghost use Rattle.cal_spec.specs.rules.GrammarFaultRule.{HasFault};
 ghost use Rattle.cal_spec.specs.rules.GrammarRule.{IsValid};
 ghost use Rattle.cal_spec.specs.rules.NormalForm.{Spells};
-ghost use Rattle.cal_spec.specs.computed.Reads.{first_of};
+ghost use Rattle.cal_spec.specs.rules.WordsOfText.{AreWords};
+ghost use Rattle.cal_spec.specs.declared.spec_fault.SpecFault.{SpecFault};
 ghost use Rattle.cal_text.specs.rules.Separators.{words};
 
-/// Parsing a text succeeds if and only if the grammar of systemd.time(7), Calendar Events, allows the text (`IsValid`).
-/// Parsing then returns the fields that the grammar gives to the text. The grammar is unambiguous: it never gives the
-/// same text two different values of `Fields`. `read_expr` returns the normal form of the fields (`Spells`). If parsing
-/// fails, the error is that of the first check that fails. `judgements_of` lists the checks of a text in the order that
-/// docs/GRAMMAR.md states under "Rejected expressions".
+/// Each text is valid or has an error, and never both. It is valid if the grammar of systemd.time(7), Calendar Events,
+/// gives it fields (`IsValid`); its error is the one that docs/GRAMMAR.md states under "Rejected expressions"
+/// (`HasFault`). Neither rule is ambiguous: a text has at most one value of `Fields`, and at most one error. Parsing a
+/// text returns its fields, or fails with its error. `read_expr` returns the normal form of the fields (`Spells`), or
+/// fails with the same error.
 pub fn expressions_are_those_of_the_rule()
     ensures found { (text : List ℕ) (f : Fields) → fields_in text ≡ Ok f → IsValid text f }
     ensures only { (text : List ℕ) (f : Fields) → IsValid text f → fields_in text ≡ Ok f }
     ensures one { (text : List ℕ) (f g : Fields) → IsValid text f → IsValid text g → f ≡ g }
     ensures normal { (text : List ℕ) (f : Fields) → (expr_in text ≡ Ok f) ↔ Spells text f }
-    ensures fault { (text : List ℕ) → result_err (fields_in text) ≡ first_of (judgements_of text) }
+    ensures fault { (text : List ℕ) (e : SpecFault) → (fields_in text ≡ Err e) ↔ HasFault text e }
+    ensures rejected { (text : List ℕ) (e : SpecFault) → (expr_in text ≡ Err e) ↔ HasFault text e }
+    ensures one_fault { (text : List ℕ) (d e : SpecFault) → HasFault text d → HasFault text e → d ≡ e }
+    ensures either { (text : List ℕ) → ((f : Fields) × IsValid text f) ⊎ ((e : SpecFault) × HasFault text e) }
+    ensures never_both { (text : List ℕ) (f : Fields) (e : SpecFault) → IsValid text f → HasFault text e → ⊥ }
 {}
 
 /// The words of a text are its maximal runs of bytes that are not blanks: no word contains a blank, and blanks separate

@@ -8,7 +8,8 @@ ghost use Rattle.cal_civil.specs.rules.Weekday.{name_of, short_name_of};
 ghost use Rattle.cal_text.specs.rules.Separators.{is_comma};
 ghost use Rattle.cal_spec.specs.computed.Reads.{Gives, GivesUnlessNoMemory};
 ghost use Rattle.cal_spec.specs.rules.WeekdayNames.{after_joint, day_named, days_of, is_no_letter};
-ghost use Rattle.cal_spec.specs.computed.WeekdayLists.{is_like_shorthand, items_of, weekdays_of, without_comma};
+ghost use Rattle.cal_spec.specs.computed.WeekdayLists.{items_of, weekdays_of, without_comma};
+ghost use Rattle.cal_spec.specs.rules.Shorthand.{is_like_shorthand};
 ghost use Rattle.cal_spec.specs.rules.Weekdays.{is_in_weekday_range, set_of};
 
 use crate::SpecFault;

@@ -1,5 +1,5 @@
 -- Parsing of the date and the time of a calendar expression: systemd.time(7), Calendar Events.
-use Rattle.std.specs.Prelude.{ℕ, ◌-◌, ◌==◌, Bool, ◌||◌, if◌then◌else◌, List, [], ◌∷◌, filter, codes, Option, None, Some, Result, Ok, Err}
+use Rattle.std.specs.Prelude.{ℕ, ◌-◌, Bool, if◌then◌else◌, List, [], ◌∷◌, filter, codes, Option, None, Some, Result, Ok, Err}
 use Rattle.std.specs.List.{slice_split}
 use Rattle.cal_spec.specs.computed.Components.{counted, component_of}
 use Rattle.cal_text.specs.rules.AndThen.{◌>>=◌}
@@ -9,7 +9,7 @@ use Rattle.cal_spec.specs.declared.slot.Slot.TheVariants.{Year, Month, Hour, Min
 use Rattle.cal_spec.specs.declared.spec_fault.SpecFault.{SpecFault}
 use Rattle.cal_spec.specs.declared.spec_fault.SpecFault.TheVariants.{BadDate, BadTime}
 use Rattle.cal_text.specs.rules.Separators.{is_colon}
-use Rattle.cal_spec.specs.rules.UnparsedTexts.{DateTexts, TimeTexts}
+use Rattle.cal_spec.specs.rules.UnparsedTexts.{DateTexts, TimeTexts, is_date_sign, is_tilde}
 use Rattle.cal_spec.specs.rules.Fields.{max_counted_parts}
 
 -- the parsed components of a date, and whether the day is counted from the month's end
@@ -24,13 +24,6 @@ pub record TimeFields : Type 0 where
   pub hour : Option (List Part)
   pub minute : Option (List Part)
   pub second : Option (List Part)
-
-abbrev pub is_tilde : ℕ → Bool
-is_tilde b = b == 126
-
--- whether a byte is `-` or `~`, the signs that separate the components of a date
-abbrev pub is_date_sign : ℕ → Bool
-is_date_sign b = (b == 45) || is_tilde b
 
 -- the texts of a date's components, given its signs and the texts that these signs separate; a missing year becomes
 -- `*`, and only the last sign may be `~`

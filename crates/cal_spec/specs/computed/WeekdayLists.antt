@@ -1,14 +1,14 @@
 -- Parsing of weekday lists: systemd.time(7), Calendar Events. Their items are separated by commas.
-use Rattle.std.specs.Prelude.{ℕ, ◌-◌, ◌==◌, Bool, true, ◌||◌, if◌then◌else◌, List, [], ◌∷◌, length, map, take, slice_index, Option, None, Some, is_some, Result, Ok, Err}
-use Rattle.std.specs.List.{list_all, slice_split}
+use Rattle.std.specs.Prelude.{ℕ, ◌-◌, Bool, true, if◌then◌else◌, List, [], ◌∷◌, length, map, take, slice_index, Option, None, Some, is_some, Result, Ok, Err}
+use Rattle.std.specs.List.{slice_split}
 use Rattle.std.specs.Option.{ok_or}
-use Rattle.std.specs.Char.{is_ascii_alphabetic}
 use Rattle.cal_civil.specs.rules.Weekday.{week}
 use Rattle.cal_text.specs.rules.Separators.{is_comma}
 use Rattle.cal_text.specs.rules.AndThen.{◌>>=◌}
 use Rattle.cal_spec.specs.declared.weekdays.WeekdayRange.{WeekdayRange}
 use Rattle.cal_spec.specs.declared.spec_fault.SpecFault.{SpecFault}
 use Rattle.cal_spec.specs.declared.spec_fault.SpecFault.TheVariants.{BadWeekday, UnknownShorthand}
+use Rattle.cal_spec.specs.rules.Shorthand.{is_like_shorthand}
 use Rattle.cal_spec.specs.rules.Weekdays.{set_of}
 use Rattle.cal_spec.specs.rules.WeekdayNames.{day_named, leading_letters, days_of}
 
@@ -23,10 +23,6 @@ without_comma word = if is_comma (slice_index word (length word - 1)) then take 
 -- parses a list of items that are separated by commas, with one trailing comma allowed
 unfoldable pub listed_days : List ℕ → Result (List Bool) SpecFault
 listed_days word = items_of (slice_split is_comma (without_comma word)) >>= λ items. Ok (set_of items)
-
--- whether the word consists only of letters and `-`, as shorthands do
-abbrev pub is_like_shorthand : List ℕ → Bool
-is_like_shorthand word = list_all (λ b. is_ascii_alphabetic b || (b == 45)) word
 
 -- parses a weekday list, or fails with its error
 unfoldable pub weekdays_of : List ℕ → Result (List Bool) SpecFault

@@ -15,7 +15,7 @@ use Rattle.cal_spec.specs.rules.Shorthand.{any_date, midnight, shorthand_named, 
 use Rattle.cal_spec.specs.rules.Slot.{day_slot, max_number}
 use Rattle.cal_spec.specs.rules.ValidParts.{IsValidPart}
 use Rattle.cal_spec.specs.rules.Weekdays.{set_of}
-use Rattle.cal_civil.specs.rules.OffsetWord.{IsOffsetWord, begins_with_sign}
+use Rattle.cal_civil.specs.rules.OffsetWord.{IsOffsetWord, begins_with_sign, begins_zone}
 use Rattle.cal_civil.specs.rules.ZoneName.{begins_with_letter, is_zone_name}
 use Rattle.cal_spec.specs.rules.ZoneSuffix.{ZoneSuffix, of_name, at_offset, kept_name}
 use Rattle.cal_spec.specs.declared.field.Part.{Part}
@@ -133,32 +133,45 @@ given word = option_to_list word
 abbrev pub IsSignless : List ℕ → Type 0
 IsSignless word = begins_with_sign word ≡ false
 
--- `[weekdays] [date] [time] [zone]`, with at least one of the first three. The weekdays begin with a letter and aren't
--- a shorthand; the date and the time don't begin with a letter. The time contains a colon; the date doesn't. After the
--- first word, only a zone begins with `+` or `-`.
-pub record ArePlain (ws : List (List ℕ)) (p : WordRoles) (last : Option (List ℕ)) : Type 0 where
+-- a word that doesn't begin with a letter is the time if it has a colon or follows a date
+abbrev pub IsTimeAfter : Option (List ℕ) → List ℕ → Type 0
+IsTimeAfter None word = (begins_with_letter word ≡ false) × (list_any is_colon word ≡ true)
+IsTimeAfter (Some date) word = begins_with_letter word ≡ false
+
+-- if there is no time, the next word, if there is one, begins with a letter, `+` or `-`, as a zone does
+abbrev pub IsPastTime : Option (List ℕ) → List (List ℕ) → Type 0
+IsPastTime None (word ∷ rest) = begins_zone word ≡ true
+IsPastTime time rest = Unit {0}
+
+-- `[weekdays] [date] [time]`, at least one of them, and the words after them. The weekdays begin with a letter and
+-- aren't a shorthand; the date and the time don't begin with a letter. The date contains no colon. After the first
+-- word, neither the date nor the time begins with `+` or `-`.
+pub record ArePlain (ws : List (List ℕ)) (p : WordRoles) : Type 0 where
   pub date : Option (List ℕ)
   pub time : Option (List ℕ)
-  pub whole : ws ≡ given p.weekdays ++ (given date ++ (given time ++ given last))
+  pub whole : ws ≡ given p.weekdays ++ (given date ++ (given time ++ p.rest))
   pub some : 0 < length (given p.weekdays ++ (given date ++ given time))
   pub weekdays_kind : IfSome p.weekdays (λ w. (begins_with_letter w ≡ true) × (shorthand_named w ≡ None))
   pub date_kind : IfSome date (λ w. (begins_with_letter w ≡ false) × (list_any is_colon w ≡ false))
-  pub time_kind : IfSome time (λ w. (begins_with_letter w ≡ false) × (list_any is_colon w ≡ true))
+  pub time_kind : IfSome time (IsTimeAfter date)
   pub signless : AllByRecursion IsSignless (drop 1 (given p.weekdays ++ (given date ++ given time)))
+  pub past_time : IsPastTime time p.rest
   pub date_is : p.date ≡ unwrap_or date any_date
   pub time_is : p.time ≡ unwrap_or time midnight
-  pub rest_is : p.rest ≡ given last
 
--- `shorthand [zone]`; the shorthand is replaced by what it stands for
-pub record AreShort (ws : List (List ℕ)) (p : WordRoles) (last : Option (List ℕ)) : Type 0 where
+-- a shorthand, which is replaced by what it stands for, and the words after it
+pub record AreShort (ws : List (List ℕ)) (p : WordRoles) : Type 0 where
   pub word : List ℕ
   pub shorthand : Shorthand
-  pub whole : ws ≡ word ∷ given last
+  pub whole : ws ≡ word ∷ p.rest
   pub named : shorthand_named word ≡ Some shorthand
   pub weekdays_is : p.weekdays ≡ (expansion_of shorthand).weekdays
   pub date_is : p.date ≡ (expansion_of shorthand).date
   pub time_is : p.time ≡ (expansion_of shorthand).time
-  pub rest_is : p.rest ≡ given last
+
+-- the words of an expression have these roles, whether they are valid in them or not
+abbrev pub HasRoles : List (List ℕ) → WordRoles → Type 0
+HasRoles ws p = ArePlain ws p ⊎ AreShort ws p
 
 -- the word is the name of the zone or its UTC offset; if there is no word, there is no zone
 abbrev pub IsZoneWord : Option (List ℕ) → Option ZoneSuffix → Type 0
@@ -166,11 +179,12 @@ IsZoneWord None suffix = suffix ≡ None
 IsZoneWord (Some word) suffix =
     ((is_zone_name word ≡ true) × (suffix ≡ Some (of_name (kept_name word)))) ⊎ ((seconds : ℤ) × IsOffsetWord word seconds × (suffix ≡ Some (at_offset seconds)))
 
--- the text is an expression with these fields
+-- the text is an expression with these fields: `[weekdays] [date] [time] [zone]` or `shorthand [zone]`
 pub record IsExpression (text : List ℕ) (f : Fields) : Type 0 where
   pub roles : WordRoles
   pub last : Option (List ℕ)
-  pub roles_are : ArePlain (words text) roles last ⊎ AreShort (words text) roles last
+  pub roles_are : HasRoles (words text) roles
+  pub rest_is : roles.rest ≡ given last
   pub weekdays : HasWeekdays roles.weekdays f.weekdays
   pub date : IsDate roles.date f
   pub time : IsTime roles.time f

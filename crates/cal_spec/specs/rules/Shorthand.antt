@@ -1,6 +1,7 @@
 -- Shorthands for common calendar expressions: systemd.time(7), Calendar Events.
-use Rattle.std.specs.Prelude.{ℕ, List, [], ◌∷◌, codes, Option, None, Some}
-use Rattle.std.specs.List.{find, list_any}
+use Rattle.std.specs.Prelude.{ℕ, ◌==◌, Bool, ◌||◌, List, [], ◌∷◌, codes, Option, None, Some}
+use Rattle.std.specs.Char.{is_ascii_alphabetic}
+use Rattle.std.specs.List.{find, list_all, list_any}
 use Rattle.std.specs.Str.{str_eq_ignore_ascii_case}
 use Rattle.cal_spec.specs.declared.shorthand.Shorthand.{Shorthand}
 use Rattle.cal_spec.specs.declared.shorthand.Shorthand.TheVariants.{Minutely, Hourly, Daily, Weekly, Monthly, Quarterly, Semiannually, Yearly}
@@ -55,3 +56,7 @@ expansion_of Yearly = dates (codes "*-01-01")
 -- the shorthand with this name, ignoring case
 unfoldable pub shorthand_named : List ℕ → Option Shorthand
 shorthand_named word = find (λ shorthand. list_any (str_eq_ignore_ascii_case word) (names_of shorthand)) shorthands
+
+-- whether the word consists only of letters and `-`, as shorthands do
+abbrev pub is_like_shorthand : List ℕ → Bool
+is_like_shorthand word = list_all (λ b. is_ascii_alphabetic b || (b == 45)) word

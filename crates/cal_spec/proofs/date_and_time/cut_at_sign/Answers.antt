@@ -1,6 +1,6 @@
 use Rattle.std.proofs.Common.{◌∙◌, sym, ◌+◌, Bool, List, arith, cond, drop, false, length, refl, suc, true, ℕ, ◌<◌, ◌∷◌, ◌≡◌, get_or, [], ◌≤◌, Some, ap, take, None}
 use Rattle.std.proofs.lemmas.List.{take_rest}
-use Rattle.cal_spec.specs.computed.DateAndTime.{is_date_sign}
+use Rattle.cal_spec.specs.rules.UnparsedTexts.{is_date_sign}
 use Rattle.cal_spec.proofs.date_and_time.cut_at_sign.Goals as goal
 use Rattle.std.specs.Prelude.{not, filter, nat_lt}
 use Rattle.std.specs.List.{position_or_len, slice_split, position}
