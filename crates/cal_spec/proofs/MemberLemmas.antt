@@ -16,6 +16,9 @@ use Rattle.cal_rising.specs.rules.Elements.{Has}
 use Rattle.cal_spec.specs.rules.Slot.{day_slot}
 use Rattle.cal_spec.specs.rules.ValidParts.{EndsAfter, IsStep}
 use Rattle.cal_spec.specs.rules.ValidFields.{IsValidFields}
+use Rattle.cal_spec.specs.computed.Expr.{members_of}
+use Rattle.cal_spec.specs.declared.field.Field.{Field}
+use Rattle.cal_spec.specs.declared.field.Field.TheVariants as field
 use Rattle.cal_spec.specs.declared.field.Part.{Part}
 use Rattle.cal_spec.specs.declared.slot.Slot.{Slot}
 use Rattle.cal_spec.specs.declared.slot.Slot.TheVariants.{Year, Month, Hour, Minute, Second}
@@ -167,3 +170,25 @@ time_stays f second valid =
 pub matches_stay : (f : Fields) (local : ℕ) → IsValidFields f → matches (sets_of (normal_fields f)) local ≡ matches (sets_of f) local
 unfolding matches
 matches_stay f local valid = rw (date_stays f (civil_date (local / 86_400)) valid, time_stays f (local % 86_400) valid) refl
+
+-- a day component and its normal form match the same numbers, also if only the first counts from the month's end
+day_members : (from_end : Bool) (c : Option (List Part)) (v : ℕ) → AreParts c → component_has (day_slot (normal_from_end from_end c)) (normal_component c) v ≡ component_has (day_slot from_end) c v
+day_members true None v h = refl
+day_members false None v h = refl
+day_members from_end (Some ps) v h = parts_have (day_slot from_end) ps v h
+
+-- each component of valid fields matches the same values as its normal form
+pub members_stay : (component : Field) (f : Fields) (v : ℕ) → IsValidFields f → members_of component (sets_of (normal_fields f)) v ≡ members_of component (sets_of f) v
+unfolding sets_of normal_fields
+members_stay field.Year f v valid = component_stays Year f.year v (parts_from_sound Year f.year valid.year)
+members_stay field.Month f v valid = component_stays Month f.month v (parts_from_sound Month f.month valid.month)
+members_stay field.Day f v valid =
+    day_members f.from_end f.day v (parts_from_sound (day_slot f.from_end) f.day valid.day)
+members_stay field.Hour f v valid = component_stays Hour f.hour v (parts_from_sound Hour f.hour valid.hour)
+members_stay field.Minute f v valid = component_stays Minute f.minute v (parts_from_sound Minute f.minute valid.minute)
+members_stay field.Second f v valid = second_stays f.second v (parts_from_sound Second f.second valid.second)
+
+-- the day of valid fields matches the same days as its normal form
+pub days_stay : (f : Fields) (date : Date) → IsValidFields f → (sets_of (normal_fields f)).day (day_value (normal_fields f).from_end date) ≡ (sets_of f).day (day_value f.from_end date)
+unfolding sets_of normal_fields
+days_stay f date valid = day_stays f.from_end f.day date (parts_from_sound (day_slot f.from_end) f.day valid.day)

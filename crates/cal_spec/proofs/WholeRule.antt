@@ -10,6 +10,7 @@ use Rattle.cal_spec.specs.computed.Words.{roles_of}
 use Rattle.cal_text.specs.rules.Separators.{words}
 use Rattle.cal_spec.specs.rules.UnparsedTexts.{WordRoles}
 use Rattle.cal_spec.specs.computed.ParsedSuffix.{suffix_in}
+use Rattle.cal_spec.specs.rules.ValidFields.{IsValidFields}
 use Rattle.cal_spec.specs.rules.ZoneSuffix.{ZoneSuffix}
 use Rattle.cal_spec.proofs.DateRule.{is_date, is_time, AreFew, are_few, date_only, time_only}
 use Rattle.cal_spec.proofs.FieldLemmas.{fields_with, text_found, valid_fields}
@@ -52,6 +53,10 @@ valid_only text f valid =
     let e = valid.expression in
     let roles_are = roles_only (words text) e.roles e.roles_are in
     rw (le-ltb max_text_bytes (length text) valid.short, roles_are) (fields_only text f e (are_few f valid.few))
+
+-- the fields of a valid text are valid
+pub valid_in : (text : List ℕ) (f : Fields) → IsValid text f → IsValidFields f
+valid_in text f valid = valid_fields text f (valid_only text f valid)
 
 -- the grammar is unambiguous: it never gives the same text two different values of `Fields`
 pub one_expression : (text : List ℕ) (f g : Fields) → IsValid text f → IsValid text g → f ≡ g

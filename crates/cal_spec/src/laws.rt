@@ -3,23 +3,24 @@
 
 ghost use Rattle.std.specs.Prelude.{◌≡◌, ◌⊎◌, ◌<◌, ◌≤◌, ℕ, Bool, List, None, Ok, Option, length};
 ghost use Rattle.std.specs.List.{AllByRecursion};
+ghost use Rattle.jiff_core.specs.declared.civil.date.Date.{Date};
 ghost use Rattle.cal_text.specs.rules.Trim.{trim_end_matches};
 ghost use Rattle.cal_text.specs.rules.Separators.{is_blank};
-ghost use Rattle.cal_spec.specs.computed.Expr.{IsExpr, expr_in};
+ghost use Rattle.cal_spec.specs.computed.Expr.{IsExpr, expr_in, members_of};
 ghost use Rattle.cal_spec.specs.rules.ExprText.{expr_text};
 ghost use Rattle.cal_spec.specs.rules.Fields.{Fields};
 ghost use Rattle.cal_spec.specs.computed.Grammar.{fields_in, max_text_bytes};
-ghost use Rattle.cal_spec.specs.rules.Match.{matches};
-ghost use Rattle.cal_spec.specs.rules.Members.{component_has, sets_of};
+ghost use Rattle.cal_spec.specs.rules.GrammarRule.{IsValid};
+ghost use Rattle.cal_spec.specs.rules.Match.{day_value, matches};
+ghost use Rattle.cal_spec.specs.rules.Members.{sets_of};
 ghost use Rattle.cal_spec.specs.computed.NormalParts.{AreNormal, AreParts, IsPart, normal_component, normal_fields, normal_parts, normal_second};
 ghost use Rattle.cal_spec.specs.rules.NormalForm.{AreNormalOf, IsNormalFieldsOf, IsNormalOf, IsNormalSecondOf};
 ghost use Rattle.cal_spec.specs.rules.ValidFields.{IsValidFields};
 ghost use Rattle.cal_spec.specs.rules.WeekdayRunsRule.{AreWeekdayRuns};
 ghost use Rattle.cal_spec.specs.rules.WeekdayRuns.{Run, runs_from};
 ghost use Rattle.cal_spec.specs.rules.ZoneSuffix.{name_in, offset_said, ZoneSuffix};
+ghost use Rattle.cal_spec.specs.declared.field.Field.{Field};
 ghost use Rattle.cal_spec.specs.declared.field.Part.{Part};
-ghost use Rattle.cal_spec.specs.declared.slot.Slot.{Slot};
-ghost use Rattle.cal_spec.specs.declared.slot.Slot.TheVariants.{Second};
 
 /// If no range in a list of parts runs backwards and no step is zero, the list has exactly one normal form, which
 /// `normal_parts` returns. A list that is already in normal form is its own normal form.
@@ -43,36 +44,34 @@ pub fn one_normal_component()
         → normal ≡ normal_second raw }
 {}
 
-/// Valid fields have exactly one normal form. It is valid, and normalizing it again changes nothing.
-#[tactic(auto, using(crate::proofs::NormalFieldsLemmas::fields_are, crate::proofs::NormalFieldsLemmas::fields_only, crate::proofs::NormalFieldsLemmas::fields_twice, crate::proofs::NormalFieldsLemmas::fields_valid))]
+/// The fields of each valid text have exactly one normal form. It is valid, and normalizing it again changes nothing.
 pub fn one_normal_form_of_fields()
-    ensures some { (f : Fields) → IsValidFields f → IsNormalFieldsOf f (normal_fields f) }
-    ensures only { (f g : Fields) → IsValidFields f → IsNormalFieldsOf f g → g ≡ normal_fields f }
-    ensures valid { (f : Fields) → IsValidFields f → IsValidFields (normal_fields f) }
-    ensures stays { (f : Fields) → IsValidFields f → normal_fields (normal_fields f) ≡ normal_fields f }
+    ensures some { (text : List ℕ) (f : Fields) → IsValid text f → IsNormalFieldsOf f (normal_fields f) }
+    ensures only { (text : List ℕ) (f g : Fields) → IsValid text f → IsNormalFieldsOf f g → g ≡ normal_fields f }
+    ensures valid { (text : List ℕ) (f : Fields) → IsValid text f → IsValidFields (normal_fields f) }
+    ensures stays { (text : List ℕ) (f : Fields) → IsValid text f
+        → normal_fields (normal_fields f) ≡ normal_fields f }
 {}
 
-/// Bringing a component into its normal form doesn't change which values it matches, if no range runs backwards and no
-/// step is zero.
-#[tactic(auto, using(crate::proofs::MemberLemmas::component_stays, crate::proofs::MemberLemmas::second_stays))]
+/// Bringing the fields of a valid text into their normal form doesn't change which values each component matches, nor
+/// which days the day matches. So both `*~*` and its normal form `*-*` match all days.
 pub fn members_stay()
-    ensures component { (slot : Slot) (raw : Option (List Part)) (v : ℕ) → AreParts raw
-        → component_has slot (normal_component raw) v ≡ component_has slot raw v }
-    ensures second { (raw : Option (List Part)) (v : ℕ) → AreParts raw
-        → component_has Second (normal_second raw) v ≡ component_has Second raw v }
+    ensures members { (text : List ℕ) (f : Fields) (field : Field) (value : ℕ) → IsValid text f
+        → members_of field (sets_of (normal_fields f)) value ≡ members_of field (sets_of f) value }
+    ensures days { (text : List ℕ) (f : Fields) (date : Date) → IsValid text f
+        → (sets_of (normal_fields f)).day (day_value (normal_fields f).from_end date)
+        ≡ (sets_of f).day (day_value f.from_end date) }
 {}
 
-/// Bringing valid fields into their normal form doesn't change which local seconds they match.
-#[tactic(auto, using(crate::proofs::MemberLemmas::matches_stay))]
+/// Bringing the fields of a valid text into their normal form doesn't change which local seconds they match.
 pub fn matches_stay()
-    ensures { (f : Fields) (local : ℕ) → IsValidFields f
+    ensures { (text : List ℕ) (f : Fields) (local : ℕ) → IsValid text f
         → matches (sets_of (normal_fields f)) local ≡ matches (sets_of f) local }
 {}
 
-/// The printed normal form of valid fields has fewer than 4,096 bytes.
-#[tactic(auto, using(crate::proofs::LengthLemmas::normal_length))]
+/// The normal form of each valid text has fewer than 4,096 bytes when it is printed.
 pub fn normal_texts_are_short()
-    ensures { (f : Fields) → IsValidFields f → length (expr_text (normal_fields f)) < 4_096 }
+    ensures { (text : List ℕ) (f : Fields) → IsValid text f → length (expr_text (normal_fields f)) < 4_096 }
 {}
 
 /// A set of weekdays has exactly one list of runs. A run is a maximal range of consecutive days in the set.
@@ -81,10 +80,10 @@ pub fn one_list_of_runs()
     ensures only { (days : List Bool) (rs : List Run) → AreWeekdayRuns days rs → rs ≡ runs_from 0 days }
 {}
 
-/// Parsing the printed normal form of valid fields returns this normal form.
+/// Parsing the printed normal form of a valid text returns this normal form.
 #[tactic(auto, using(crate::proofs::ReadBack::normal_back))]
 pub fn normal_texts_read_back()
-    ensures normal { (f : Fields) → IsValidFields f
+    ensures normal { (text : List ℕ) (f : Fields) → IsValid text f
         → fields_in (expr_text (normal_fields f)) ≡ Ok (normal_fields f) }
     ensures expression { (f : Fields) → IsExpr f → fields_in (expr_text f) ≡ Ok f }
 {}
