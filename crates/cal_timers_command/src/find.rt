@@ -3,14 +3,19 @@
 ghost use Rattle.std.specs.Prelude.{IfErr};
 ghost use Rattle.cal_timers_command.specs.rules.Questions.{HasText};
 
+use crate::arguments::{FIRST, JSON, SECOND, TARGET, USER};
 use crate::command_fault::CommandFault;
-use crate::command_line::{FIRST, SECOND, TARGET, parse};
+use crate::command_line::parse;
 use crate::question::{Question, Verb};
 use crate::values::{count_of, now_of, root_of, zone_value};
 use crate::verb_first::with_verb_first;
 use clap::ArgMatches;
 use std::alloc::{AllocError, Global};
 use std::convert::AsStr;
+
+/// What is printed if arguments that `clap` accepts ask no question.
+const INCOMPLETE: &str =
+    "error: no verb, or not enough arguments for it\n\nFor more information, try '--help'.\n";
 
 impl Question {
     /// Parses the arguments after the program's name.
@@ -44,21 +49,23 @@ impl Question {
     {
         let texts = with_verb_first(alloc, arguments)?;
         let matches = parse(alloc, texts.as_slice())?;
-        match matches.subcommand() {
-            Some((name, values)) => question_of(alloc, verb_named(name), values),
-            None => Err(CommandFault::NoMemory),
+        let Some((name, values)) = matches.subcommand() else {
+            return Err(incomplete(alloc));
+        };
+        match Verb::named(name) {
+            Some(verb) => question_of(alloc, verb, values),
+            None => Err(incomplete(alloc)),
         }
     }
 }
 
-/// Converts the matches of a verb to a question. `clap` always returns as many targets as the verb needs, but checking
-/// the number again is easier than proving it.
+/// Converts the matches of a verb to a question.
 fn question_of(alloc: Global, verb: Verb, values: &ArgMatches<'_>) -> Result<Question, CommandFault>
     ensures { IfErr result HasText }
 {
     let targets = targets_of(alloc, values)?;
     if !verb.fits(targets.len()) {
-        return Err(CommandFault::NoMemory);
+        return Err(incomplete(alloc));
     }
     let count = count_of(alloc, values)?;
     let now = now_of(alloc, values)?;
@@ -69,8 +76,8 @@ fn question_of(alloc: Global, verb: Verb, values: &ArgMatches<'_>) -> Result<Que
         count,
         now,
         root: root_of(alloc, values)?,
-        is_user: values.get_flag("user"),
-        is_json: values.get_flag("json"),
+        is_user: values.get_flag(USER.name),
+        is_json: values.get_flag(JSON.name),
     })
 }
 
@@ -96,14 +103,13 @@ fn push_text(
     Ok(())
 }
 
-/// Returns the verb with this name. `clap` returns only names of verbs, so the last case is `list`.
-fn verb_named(name: &str) -> Verb {
-    match name {
-        "show" => Verb::Show,
-        "lint" => Verb::Lint,
-        "between" => Verb::Between,
-        "same" => Verb::Same,
-        "next" => Verb::Next,
-        _ => Verb::List,
+/// Returns the error if `clap` has accepted the arguments but returns no verb, or not as many targets as the verb needs.
+/// This doesn't happen, but the contract of `clap` doesn't exclude it.
+fn incomplete(alloc: Global) -> CommandFault
+    ensures { HasText result }
+{
+    match String::from_str(alloc, INCOMPLETE) {
+        Ok(text) => CommandFault::Usage(text),
+        Err(_) => CommandFault::NoMemory,
     }
 }

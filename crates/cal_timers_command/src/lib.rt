@@ -1,12 +1,13 @@
 //! Parsing of the arguments of `calendar-timers`: a verb, its targets and its options.
 #![tactic(auto)]
 
+mod arguments;
+mod clap_command;
 mod command_fault;
 mod command_line;
 mod find;
 mod help_texts;
 mod question;
-mod value_option;
 mod values;
 mod verb_first;
 

@@ -57,6 +57,33 @@ pub struct Question {
 }
 
 impl Verb {
+    /// All verbs, in the order in which the help lists them.
+    pub(crate) const ALL: [Verb; 6] = [
+        Verb::List,
+        Verb::Show,
+        Verb::Lint,
+        Verb::Between,
+        Verb::Same,
+        Verb::Next,
+    ];
+
+    /// Returns the name of the verb. The caller chooses the lifetime, since the prover can't shorten `'static`.
+    pub fn name<'a>(self) -> &'a str {
+        match self {
+            Verb::List => "list",
+            Verb::Show => "show",
+            Verb::Lint => "lint",
+            Verb::Between => "between",
+            Verb::Same => "same",
+            Verb::Next => "next",
+        }
+    }
+
+    /// Returns the verb with this name, or `None` if there is no such verb.
+    pub(crate) fn named(name: &str) -> Option<Verb> {
+        Verb::ALL.into_iter().find(|verb| verb.name() == name)
+    }
+
     /// Returns whether the verb accepts this number of targets.
     pub(crate) fn fits(self, count: usize) -> bool
         ensures { result ≡ fits_verb self count }

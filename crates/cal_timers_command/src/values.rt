@@ -5,8 +5,8 @@ ghost use Rattle.std.specs.Option.{ForSome};
 ghost use Rattle.cal_zone.specs.rules.Instant.{IsInstant};
 ghost use Rattle.cal_timers_command.specs.rules.Questions.{HasText, IsElapseCount};
 
+use crate::arguments::{Argument, COUNT, NOW, ROOT, UTC, ZONE};
 use crate::command_fault::CommandFault;
-use crate::value_option::{COUNT, NOW, ROOT, ValueOption, ZONE};
 use cal_zone::Instant;
 use clap::ArgMatches;
 use std::alloc::Global;
@@ -52,7 +52,7 @@ pub(crate) fn zone_value(
 ) -> Result<Option<String>, CommandFault>
     ensures { IfErr result HasText }
 {
-    if values.get_flag("utc") {
+    if values.get_flag(UTC.name) {
         return Ok(Some(String::from_str(alloc, "UTC")?));
     }
     text_of(alloc, values, ZONE)
@@ -73,7 +73,7 @@ pub(crate) fn root_of(alloc: Global, values: &ArgMatches<'_>) -> Result<String, 
 fn text_of(
     alloc: Global,
     values: &ArgMatches<'_>,
-    option: ValueOption,
+    option: Argument,
 ) -> Result<Option<String>, CommandFault>
     ensures { IfErr result HasText }
 {
@@ -105,10 +105,10 @@ fn number_between(text: &str, least: u64, most: u64) -> Option<u64>
 
 /// Returns the error about an invalid value, worded as `clap` words such errors. If the value is empty, `reason` isn't
 /// used.
-fn bad_value(alloc: Global, option: ValueOption, text: &str, reason: &str) -> CommandFault
+fn bad_value(alloc: Global, option: Argument, text: &str, reason: &str) -> CommandFault
     ensures { HasText result }
 {
-    let (name, value) = (option.name, option.value);
+    let (name, value) = (option.name, option.value_name);
     let message = if text.is_empty() {
         format!(in alloc;
             "error: a value is required for '--{name} <{value}>' but none was supplied\n\nFor more information, try '--help'.\n"

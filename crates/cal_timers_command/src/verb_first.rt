@@ -2,7 +2,8 @@
 //! front. If no verb is given, `list` is inserted there, unless an argument before the first target asks for help
 //! or the version.
 
-use crate::value_option::{COUNT, NOW, ROOT, ZONE};
+use crate::arguments::{COUNT, NOW, ROOT, ZONE};
+use crate::question::Verb;
 use std::alloc::{AllocError, Global};
 use std::convert::AsStr;
 
@@ -93,9 +94,7 @@ fn takes_value(name: &str) -> bool {
     name == COUNT.name || name == ZONE.name || name == NOW.name || name == ROOT.name
 }
 
+/// Returns whether `clap` takes the word for a verb. It adds the verb `help` to ours.
 fn is_verb(word: &str) -> bool {
-    matches!(
-        word,
-        "list" | "show" | "lint" | "between" | "same" | "next" | "help"
-    )
+    word == "help" || Verb::named(word).is_some()
 }

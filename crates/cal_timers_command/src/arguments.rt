@@ -1,0 +1,166 @@
+//! The options and the positional arguments of each verb. Their names are also used to look up the values that `clap`
+//! has parsed.
+
+use crate::question::Verb;
+
+/// An option or a positional argument, and what the help says about it.
+#[derive(Clone, Copy)]
+pub(crate) struct Argument {
+    /// The name of an option, without the `--` before it. Users don't see the name of a positional argument.
+    pub(crate) name: &'static str,
+    pub(crate) form: ArgumentForm,
+    /// What the help calls the value. An option without a value has an empty text here.
+    pub(crate) value_name: &'static str,
+    /// The text in the help. `clap` prints a line break for `{n}`.
+    pub(crate) help: &'static str,
+}
+
+/// How an argument is given.
+#[derive(Clone, Copy)]
+pub(crate) enum ArgumentForm {
+    /// As an option with a value, at most once.
+    Value,
+    /// Like `Value`; the option also has a short form, as in `-n 3`.
+    ShortValue(char),
+    /// As an option without a value.
+    Flag,
+    /// Like `Flag`, but not together with the option of this name.
+    FlagWithout(&'static str),
+    /// As one positional argument, which is required.
+    One,
+    /// As any number of positional arguments.
+    Any,
+    /// As at least one positional argument.
+    AtLeastOne,
+}
+
+pub(crate) const COUNT: Argument = Argument {
+    name: "count",
+    form: ArgumentForm::ShortValue('n'),
+    value_name: "N",
+    help: "Show at most N elapses, 1 to 1000000 [default: 5]",
+};
+
+pub(crate) const ZONE: Argument = Argument {
+    name: "zone",
+    form: ArgumentForm::Value,
+    value_name: "ZONE",
+    help: "Local zone: UTC, +hh:mm, -hh:mm, posix:RULE or a zone name{n}[default: TZ, or the machine's zone]",
+};
+
+pub(crate) const UTC: Argument = Argument {
+    name: "utc",
+    form: ArgumentForm::FlagWithout("zone"),
+    value_name: "",
+    help: "Use UTC as the local zone",
+};
+
+pub(crate) const NOW: Argument = Argument {
+    name: "now",
+    form: ArgumentForm::Value,
+    value_name: "@N",
+    help: "Present time in Unix seconds [default: the clock]",
+};
+
+pub(crate) const ROOT: Argument = Argument {
+    name: "root",
+    form: ArgumentForm::Value,
+    value_name: "DIR",
+    help: "Look for units and zones below this folder [default: /]",
+};
+
+pub(crate) const USER: Argument = Argument {
+    name: "user",
+    form: ArgumentForm::Flag,
+    value_name: "",
+    help: "Look for the units of the user, not of the system",
+};
+
+pub(crate) const JSON: Argument = Argument {
+    name: "json",
+    form: ArgumentForm::Flag,
+    value_name: "",
+    help: "Print JSON",
+};
+
+/// The options that most verbs share, which the help of the program lists.
+pub(crate) const SHARED: [Argument; 6] = [ZONE, UTC, NOW, ROOT, USER, JSON];
+
+/// The name under which `clap` stores the first argument of `between` or `same`.
+pub(crate) const FIRST: &str = "first";
+
+/// The name under which `clap` stores the second argument of `between` or `same`.
+pub(crate) const SECOND: &str = "second";
+
+/// The name under which `clap` stores all other targets.
+pub(crate) const TARGET: &str = "target";
+
+const ANY_TIMERS: Argument = Argument {
+    name: TARGET,
+    form: ArgumentForm::Any,
+    value_name: "UNIT|FILE|DIR",
+    help: "Unit, timer file or folder of timer files",
+};
+
+const TIMERS: Argument = Argument {
+    name: TARGET,
+    form: ArgumentForm::AtLeastOne,
+    value_name: "UNIT|FILE",
+    help: "Unit or timer file",
+};
+
+const EXPRESSIONS: Argument = Argument {
+    name: TARGET,
+    form: ArgumentForm::AtLeastOne,
+    value_name: "EXPRESSION",
+    help: "Calendar expression, as in systemd.time(7)",
+};
+
+const FROM: Argument = Argument {
+    name: FIRST,
+    form: ArgumentForm::One,
+    value_name: "FROM",
+    help: "Start of the range",
+};
+
+const TO: Argument = Argument {
+    name: SECOND,
+    form: ArgumentForm::One,
+    value_name: "TO",
+    help: "End of the range",
+};
+
+const ONE_SIDE: Argument = Argument {
+    name: FIRST,
+    form: ArgumentForm::One,
+    value_name: "A",
+    help: "Unit, timer file or calendar expression",
+};
+
+const OTHER_SIDE: Argument = Argument {
+    name: SECOND,
+    form: ArgumentForm::One,
+    value_name: "B",
+    help: "Unit, timer file or calendar expression",
+};
+
+static LIST_ARGUMENTS: [Argument; 7] = [ZONE, UTC, NOW, ROOT, USER, JSON, ANY_TIMERS];
+
+static SHOW_ARGUMENTS: [Argument; 8] = [COUNT, ZONE, UTC, NOW, ROOT, USER, JSON, TIMERS];
+
+static BETWEEN_ARGUMENTS: [Argument; 9] = [FROM, TO, ZONE, UTC, NOW, ROOT, USER, JSON, ANY_TIMERS];
+
+static SAME_ARGUMENTS: [Argument; 8] = [ONE_SIDE, OTHER_SIDE, ZONE, UTC, NOW, ROOT, USER, JSON];
+
+static NEXT_ARGUMENTS: [Argument; 7] = [COUNT, ZONE, UTC, NOW, ROOT, JSON, EXPRESSIONS];
+
+/// Returns the arguments of a verb, in the order in which the help lists them.
+pub(crate) fn arguments_of(verb: Verb) -> &'static [Argument] {
+    match verb {
+        Verb::List | Verb::Lint => &LIST_ARGUMENTS,
+        Verb::Show => &SHOW_ARGUMENTS,
+        Verb::Between => &BETWEEN_ARGUMENTS,
+        Verb::Same => &SAME_ARGUMENTS,
+        Verb::Next => &NEXT_ARGUMENTS,
+    }
+}
