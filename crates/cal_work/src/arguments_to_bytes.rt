@@ -3,14 +3,18 @@
 //! The order is: the arguments, the zone files one after another, the local zone, the clock (unless `--now` is given),
 //! opening the timer file, and the run. The first step that fails ends the work; the steps after it aren't done.
 
-ghost use Rattle.std.specs.Prelude.{◌≡◌, ℕ, List, Option, Result, Ok, Err, Some, None, true, false, is_err, map, option_map, IfOk, IfErr};
+ghost use Rattle.std.specs.Prelude.{◌≡◌, ◌⊎◌, ℕ, List, Option, Result, Ok, Err, Some, None, true, false, is_err, map, option_map, IfOk, IfErr};
 ghost use Rattle.cal_bytes.specs.rules.Writes.{Writes};
 ghost use Rattle.cal_command.specs.rules.Ask.{shown_local, shown_ask, shown_item};
+ghost use Rattle.cal_command.specs.rules.Ask as asks;
+ghost use Rattle.cal_command.specs.rules.CommandLine.{IsAskOf};
 ghost use Rattle.cal_command.specs.rules.LocalZone.{IsLocalOffset};
 ghost use Rattle.cal_work.specs.rules.Outcome.{instant_in};
 ghost use Rattle.cal_report.specs.rules.ReportLines.{Report};
 ghost use Rattle.cal_request.specs.rules.RequestView.{asked};
 ghost use Rattle.cal_request.specs.rules.Status.{is_out_failed, is_err_failed};
+ghost use Rattle.cal_request.specs.rules.Verb.{seeks_elapses};
+ghost use Rattle.cal_work.specs.rules.ProgramHeadline.{PrintsAnswer, PrintsNothing};
 ghost use Rattle.cal_work.specs.rules.Stop as stops;
 ghost use Rattle.cal_work.specs.rules.Stop.{stops_for_out, stops_for_err, load_stop, rule_stop, unopened_stop};
 ghost use Rattle.cal_work.specs.rules.System.{Opens};
@@ -62,6 +66,11 @@ pub fn work<S: System, T: AsStr, O: Output, E: Sink>(
     requires err { E.is_failed err.old ≡ false }
     ensures works { Works (S.tells system.now) (map T.text arguments.now) (O.written out.old) (O.reached out.new)
         (E.written err.old) (E.written err.new) (E.is_failed err.new) result }
+    // The headline, for the verbs `calendar` and `timer`: the program prints the answer to what the arguments ask for, or
+    // it prints nothing on standard output and its status isn't 0. In the second case, the clause `works` says why.
+    ensures headline { (ask : asks.Ask) → IsAskOf (map T.text arguments.now) (Ok ask) → seeks_elapses ask.verb ≡ true
+        → PrintsAnswer (S.tells system.now) ask result (O.written out.old) (O.reached out.new) (E.written err.old) (E.written err.new)
+        ⊎ PrintsNothing result (O.written out.old) (O.reached out.new) }
     ensures out_fault { is_out_failed result.written ≡ true → O.is_failed out.new ≡ true }
     ensures out_failed { O.is_failed out.new ≡ true → is_err result.written ≡ true }
     ensures err_fault { is_err_failed result.written ≡ true → E.is_failed err.new ≡ true }

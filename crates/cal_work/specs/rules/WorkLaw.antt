@@ -16,6 +16,7 @@ use Rattle.cal_work.specs.rules.Stop.{Stop, command_stop, memory_stop}
 use Rattle.cal_work.specs.rules.System.{Known, Seen}
 use Rattle.cal_command.specs.rules.WorkedArguments.{daily_ask}
 use Rattle.cal_zone.specs.rules.Zone.{utc}
+use Rattle.cal_work.specs.declared.arguments_to_bytes.Ended.{Ended}
 
 -- everything is known: the bytes of each file, or that it can't be opened, and the clock's time, or that it has none;
 -- and no read fails
@@ -78,3 +79,7 @@ bare_system = record { file = λ path. Some None; may_fail = λ path. false; tim
 -- the world that the program finds in `bare_system` if the arguments are `calendar daily`
 abbrev pub daily_world : World
 daily_world = record { parsed = Ok daily_ask; zones = []; local = utc; clock = Some (pos 0); file = None }
+
+-- the end of a run that succeeded
+abbrev pub fine_end : Ended
+fine_end = record { status = 0; written = Ok tt }

@@ -1,0 +1,346 @@
+-- Lemmas for the clause `headline` of `work`: what the arguments ask for. Either they make a request of the system, and
+-- the outcome of the work is the outcome of this request, or the work stops before the run.
+use Rattle.std.proofs.Common.{◌≡◌, ◌⊎◌, inl, inr, ℕ, ℤ, Bool, true, false, List, [], ◌∷◌, Option, None, Some, Result, Ok, Err, IfOk, IfNone, IfSome, refl, sym, ap, subst, ◌∙◌, arith}
+use Rattle.std.specs.Prelude.{IfErr, is_some, not, ◌&&◌, ◌==◌, ◌≤◌, pos, negsuc, int_lt, if◌then◌else◌, codes, option_map}
+use Rattle.std.specs.Option.{option_map_or}
+use Rattle.std.specs.List.{list_any}
+use Rattle.std.specs.FinMap.{empty, insert}
+use Rattle.std.proofs.lemmas.Bool.{false≢true}
+use Rattle.std.proofs.lemmas.Int.{ints}
+use Rattle.jiff.specs.Types.{TimeZone}
+use Rattle.jiff.specs.Words.{read_whole as rule_read}
+use Rattle.cal_zone.specs.rules.AddedZones.{is_taken}
+use Rattle.cal_zone.specs.rules.Instant.{IsInstant, last_instant}
+use Rattle.cal_zone.specs.rules.ZoneFile.{file_limit, IsFileZone}
+use Rattle.cal_zone.specs.rules.ZoneTable.{ZoneMap, zone_named}
+use Rattle.cal_civil.specs.rules.ZoneName.{is_zone_name}
+use Rattle.cal_streams.specs.declared.whole.WholeFault.{WholeFault}
+use Rattle.cal_streams.specs.declared.whole.WholeFault.TheVariants as whole
+use Rattle.cal_zone.specs.declared.zone.Zone.{Zone as ClockZone}
+use Rattle.cal_zone.specs.declared.zone_fault.ZoneFault.TheVariants as zone
+use Rattle.cal_zone.specs.declared.zone_files.LoadFault.{LoadFault}
+use Rattle.cal_zone.specs.declared.zone_files.LoadFault.TheVariants.{ReadFailed, Zone}
+use Rattle.cal_command.specs.rules.Ask.{Ask, LocalZone, in_utc, at_offset, by_rule, of_name, ZoneItem}
+use Rattle.cal_command.specs.rules.CommandFault.{CommandFault, usage, help, bad_value, bad_iterations, bad_local, bad_now, bad_zones, no_memory}
+use Rattle.cal_command.specs.rules.CommandLine.{IsAskOf, ask_in, is_of_help, parsed_in, read_options, unless_bad}
+use Rattle.cal_command.specs.rules.OptionValues.{number_between, present_in}
+use Rattle.cal_command.specs.rules.VerbMatches.{VerbMatches, elapse_option, instant_option}
+use Rattle.cal_command.proofs.OptionLemmas.{number_between-range}
+use Rattle.cal_report.specs.rules.ReportLines.{Report}
+use Rattle.cal_request.specs.rules.Request.{Request}
+use Rattle.cal_work.specs.rules.Outcome.{World, ZoneFound, and_then, asked_at, instant_in, loaded, local_by, or_clock_stop, or_load_stop, outcome, outcome_of, outcome_of_parsed, present_by, run_by, table_by, with_bytes, with_file, with_zone}
+use Rattle.cal_work.specs.rules.ProgramHeadline.{AreZonesOf, IsPresent, IsRequestOf}
+use Rattle.cal_work.specs.rules.Stop.{Stop, load_stop, memory_stop, name_stop, rule_stop, with_line}
+use Rattle.cal_work.specs.rules.System.{Known, Seen, GivesTime, Opens, SeesBytes}
+use Rattle.cal_work.specs.rules.Works.{Fits, FitsArguments, ReadsZone, SeesFile, SeesZone, SeesZones}
+use Rattle.cal_text.proofs.General.{some_none}
+
+-- What the arguments ask for
+
+-- if the arguments ask for `ask`, then no other result of parsing them is right, except that memory ran out
+asked_for : (arguments : List (List ℕ)) (ask : Ask) (parsed : Result Ask CommandFault) → IsAskOf arguments (Ok ask) → IsAskOf arguments parsed
+    → (parsed ≡ Ok ask) ⊎ (parsed ≡ Err no_memory)
+asked_for arguments ask (Ok other) given is = inl (sym is.1 ∙ given.1)
+asked_for arguments ask (Err (usage text)) given is =
+    absurd (false≢true (sym (ap (list_any (λ kind. not (is_of_help kind))) given.0) ∙ is.1))
+asked_for arguments ask (Err (help text)) given is =
+    absurd (false≢true (sym (ap (list_any is_of_help) given.0) ∙ is.1))
+asked_for arguments ask (Err (bad_value message)) given is =
+    let never : ◌≡◌ {A = Result Ask CommandFault} (Ok ask) (Err (bad_value message)) = sym given.1 ∙ is.1 in cc
+asked_for arguments ask (Err no_memory) given is = inr refl
+
+-- The instant that `--now` gives
+
+most_instant : (n : ℕ) → n ≤ 7_258_211_998 → IsInstant (pos n)
+most_instant n h = (omega (arith, ints, h), omega (arith, ints, h))
+
+instant_of_number : (number : Option ℕ) (secs : ℤ) → ((n : ℕ) → Some n ≡ number → n ≤ 7_258_211_998) → option_map pos number ≡ Some secs → IsInstant secs
+instant_of_number None secs small h = cc
+instant_of_number (Some n) secs small h =
+    let same : pos n ≡ secs = cc in
+    subst IsInstant same (most_instant n (small n refl))
+
+instant_after_mark : (marked : Bool) (number : Option ℕ) (secs : ℤ) → ((n : ℕ) → Some n ≡ number → n ≤ 7_258_211_998)
+    → (if marked then option_map pos number else None) ≡ Some secs → IsInstant secs
+instant_after_mark true number secs small h = instant_of_number number secs small h
+instant_after_mark false number secs small h = cc
+
+present_instant : (text : List ℕ) (secs : ℤ) → present_in text ≡ Some secs → IsInstant secs
+unfolding present_in
+present_instant [] secs h = cc
+present_instant (byte ∷ bytes) secs h =
+    instant_after_mark (byte == 64) (number_between 0 7_258_211_998 bytes) secs (λ n is. (number_between-range 0 7_258_211_998 n bytes is).1) h
+
+instant_if_some : (present now : Option ℤ) (taken : Option (Option ℤ)) → taken ≡ option_map Some present → ((secs : ℤ) → present ≡ Some secs → IsInstant secs)
+    → taken ≡ Some now → IfSome now IsInstant
+instant_if_some None now taken is instant h = cc
+instant_if_some (Some secs) now taken is instant h =
+    let same : Some secs ≡ now = cc in
+    subst (λ o. IfSome o IsInstant) same (instant secs refl)
+
+instant_in_option : (value : Option (List ℕ)) (now : Option ℤ) → option_map_or (λ text. option_map Some (present_in text)) value (Some None) ≡ Some now → IfSome now IsInstant
+instant_in_option None now h =
+    let same : None ≡ now = cc in
+    subst (λ o. IfSome o IsInstant) same tt
+instant_in_option (Some text) now h = instant_if_some (present_in text) now _ refl (present_instant text) h
+
+-- if all values are valid, so is that of `--now`, and it is the present that is asked for
+read_in_turn : (iterations : Option ℕ) (now : Option (Option ℤ)) (zones : Option (List ZoneItem)) (local : Option LocalZone)
+    (made : ℕ → Option ℤ → List ZoneItem → LocalZone → Ask) (ask : Ask) → ((i : ℕ) (n : Option ℤ) (z : List ZoneItem) (l : LocalZone) → (made i n z l).now ≡ n)
+    → unless_bad bad_iterations iterations (λ i. unless_bad bad_now now (λ n. unless_bad bad_zones zones (λ z. unless_bad bad_local local (λ l. Ok (made i n z l))))) ≡ Ok ask
+    → now ≡ Some ask.now
+read_in_turn None now zones local made ask kept h = cc
+read_in_turn (Some i) None zones local made ask kept h = cc
+read_in_turn (Some i) (Some n) None local made ask kept h = cc
+read_in_turn (Some i) (Some n) (Some z) None made ask kept h = cc
+read_in_turn (Some i) (Some n) (Some z) (Some l) made ask kept h =
+    let same : made i n z l ≡ ask = cc in
+    ap (λ (o : Option ℤ). Some o) (sym (kept i n z l) ∙ ap (λ (a : Ask). a.now) same)
+
+instant_read : (found : VerbMatches) (ask : Ask) → read_options found ≡ Ok ask → IfSome ask.now IsInstant
+unfolding read_options
+instant_read found ask h =
+    instant_in_option (instant_option found (codes "now")) ask.now
+    (read_in_turn _ _ _ _ (λ i n z l. record {
+      verb = found.verb;
+      texts = found.texts;
+      iterations = i;
+      base = elapse_option found (codes "base-time");
+      now = n;
+      local = l;
+      zones = z;
+    }) ask (λ i n z l. refl) h)
+
+instant_found : (found : Option VerbMatches) (ask : Ask) → option_map_or read_options found (Err (usage [])) ≡ Ok ask → IfSome ask.now IsInstant
+instant_found None ask h = cc
+instant_found (Some found) ask h = instant_read found ask h
+
+instant_given : (arguments : List (List ℕ)) (ask : Ask) → IsAskOf arguments (Ok ask) → IfSome ask.now IsInstant
+unfolding ask_in
+instant_given arguments ask asks = instant_found (parsed_in arguments) ask asks.1
+
+-- Stops
+
+-- the stop writes nothing to standard output, and its status doesn't say success
+pub record IsFault (stop : Stop) : Type 0 where
+  pub out : stop.out ≡ []
+  pub status : stop.status ≡ 0 → ⊥
+
+pub is_fault : (line : List ℕ) (status : ℕ) → (status ≡ 0 → ⊥) → IsFault (with_line line status)
+is_fault line status h = record { out = refl; status = h }
+
+pub one : ◌≡◌ {A = ℕ} 1 0 → ⊥
+one e = omega (arith, e)
+
+pub two : ◌≡◌ {A = ℕ} 2 0 → ⊥
+two e = omega (arith, e)
+
+loading_fault : (name : List ℕ) (fault : LoadFault) → IsFault (load_stop name fault)
+loading_fault name ReadFailed = is_fault _ 2 two
+loading_fault name (Zone zone.BadName) = is_fault _ 2 two
+loading_fault name (Zone zone.BadRule) = is_fault _ 2 two
+loading_fault name (Zone zone.BadFile) = is_fault _ 2 two
+loading_fault name (Zone zone.TooLarge) = is_fault _ 2 two
+loading_fault name (Zone zone.NoMemory) = is_fault _ 1 one
+loading_fault name (Zone zone.NameTaken) = is_fault _ 2 two
+
+-- The zone files
+
+opens_of : (opened : Option (Option (List ℕ))) (limit : ℕ) (bytes : List ℕ) → SeesBytes opened limit (Some (Ok bytes)) → Opens opened (Some (Some bytes))
+opens_of None limit bytes h = tt
+opens_of (Some None) limit bytes h = absurd (some_none (Ok bytes) h)
+opens_of (Some (Some all)) limit bytes h = ap (λ (b : List ℕ). Some (Some b)) h.1
+
+-- the zone of one file was added to the table `before`, which made it the table `more`
+record IsAdded (known : Known) (before : ZoneMap) (item : ZoneItem) (more : ZoneMap) : Type 0 where
+  bytes : List ℕ
+  tz : TimeZone
+  opens : Opens (known.file item.path) (Some (Some bytes))
+  parsed : IsFileZone item.name bytes tz
+  free : is_taken before item.name ≡ false
+  is : more ≡ insert before item.name tz
+
+module _ (known : Known) (before : ZoneMap) (item : ZoneItem) (more : ZoneMap) where
+  added_free : (bytes : List ℕ) (tz : TimeZone) → Opens (known.file item.path) (Some (Some bytes)) → IsFileZone item.name bytes tz
+      → (taken : Bool) → is_taken before item.name ≡ taken
+      → ◌≡◌ {A = Result ZoneMap LoadFault} (if taken then Err (Zone zone.NameTaken) else Ok (insert before item.name tz)) (Ok more) → IsAdded known before item more
+  added_free bytes tz opens is_zone true free h = cc
+  added_free bytes tz opens is_zone false free h = record { bytes = bytes; tz = tz; opens = opens; parsed = is_zone; free = free; is = cc }
+
+  added_zone : (bytes : List ℕ) (read : Option TimeZone) → is_zone_name item.name ≡ true → SeesBytes (known.file item.path) file_limit (Some (Ok bytes))
+      → ReadsZone item.name (Some (Ok bytes)) read → with_zone before item.name read ≡ Ok more → IsAdded known before item more
+  added_zone bytes None named sees reads h = cc
+  added_zone bytes (Some tz) named sees reads h =
+      added_free bytes tz (opens_of (known.file item.path) file_limit bytes sees) (reads named) (is_taken before item.name) refl h
+
+  added_bytes : (came : Result (List ℕ) WholeFault) (read : Option TimeZone) → is_zone_name item.name ≡ true → SeesBytes (known.file item.path) file_limit (Some came)
+      → ReadsZone item.name (Some came) read → with_bytes before item.name read came ≡ Ok more → IsAdded known before item more
+  added_bytes (Ok bytes) read named sees reads h = added_zone bytes read named sees reads h
+  added_bytes (Err whole.ReadFailed) read named sees reads h = cc
+  added_bytes (Err whole.TooLarge) read named sees reads h = cc
+  added_bytes (Err whole.NoMemory) read named sees reads h = cc
+
+  added_named : (came : Result (List ℕ) WholeFault) (read : Option TimeZone) (valid : Bool) → is_zone_name item.name ≡ valid → SeesBytes (known.file item.path) file_limit (Some came)
+      → ReadsZone item.name (Some came) read
+      → ◌≡◌ {A = Result ZoneMap LoadFault} (if valid then with_bytes before item.name read came else Err (Zone zone.BadName)) (Ok more) → IsAdded known before item more
+  added_named came read true named sees reads h = added_bytes came read named sees reads h
+  added_named came read false named sees reads h = cc
+
+  added_file : (seen : Seen) (read : Option TimeZone) → SeesBytes (known.file item.path) file_limit seen → ReadsZone item.name seen read
+      → with_file before item.name read seen ≡ Ok more → IsAdded known before item more
+  added_file None read sees reads h = cc
+  added_file (Some came) read sees reads h = added_named came read (is_zone_name item.name) refl sees reads h
+
+  added : (found : ZoneFound) → SeesZone known item found → loaded before item found ≡ Ok more → IsAdded known before item more
+  unfolding loaded
+  added found sees h = added_file found.seen found.zone sees.sees.bytes sees.reads h
+
+-- the table has the zones of the files, or the work stopped with a fault
+ZonesEnd : Known → ZoneMap → List ZoneItem → Result ZoneMap Stop → Type 0
+ZonesEnd known before items (Ok table) = AreZonesOf known before items table
+ZonesEnd known before items (Err stop) = IsFault stop
+
+one_more : (known : Known) (before more : ZoneMap) (item : ZoneItem) (items : List ZoneItem) (end : Result ZoneMap Stop) → IsAdded known before item more
+    → ZonesEnd known more items end → ZonesEnd known before (item ∷ items) end
+unfolding ZonesEnd
+one_more known before more item items (Ok table) add rest =
+    (add.bytes, add.tz, add.opens, add.parsed, add.free, subst (λ start. AreZonesOf known start items table) add.is rest)
+one_more known before more item items (Err stop) add rest = rest
+
+file_ends : (known : Known) (before : ZoneMap) (item : ZoneItem) (items : List ZoneItem) (found : ZoneFound) (later : List ZoneFound) → SeesZone known item found
+    → (r : Result ZoneMap LoadFault) → loaded before item found ≡ r → IfOk r (λ more. SeesZones known more items later)
+    → ((more : ZoneMap) → SeesZones known more items later → ZonesEnd known more items (table_by more items later))
+    → ZonesEnd known before (item ∷ items) (and_then (λ more. table_by more items later) (or_load_stop item.name r))
+unfolding ZonesEnd
+file_ends known before item items found later sees (Ok more) is rest next =
+    one_more known before more item items (table_by more items later) (added known before item more found sees is) (next more rest)
+file_ends known before item items found later sees (Err fault) is rest next = loading_fault item.name fault
+
+zones_end : (known : Known) (before : ZoneMap) (items : List ZoneItem) (found : List ZoneFound) → SeesZones known before items found
+    → ZonesEnd known before items (table_by before items found)
+unfolding table_by ZonesEnd
+zones_end known before [] found sees = refl
+zones_end known before (item ∷ items) [] sees = absurd sees
+zones_end known before (item ∷ items) (f ∷ found) sees =
+    file_ends known before item items f found sees.0 (loaded before item f) refl sees.1 (λ more rest. zones_end known more items found rest)
+
+zones_fault : (known : Known) (before : ZoneMap) (items : List ZoneItem) (end : Result ZoneMap Stop) → ZonesEnd known before items end → IfErr end IsFault
+unfolding ZonesEnd
+zones_fault known before items (Ok table) h = tt
+zones_fault known before items (Err stop) h = h
+
+zones_are : (known : Known) (before : ZoneMap) (items : List ZoneItem) (end : Result ZoneMap Stop) (table : ZoneMap) → end ≡ Ok table → ZonesEnd known before items end
+    → AreZonesOf known before items table
+unfolding ZonesEnd
+zones_are known before items (Ok other) table is h =
+    let same : other ≡ table = cc in
+    subst (AreZonesOf known before items) same h
+zones_are known before items (Err stop) table is h = cc
+
+-- The local zone and the present instant
+
+unless_fault : (found : Bool) (local : ClockZone) (stop : Stop) → IsFault stop → IfErr (if found then Ok local else Err stop) IsFault
+unless_fault true local stop h = tt
+unless_fault false local stop h = h
+
+local_fault : (given : LocalZone) (table : ZoneMap) (local : ClockZone) → IfErr (local_by given table local) IsFault
+unfolding local_by
+local_fault in_utc table local = tt
+local_fault (at_offset seconds) table local = tt
+local_fault (by_rule rule) table local = unless_fault (is_some (rule_read rule)) local rule_stop (is_fault _ 2 two)
+local_fault (of_name name) table local = unless_fault (is_some (zone_named table name)) local name_stop (is_fault _ 2 two)
+
+clock_fault : (now : Option ℤ) → IfErr (or_clock_stop now) IsFault
+clock_fault None = is_fault _ 2 two
+clock_fault (Some now) = tt
+
+present_fault : (given clock : Option ℤ) → IfErr (present_by given clock) IsFault
+unfolding present_by
+present_fault (Some now) clock = tt
+present_fault None None = is_fault _ 2 two
+present_fault None (Some secs) = clock_fault (instant_in secs)
+
+instant_by : (secs : ℤ) (low high : Bool) → int_lt secs (pos 0) ≡ low → int_lt last_instant secs ≡ high → (not low && not high) ≡ true → IsInstant secs
+instant_by secs true high l h is = absurd (false≢true is)
+instant_by secs false true l h is = absurd (false≢true is)
+instant_by (pos n) false false l h is = grind (arith, int_lt, ints)
+instant_by (negsuc n) false false l h is = absurd (false≢true (sym l))
+
+in_range : (secs now : ℤ) (tested : Bool) → (not (int_lt secs (pos 0)) && not (int_lt last_instant secs)) ≡ tested → or_clock_stop (if tested then Some secs else None) ≡ Ok now
+    → (secs ≡ now) × IsInstant secs
+in_range secs now true is h = (cc, instant_by secs _ _ refl refl is)
+in_range secs now false is h = cc
+
+present_is : (known : Known) (given clock : Option ℤ) (now : ℤ) → IfSome given IsInstant → IfNone given (GivesTime known.time clock)
+    → present_by given clock ≡ Ok now → IsPresent known given now
+unfolding present_by instant_in
+present_is known (Some given) clock now instant gives h =
+    let same : given ≡ now = cc in
+    (sym same, subst IsInstant same instant)
+present_is known None None now instant gives h = cc
+present_is known None (Some secs) now instant gives h =
+    let found = in_range secs now _ refl h in
+    subst (λ t. GivesTime known.time (Some t) × IsInstant t) found.0 (gives, found.1)
+
+-- All steps together
+
+-- the end of the work is the report of the request, or a stop of the run
+pub record Ran (known : Known) (ask : Ask) (world : World) (end : Result Report Stop) : Type 0 where
+  pub asked : Request
+  pub request : IsRequestOf known ask asked
+  pub file : SeesFile known asked world.file
+  pub is : end ≡ run_by asked world.file
+
+pub record Stopped (end : Result Report Stop) : Type 0 where
+  pub stop : Stop
+  pub is : end ≡ Err stop
+  pub fault : IsFault stop
+
+unfoldable pub Ends : Known → Ask → World → Result Report Stop → Type 0
+Ends known ask world end = Ran known ask world end ⊎ Stopped end
+
+stops_here : (known : Known) (ask : Ask) (world : World) (stop : Stop) → IsFault stop → Ends known ask world (Err stop)
+unfolding Ends
+stops_here known ask world stop fault = inr (record { stop = stop; is = refl; fault = fault })
+
+step : {A : Type 0} (known : Known) (ask : Ask) (world : World) (next : A → Result Report Stop) (r : Result A Stop) → IfErr r IsFault
+    → ((x : A) → r ≡ Ok x → Ends known ask world (next x)) → Ends known ask world (and_then next r)
+step known ask world next (Ok x) fault h = h x refl
+step known ask world next (Err stop) fault h = stops_here known ask world stop fault
+
+ends : (known : Known) (ask : Ask) (world : World) → IfSome ask.now IsInstant → Fits known ask world → Ends known ask world (outcome_of ask world)
+unfolding outcome_of Ends
+ends known ask world instant fits =
+    let zones = zones_end known empty ask.zones world.zones fits.zones in
+    step known ask world _ (table_by empty ask.zones world.zones) (zones_fault known empty ask.zones _ zones) (λ table is_table.
+    let after = rw is_table at fits.after in
+    step known ask world _ (local_by ask.local table world.local) (local_fault ask.local table world.local) (λ local is_local.
+    let later = rw is_local at after in
+    step known ask world _ (present_by ask.now world.clock) (present_fault ask.now world.clock) (λ now is_now.
+    inl (record {
+      asked = asked_at ask table local now;
+      request = record {
+        verb = refl;
+        texts = refl;
+        iterations = refl;
+        base = refl;
+        now = present_is known ask.now world.clock now instant later.1 is_now;
+        zones = zones_are known empty ask.zones _ table is_table zones;
+        local = later.0;
+      };
+      file = rw is_now at later.2;
+      is = refl;
+    }))))
+
+ends_by : (known : Known) (ask : Ask) (world : World) → IfSome ask.now IsInstant → (parsed : Result Ask CommandFault) → world.parsed ≡ parsed → (parsed ≡ Ok ask) ⊎ (parsed ≡ Err no_memory)
+    → IfOk parsed (λ a. Fits known a world) → Ends known ask world (outcome world)
+unfolding outcome Ends
+ends_by known ask world instant parsed is (inl h) fits =
+    subst (λ p. Ends known ask world (outcome_of_parsed p world)) (sym (is ∙ h)) (ends known ask world instant (rw h at fits))
+ends_by known ask world instant parsed is (inr h) fits =
+    subst (λ p. Ends known ask world (outcome_of_parsed p world)) (sym (is ∙ h)) (stops_here known ask world memory_stop (is_fault _ 1 one))
+
+pub work_ends : (known : Known) (arguments : List (List ℕ)) (ask : Ask) (world : World) → FitsArguments known arguments world → IsAskOf arguments (Ok ask)
+    → Ends known ask world (outcome world)
+work_ends known arguments ask world fits asks =
+    ends_by known ask world (instant_given arguments ask asks) world.parsed refl (asked_for arguments ask world.parsed asks fits.parsed) fits.fits
