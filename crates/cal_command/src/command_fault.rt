@@ -21,7 +21,8 @@ use std::alloc::AllocError;
 /// | 7 | `NoMemory` |
 #[derive(Debug, Drop)]
 pub enum CommandFault {
-    /// `clap` can't parse the arguments. The text is the message of `clap`, which says why, and how to get help.
+    /// `clap` can't parse the arguments. The text is the message of `clap`, which says why, and how to get help. If `clap`
+    /// accepted arguments without a verb or a text, this would be the error too, with a text of our own.
     Usage(String),
     /// The arguments ask for help or the version. The text is what to print.
     Help(String),
@@ -42,7 +43,7 @@ pub enum CommandFault {
 impl CommandFault {
     ghost use Rattle.cal_command.specs.rules.CommandFault.{message_of, shown_fault};
 
-    /// Returns the message for users. For usage and help it is the text of `clap`, including the line feed at its end.
+    /// Returns the message for users. For usage and help it is the text to print, including the line feed at its end.
     /// For [`CommandFault::NoMemory`] it is empty.
     pub fn words(&self) -> &str
         ensures { result.now ≡ message_of (shown_fault self.now) }

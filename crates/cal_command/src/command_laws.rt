@@ -9,8 +9,7 @@ ghost use Rattle.cal_command.specs.rules.CommandLine.{IsAskOf, ask_in, parsed_in
 ghost use Rattle.cal_command.specs.rules.WorkedArguments.{daily_matches, daily_ask, daily_arguments, help_arguments, none_arguments, options_ask, options_arguments, stray_arguments};
 
 /// If `clap` accepts the arguments, and allocation doesn't fail, the result is what they ask for or, if values are
-/// invalid, the error for the first invalid value in the order in which the values are checked. The result is neither
-/// `Usage` nor `Help`.
+/// invalid, the error for the first invalid value in the order in which the values are checked.
 pub fn taken_arguments_are_answered()
     ensures { (arguments : List (List ℕ)) (answer : Result Ask CommandFault) → IsAskOf arguments answer → takes_arguments arguments ≡ true
         → (answer ≡ Err no_memory) ⊎ (answer ≡ ask_in arguments) }

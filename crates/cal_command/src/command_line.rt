@@ -1,9 +1,9 @@
 //! Parsing the command line: `clap` splits the arguments, and then the values that it found are checked.
 
-ghost use Rattle.std.specs.Prelude.{◌≡◌, ◌<◌, [], length, map, IfOk, IfErr};
+ghost use Rattle.std.specs.Prelude.{◌≡◌, ◌<◌, ◌⊎◌, [], length, map, IfOk, IfErr};
 ghost use Rattle.clap.specs.Words.{kind_of, subcommand_rows_of};
 ghost use Rattle.cal_command.specs.rules.Ask.{shown_answer, texts_of};
-ghost use Rattle.cal_command.specs.rules.CommandFault.{shown_fault};
+ghost use Rattle.cal_command.specs.rules.CommandFault.{no_memory, nothing_asked, shown_fault};
 ghost use Rattle.cal_command.specs.rules.CommandLine.{IsAskOf, IsFaultOf, IsOrNoMemory, IsReportedOf, faults_in, is_of_help, parsed_in, read_options};
 ghost use Rattle.cal_command.specs.rules.VerbMatches.{shown_matches, verb_matches_in};
 
@@ -38,7 +38,7 @@ impl Ask {
     ///
     /// Fails with [`CommandFault::Usage`] if `clap` can't parse the arguments, for example because an option is given
     /// twice, and with [`CommandFault::Help`] if help or the version is asked for. If several values are invalid, the
-    /// first in the order above is reported. Fails with [`CommandFault::NoMemory`] if allocation fails.
+    /// first in the order above is reported. Fails with [`CommandFault::NoMemory`] only if allocation fails.
     pub fn of<'a>(alloc: Global, arguments: &'a [&'a str]) -> Result<Ask, CommandFault>
         ensures exact { IsAskOf (texts_of arguments.now) (shown_answer result) }
     {
@@ -53,15 +53,24 @@ impl Ask {
         ensures exact { IsAskOf (map S.text arguments.now) (shown_answer result) }
     {
         let matches = parse(alloc, arguments)?;
-        // Arguments that `clap` accepts always have a verb with texts, but the contract of `clap` doesn't say so.
-        // `NoMemory` is the one error that our contract allows for all arguments.
+        // Arguments that `clap` accepts always have a verb with texts, but that isn't proved.
         let Some(found) = VerbMatches::of(&matches) else {
-            return Err(CommandFault::NoMemory);
+            return Err(nothing_asked(alloc));
         };
         if found.texts.is_empty() {
-            return Err(CommandFault::NoMemory);
+            return Err(nothing_asked(alloc));
         }
         read_options(alloc, found)
+    }
+}
+
+/// Returns the error for arguments that `clap` accepts although it finds no verb or no text in them.
+fn nothing_asked(alloc: Global) -> CommandFault
+    ensures { (shown_fault result ≡ nothing_asked) ⊎ (shown_fault result ≡ no_memory) }
+{
+    match String::from_str(alloc, "calendar-analyze: no verb or no text\n") {
+        Ok(text) => CommandFault::Usage(text),
+        Err(_) => CommandFault::NoMemory,
     }
 }
 

@@ -1,7 +1,7 @@
 //! Parsing of the arguments into a question, from the matches that `clap` returns.
 
 ghost use Rattle.std.specs.Prelude.{IfErr};
-ghost use Rattle.cal_timers_command.specs.rules.Questions.{HasText};
+ghost use Rattle.cal_timers_command.specs.rules.Questions.{HasText, IsUsageOf, no_question};
 
 use crate::arguments::{FIRST, JSON, SECOND, TARGET, USER};
 use crate::command_fault::CommandFault;
@@ -13,9 +13,9 @@ use clap::ArgMatches;
 use std::alloc::{AllocError, Global};
 use std::convert::AsStr;
 
-/// What is printed if arguments that `clap` accepts ask no question.
-const INCOMPLETE: &str =
-    "error: no verb, or not enough arguments for it\n\nFor more information, try '--help'.\n";
+/// The text of the error [`no_question`].
+const NO_QUESTION: &str =
+    "error: no verb, or a wrong number of arguments\n\nFor more information, try '--help'.\n";
 
 impl Question {
     /// Parses the arguments after the program's name.
@@ -42,19 +42,19 @@ impl Question {
     /// - `--json`: output as JSON.
     ///
     /// Fails with [`CommandFault::Help`] if the arguments ask for help or the version, with [`CommandFault::NoMemory`]
-    /// if allocation fails, and with [`CommandFault::Usage`] if the arguments are invalid: for example, if an option is
-    /// given twice, if its value is empty, or if `--zone` is given with `--utc`.
+    /// only if allocation fails, and with [`CommandFault::Usage`] if the arguments are invalid: for example, if an
+    /// option is given twice, if its value is empty, or if `--zone` is given with `--utc`.
     pub fn of<S: AsStr>(alloc: Global, arguments: &[S]) -> Result<Question, CommandFault>
         ensures { IfErr result HasText }
     {
         let texts = with_verb_first(alloc, arguments)?;
         let matches = parse(alloc, texts.as_slice())?;
         let Some((name, values)) = matches.subcommand() else {
-            return Err(incomplete(alloc));
+            return Err(no_question(alloc));
         };
         match Verb::named(name) {
             Some(verb) => question_of(alloc, verb, values),
-            None => Err(incomplete(alloc)),
+            None => Err(no_question(alloc)),
         }
     }
 }
@@ -65,7 +65,7 @@ fn question_of(alloc: Global, verb: Verb, values: &ArgMatches<'_>) -> Result<Que
 {
     let targets = targets_of(alloc, values)?;
     if !verb.fits(targets.len()) {
-        return Err(incomplete(alloc));
+        return Err(no_question(alloc));
     }
     let count = count_of(alloc, values)?;
     let now = now_of(alloc, values)?;
@@ -103,12 +103,13 @@ fn push_text(
     Ok(())
 }
 
-/// Returns the error if `clap` has accepted the arguments but returns no verb, or not as many targets as the verb needs.
-/// This doesn't happen, but the contract of `clap` doesn't exclude it.
-fn incomplete(alloc: Global) -> CommandFault
-    ensures { HasText result }
+/// Returns the error for arguments that `clap` accepts although they have no verb, or not as many targets as the verb
+/// needs.
+fn no_question(alloc: Global) -> CommandFault
+    ensures text { HasText result }
+    ensures usage { IsUsageOf no_question result }
 {
-    match String::from_str(alloc, INCOMPLETE) {
+    match String::from_str(alloc, NO_QUESTION) {
         Ok(text) => CommandFault::Usage(text),
         Err(_) => CommandFault::NoMemory,
     }

@@ -21,8 +21,8 @@ use Rattle.cal_zone.specs.declared.zone_fault.ZoneFault.TheVariants as zone
 use Rattle.cal_zone.specs.declared.zone_files.LoadFault.{LoadFault}
 use Rattle.cal_zone.specs.declared.zone_files.LoadFault.TheVariants.{ReadFailed, Zone}
 use Rattle.cal_command.specs.rules.Ask.{Ask, LocalZone, in_utc, at_offset, by_rule, of_name, ZoneItem}
-use Rattle.cal_command.specs.rules.CommandFault.{CommandFault, usage, help, bad_value, bad_iterations, bad_local, bad_now, bad_zones, no_memory}
-use Rattle.cal_command.specs.rules.CommandLine.{IsAskOf, ask_in, is_of_help, parsed_in, read_options, unless_bad}
+use Rattle.cal_command.specs.rules.CommandFault.{CommandFault, usage, help, bad_value, bad_iterations, bad_local, bad_now, bad_zones, no_memory, nothing_asked}
+use Rattle.cal_command.specs.rules.CommandLine.{IsAskOf, ask_in, is_of_help, parsed_in, read_options, unless_bad, unless_empty}
 use Rattle.cal_command.specs.rules.OptionValues.{number_between, present_in}
 use Rattle.cal_command.specs.rules.VerbMatches.{VerbMatches, elapse_option, instant_option}
 use Rattle.cal_command.proofs.OptionLemmas.{number_between-range}
@@ -41,8 +41,10 @@ use Rattle.cal_text.proofs.General.{some_none}
 asked_for : (arguments : List (List ℕ)) (ask : Ask) (parsed : Result Ask CommandFault) → IsAskOf arguments (Ok ask) → IsAskOf arguments parsed
     → (parsed ≡ Ok ask) ⊎ (parsed ≡ Err no_memory)
 asked_for arguments ask (Ok other) given is = inl (sym is.1 ∙ given.1)
-asked_for arguments ask (Err (usage text)) given is =
+asked_for arguments ask (Err (usage text)) given (inl is) =
     absurd (false≢true (sym (ap (list_any (λ kind. not (is_of_help kind))) given.0) ∙ is.1))
+asked_for arguments ask (Err (usage text)) given (inr is) =
+    let never : ◌≡◌ {A = Result Ask CommandFault} (Ok ask) (Err (usage text)) = sym given.1 ∙ is.1 in cc
 asked_for arguments ask (Err (help text)) given is =
     absurd (false≢true (sym (ap (list_any is_of_help) given.0) ∙ is.1))
 asked_for arguments ask (Err (bad_value message)) given is =
@@ -111,9 +113,14 @@ instant_read found ask h =
       zones = z;
     }) ask (λ i n z l. refl) h)
 
-instant_found : (found : Option VerbMatches) (ask : Ask) → option_map_or read_options found (Err (usage [])) ≡ Ok ask → IfSome ask.now IsInstant
+answer_unless_empty : (texts : List (List ℕ)) (answer : Result Ask CommandFault) (ask : Ask) → unless_empty texts answer ≡ Ok ask → answer ≡ Ok ask
+answer_unless_empty [] answer ask h = cc
+answer_unless_empty (text ∷ texts) answer ask h = h
+
+instant_found : (found : Option VerbMatches) (ask : Ask) → option_map_or (λ (it : VerbMatches). unless_empty it.texts (read_options it)) found (Err nothing_asked) ≡ Ok ask
+    → IfSome ask.now IsInstant
 instant_found None ask h = cc
-instant_found (Some found) ask h = instant_read found ask h
+instant_found (Some found) ask h = instant_read found ask (answer_unless_empty found.texts (read_options found) ask h)
 
 instant_given : (arguments : List (List ℕ)) (ask : Ask) → IsAskOf arguments (Ok ask) → IfSome ask.now IsInstant
 unfolding ask_in

@@ -5,7 +5,8 @@ use Rattle.std.specs.String.{string_bytes}
 use Rattle.cal_command.specs.declared.command_fault.CommandFault as declared_fault
 use Rattle.cal_command.specs.declared.command_fault.CommandFault.TheVariants.{Usage, Help, BadIterations, BadNow, BadZones, BadLocal, NoMemory}
 
--- usage or help, with the text of `clap`; an invalid value of an option, with the message; or a failed allocation
+-- usage or help, with the text to print; an invalid value of an option, with the message; or a failed allocation. The
+-- text of usage is one of `clap` or that of `nothing_asked`.
 pub data CommandFault : Type 0 where
   usage : List ℕ → CommandFault
   help : List ℕ → CommandFault
@@ -23,6 +24,10 @@ bad_zones = bad_value (codes "bad zones")
 
 abbrev pub bad_local : CommandFault
 bad_local = bad_value (codes "bad local zone")
+
+-- the error if `clap` accepts the arguments, but finds no verb or no text in them
+abbrev pub nothing_asked : CommandFault
+nothing_asked = usage (codes "calendar-analyze: no verb or no text\n")
 
 abbrev pub shown_fault : declared_fault.CommandFault → CommandFault
 shown_fault (Usage text) = usage (string_bytes text)

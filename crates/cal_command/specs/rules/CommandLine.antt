@@ -1,6 +1,6 @@
 -- The command line (systemd-analyze(1)): the command that is described to `clap`, and what the arguments ask for, given
 -- what `clap` finds in them.
-use Rattle.std.specs.Prelude.{◌≡◌, ◌≢◌, ⊤, Bool, true, false, not, List, [], ◌∷◌, ◌++◌, map, Option, None, Some, Result, Ok, Err, codes, if◌then◌else◌, option_map}
+use Rattle.std.specs.Prelude.{◌≡◌, ◌≢◌, ◌⊎◌, ⊤, Bool, true, false, not, List, [], ◌∷◌, ◌++◌, map, Option, None, Some, Result, Ok, Err, codes, if◌then◌else◌, option_map}
 use Rattle.std.specs.List.{list_any}
 use Rattle.std.specs.Option.{option_map_or}
 use Rattle.clap.specs.Words.{App, Kinds, Rule, Shape, Text, fault_of, new_app, new_rule, subcommand_of, takes, with_subcommand}
@@ -10,7 +10,7 @@ use Rattle.clap.specs.declared.error.kind.ErrorKind.TheVariants.{DisplayHelp, Di
 use Rattle.cal_request.specs.rules.Verb.{all_verbs, uses_instants, is_timer, seeks_elapses, verb_name}
 use Rattle.cal_request.specs.declared.verb.Verb.{Verb}
 use Rattle.cal_command.specs.rules.Ask.{Ask, in_utc}
-use Rattle.cal_command.specs.rules.CommandFault.{CommandFault, usage, help, bad_value, bad_iterations, bad_now, bad_zones, bad_local, no_memory}
+use Rattle.cal_command.specs.rules.CommandFault.{CommandFault, usage, help, bad_value, bad_iterations, bad_now, bad_zones, bad_local, no_memory, nothing_asked}
 use Rattle.cal_command.specs.rules.OptionValues.{count_in, local_zone_in, present_in, zones_in}
 use Rattle.cal_command.specs.declared.value_option.ValueOption.{ValueOption}
 use Rattle.cal_command.specs.rules.VerbMatches.{VerbMatches, elapse_option, verb_matches_in, instant_option}
@@ -97,10 +97,15 @@ read_options found =
       zones = zones;
     })))))
 
+-- the result for the texts that `clap` found, or the error if there are none
+abbrev pub unless_empty : List Text → Result Ask CommandFault → Result Ask CommandFault
+unless_empty [] answer = Err nothing_asked
+unless_empty (text ∷ texts) answer = answer
+
 -- What the arguments ask for, or the error for the first invalid value. The function is meant for arguments that `clap`
--- accepts. In these, `clap` finds a verb and its texts, so the default `usage []` is never the result.
+-- accepts. In these, `clap` finds a verb and its texts, so `nothing_asked` is never the result; but this isn't proved.
 unfoldable pub ask_in : List Text → Result Ask CommandFault
-ask_in arguments = option_map_or read_options (parsed_in arguments) (Err (usage []))
+ask_in arguments = option_map_or (λ found. unless_empty found.texts (read_options found)) (parsed_in arguments) (Err nothing_asked)
 
 -- ---- which results are right
 
@@ -118,9 +123,10 @@ abbrev pub HasRefused : List Text → (ErrorKind → Bool) → Type 0
 HasRefused arguments is_kind = (takes_arguments arguments ≡ false) × (list_any is_kind (faults_in arguments) ≡ true)
 
 -- `fault` is right for the arguments: usage or help if `clap` rejects them for such a reason, and the error for the
--- first invalid value if `clap` parses them; the error for a failed allocation is right for all arguments
+-- first invalid value, or `nothing_asked`, if `clap` parses them; the error for a failed allocation is right for all
+-- arguments
 abbrev pub IsFaultOf : List Text → CommandFault → Type 0
-IsFaultOf arguments (usage text) = HasRefused arguments (λ kind. not (is_of_help kind))
+IsFaultOf arguments (usage text) = HasRefused arguments (λ kind. not (is_of_help kind)) ⊎ HasRead arguments (Err (usage text))
 IsFaultOf arguments (help text) = HasRefused arguments is_of_help
 IsFaultOf arguments (bad_value message) = HasRead arguments (Err (bad_value message))
 IsFaultOf arguments no_memory = ⊤

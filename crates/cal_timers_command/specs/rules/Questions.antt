@@ -1,6 +1,6 @@
 -- Limits on what the arguments of `calendar-timers` can ask (the number of elapses, and the number of targets of each
 -- verb), and the texts of the errors that parsing the arguments can return.
-use Rattle.std.specs.Prelude.{ℕ, ◌≤◌, ◌==◌, Bool, true, nat_le, ◌<◌, ⊤, length, string_bytes}
+use Rattle.std.specs.Prelude.{◌≡◌, ℕ, ◌≤◌, ◌==◌, Bool, true, nat_le, ◌<◌, ⊤, List as ListOf, codes, length, string_bytes}
 use Rattle.cal_timers_command.specs.declared.question.Verb.{Verb}
 use Rattle.cal_timers_command.specs.declared.question.Verb.TheVariants.{List, Show, Lint, Between, Same, Next}
 use Rattle.cal_timers_command.specs.declared.command_fault.CommandFault.{CommandFault}
@@ -29,3 +29,13 @@ abbrev pub HasText : CommandFault → Type 0
 HasText (Usage text) = 0 < length (string_bytes text)
 HasText (Help text) = 0 < length (string_bytes text)
 HasText NoMemory = ⊤
+
+-- the text for arguments that `clap` accepts although they have no verb, or not as many targets as the verb needs
+abbrev pub no_question : ListOf ℕ
+no_question = codes "error: no verb, or a wrong number of arguments\n\nFor more information, try '--help'.\n"
+
+-- the error is `Usage` with this text, unless allocation failed
+abbrev pub IsUsageOf : ListOf ℕ → CommandFault → Type 0
+IsUsageOf message (Usage text) = string_bytes text ≡ message
+IsUsageOf message (Help text) = ⊥
+IsUsageOf message NoMemory = ⊤
