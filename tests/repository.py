@@ -7,7 +7,7 @@ import sys
 import time
 
 ROOT = os.path.dirname(os.path.dirname(os.path.realpath(__file__)))
-# What the estimate of a crate's seconds is made of.
+# For a rough estimate: the seconds for loading the libraries below a crate, and the lines of source proved per second.
 LOADING_SECONDS = 20
 LINES_PER_SECOND = 7
 
@@ -33,8 +33,8 @@ def libraries():
 
 
 def seconds():
-    """Returns the processor seconds that proving each crate from nothing takes, as ./build measured it in this copy of the
-    repository, or else as the size of the crate suggests."""
+    """Returns for each crate the processor seconds that proving it from scratch takes: as ./build measured them in this
+    copy of the repository, or else as estimated from the size of the crate."""
     return {name: measured_seconds(name) or estimated_seconds(name) for name in libraries()}
 
 
@@ -51,7 +51,7 @@ def measured_seconds(name):
 
 
 def estimated_seconds(name):
-    """Returns a rough estimate: loading the libraries below takes a fixed time, and each line of source adds to it."""
+    """Returns an estimate by the lines of source."""
     lines = 0
     for folder, _, names in os.walk(f"{ROOT}/crates/{name}/src"):
         for path in names:
@@ -71,7 +71,8 @@ def kit_version():
 
 
 def lanes(memory, each=1.0):
-    """Returns how many checks to run side by side: `each` per processor, if the free memory allows."""
+    """Returns how many checks to run side by side: `each` per processor, but no more than fit into the free memory if
+    each needs `memory` bytes."""
     with open("/proc/meminfo") as file:
         free = next(1024 * int(line.split()[1]) for line in file if line.startswith("MemAvailable:"))
     return max(1, min(int(each * len(os.sched_getaffinity(0))), free // memory))

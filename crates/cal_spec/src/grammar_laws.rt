@@ -1,5 +1,5 @@
-//! Laws about which texts the parser accepts, about the errors of all others, and about the words of a text. Each law is
-//! a function with an empty body, whose contract states the law.
+//! Laws about which texts the parser accepts, about the errors of all others, and about the words of a text. Each law
+//! is a function with an empty body, whose contract states the law.
 
 ghost use Rattle.std.specs.Prelude.{◌≡◌, ◌↔◌, ◌⊎◌, ℕ, List, Ok, Err};
 ghost use Rattle.cal_spec.specs.computed.Expr.{expr_in};
@@ -12,11 +12,11 @@ ghost use Rattle.cal_spec.specs.rules.WordsOfText.{AreWords};
 ghost use Rattle.cal_spec.specs.declared.spec_fault.SpecFault.{SpecFault};
 ghost use Rattle.cal_text.specs.rules.Separators.{words};
 
-/// Each text is valid or has an error, and never both. It is valid if the grammar of systemd.time(7), Calendar Events,
+/// Each text is valid or has an error, but never both. It is valid if the grammar of systemd.time(7), Calendar Events,
 /// gives it fields (`IsValid`); its error is the one that docs/GRAMMAR.md states under "Rejected expressions"
 /// (`HasFault`). Neither rule is ambiguous: a text has at most one value of `Fields`, and at most one error. Parsing a
-/// text returns its fields, or fails with its error. `read_expr` returns the normal form of the fields (`Spells`), or
-/// fails with the same error.
+/// text returns its fields, or fails with its error. Unless memory runs out, `read_expr` returns the normal form of the
+/// fields (`Spells`), or fails with the same error.
 pub fn expressions_are_those_of_the_rule()
     ensures found { (text : List ℕ) (f : Fields) → fields_in text ≡ Ok f → IsValid text f }
     ensures only { (text : List ℕ) (f : Fields) → IsValid text f → fields_in text ≡ Ok f }

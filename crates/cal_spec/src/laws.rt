@@ -54,7 +54,7 @@ pub fn one_normal_form_of_fields()
 {}
 
 /// Bringing the fields of a valid text into their normal form doesn't change which values each component matches, nor
-/// which days the day matches. So both `*~*` and its normal form `*-*` match all days.
+/// on which dates the day matches. So both `*~*` and its normal form `*-*` match all days.
 pub fn members_stay()
     ensures members { (text : List ℕ) (f : Fields) (field : Field) (value : ℕ) → IsValid text f
         → members_of field (sets_of (normal_fields f)) value ≡ members_of field (sets_of f) value }

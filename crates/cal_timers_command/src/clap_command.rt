@@ -6,9 +6,9 @@ use crate::question::Verb;
 use clap::{Arg, ArgAction, Command};
 use std::alloc::{AllocError, Global};
 
-/// Builds the `clap` command. It has the options that most verbs share, so the help of the program lists these options,
-/// and they may come before `--help`. If the arguments don't ask for the help or the version of the program, the verb
-/// comes first, so `clap` parses all options as those of the verb.
+/// Builds the `clap` command. At the top level it has the options that most verbs share, only so that the help of the
+/// program lists them: unless the arguments ask for the help or the version of the program, the verb comes first, so
+/// `clap` parses all options as those of the verb.
 pub(crate) fn build_command<'a>(alloc: Global) -> Result<Command<'a>, AllocError> {
     let command = Command::new(alloc, "calendar-timers")
         .version("0.1.0")

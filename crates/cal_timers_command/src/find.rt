@@ -13,7 +13,7 @@ use clap::ArgMatches;
 use std::alloc::{AllocError, Global};
 use std::convert::AsStr;
 
-/// The text of the error [`no_question`].
+/// The text of the error that [`no_question`] returns.
 const NO_QUESTION: &str =
     "error: no verb, or a wrong number of arguments\n\nFor more information, try '--help'.\n";
 
@@ -103,8 +103,8 @@ fn push_text(
     Ok(())
 }
 
-/// Returns the error for arguments that `clap` accepts although they have no verb, or not as many targets as the verb
-/// needs.
+/// Returns the error for arguments that `clap` accepts although they have no verb, or a number of targets that the verb
+/// doesn't accept.
 fn no_question(alloc: Global) -> CommandFault
     ensures text { HasText result }
     ensures usage { IsUsageOf no_question result }

@@ -66,8 +66,9 @@ pub fn work<S: System, T: AsStr, O: Output, E: Sink>(
     requires err { E.is_failed err.old ≡ false }
     ensures works { Works (S.tells system.now) (map T.text arguments.now) (O.written out.old) (O.reached out.new)
         (E.written err.old) (E.written err.new) (E.is_failed err.new) result }
-    // The headline, for the verbs `calendar` and `timer`: the program prints the answer to what the arguments ask for, or
-    // it prints nothing on standard output and its status isn't 0. In the second case, the clause `works` says why.
+    // The headline, for the verbs `calendar` and `timer`: the program prints the answer to what the arguments ask for
+    // (or a prefix of it, with a status other than 0), or it prints nothing on standard output and its status isn't 0.
+    // In the second case, the clause `works` says why.
     ensures headline { (ask : asks.Ask) → IsAskOf (map T.text arguments.now) (Ok ask) → seeks_elapses ask.verb ≡ true
         → PrintsAnswer (S.tells system.now) ask result (O.written out.old) (O.reached out.new) (E.written err.old) (E.written err.new)
         ⊎ PrintsNothing result (O.written out.old) (O.reached out.new) }

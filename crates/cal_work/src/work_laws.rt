@@ -28,9 +28,9 @@ pub fn bare_systems_decide()
     ensures fits { FitsArguments bare_system daily_arguments daily_world }
 {}
 
-/// Shows that the clause `headline` of `work` isn't vacuous. Its conditions are met by the arguments `calendar daily`. On
-/// the system without files whose clock shows 0, some run ends with status 0. If everything is written, every run does,
-/// unless memory runs out, which is then reported on standard error.
+/// Shows that the clause `headline` of `work` isn't vacuous. The arguments `calendar daily` meet its conditions. On the
+/// system without files whose clock shows 0, a run with these arguments can end with status 0, and each run that writes
+/// everything ends so or reports on standard error that memory ran out.
 pub fn bare_systems_print()
     ensures asked { IsAskOf daily_arguments (Ok daily_ask) × (seeks_elapses daily_ask.verb ≡ true) }
     ensures works { (text : List ℕ) × Works bare_system daily_arguments (Some []) (Some text) (Some []) (Some []) false fine_end }

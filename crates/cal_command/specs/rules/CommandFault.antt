@@ -6,7 +6,7 @@ use Rattle.cal_command.specs.declared.command_fault.CommandFault as declared_fau
 use Rattle.cal_command.specs.declared.command_fault.CommandFault.TheVariants.{Usage, Help, BadIterations, BadNow, BadZones, BadLocal, NoMemory}
 
 -- usage or help, with the text to print; an invalid value of an option, with the message; or a failed allocation. The
--- text of usage is one of `clap` or that of `nothing_asked`.
+-- text of `usage` comes from `clap`, or is that of `nothing_asked`.
 pub data CommandFault : Type 0 where
   usage : List ℕ → CommandFault
   help : List ℕ → CommandFault

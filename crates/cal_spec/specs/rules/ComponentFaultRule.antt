@@ -29,8 +29,8 @@ uncounted slot = 0
 abbrev pub counted_to : ℕ → Slot → Option (List Part) → ℕ
 counted_to before slot parts = before + (parts_in parts - uncounted slot)
 
--- The piece, which is the counted part with this number, has this error: it is one part too many, or it isn't a part.
--- The syntax of a part too many isn't checked.
+-- The piece has this error: it is the first part above the limit, or it isn't a part. `number` is the number of counted
+-- parts up to and including this piece. The syntax of a part above the limit isn't checked.
 abbrev pub HasPieceFault : Slot → ℕ → List ℕ → SpecFault → Type 0
 HasPieceFault slot number piece fault =
     ((number ≡ max_counted_parts + 1) × (fault ≡ TooManyParts)) ⊎ ((number ≤ max_counted_parts) × HasPartFault slot piece fault)
@@ -61,7 +61,7 @@ HasComponentFault slot before text fault =
     (text ≡ codes "*" → ⊥)
     × (HasSyntaxFault slot before (slice_split is_comma text) fault ⊎ HasFaultInValues slot before (slice_split is_comma text) fault)
 
--- the first of the components that isn't valid has this error; there are `before` counted parts before them
+-- the first invalid component has this error; there are `before` counted parts before these components
 abbrev pub HasFaultAmong : ℕ → List (Slot × List ℕ) → SpecFault → Type 0
 HasFaultAmong before [] fault = ⊥
 HasFaultAmong before (c ∷ cs) fault =

@@ -138,14 +138,14 @@ abbrev pub IsTimeAfter : Option (List ℕ) → List ℕ → Type 0
 IsTimeAfter None word = (begins_with_letter word ≡ false) × (list_any is_colon word ≡ true)
 IsTimeAfter (Some date) word = begins_with_letter word ≡ false
 
--- if there is no time, the next word, if there is one, begins with a letter, `+` or `-`, as a zone does
+-- if there is no time, the next word, if any, begins like a zone: with a letter, `+` or `-`
 abbrev pub IsPastTime : Option (List ℕ) → List (List ℕ) → Type 0
 IsPastTime None (word ∷ rest) = begins_zone word ≡ true
 IsPastTime time rest = Unit {0}
 
 -- `[weekdays] [date] [time]`, at least one of them, and the words after them. The weekdays begin with a letter and
--- aren't a shorthand; the date and the time don't begin with a letter. The date contains no colon. After the first
--- word, neither the date nor the time begins with `+` or `-`.
+-- aren't a shorthand; the date and the time don't begin with a letter. The date contains no colon. The date or the time
+-- may begin with `+` or `-` only if it is the first word.
 pub record ArePlain (ws : List (List ℕ)) (p : WordRoles) : Type 0 where
   pub date : Option (List ℕ)
   pub time : Option (List ℕ)

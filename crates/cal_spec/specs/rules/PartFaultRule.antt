@@ -93,7 +93,8 @@ HasPartFault slot text fault =
 abbrev pub AreWithin : Slot → Part → Type 0
 AreWithin slot p = IsWithin slot p.start × IsEndWithin slot p.end
 
--- the values of the part, with two-digit years expanded, have this error; they are checked in the order of the lines
+-- the values of the part, in which two-digit years are expanded, have this error; the cases are in the order in which
+-- they are checked
 abbrev pub HasValueFault : Slot → Part → SpecFault → Type 0
 HasValueFault slot p OutOfField = AreWithin slot p → ⊥
 HasValueFault slot p BackwardRange = AreWithin slot p × (EndsAfter p.start p.end → ⊥)

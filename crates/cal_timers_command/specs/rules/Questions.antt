@@ -30,7 +30,8 @@ HasText (Usage text) = 0 < length (string_bytes text)
 HasText (Help text) = 0 < length (string_bytes text)
 HasText NoMemory = ⊤
 
--- the text for arguments that `clap` accepts although they have no verb, or not as many targets as the verb needs
+-- the text for arguments that `clap` accepts although they have no verb, or a number of targets that the verb doesn't
+-- accept
 abbrev pub no_question : ListOf ℕ
 no_question = codes "error: no verb, or a wrong number of arguments\n\nFor more information, try '--help'.\n"
 

@@ -1,7 +1,8 @@
 -- The headline, said of the program: what `calendar` and `timer` print for the arguments of the command line
--- (systemd-analyze(1), calendar; `timer` is this project's own). A reader needs what the arguments ask for
--- (`IsAskOf`), what an accepted expression and its elapses are (Headline.antt of `cal_report`), and how a cut output can
--- be continued (Resume.antt of `cal_report`). The outcome of the work isn't needed, and no function that computes elapses.
+-- (systemd-analyze(1), calendar; `timer` is this project's own). To understand it, read what the arguments ask for
+-- (`IsAskOf`), what an accepted expression and its elapses are (Headline.antt of `cal_report`), and how a cut output
+-- can be continued (Resume.antt of `cal_report`). You needn't read `outcome`, `report` or the functions that compute
+-- elapses, which they call.
 use Rattle.std.specs.Prelude.{◌≡◌, ◌<◌, ◌++◌, ℕ, ℤ, false, List, [], ◌∷◌, length, codes, Option, None, Some, Result, Ok, Err}
 use Rattle.std.specs.FinMap.{empty, insert}
 use Rattle.std.specs.Io.KnownBytes.{Appends, Keeps}
@@ -27,23 +28,23 @@ use Rattle.cal_work.specs.rules.System.{Known, GivesTime, Opens, Sees}
 use Rattle.cal_work.specs.rules.Works.{IsLocal}
 use Rattle.cal_work.specs.declared.arguments_to_bytes.Ended.{Ended}
 
--- From the arguments to a request
+-- ## From the arguments to a request
 
 -- `now` is the present instant: the one that the arguments give, or, if they give none, the time that the clock shows
 abbrev pub IsPresent : Known → Option ℤ → ℤ → Type 0
 IsPresent known (Some given) now = (now ≡ given) × IsInstant now
 IsPresent known None now = GivesTime known.time (Some now) × IsInstant now
 
--- `table` has the zones in `before`, and the zone of each of these files: the one that `jiff` reads from the bytes of the
--- file, under the name that the arguments give it. It has no other zones, and no name stands for two zones.
+-- `table` has the zones in `before`, and the zone of each of these files: the one that `jiff` reads from the bytes of
+-- the file, under the name that the arguments give it. It has no other zones, and no name stands for two zones.
 abbrev pub AreZonesOf : Known → ZoneMap → List ZoneItem → ZoneMap → Type 0
 AreZonesOf known before [] table = table ≡ before
 AreZonesOf known before (item ∷ items) table =
     (bytes : List ℕ) × (tz : TimeZone) × Opens (known.file item.path) (Some (Some bytes)) × IsFileZone item.name bytes tz
     × (is_taken before item.name ≡ false) × AreZonesOf known (insert before item.name tz) items table
 
--- `asked` is the request that the arguments make of the system: its verb, texts, number of elapses and base time are
--- theirs, and so are its present, its zones and its local zone
+-- `asked` is the request that the arguments make of the system. Its verb, texts, number of elapses, base time and local
+-- zone are those that the arguments give. Its present and its zones come from the arguments, the clock and the files.
 pub record IsRequestOf (known : Known) (ask : Ask) (asked : Request) : Type 0 where
   pub verb : asked.verb ≡ ask.verb
   pub texts : asked.texts ≡ ask.texts
@@ -53,10 +54,10 @@ pub record IsRequestOf (known : Known) (ask : Ask) (asked : Request) : Type 0 wh
   pub zones : AreZonesOf known empty ask.zones asked.zones
   pub local : IsLocal ask.local asked.zones asked.local
 
--- Which report answers a request
+-- ## Which report answers a request
 
--- Each accepted text has its report, and each rejected text has its error line (`AreAnswered`). If any text is accepted,
--- every prefix of the output can be continued.
+-- Each accepted text has its report, and each rejected text has its error line (`AreAnswered`). If any text is
+-- accepted, every prefix of the output can be continued.
 pub record AnswersTexts (asked : Request) (base : ℤ) (report : Report) : Type 0 where
   pub each : AreAnswered asked base asked.texts report
   pub expressions : List Expression
@@ -64,8 +65,8 @@ pub record AnswersTexts (asked : Request) (base : ℤ) (report : Report) : Type 
   pub cut : (front rest : List ℕ) (read : Result (List ℕ) WholeFault) → report.out ≡ front ++ rest
       → 0 < length expressions → ResumesAmong asked base expressions read front
 
--- What answers a timer file, given the result of reading it. If it was read and is accepted: its report, every prefix of
--- which can be continued. Otherwise: an error line, which begins with the file's path.
+-- What answers a timer file, given the result of reading it. If it was read and is accepted: its report, every prefix
+-- of which can be continued. Otherwise: an error line, which begins with the file's path.
 abbrev pub IsAnswerToFile : Request → ℤ → Result (List ℕ) WholeFault → Result (List ℕ) (List ℕ) → Type 0
 IsAnswerToFile asked base (Ok bytes) (Ok text) =
     (file : IsAcceptedFile asked bytes) × IsReportOf asked base file.schedule text
@@ -88,17 +89,18 @@ Answers Calendar known asked base report = AnswersTexts asked base report
 Answers Timer known asked base report = AnswersFile known asked base report
 Answers _ known asked base report = ⊥
 
--- What is printed
+-- ## What is printed
 
--- what is written to an output and what has reached it are known, and `front` is what has reached it since
+-- It is known what had been written to an output before the work, and what has reached the output after it; `front` is
+-- what reached it in between.
 abbrev pub HasReached : Option (List ℕ) → Option (List ℕ) → List ℕ → Type 0
 HasReached (Some old) (Some reached) front = reached ≡ old ++ front
 HasReached (Some old) None front = ⊥
 HasReached None reached front = ⊥
 
--- The program printed the answer to what the arguments ask for. Its status is 0 only if everything was written. If
--- everything was written, both outputs have exactly the bytes of the report, and the status is that of the report. In
--- any case, what reached standard output is a prefix of the report.
+-- The program printed the answer to what the arguments ask for, or a prefix of it. Its status is 0 only if everything
+-- was written. If everything was written, both outputs have exactly the bytes of the report, and the status is that of
+-- the report. In any case, what reached standard output is a prefix of the report.
 pub record PrintsAnswer (known : Known) (ask : Ask) (ended : Ended) (out reached err err' : Option (List ℕ)) : Type 0 where
   pub asked : Request
   pub request : IsRequestOf known ask asked
