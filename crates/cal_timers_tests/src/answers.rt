@@ -1,0 +1,333 @@
+//! Tests of `answer_question`: an answer of each verb as text and as JSON, in which every function on the way has to
+//! succeed, and the error lines about what can't be read, which a transcript can't show if its user may read everything.
+
+use crate::memory::{Item, Memory};
+use cal_answers::{Answer, answer_question};
+use cal_library_tests::shared::{ensure, zone_file};
+use cal_timers_command::Question;
+use cal_timers_text::Style;
+use std::alloc::Global;
+use std::test::Fail;
+
+/// The style of a terminal.
+const STYLE: Style = Style {
+    width: 80,
+    is_bold: true,
+};
+
+/// Returns what is printed for arguments, which `line` separates by `|`: the text for standard output and after it the
+/// text for standard error. The present is Mon 2024-01-01 00:00:00 UTC.
+fn answer(alloc: Global, items: &[(&str, Item<'_>)], line: &str) -> Result<String, Fail> {
+    let arguments: Vec<&str> = line.split('|').collect(alloc)?;
+    let Ok(question) = Question::of(alloc, arguments.as_slice()) else {
+        return Err(line.into());
+    };
+    let clock = Some(1_704_067_200);
+    let Ok(answer) = answer_question(alloc, &Memory { items }, &question, clock, STYLE) else {
+        return Err(line.into());
+    };
+    let Answer { mut out, err, .. } = answer;
+    out.push_str(err.as_str())?;
+    Ok(out)
+}
+
+fn expect(
+    alloc: Global,
+    items: &[(&str, Item<'_>)],
+    line: &str,
+    expected: &str,
+) -> Result<(), Fail> {
+    let found = answer(alloc, items, line)?;
+    ensure(found.as_str() == expected, found.as_str())
+}
+
+/// Arguments, and what is printed on a machine with a unit that has an alias and drop-ins, and with two other files.
+static ANSWERS: [(&str, &str); 13] = [
+    (
+        "list",
+        "\x1b[1mNEXT                            LEFT  UNIT     NOTES\x1b[0m
+Mon 2024-01-01 12:00:00 +01:00  11h   a.timer  RandomizedDelaySec=1h
+Mon 2024-01-01 12:00:00 +01:00  11h   b.timer  RandomizedDelaySec=1h
+",
+    ),
+    (
+        "list|--json|a",
+        r#"[
+  {
+    "unit": "a.timer",
+    "next": "Mon 2024-01-01 12:00:00 +01:00",
+    "unix": 1704106800,
+    "left": "11h",
+    "notes": [
+      "RandomizedDelaySec=1h"
+    ]
+  }
+]
+"#,
+    ),
+    (
+        "list|--user",
+        "\x1b[1mNEXT                            LEFT  UNIT\x1b[0m
+Mon 2024-01-01 02:00:00 +01:00  1h    notes.timer
+",
+    ),
+    (
+        "show|b|-n|2",
+        "\x1b[1mb.timer\x1b[0m
+  File:      /etc/systemd/system/a.timer
+             /etc/systemd/system/a.timer.d/x.conf
+             /run/systemd/system/b.timer.d/y.conf
+  Calendar:  Mon..Fri *-*-* 18:00:00
+             *-*-* 12:00:00 Test/Fixed
+  Except:    Tue *-*-* 18:00:00
+  Also:      RandomizedDelaySec=1h
+  Next:      Mon 2024-01-01 12:00:00 +01:00  in 11h
+             Mon 2024-01-01 18:00:00 +01:00  in 17h
+",
+    ),
+    (
+        "next|-n|1|daily",
+        "\x1b[1mdaily\x1b[0m
+  Calendar:  *-*-* 00:00:00
+  Next:      Tue 2024-01-02 00:00:00 +01:00  in 23h
+",
+    ),
+    (
+        "next|--json|2001-1-1",
+        r#"[
+  {
+    "unit": "2001-1-1",
+    "files": [],
+    "expressions": [
+      {
+        "text": "2001-1-1",
+        "normal": "2001-01-01 00:00:00",
+        "file": null,
+        "line": null
+      }
+    ],
+    "exceptions": [],
+    "elapses": [],
+    "notes": [],
+    "clock": []
+  }
+]
+"#,
+    ),
+    (
+        "between|Mon 12:00|@1704106801|a",
+        "Mon 2024-01-01 12:00:00 +01:00  a.timer\n",
+    ),
+    (
+        "between|@1704106800|@1704106801|a|--json",
+        r#"[
+  {
+    "unit": "a.timer",
+    "local": "Mon 2024-01-01 12:00:00 +01:00",
+    "unix": 1704106800
+  }
+]
+"#,
+    ),
+    (
+        "same|a|daily",
+        "only a.timer: Mon 2024-01-01 12:00:00 +01:00
+only daily: Tue 2024-01-02 00:00:00 +01:00
+",
+    ),
+    (
+        "same|--json|2024-02-03|2024-2-3",
+        "{\n  \"same\": true,\n  \"only\": []\n}\n",
+    ),
+    (
+        "lint|/t/wrong.timer",
+        "/t/wrong.timer:2:12: \x1b[1;31merror:\x1b[0m not a valid calendar expression: unknown weekday
+OnCalendar=Mo 9am
+           ^~
+  write instead: Mon 09:00
+/t/wrong.timer:3:12: warning: this is a month and a day, not a range of weekdays
+OnCalendar=1-5 9:00
+           ^~~
+/t/wrong.timer:4:12: \x1b[1;31merror:\x1b[0m systemd 252 doesn't accept a range of weekdays that runs past Sunday
+OnCalendar=Sat..Mon
+           ^~~~~~~~
+  write instead: Mon,Sat,Sun *-*-* 00:00:00
+/t/wrong.timer:5:1: \x1b[1;31merror:\x1b[0m unknown key in section [Timer]
+OnCalender=daily
+^~~~~~~~~~
+",
+    ),
+    (
+        "lint|/t/idle.timer",
+        "/t/idle.timer:2: warning: the expression never elapses\n",
+    ),
+    (
+        "lint|--json|/t/idle.timer",
+        r#"[
+  {
+    "file": "/t/idle.timer",
+    "line": 2,
+    "column": null,
+    "kind": "warning",
+    "message": "the expression never elapses",
+    "suggestion": null
+  }
+]
+"#,
+    ),
+];
+
+#[test]
+fn answers(rt: HostRuntime) -> Result<(), Fail> {
+    let fixed = zone_file(rt.alloc())?;
+    let items = [
+        (
+            "/etc/localtime",
+            Item::Link("/usr/share/zoneinfo/Test/Fixed"),
+        ),
+        (
+            "/usr/share/zoneinfo/Test/Fixed",
+            Item::File(fixed.as_slice()),
+        ),
+        (
+            "/etc/systemd/system/a.timer",
+            Item::File(b"[Timer]\nOnCalendar=Mon..Fri 18:00\nRandomizedDelaySec=1h\n"),
+        ),
+        (
+            "/etc/systemd/system/a.timer.d/x.conf",
+            Item::File(b"[Timer]\nX-ExceptOnCalendar=Tue 18:00\n"),
+        ),
+        (
+            "/run/systemd/system/b.timer",
+            Item::Link("/etc/systemd/system/a.timer"),
+        ),
+        (
+            "/run/systemd/system/b.timer.d/y.conf",
+            Item::File(b"[Timer]\nOnCalendar=12:00 Test/Fixed\n"),
+        ),
+        (
+            "/home/ann/.config/systemd/user/notes.timer",
+            Item::File(b"[Timer]\nOnCalendar=hourly\n"),
+        ),
+        (
+            "/t/wrong.timer",
+            Item::File(
+                b"[Timer]\nOnCalendar=Mo 9am\nOnCalendar=1-5 9:00\nOnCalendar=Sat..Mon\nOnCalender=daily\n",
+            ),
+        ),
+        (
+            "/t/idle.timer",
+            Item::File(b"[Timer]\nOnCalendar=2001-1-1\n"),
+        ),
+    ];
+    for (line, expected) in ANSWERS {
+        expect(rt.alloc(), &items, line, expected)?;
+    }
+    Ok(())
+}
+
+/// What is at a path, arguments, and what is printed on a machine that has this besides a unit with an alias, and
+/// besides a file that names a zone.
+type Row = (&'static str, Item<'static>, &'static str, &'static str);
+
+static UNREADABLE: [Row; 10] = [
+    (
+        "/etc/systemd/system/a.timer.d",
+        Item::Locked,
+        "show|a",
+        "/etc/systemd/system/a.timer.d: cannot be read\n",
+    ),
+    (
+        "/etc/systemd/system/a.timer.d/x.conf",
+        Item::Locked,
+        "show|a",
+        "/etc/systemd/system/a.timer.d/x.conf: cannot be read\n",
+    ),
+    (
+        "/etc/systemd/system/a.timer.d/x.conf",
+        Item::Gone,
+        "show|a",
+        "/etc/systemd/system/a.timer.d/x.conf: no such file\n",
+    ),
+    (
+        "/etc/systemd/system/a.timer.d/x.conf",
+        Item::Unnamed,
+        "show|a",
+        "/etc/systemd/system/a.timer.d/x.conf: a link to a path that is not UTF-8\n",
+    ),
+    (
+        "/etc/systemd/system/timer.d/x.conf",
+        Item::Gone,
+        "lint|a",
+        "/etc/systemd/system/timer.d/x.conf: no such file\n",
+    ),
+    // The unit is found in another folder, and so are its alias and the drop-in of this alias.
+    (
+        "/etc/systemd/system",
+        Item::Locked,
+        "show|a",
+        "\x1b[1ma.timer\x1b[0m
+  File:      /usr/lib/systemd/system/a.timer
+             /run/systemd/system/b.timer.d/y.conf
+  Also:      OnBootSec=1min
+             OnStartupSec=1min
+/etc/systemd/system: cannot be read
+",
+    ),
+    (
+        "/t/locked.timer",
+        Item::Locked,
+        "show|/t/locked.timer",
+        "/t/locked.timer: cannot be read\n",
+    ),
+    (
+        "/usr/share/zoneinfo/X",
+        Item::Locked,
+        "show|/t/zone.timer",
+        "/t/zone.timer:2: /usr/share/zoneinfo/X: cannot be read\n",
+    ),
+    (
+        "/usr/share/zoneinfo/X",
+        Item::Locked,
+        "next|12:00 X",
+        "12:00 X: /usr/share/zoneinfo/X: cannot be read\n",
+    ),
+    (
+        "/etc/localtime",
+        Item::Locked,
+        "next|12:00",
+        "calendar-timers: /etc/localtime: cannot be read\n",
+    ),
+];
+
+fn expect_unreadable(alloc: Global, row: Row) -> Result<(), Fail> {
+    let (path, item, line, expected) = row;
+    let items = [
+        (
+            "/usr/lib/systemd/system/a.timer",
+            Item::File(b"[Timer]\nOnBootSec=1min\n"),
+        ),
+        (
+            "/run/systemd/system/b.timer",
+            Item::Link("/usr/lib/systemd/system/a.timer"),
+        ),
+        (
+            "/run/systemd/system/b.timer.d/y.conf",
+            Item::File(b"[Timer]\nOnStartupSec=1min\n"),
+        ),
+        (
+            "/t/zone.timer",
+            Item::File(b"[Timer]\nOnCalendar=12:00 X\n"),
+        ),
+        (path, item),
+    ];
+    expect(alloc, &items, line, expected)
+}
+
+#[test]
+fn what_cannot_be_read(rt: HostRuntime) -> Result<(), Fail> {
+    for row in UNREADABLE {
+        expect_unreadable(rt.alloc(), row)?;
+    }
+    Ok(())
+}
