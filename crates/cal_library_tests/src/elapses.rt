@@ -4,31 +4,11 @@
 mod filter;
 mod merges;
 
-ghost use Rattle.cal_base.specs.CivilRules.LocalSecond.{IsLocalSecond};
-
 use crate::shared::{NEW_YEAR, ensure, expr, instant};
 use cal_base::Zone;
 use cal_elapse::{Elapses, Rising};
-use cal_spec::Expr;
 use std::alloc::Global;
 use std::test::Fail;
-
-/// Returns whether the expression matches the local second `local`.
-fn has_local(expr: &Expr, local: i64) -> bool
-    requires { IsLocalSecond local }
-{
-    expr.has(local)
-}
-
-/// Returns the elapses of an expression that are later than `base`.
-fn elapses_from<'z>(
-    alloc: Global,
-    expr: &Expr,
-    zone: Zone<'z>,
-    base: i64,
-) -> Result<Elapses<'z>, Fail> {
-    Ok(Elapses::new(alloc, expr, zone, instant(base)?)?)
-}
 
 /// Parses an expression and returns its elapses that are later than `base`.
 pub(crate) fn elapses_of<'z>(
@@ -38,7 +18,7 @@ pub(crate) fn elapses_of<'z>(
     base: i64,
 ) -> Result<Elapses<'z>, Fail> {
     let expr = expr(alloc, text)?;
-    elapses_from(alloc, &expr, zone, base)
+    Ok(Elapses::new(alloc, &expr, zone, instant(base)?)?)
 }
 
 /// Expects `next` to return `answers`, in this order. Just before `next` returns a number, `has` must not return

@@ -1,5 +1,4 @@
-//! Calendar expressions: the error for each kind of invalid expression, the normal form of valid ones, and their
-//! accessors.
+//! Calendar expressions: the error for each kind of invalid expression, and the normal form of valid ones.
 
 use crate::shared::{ensure, expr};
 use cal_base::Port;
@@ -8,9 +7,7 @@ use std::alloc::Global;
 use std::test::Fail;
 
 mod counts;
-mod fault_words;
 mod faults;
-mod meaning;
 mod normal_texts;
 mod offsets;
 mod refusals;

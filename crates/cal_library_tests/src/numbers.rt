@@ -39,30 +39,6 @@ pub fn add_except<S: Rising + Drop>(merge: &mut Merge<S>, exception: S) -> Resul
     }
 }
 
-/// A source that returns the numbers of another source but keeps the default `has`, which can't tell whether a number
-/// is still to come.
-#[derive(Drop)]
-pub struct Silent<S: Rising> {
-    source: S,
-}
-
-impl<S: Rising> Silent<S> {
-    /// Creates a source of the numbers of `source`.
-    pub fn new(source: S) -> Self {
-        Silent { source }
-    }
-}
-
-impl<S: Rising> Rising for Silent<S> {
-    ghost rest = { λ silent. S.rest silent.source };
-
-    fn next(&mut self) -> Option<i64> {
-        self.source.next()
-    }
-
-    ghost rises = { λ silent. S.rises silent.source };
-}
-
 /// Returns the merge of two lists.
 pub fn merge_two(alloc: Global, one: &[i64], two: &[i64]) -> Result<Merge<Listed>, AllocError>
     requires one { IsStrictlySortedBy int_cmp one.now }

@@ -1,7 +1,7 @@
 //! Reading the assignments in all sections of a unit file that have a given name, such as `[Timer]`.
 
 use crate::shared::ensure;
-use cal_read::{Assignments, OwnedAssignment, read_assignments};
+use cal_read::{OwnedAssignment, read_assignments};
 use std::alloc::Global;
 use std::test::Fail;
 
@@ -89,29 +89,4 @@ fn sections(rt: HostRuntime) -> Result<(), Fail> {
         expect_section(rt.alloc(), row)?;
     }
     Ok(())
-}
-
-/// Checks that every call after the last assignment returns `None`.
-#[test]
-fn one_after_another(rt: HostRuntime) -> Result<(), Fail> {
-    let mut assignments = Assignments::new(
-        "Timer",
-        7,
-        "Persistent=no\n[Timer]\nOnCalendar=daily\n",
-    );
-    let Some(assignment) = assignments.next(rt.alloc())? else {
-        return Err("no assignment".into());
-    };
-    ensure(
-        is_assignment(&assignment, (9, "OnCalendar", "daily")),
-        "the assignment",
-    )?;
-    ensure(
-        assignments.next(rt.alloc())?.is_none(),
-        "a second assignment",
-    )?;
-    ensure(
-        assignments.next(rt.alloc())?.is_none(),
-        "a third assignment",
-    )
 }

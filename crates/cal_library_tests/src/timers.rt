@@ -11,9 +11,7 @@ mod assignments;
 mod bytes;
 mod counts;
 mod exceptions;
-mod faults;
 mod lines;
-mod texts;
 
 /// The expressions of [`TIMER_FILE`].
 pub(crate) const UNIT_LINES: Lines = &[(6, "Mon  *:0/30"), (9, "hourly")];

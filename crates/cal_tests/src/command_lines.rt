@@ -149,11 +149,6 @@ calendar|--zones=Test/Fixed=a=b|a -> calendar 1 with Test/Fixed of a=b|a
 timestamp|--zones=A==|a -> timestamp 1 with A of =|a
 ";
 
-#[test]
-fn commands(rt: HostRuntime) -> Result<(), Fail> {
-    check(rt.alloc(), COMMANDS)
-}
-
 /// Bad values, and requests for help or the version. If several options have bad values, only the first one in the
 /// order `--iterations`, `--now`, `--zones`, `--local` is reported. A missing text is reported before a bad value.
 /// After `--`, `--help` is a text.
@@ -176,142 +171,12 @@ timer|--help|--nope -> help
 help -> help
 help|timer -> help
 calendar|--|--help -> calendar 1|--help
+frobnicate|a -> usage
+ -> usage
 ";
 
 #[test]
-fn other_lines(rt: HostRuntime) -> Result<(), Fail> {
+fn lines(rt: HostRuntime) -> Result<(), Fail> {
+    check(rt.alloc(), COMMANDS)?;
     check(rt.alloc(), OTHERS)
-}
-
-/// Arguments that are not a valid command.
-const NO_COMMANDS: &str = "\
-frobnicate|a
-
-help|frobnicate
---
-calendar|--
-timer|a|--|b
---now=@3|calendar|a
-calendar|--nope=1|a
-calendar|-5min
-calendar|a|--now
-timestamp|--iterations=2|a
-timespan|--now=@1|a
-calendar|--iterations=1|--iterations=1|a
-calendar|--zones=A=f|--zones=B=g|a
-calendar|--version
-Calendar|a
-";
-
-#[test]
-fn arguments_that_are_no_command(rt: HostRuntime) -> Result<(), Fail> {
-    for line in NO_COMMANDS.lines() {
-        expect_shown(rt.alloc(), line, "usage")?;
-    }
-    Ok(())
-}
-
-/// Tests an empty list of arguments, which is not the same as one empty argument.
-#[test]
-fn no_word(rt: HostRuntime) -> Result<(), Fail> {
-    let is_usage = matches!(Ask::of(rt.alloc(), &[]), Err(CommandFault::Usage(_)));
-    ensure(is_usage, "no arguments")
-}
-
-/// Expects each value of the option to be rejected with the message `want`. The values are separated by `|`.
-fn check_values(alloc: Global, option: &str, values: &str, want: &str) -> Result<(), Fail> {
-    for value in values.split('|') {
-        let line = format!(in alloc; "calendar|--{option}={value}|daily")?;
-        expect_shown(alloc, &line, want)?;
-    }
-    Ok(())
-}
-
-/// Options, each with some bad values, separated by `|`, and with the message for all of these values.
-static BAD_VALUES: [(&str, &str, &str); 4] = [
-    (
-        "iterations",
-        "|0|1000001|+1|-1| 1|1 |1.5|x|1x|٣|99999999999999999999",
-        "bad iterations",
-    ),
-    (
-        "now",
-        "|5|@|@-1|@+1|@ 1|@1 |@7258211999|@1.5|now|@٣|@99999999999999999999",
-        "bad now",
-    ),
-    (
-        "zones",
-        "|x|A|A=|=f|A=f,|,A=f|A=f,,B=g|1x=f|A b=f|A=f,B|A= ,",
-        "bad zones",
-    ),
-    (
-        "local",
-        "|5x|+1:00|+01:0|+01:60|+26:00|-26:00|+0100|01:00|+01:00:00|+ 1:00|++1:00|+01-00|+01:٣|POSIX:CET-1|é",
-        "bad local zone",
-    ),
-];
-
-#[test]
-fn bad_values(rt: HostRuntime) -> Result<(), Fail> {
-    for (option, values, want) in &BAD_VALUES {
-        check_values(rt.alloc(), option, values, want)?;
-    }
-    Ok(())
-}
-
-/// Returns a command line with `count` zone files.
-fn with_zones(alloc: Global, count: usize) -> Result<String, Fail> {
-    let mut line = String::from_str(alloc, "calendar|--zones=A=f")?;
-    for _ in 1..count {
-        line.push_str(",A=f")?;
-    }
-    line.push_str("|a")?;
-    Ok(line)
-}
-
-#[test]
-fn at_most_sixty_four_zone_files(rt: HostRuntime) -> Result<(), Fail> {
-    let most = with_zones(rt.alloc(), 64)?;
-    let Ok(ask) = read(rt.alloc(), most.as_str())? else {
-        return Err("64 zone files are refused".into());
-    };
-    ensure(ask.zones.len() == 64, "64 zone files")?;
-    let more = with_zones(rt.alloc(), 65)?;
-    expect_shown(rt.alloc(), &more, "bad zones")
-}
-
-/// Arguments for which the program prints a help text or a usage text.
-const HELP_OR_USAGE: &str = "\
---help
---version
-calendar|--help
-timestamp|--help
-timespan|--help
-timer|--help
-x
-
-calendar
-timer|a|b
-calendar|--nope|a
-";
-
-/// Returns whether the text ends with exactly one line feed.
-fn ends_once(text: &str) -> bool {
-    text.ends_with('\n') && !text.ends_with("\n\n")
-}
-
-/// Returns whether no line of the text is longer than 80 bytes.
-fn is_narrow(text: &str) -> bool {
-    text.lines().all(|row| row.len() <= 80)
-}
-
-/// Checks that help texts and usage texts end with exactly one line feed and fit into 80 columns.
-#[test]
-fn texts_fit_a_terminal(rt: HostRuntime) -> Result<(), Fail> {
-    for line in HELP_OR_USAGE.lines() {
-        let fault = read(rt.alloc(), line)?.err().ok_or("no fault")?;
-        let text = fault.words();
-        ensure(ends_once(text) && is_narrow(text), line)?;
-    }
-    Ok(())
 }

@@ -6,8 +6,7 @@ ghost use Rattle.std.specs.List.Sorted.{IsStrictlySortedBy};
 ghost use Rattle.std.specs.Ordering.{int_cmp};
 
 use super::elapses_of;
-use crate::numbers::{Silent, add, add_except, expect_first, expect_numbers, listed, merge_two};
-use crate::shared::{SUMMER_TIME, posix};
+use crate::numbers::{add, add_except, expect_numbers, listed, merge_two};
 use cal_base::Zone;
 use cal_elapse::{Elapses, Listed, Merge};
 use std::alloc::Global;
@@ -60,24 +59,6 @@ fn exceptions(rt: HostRuntime) -> Result<(), Fail> {
     expect_without(rt.alloc(), &[], &[], &[5, 8], &[])
 }
 
-/// Adds two sources and an exception to a merge. None of the three can tell which numbers are still to come.
-fn add_silent(alloc: Global, merge: &mut Merge<Silent<Listed>>) -> Result<(), Fail>
-    requires { merge.old.started ≡ false }
-{
-    add(merge, Silent::new(listed(alloc, &[1, 5, 9])?))?;
-    add(merge, Silent::new(listed(alloc, &[5, 7])?))?;
-    add_except(merge, Silent::new(listed(alloc, &[0, 5, 8])?))?;
-    Ok(())
-}
-
-/// An exception suppresses its numbers even if its `has` can't tell which numbers are still to come.
-#[test]
-fn silent_exceptions(rt: HostRuntime) -> Result<(), Fail> {
-    let mut merge = Merge::new(rt.alloc());
-    add_silent(rt.alloc(), &mut merge)?;
-    expect_numbers(&mut merge, &[1, 7, 9])
-}
-
 /// Adds the elapses of an expression to a merge that has not returned a number yet.
 fn add_elapses<'z>(
     alloc: Global,
@@ -105,41 +86,4 @@ pub(super) fn merge_elapses<'z>(
         add_elapses(alloc, &mut merge, text, zone, base)?;
     }
     Ok(merge)
-}
-
-/// Bases, each with the first elapses after it. The expression is `0,1:30` in UTC, and the exception is `02:30` in a
-/// zone that is one hour ahead of UTC, and two hours in summer. On 2024-03-31, when the clock skips 02:30, nothing is
-/// suppressed. On 2024-10-27, when the clock shows 02:30 twice, only the first occurrence is suppressed.
-static IN_GAP_AND_FOLD: [(i64, &[i64]); 2] = [
-    (
-        1_711_756_800,
-        &[1_711_758_600, 1_711_845_000, 1_711_848_600, 1_711_935_000],
-    ),
-    (1_729_987_200, &[1_729_992_600]),
-];
-
-/// Adds to a merge that has not returned a number yet: the elapses of `0,1:30` in UTC after `base`, and as an exception
-/// the elapses of `02:30` in the local zone after `base`.
-fn add_without_half_past_two<'z>(
-    alloc: Global,
-    merge: &mut Merge<Elapses<'z>>,
-    local: Zone<'z>,
-    base: i64,
-) -> Result<(), Fail>
-    requires { merge.old.started ≡ false }
-{
-    add_elapses(alloc, merge, "0,1:30", Zone::utc(), base)?;
-    let exception = elapses_of(alloc, "02:30", local, base)?;
-    Ok(add_except(merge, exception)?)
-}
-
-#[test]
-fn in_gap_and_fold(rt: HostRuntime) -> Result<(), Fail> {
-    let rules = posix(rt.alloc(), SUMMER_TIME)?;
-    for (base, instants) in &IN_GAP_AND_FOLD {
-        let mut merge = Merge::new(rt.alloc());
-        add_without_half_past_two(rt.alloc(), &mut merge, Zone::rules(&rules), *base)?;
-        expect_first(&mut merge, instants)?;
-    }
-    Ok(())
 }

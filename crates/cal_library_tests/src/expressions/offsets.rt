@@ -3,7 +3,6 @@
 
 use super::normal_texts::expect_normal_texts;
 use super::refusals::{Refused, expect_refusals};
-use crate::shared::{ensure, expr};
 use cal_spec::SpecFault::*;
 use std::alloc::Global;
 use std::test::Fail;
@@ -66,19 +65,6 @@ static ORDER: [Refused; 5] = [
     (NoRepeat, "20/4:00 +02:00|20/4:00 +x"),
 ];
 
-/// Expressions, each with the offset in seconds or the name in its zone suffix, if it has one.
-static ZONES: [(&str, Option<i32>, Option<&str>); 9] = [
-    ("daily", None, None),
-    ("daily utc", None, Some("UTC")),
-    ("daily Test/Fixed", None, Some("Test/Fixed")),
-    ("daily +02:00", Some(7_200), None),
-    ("daily -02:00", Some(-7_200), None),
-    ("12:00 -00:30", Some(-1_800), None),
-    ("12:00 -00:00", Some(0), None),
-    ("Mon +25:59", Some(93_540), None),
-    ("2024-1-1 -25:59", Some(-93_540), None),
-];
-
 #[test]
 fn accepted(rt: HostRuntime) -> Result<(), Fail> {
     expect_normal_texts(rt.alloc(), PLACES)?;
@@ -90,26 +76,4 @@ fn refused(rt: HostRuntime) -> Result<(), Fail> {
     expect_refusals(rt.alloc(), &NO_OFFSETS)?;
     expect_refusals(rt.alloc(), &FIRST_WORDS)?;
     expect_refusals(rt.alloc(), &ORDER)
-}
-
-/// Expects `zone_offset` and `zone_name` to return these values for the expression.
-fn expect_zone(
-    alloc: Global,
-    text: &str,
-    offset: Option<i32>,
-    name: Option<&str>,
-) -> Result<(), Fail> {
-    let expr = expr(alloc, text)?;
-    ensure(
-        expr.zone_offset() == offset && expr.zone_name() == name,
-        text,
-    )
-}
-
-#[test]
-fn zones(rt: HostRuntime) -> Result<(), Fail> {
-    for (text, offset, name) in &ZONES {
-        expect_zone(rt.alloc(), text, *offset, *name)?;
-    }
-    Ok(())
 }

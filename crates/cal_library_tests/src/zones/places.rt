@@ -3,22 +3,13 @@
 //! clock skips it.
 
 use crate::shared::{SUMMER_TIME, posix};
-use cal_base::{PlaceCache, Zone, place, settle};
+use cal_base::{Zone, place, settle};
 use std::test::Fail;
 
-/// Expects `place`, and one `PlaceCache` for all rows, to return what is next to each local second: its place, or
-/// `None` if it has no place.
+/// Expects `place` to return what is next to each local second: its place, or `None` if it has no place.
 fn expect_places(zone: Zone, rows: &[(i64, Option<i64>)]) -> Result<(), Fail> {
-    let mut place_cache = PlaceCache::new(zone);
     for (local, instant) in rows {
-        if *local < 0 || *local > 7_258_118_399 {
-            return Err((*local).into());
-        }
-        let found = place(zone, *local);
-        let by_the_cache = place_cache.place(*local);
-        // For the second conversion, the cache may use a range with a constant UTC offset that it kept from the first.
-        let once_more = place_cache.place(*local);
-        if found != *instant || by_the_cache != *instant || once_more != *instant {
+        if *local < 0 || *local > 7_258_118_399 || place(zone, *local) != *instant {
             return Err((*local).into());
         }
     }

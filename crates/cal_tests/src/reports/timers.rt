@@ -6,7 +6,7 @@ use cal_faulty::{Faulty, Then};
 use cal_library_tests::shared::{EXCEPT_FILE, NEW_YEAR, TIMER_FILE};
 use cal_request::Verb;
 use cal_streams::Port;
-use std::alloc::{AllocError, Global};
+use std::alloc::Global;
 use std::test::Fail;
 
 /// A request for the next elapse of the timer file `t`.
@@ -173,67 +173,6 @@ static REFUSED_TIMERS: [Row<'static>; 4] = [
 #[test]
 fn refused_timers(rt: HostRuntime) -> Result<(), Fail> {
     check(rt.alloc(), &REFUSED_TIMERS)
-}
-
-/// Returns a file with `count` lines `OnCalendar=daily`, followed by `last`.
-fn many(alloc: Global, count: usize, last: &str) -> Result<String, AllocError> {
-    let mut file = String::from_str(alloc, "[Timer]\n")?;
-    for _ in 0..count {
-        file.push_str("OnCalendar=daily\n")?;
-    }
-    file.push_str(last)?;
-    Ok(file)
-}
-
-/// Returns a report with `count` headings for the expression `daily`, followed by `last`.
-fn headings(alloc: Global, count: usize, last: &str) -> Result<String, AllocError> {
-    let mut out = String::new(alloc);
-    for _ in 0..count {
-        out.push_str("  Original form: daily\nNormalized form: *-*-* 00:00:00\n")?;
-    }
-    out.push_str(last)?;
-    Ok(out)
-}
-
-const RESET: &str = "OnCalendar=\nOnCalendar=hourly\n";
-
-const HOURLY: &str = "  Original form: hourly
-Normalized form: *-*-* *:00:00
-    Next elapse: Mon 2024-01-01 01:00:00 UTC
-       From now: 1h left
-";
-
-const TOMORROW: &str = "    Next elapse: Tue 2024-01-02 00:00:00 UTC\n       From now: 1d left\n";
-
-/// Files, each with the number of its lines `OnCalendar=daily`, the lines after them, the number of headings for
-/// `daily` in its report, the text after these headings, and its error line. A file may have up to 256 expressions, and
-/// an empty `OnCalendar=` starts the count again.
-static MANY: [(usize, &str, usize, &str, &str); 3] = [
-    (256, "", 256, TOMORROW, ""),
-    (256, RESET, 0, HOURLY, ""),
-    (257, RESET, 0, "", "t:258: more than 256 expressions\n"),
-];
-
-/// Returns the row for a file with these contents.
-fn timer_row<'a>(input: &'a [u8], out: &'a str, err: &'a str) -> Row<'a> {
-    Row {
-        about: "many expressions",
-        input,
-        out,
-        err,
-        ..TIMER
-    }
-}
-
-#[test]
-fn as_many_expressions_as_there_may_be(rt: HostRuntime) -> Result<(), Fail> {
-    for (count, lines, given, last, err) in &MANY {
-        let file = many(rt.alloc(), *count, lines)?;
-        let out = headings(rt.alloc(), *given, last)?;
-        let row = timer_row(file.as_bytes(), &out, err);
-        check(rt.alloc(), &[row])?;
-    }
-    Ok(())
 }
 
 /// How many bytes a source returns at most in each call and in total, and what it does once it has returned the total.

@@ -10,7 +10,7 @@ use cal_faulty::{Faulty, Then};
 use cal_library_tests::shared::ensure;
 use cal_request::{RunFault, Status};
 use cal_streams::Port;
-use std::alloc::{AllocError, Global};
+use std::alloc::Global;
 use std::test::Fail;
 
 /// A request with a valid expression and an invalid one, for which a report and an error line are written.
@@ -155,55 +155,6 @@ static EXCEPT_TIMER_RESUMED: [Row<'static>; 2] = [
 fn second_runs(rt: HostRuntime) -> Result<(), Fail> {
     check(rt.alloc(), &EVERY_SECOND_RESUMED)?;
     check(rt.alloc(), &EXCEPT_TIMER_RESUMED)
-}
-
-/// Appends to `instants` the instants of those elapses whose first line is complete in `text`.
-fn push_instants<'t>(instants: &mut Vec<&'t str>, text: &'t str) -> Result<(), AllocError> {
-    let Some((whole, _)) = text.rsplit_once('\n') else {
-        return Ok(());
-    };
-    for line in whole.split('\n') {
-        if line.starts_with("    Next elapse: ") || line.starts_with("       Iter. #") {
-            instants.push(line.get(17..).unwrap_or(""))?;
-        }
-    }
-    Ok(())
-}
-
-/// Appends the instants of the elapses whose first line is complete in `front`, and then the instants that are printed
-/// by the run that continues after these elapses, if there is one.
-fn push_resumed(
-    instants: &mut Vec<&'static str>,
-    front: &'static str,
-    runs: &[Row<'static>],
-) -> Result<(), AllocError> {
-    push_instants(instants, front)?;
-    if let Some(rest) = runs.get(instants.len()) {
-        push_instants(instants, rest.out)?;
-    }
-    Ok(())
-}
-
-/// Cuts the report off at every length. Takes the elapses whose first line is complete in what remains, and then the
-/// elapses of the run that continues after them. Expects these to be the elapses of the whole report, in the same
-/// order.
-fn expect_resumed(alloc: Global, text: &'static str, runs: &[Row<'static>]) -> Result<(), Fail> {
-    let mut all = Vec::new(alloc);
-    push_instants(&mut all, text)?;
-    for limit in 0..=text.len() {
-        let mut instants = Vec::new(alloc);
-        push_resumed(&mut instants, text.get(..limit).unwrap_or(""), runs)?;
-        if instants.as_slice() != all.as_slice() {
-            return Err(limit.into());
-        }
-    }
-    Ok(())
-}
-
-#[test]
-fn each_cut_is_resumed(rt: HostRuntime) -> Result<(), Fail> {
-    expect_resumed(rt.alloc(), EVERY_SECOND.out, &EVERY_SECOND_RESUMED)?;
-    expect_resumed(rt.alloc(), EXCEPT_TIMER.out, &EXCEPT_TIMER_RESUMED)
 }
 
 /// Checks a run whose writer of error lines fails after `front`, a prefix of the error lines. Expects the writer to
