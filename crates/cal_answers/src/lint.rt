@@ -96,26 +96,23 @@ fn add_file_problems(
     }
     for finding in findings(alloc, text)? {
         let shown = finding_text(alloc, path, text, &finding, style)?;
-        problems.push(problem_of(alloc, path, finding, shown)?)?;
+        let message = message_of(alloc, finding.problem, finding.mistake)?;
+        let file = String::from_str(alloc, path)?;
+        problems.push(problem_of(file, finding, message, shown))?;
     }
     Ok(())
 }
 
-fn problem_of(
-    alloc: Global,
-    path: &str,
-    finding: Finding,
-    text: String,
-) -> Result<FileProblem, AllocError> {
-    Ok(FileProblem {
-        file: String::from_str(alloc, path)?,
+fn problem_of(file: String, finding: Finding, message: String, text: String) -> FileProblem {
+    FileProblem {
+        file,
         line: finding.line,
         column: Some(finding.column),
         is_error: matches!(finding.kind, ProblemKind::Error),
-        message: message_of(alloc, finding.problem, finding.mistake)?,
+        message,
         suggestion: finding.suggestion,
         text,
-    })
+    }
 }
 
 /// Loads the timers that the targets name. Targets that end in `.conf` are left out: a drop-in is not a timer by

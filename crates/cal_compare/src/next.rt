@@ -43,11 +43,10 @@ fn take_next<S: Rising>(alloc: Global, timers: &mut [Instants<S>]) -> Result<Nex
     let mut soonest = Vec::new(alloc);
     let mut never = Vec::new(alloc);
     for (timer, elapses) in timers.iter_mut().enumerate() {
-        let Some(instant) = elapses.next() else {
-            never.push(timer)?;
-            continue;
-        };
-        soonest.push(TimerElapse { instant, timer })?;
+        match elapses.next() {
+            Some(instant) => soonest.push(TimerElapse { instant, timer })?,
+            None => never.push(timer)?,
+        }
     }
     Ok(NextOfAll { soonest, never })
 }

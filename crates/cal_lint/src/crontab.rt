@@ -43,7 +43,7 @@ pub(crate) fn from_crontab(alloc: Global, text: &str) -> Result<Option<String>, 
 fn is_field(word: &str) -> bool {
     word.as_bytes()
         .iter()
-        .all(|byte| byte.is_ascii_digit() || b"*/,-".contains(byte))
+        .all(|byte| matches!(byte, b'0'..=b'9' | b'*' | b'/' | b',' | b'-'))
 }
 
 /// Appends a field of a crontab as a component of an expression. `least` is the least value of the component: if it is

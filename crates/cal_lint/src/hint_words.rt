@@ -7,7 +7,7 @@ use std::alloc::{AllocError, Global};
 use strsim::osa_distance;
 
 /// The names of all shorthands (systemd.time(7), Calendar Events).
-const SHORTHANDS: [&str; 12] = [
+static SHORTHANDS: [&str; 12] = [
     "minutely",
     "hourly",
     "daily",
@@ -23,7 +23,7 @@ const SHORTHANDS: [&str; 12] = [
 ];
 
 /// The names of the weekdays: each in full and in lower case, and as systemd shortens it to three letters.
-const DAYS: [(&str, &str); 7] = [
+static DAYS: [(&str, &str); 7] = [
     ("monday", "Mon"),
     ("tuesday", "Tue"),
     ("wednesday", "Wed"),
@@ -222,9 +222,9 @@ fn rewrite_name(alloc: Global, word: &str) -> Result<Option<Rewritten>, AllocErr
 fn find_near(alloc: Global, word: &str) -> Result<Option<&'static str>, AllocError> {
     let mut lower = String::from_str(alloc, word)?;
     lower.make_ascii_lowercase();
-    for name in SHORTHANDS {
+    for name in &SHORTHANDS {
         if osa_distance(alloc, lower.as_str(), name)? == 1 {
-            return Ok(Some(name));
+            return Ok(Some(*name));
         }
     }
     Ok(None)
@@ -276,9 +276,9 @@ fn find_day_like(alloc: Global, name: &str) -> Result<Option<&'static str>, Allo
     if lower.len() < 2 {
         return Ok(None);
     }
-    for (full, short) in DAYS {
+    for (full, short) in &DAYS {
         if full.starts_with(lower.as_str()) || osa_distance(alloc, lower.as_str(), full)? <= 1 {
-            return Ok(Some(short));
+            return Ok(Some(*short));
         }
     }
     Ok(None)

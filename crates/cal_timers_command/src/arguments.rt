@@ -154,6 +154,11 @@ static SAME_ARGUMENTS: [Argument; 8] = [ONE_SIDE, OTHER_SIDE, ZONE, UTC, NOW, RO
 
 static NEXT_ARGUMENTS: [Argument; 7] = [COUNT, ZONE, UTC, NOW, ROOT, JSON, EXPRESSIONS];
 
+/// Returns whether the option of this name has a value.
+pub(crate) fn has_value(name: &str) -> bool {
+    matches!(name, "count" | "zone" | "now" | "root")
+}
+
 /// Returns the arguments of a verb, in the order in which the help lists them.
 pub(crate) fn arguments_of(verb: Verb) -> &'static [Argument] {
     match verb {

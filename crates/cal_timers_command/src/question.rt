@@ -68,7 +68,7 @@ impl Verb {
     ];
 
     /// Returns the name of the verb. The caller chooses the lifetime, since the prover can't shorten `'static`.
-    pub fn name<'a>(self) -> &'a str {
+    pub(crate) fn name<'a>(self) -> &'a str {
         match self {
             Verb::List => "list",
             Verb::Show => "show",

@@ -2,7 +2,7 @@
 //! front. If no verb is given, `list` is inserted there, unless an argument before the first target asks for help
 //! or the version.
 
-use crate::arguments::{COUNT, NOW, ROOT, ZONE};
+use crate::arguments::has_value;
 use crate::question::Verb;
 use std::alloc::{AllocError, Global};
 use std::convert::AsStr;
@@ -76,7 +76,7 @@ fn argument_kind(argument: &str) -> ArgumentKind {
         _ => {}
     }
     if let Some(name) = argument.strip_prefix("--") {
-        return if takes_value(name) {
+        return if has_value(name) {
             ArgumentKind::NeedsValue
         } else {
             ArgumentKind::Option
@@ -88,10 +88,6 @@ fn argument_kind(argument: &str) -> ArgumentKind {
     } else {
         ArgumentKind::Word
     }
-}
-
-fn takes_value(name: &str) -> bool {
-    name == COUNT.name || name == ZONE.name || name == NOW.name || name == ROOT.name
 }
 
 /// Returns whether `clap` takes the word for a verb. It adds the verb `help` to ours.
