@@ -1,4 +1,4 @@
--- Examples of errors, by the rule alone: parts and values that have an error, and words that have none.
+-- Examples of errors, from the rule and without the parser: parts and values that have an error, and words that have none.
 use Rattle.std.proofs.Common.{ℕ, inl, inr, codes, replicate, None, Some, refl, arith}
 use Rattle.std.proofs.lemmas.List.{length-replicate}
 use Rattle.cal_spec.specs.rules.PartFaultRule.{HasPartFault, HasValueFault}

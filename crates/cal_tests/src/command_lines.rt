@@ -158,7 +158,11 @@ calendar|--local=5x|--zones=x|--now=5|--iterations=0|daily -> bad iterations
 calendar|--iterations=1000001|daily -> bad iterations
 calendar|--local=5x|--zones=x|--now=5|daily -> bad now
 calendar|--local=5x|--zones=x|daily -> bad zones
+calendar|--iterations=0|daily -> bad iterations
+calendar|--now=5|daily -> bad now
+calendar|--zones=x|daily -> bad zones
 calendar|--local=5x|daily -> bad local zone
+calendar|--local=+26:00|daily -> bad local zone
 calendar|--local=5x -> usage
 --help -> help
 -h -> help

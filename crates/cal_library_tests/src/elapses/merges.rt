@@ -6,7 +6,8 @@ ghost use Rattle.std.specs.List.Sorted.{IsStrictlySortedBy};
 ghost use Rattle.std.specs.Ordering.{int_cmp};
 
 use super::elapses_of;
-use crate::numbers::{add, add_except, expect_numbers, listed, merge_two};
+use crate::numbers::{add, add_except, expect_first, expect_numbers, listed, merge_two};
+use crate::shared::{SUMMER_TIME, posix};
 use cal_base::Zone;
 use cal_elapse::{Elapses, Listed, Merge};
 use std::alloc::Global;
@@ -86,4 +87,41 @@ pub(super) fn merge_elapses<'z>(
         add_elapses(alloc, &mut merge, text, zone, base)?;
     }
     Ok(merge)
+}
+
+/// Bases, each with the first elapses after it. The expression is `0,1:30` in UTC, and the exception is `02:30` in a
+/// zone that is one hour ahead of UTC, and two hours in summer. On 2024-03-31, when the clock skips 02:30, nothing is
+/// suppressed. On 2024-10-27, when the clock shows 02:30 twice, only the first occurrence is suppressed.
+static IN_GAP_AND_FOLD: [(i64, &[i64]); 2] = [
+    (
+        1_711_756_800,
+        &[1_711_758_600, 1_711_845_000, 1_711_848_600, 1_711_935_000],
+    ),
+    (1_729_987_200, &[1_729_992_600]),
+];
+
+/// Adds to a merge that has not returned a number yet: the elapses of `0,1:30` in UTC after `base`, and as an exception
+/// the elapses of `02:30` in the local zone after `base`.
+fn add_without_half_past_two<'z>(
+    alloc: Global,
+    merge: &mut Merge<Elapses<'z>>,
+    local: Zone<'z>,
+    base: i64,
+) -> Result<(), Fail>
+    requires { merge.old.started ≡ false }
+{
+    add_elapses(alloc, merge, "0,1:30", Zone::utc(), base)?;
+    let exception = elapses_of(alloc, "02:30", local, base)?;
+    Ok(add_except(merge, exception)?)
+}
+
+#[test]
+fn in_gap_and_fold(rt: HostRuntime) -> Result<(), Fail> {
+    let rules = posix(rt.alloc(), SUMMER_TIME)?;
+    for (base, instants) in &IN_GAP_AND_FOLD {
+        let mut merge = Merge::new(rt.alloc());
+        add_without_half_past_two(rt.alloc(), &mut merge, Zone::rules(&rules), *base)?;
+        expect_first(&mut merge, instants)?;
+    }
+    Ok(())
 }
