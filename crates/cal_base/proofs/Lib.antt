@@ -1,6 +1,10 @@
+pub use Rattle.cal_bytes.proofs.DigitLemmas
+pub use Rattle.cal_bytes.proofs.General
 pub use Rattle.cal_bytes.proofs.Pieces
 pub use Rattle.cal_bytes.proofs.PutLemmas
 pub use Rattle.cal_bytes.proofs.ShortText
+pub use Rattle.cal_bytes.proofs.TrimLemmas
+pub use Rattle.cal_bytes.proofs.WordLemmas
 pub use Rattle.cal_civil.proofs.DayLemmas
 pub use Rattle.cal_civil.proofs.LocalLemmas
 pub use Rattle.cal_civil.proofs.OffsetWordLemmas
@@ -14,10 +18,6 @@ pub use Rattle.cal_span.proofs.SpanRuleLemmas
 pub use Rattle.cal_span.proofs.SpanRuns
 pub use Rattle.cal_span.proofs.SpanWords
 pub use Rattle.cal_span.proofs.WorkedRows
-pub use Rattle.cal_text.proofs.DigitLemmas
-pub use Rattle.cal_text.proofs.General
-pub use Rattle.cal_text.proofs.TrimLemmas
-pub use Rattle.cal_text.proofs.WordLemmas
 pub use Rattle.cal_zone.proofs.CivilLemmas
 pub use Rattle.cal_zone.proofs.FormattedDayLemmas
 pub use Rattle.cal_zone.proofs.InstantOffsetRangeLemmas

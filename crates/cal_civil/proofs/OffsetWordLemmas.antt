@@ -13,7 +13,7 @@ use Rattle.cal_bytes.specs.rules.Bytes.{joined}
 use Rattle.cal_civil.specs.rules.OffsetText.{offset_text, zeros}
 use Rattle.cal_civil.specs.rules.OffsetWord.{AreWholeMinutes, AreTwoDigits, IsHourMinute, IsOffsetWord, begins_with_sign, is_sign}
 use Rattle.cal_civil.specs.computed.ReadOffset.{hour_minute_seconds, hour_minute_in, offset_in, two_digits}
-use Rattle.cal_text.proofs.General.{list_all-both, all_below, below_all}
+use Rattle.cal_bytes.proofs.General.{list_all-both, all_below, below_all}
 
 -- Parsing two digits
 

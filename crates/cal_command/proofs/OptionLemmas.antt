@@ -12,7 +12,7 @@ use Rattle.std.proofs.lemmas.Bool.Decides.{nat_tests}
 use Rattle.std.proofs.lemmas.Str.Parse.{IsNumeralModel, numerals_by_value, tells_all_ascii_digits, parse_plain}
 use Rattle.cal_zone.specs.rules.Instant.{IsInstant}
 use Rattle.cal_zone.specs.declared.instant.Instant.{Instant}
-use Rattle.cal_text.specs.rules.Separators.{is_comma}
+use Rattle.cal_bytes.specs.rules.Separators.{is_comma}
 use Rattle.cal_command.specs.rules.OptionValues.{number_between, present_in, parts_at, zone_item_in, zone_items_in, zones_in}
 use Rattle.cal_command.specs.rules.Ask.{ZoneItem, shown_item}
 use Rattle.cal_command.specs.declared.ask.ZoneItem as declared_item

@@ -11,7 +11,7 @@ ghost use Rattle.std.specs.Option.{option_copied, option_map_or};
 ghost use Rattle.cal_bytes.specs.computed.SplitPieces.{left, pieces_after};
 ghost use Rattle.cal_command.specs.rules.Ask.{in_utc, shown_local, texts_of, shown_item};
 ghost use Rattle.cal_command.specs.rules.LocalZone.{IsLocalOffset};
-ghost use Rattle.cal_text.specs.rules.Separators.{is_comma};
+ghost use Rattle.cal_bytes.specs.rules.Separators.{is_comma};
 ghost use Rattle.cal_command.specs.rules.OptionValues.{count_in, local_zone_in, number_between, parts_at, present_in, zone_item_in, zones_in};
 ghost use Rattle.cal_request.specs.rules.Verb.{IsCount};
 

@@ -8,7 +8,7 @@ use Rattle.cal_elapse.specs.rules.Covered.{AreAmong, HasAll}
 use Rattle.cal_elapse.specs.computed.Masks.{sets_in}
 use Rattle.cal_elapse.specs.declared.masks.Masks.{Masks}
 use Rattle.cal_elapse.proofs.BitLemmas.{is_bit-none, is_bit-or}
-use Rattle.cal_text.proofs.General.{both_follow}
+use Rattle.cal_bytes.proofs.General.{both_follow}
 
 -- if the bitwise OR with `others` adds no bit to `mask`, then `mask` has all bits of `others`
 pub has_all : (mask others : ℕ) → bit_or mask others ≡ mask → HasAll (is_bit mask) (is_bit others)

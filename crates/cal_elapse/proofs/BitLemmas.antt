@@ -8,7 +8,7 @@ use Rattle.std.proofs.lemmas.Nat.{shr_le, shr-shr}
 use Rattle.std.proofs.lemmas.Nat.Bits.{bit_at-lt, bit_at-trailing_zeros, bit_at-zero, bit_at_above, bit_at_and, bit_at_cat_high, bit_at_cat_low, bit_at_or, bit_at_mask_above, bit_at_mask_below, bit_at_mask_inside, bit_at_ones, bit_at_ones_above, ones_shl, ones_shr, bit_at-pow_other, bit_at-pow_same, same_from_bits_below}
 use Rattle.cal_elapse.specs.computed.Bits.{is_bit}
 use Rattle.cal_elapse.specs.rules.Search.{IsFirstPassing, NonePasses}
-use Rattle.cal_text.proofs.General.{IsLowestBit}
+use Rattle.cal_bytes.proofs.General.{IsLowestBit}
 use Rattle.std.proofs.Math.Nat.{pow-suc, div-add-mod', mod-lt}
 
 -- bit k of m / 2 ^ j, that is, of m shifted right by j bits, is bit j + k of m

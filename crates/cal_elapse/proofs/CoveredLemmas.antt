@@ -9,7 +9,7 @@ use Rattle.cal_spec.specs.rules.Fields.{Fields}
 use Rattle.cal_spec.specs.rules.Match.{Sets, date_in, matches, time_in}
 use Rattle.cal_spec.specs.rules.Members.{sets_of}
 use Rattle.cal_rising.specs.rules.Elements.{Has}
-use Rattle.cal_text.proofs.General.{list-no_first, both_follow}
+use Rattle.cal_bytes.proofs.General.{list-no_first, both_follow}
 use Rattle.cal_rising.proofs.WithoutLemmas.{Has-is_member, is_member-Has}
 use Rattle.cal_elapse.specs.rules.Covered.{AreAmong, AreKept, IsCovered}
 use Rattle.cal_elapse.specs.rules.ElapsesAfter.{elapses_after, elapses_except}

@@ -13,7 +13,7 @@ use Rattle.cal_elapse.specs.rules.Elapses.{Timed, IsPlace, IsElapse, AreAbove, A
 use Rattle.cal_rising.specs.computed.Rises.{rises-without}
 use Rattle.cal_rising.specs.rules.RisingList.{HasAny, union, without}
 use Rattle.cal_rising.specs.rules.Elements.{Has}
-use Rattle.cal_text.proofs.General.{int_lt_trans, rises-drop}
+use Rattle.cal_bytes.proofs.General.{int_lt_trans, rises-drop}
 use Rattle.cal_rising.proofs.RisingLemmas.{above_first, later_members, same_rising, Has-union, rises-union}
 use Rattle.cal_rising.proofs.WithoutLemmas.{Has-without, without-none}
 

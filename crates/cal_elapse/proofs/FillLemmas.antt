@@ -11,7 +11,7 @@ use Rattle.cal_elapse.specs.rules.Search.{IsFirstPassing}
 use Rattle.cal_elapse.proofs.BitLemmas.{is_bit-above, is_bit-or, is_bit-shifted, is_bit-up, is_bit-up_none}
 use Rattle.cal_elapse.proofs.CellLemmas.{in_word}
 use Rattle.cal_elapse.proofs.RingLemmas.{Has-instants, IsIn, first_found, found_kept, kept_some, member, none_found, none_kept, same_second}
-use Rattle.cal_text.proofs.General.{below_end, lt_from_pos}
+use Rattle.cal_bytes.proofs.General.{below_end, lt_from_pos}
 
 or_false : (a b : Bool) → b ≡ false → a ≡ (a || b)
 or_false a b h = grind arith

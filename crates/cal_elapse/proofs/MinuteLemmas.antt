@@ -18,7 +18,7 @@ use Rattle.cal_elapse.proofs.FoundLemmas.{first_local, first_passing}
 use Rattle.cal_elapse.proofs.ExaminedMonthLemmas.{examined_today}
 use Rattle.cal_elapse.proofs.SearchLemmas.{locals_split}
 use Rattle.cal_elapse.proofs.TimeLemmas.{minutes_split, seconds_split}
-use Rattle.cal_text.proofs.General.{and_regrouped, below_end}
+use Rattle.cal_bytes.proofs.General.{and_regrouped, below_end}
 
 no_bit : (i : ℕ) → is_bit 0 i ≡ true → ⊥
 no_bit i bit = let none = is_bit-none i in cc

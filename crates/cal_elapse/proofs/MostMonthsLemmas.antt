@@ -10,7 +10,7 @@ use Rattle.cal_civil.specs.rules.LocalSecond.{seconds_in_all}
 use Rattle.cal_elapse.specs.declared.search.Found.{Found}
 use Rattle.cal_elapse.proofs.CountLemmas.{count_from-nothing, count_from-to}
 use Rattle.cal_elapse.proofs.FoundLemmas.{first_passing}
-use Rattle.cal_text.proofs.General.{max_from_zero}
+use Rattle.cal_bytes.proofs.General.{max_from_zero}
 
 max_is : (a b : ℕ) → ((max a b ≡ a) × (b ≤ a)) ⊎ ((max a b ≡ b) × (a ≤ b))
 max_is a b = grind arith

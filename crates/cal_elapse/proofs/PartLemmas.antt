@@ -14,7 +14,7 @@ use Rattle.cal_spec.specs.rules.Slot.{greatest}
 use Rattle.cal_spec.specs.declared.field.Field.{Field}
 use Rattle.cal_spec.specs.declared.field.Part.{Part}
 use Rattle.cal_spec.specs.declared.slot.Slot.{Slot}
-use Rattle.cal_text.proofs.General.{and_regrouped, and_true}
+use Rattle.cal_bytes.proofs.General.{and_regrouped, and_true}
 
 and_shared : (x y z : Bool) → ((x && y) || (x && z)) ≡ (x && (y || z))
 and_shared x y z = grind arith

@@ -5,7 +5,7 @@ use Rattle.jiff.proofs.SpanFacts.{signed_arith}
 use Rattle.jiff.specs.Types.{TimeZone}
 use Rattle.std.specs.Ordering.{int_cmp}
 use Rattle.std.specs.List.Sorted.{IsStrictlySortedBy}
-use Rattle.cal_text.proofs.General.{list-first, list-no_first, pos_unsigned_abs}
+use Rattle.cal_bytes.proofs.General.{list-first, list-no_first, pos_unsigned_abs}
 use Rattle.cal_rising.specs.rules.Elements.{Has}
 use Rattle.cal_spec.specs.rules.Match.{matches}
 use Rattle.cal_zone.proofs.PlaceLemmas.{within}

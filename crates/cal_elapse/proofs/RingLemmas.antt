@@ -17,7 +17,7 @@ use Rattle.cal_elapse.specs.computed.Ring.{IsNear, cells_in_all, cells_in_all-is
 use Rattle.cal_rising.specs.rules.Elements.{Has}
 use Rattle.cal_elapse.specs.rules.Search.{IsFirstPassing}
 use Rattle.cal_elapse.proofs.ElapsesLemmas.{first-least, first-none}
-use Rattle.cal_text.proofs.General.{list-first, list-no_first, lt_from_pos, rises-drop}
+use Rattle.cal_bytes.proofs.General.{list-first, list-no_first, lt_from_pos, rises-drop}
 use Rattle.cal_rising.proofs.RisingLemmas.{Has-insert_key, rises-insert_key, later_members, same_rising}
 use Rattle.std.specs.Cmp.{int_cmp_is}
 

@@ -16,7 +16,7 @@ use Rattle.cal_elapse.proofs.WindowLemmas.{first_given, later_given, none_given}
 use Rattle.cal_elapse.proofs.CountLemmas.{count_from-on}
 use Rattle.cal_elapse.proofs.MinuteLemmas.{match_inside}
 use Rattle.cal_elapse.proofs.MostMonthsLemmas.{most_same}
-use Rattle.cal_text.proofs.General.{lt_from_test, none_chosen}
+use Rattle.cal_bytes.proofs.General.{lt_from_test, none_chosen}
 use Rattle.cal_spec.specs.rules.Match.{matches}
 use Rattle.cal_elapse.proofs.InstantLemmas.{first_has}
 

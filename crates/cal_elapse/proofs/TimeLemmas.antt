@@ -7,7 +7,7 @@ use Rattle.cal_elapse.specs.rules.Months.{minute_in}
 use Rattle.cal_elapse.specs.declared.masks.Masks.{Masks}
 use Rattle.cal_elapse.proofs.CarryLemmas.{Splits}
 use Rattle.cal_spec.specs.rules.Match.{time_in}
-use Rattle.cal_text.proofs.General.{and_regrouped}
+use Rattle.cal_bytes.proofs.General.{and_regrouped}
 
 -- a minute of the day matches if and only if both its hour and its minute of the hour match
 pub minutes_split : (m : Masks) → Splits (minute_in (sets_in m)) (is_bit m.hours) (is_bit m.minutes) 60 24

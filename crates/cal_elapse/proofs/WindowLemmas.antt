@@ -24,7 +24,7 @@ use Rattle.cal_elapse.specs.rules.Search.{NonePasses}
 use Rattle.cal_elapse.specs.computed.Window.{IsMatchAhead, IsPlacedBelow, IsReady, Windowed, bound_of, start_of, timed_by, timed_of, to_place, with_place}
 use Rattle.cal_elapse.specs.declared.window.Window.{Window}
 use Rattle.cal_elapse.proofs.ElapsesLemmas.{elapses_after-first, first_elapse-least, first_elapse-none}
-use Rattle.cal_text.proofs.General.{int_lt_trans, list-first, lt_from_test, none_chosen, drop_none}
+use Rattle.cal_bytes.proofs.General.{int_lt_trans, list-first, lt_from_test, none_chosen, drop_none}
 use Rattle.cal_rising.proofs.RisingLemmas.{Has-insert_key, rises-insert_key, above_first, later_members}
 
 -- an instant is within 93,599 seconds of its local second

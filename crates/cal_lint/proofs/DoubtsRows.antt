@@ -1,7 +1,7 @@
 -- Examples that check, by computation, which expressions may not mean what their author thinks, and which keys count as
 -- unknown.
 use Rattle.std.proofs.Common.{◌≡◌, ℕ, List, true, false, [], ◌∷◌, codes, refl, Option, None, Some}
-use Rattle.cal_text.specs.rules.Separators.{words}
+use Rattle.cal_bytes.specs.rules.Separators.{words}
 use Rattle.cal_spec.specs.declared.field.Part.{Part}
 use Rattle.cal_spec.specs.rules.NormalForm.{point}
 use Rattle.cal_lint.specs.rules.Doubts.{has_month_day, is_hour_list, is_hour_range}

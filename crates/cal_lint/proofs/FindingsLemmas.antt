@@ -1,7 +1,7 @@
 -- If a unit has only one file, and the first line of this file has the number 1, `timer_faults` lists all errors of the
 -- unit.
 use Rattle.std.proofs.Common.{◌≡◌, ◌∙◌, false, [], ◌∷◌, ap, append-nil, map, sym}
-use Rattle.cal_lines.specs.rules.Lines.{logical_lines}
+use Rattle.cal_timer.specs.rules.Lines.{logical_lines}
 use Rattle.cal_spec.specs.computed.Expr.{expr_in}
 use Rattle.cal_timer.specs.rules.Assignments.{assignments_in}
 use Rattle.cal_timer.specs.rules.TimerText.{without_mark}

@@ -41,9 +41,7 @@ pub(crate) fn from_crontab(alloc: Global, text: &str) -> Result<Option<String>, 
 /// Returns whether a word consists only of digits, `*`, `/`, `,` and `-`. This is true of the fields of a crontab,
 /// except those with names, such as `jan`.
 fn is_field(word: &str) -> bool {
-    word.as_bytes()
-        .iter()
-        .all(|byte| matches!(byte, b'0'..=b'9' | b'*' | b'/' | b',' | b'-'))
+    word.as_bytes().iter().all(|byte| matches!(byte, b'0'..=b'9' | b'*' | b'/' | b',' | b'-'))
 }
 
 /// Appends a field of a crontab as a component of an expression. `least` is the least value of the component: if it is

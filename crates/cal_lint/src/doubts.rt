@@ -4,11 +4,11 @@ ghost use Rattle.std.specs.Prelude.{◌≡◌};
 ghost use Rattle.std.specs.List.{find};
 ghost use Rattle.std.specs.Option.{option_copied};
 ghost use Rattle.cal_spec.specs.computed.Reads.{GivesUnlessNoMemory};
-ghost use Rattle.cal_text.specs.rules.Separators.{words};
+ghost use Rattle.cal_bytes.specs.rules.Separators.{words};
 ghost use Rattle.cal_lint.specs.rules.Doubts.{doubt_in, has_hours, has_month_day, is_doubtful, is_hour_list, is_hour_range, is_later_hour, is_month_day, is_range_to, part_number, single};
 
+use cal_bytes::first_word;
 use cal_spec::{Expr, Field, Part, SpecFault, read_expr};
-use cal_text::first_word;
 use std::alloc::Global;
 
 /// Why a valid expression may not mean what its author thinks.

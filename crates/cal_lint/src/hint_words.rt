@@ -1,8 +1,8 @@
 //! Common mistakes in the words of invalid calendar expressions, and what to write instead of them.
 
 use crate::hints::{Hint, Mistake, is_valid_expression};
+use cal_bytes::are_digits;
 use cal_civil::begins_with_letter;
-use cal_text::are_digits;
 use std::alloc::{AllocError, Global};
 use strsim::osa_distance;
 

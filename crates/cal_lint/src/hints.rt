@@ -7,17 +7,17 @@ ghost use Rattle.std.specs.Prelude.{◌≡◌, IfOk, IfSome, Some, false, is_ok,
 ghost use Rattle.std.specs.List.{list_any};
 ghost use Rattle.std.specs.Option.{option_map, option_copied};
 ghost use Rattle.std.specs.Char.{is_ascii_alphabetic};
-ghost use Rattle.cal_text.specs.rules.Trim.{trim_matches};
-ghost use Rattle.cal_text.specs.rules.Separators.{is_blank};
+ghost use Rattle.cal_bytes.specs.rules.Trim.{trim_matches};
+ghost use Rattle.cal_bytes.specs.rules.Separators.{is_blank};
 ghost use Rattle.cal_spec.specs.computed.Expr.{expr_in};
 ghost use Rattle.cal_lint.specs.rules.Hints.{is_comment_mark, is_span, mistake_in};
 ghost use Rattle.cal_lint.specs.declared.hints.Mistake.{Mistake};
 
 use crate::crontab::from_crontab;
 use crate::hint_words::rewrite_words;
+use cal_bytes::trim_blanks;
 use cal_span::read_span;
 use cal_spec::{SpecFault, read_expr};
-use cal_text::trim_blanks;
 use std::alloc::{AllocError, Global};
 
 /// A known mistake that an invalid expression resembles.

@@ -5,14 +5,14 @@ ghost use Rattle.std.specs.Option.{option_and_then, option_copied};
 ghost use Rattle.std.specs.List.{after_first, find, list_all, list_any, prefix_len, slice_split};
 ghost use Rattle.std.specs.Char.{is_ascii_digit};
 ghost use Rattle.cal_bytes.specs.computed.SplitPieces.{pieces_after};
-ghost use Rattle.cal_text.specs.rules.Separators.{is_colon, is_comma, words, is_slash};
+ghost use Rattle.cal_bytes.specs.rules.Separators.{is_colon, is_comma, words, is_slash};
 ghost use Rattle.cal_spec.specs.computed.Reads.{GivesUnlessNoMemory};
 ghost use Rattle.cal_spec.specs.rules.WeekdayNames.{after_joint, day_named};
 ghost use Rattle.cal_lint.specs.rules.Systemd252.{are_equal, rejection_in, has_empty_part, has_extra, has_extra_after, has_large_step, has_late_days, has_late_part, has_weekday_wrap, is_date, is_one_second, is_rejected_for, is_space, is_weekday_list, piece_is_rejected_for, runs_past_sunday, seconds_in, step_in, word_is_rejected_for};
 
+use cal_bytes::{are_digits, decimal_value, first_word};
 use cal_civil::{begins_with_letter, begins_zone};
 use cal_spec::{Expr, Field, Part, SpecFault, find_day, first_piece, letters_len, read_expr};
-use cal_text::{are_digits, decimal_value, first_word};
 use jiff_core::civil::Weekday;
 use std::alloc::Global;
 

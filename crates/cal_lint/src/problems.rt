@@ -18,12 +18,12 @@ use crate::doubts::{Doubt, find_doubt};
 use crate::hints::{Hint, Mistake, find_hint};
 use crate::older_systemd::{Rejection, systemd_252};
 use crate::unknown_keys::is_unknown_key;
+use cal_bytes::Port;
 use cal_read::{
     Assignment, Assignments, FileFault, NumberedText, OwnedAssignment, TimerFault, find_faults,
     without_mark,
 };
 use cal_spec::{Expr, SpecFault, fault_span, read_expr, write_expr};
-use cal_streams::Port;
 use std::alloc::{AllocError, Global};
 
 /// How serious a problem is.

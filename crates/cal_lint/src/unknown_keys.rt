@@ -3,7 +3,7 @@
 ghost use Rattle.std.specs.Prelude.{◌≡◌, ◌+◌, ◌<◌, ◌-◌, ◌^◌, IfOk, codes, drop, false, filter, length, map, nat_eq, take};
 ghost use Rattle.std.specs.List.{starts_with};
 ghost use Rattle.std.specs.Str.{str_eq_ignore_ascii_case};
-ghost use Rattle.cal_lines.specs.rules.Lines.{logical_lines};
+ghost use Rattle.cal_timer.specs.rules.Lines.{logical_lines};
 ghost use Rattle.cal_timer.specs.rules.TimerText.{without_mark};
 ghost use Rattle.cal_read.specs.rules.SectionAssignments.{section_assignments, shown_owned_assignment};
 ghost use Rattle.cal_lint.specs.rules.UnknownKeys.{has_unknown_key, is_like_exception_key, is_unknown_key};

@@ -14,7 +14,7 @@ use Rattle.std.specs.Ordering.{nat_cmp}
 use Rattle.std.proofs.lemmas.Slice.Eq.{bytes_eq-Decides}
 use Rattle.jiff.specs.Types.{TimeZone}
 use Rattle.cal_civil.specs.rules.ZoneName.{is_utc_name}
-use Rattle.cal_streams.specs.rules.Whole.{GivesAll}
+use Rattle.cal_bytes.specs.rules.Whole.{GivesAll}
 use Rattle.cal_units.specs.rules.Machine.{Machine}
 use Rattle.cal_zone.specs.rules.LoadZone.{IsLoaded}
 use Rattle.cal_zone.specs.rules.ZoneFile.{IsFileZone, file_limit}

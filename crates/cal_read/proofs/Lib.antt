@@ -11,7 +11,11 @@ pub use Rattle.cal_stamp.proofs.StampPrintedLemmas
 pub use Rattle.cal_stamp.proofs.StampPrintedTexts
 pub use Rattle.cal_stamp.proofs.StampPrintedZones
 pub use Rattle.cal_stamp.proofs.StampRuleLemmas
+pub use Rattle.cal_timer.proofs.GroupLemmas
+pub use Rattle.cal_timer.proofs.LineLemmas
+pub use Rattle.cal_timer.proofs.LineRuleLemmas
 pub use Rattle.cal_timer.proofs.ListedLemmas
+pub use Rattle.cal_timer.proofs.LogicalRuleLemmas
 pub use Rattle.cal_timer.proofs.ResumedLemmas
 pub use Rattle.cal_timer.proofs.TimerLemmas
 pub use Rattle.cal_timer.proofs.TimerRuleLemmas

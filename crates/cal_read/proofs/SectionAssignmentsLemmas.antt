@@ -3,8 +3,8 @@ use Rattle.std.proofs.Common.{◌≡◌, Bool, true, false, List, [], ◌∷◌,
 use Rattle.std.specs.List.{filter_map}
 use Rattle.std.specs.Option.{option_to_list}
 use Rattle.std.specs.Str.{bytes_eq}
-use Rattle.cal_text.specs.rules.Trim.{trim_matches}
-use Rattle.cal_lines.specs.rules.Lines.{Line, is_blank_or_return}
+use Rattle.cal_bytes.specs.rules.Trim.{trim_matches}
+use Rattle.cal_timer.specs.rules.Lines.{Line, is_blank_or_return}
 use Rattle.cal_timer.specs.rules.Assignments.{Assignment, assignment_of, assignments_in, is_header, section_of, timer_lines, trimmed}
 use Rattle.cal_read.specs.rules.SectionAssignments.{section_assignments, section_lines}
 

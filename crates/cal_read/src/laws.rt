@@ -6,7 +6,7 @@ ghost use Rattle.cal_spec.specs.rules.Fields.{Fields};
 ghost use Rattle.cal_spec.specs.declared.spec_fault.SpecFault.{SpecFault};
 ghost use Rattle.cal_read.specs.rules.SectionAssignments.{section_assignments};
 ghost use Rattle.cal_timer.specs.rules.Assignments.{Assignment, assignments_in};
-ghost use Rattle.cal_lines.specs.rules.Lines.{Line};
+ghost use Rattle.cal_timer.specs.rules.Lines.{Line};
 ghost use Rattle.cal_timer.specs.rules.TimerEntries.{first_fault, lists_of, timer_of};
 ghost use Rattle.cal_read.specs.rules.TimerFaults.{all_faults, faults_of};
 ghost use Rattle.cal_read.specs.rules.TimerTexts.{assignments_of, IsFirstOf};

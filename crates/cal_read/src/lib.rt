@@ -9,8 +9,9 @@ mod texts;
 
 pub use cal_stamp::{StampFault, laws as stamp_laws, read_stamp, read_stamp_in};
 pub use cal_timer::{
-    Assignment, MAX_EXPRESSIONS, Timer, TimerFault, TimerLine, TimerLists, laws as timer_laws,
-    read_assignment, read_timer, section, without_mark,
+    Assignment, LogicalLine, MAX_EXPRESSIONS, Timer, TimerFault, TimerLine, TimerLists,
+    first_logical, laws as timer_laws, line_laws, read_assignment, read_timer, section, trim,
+    without_mark,
 };
 pub use faults::find_faults;
 pub use section_assignments::{Assignments, OwnedAssignment, read_assignments};

@@ -3,13 +3,12 @@
 
 ghost use Rattle.std.specs.Prelude.{◌≡◌, ◌+◌, ◌<◌, ◌^◌, ◌∷◌, ◌++◌, [], false, length, map, IfOk, MatchOption, OnErr, List};
 ghost use Rattle.std.specs.Option.{option_map, option_to_list};
-ghost use Rattle.cal_lines.specs.rules.LineView.{line_at};
-ghost use Rattle.cal_lines.specs.rules.Lines.{Line, logical_lines};
+ghost use Rattle.cal_timer.specs.rules.LineView.{line_at};
+ghost use Rattle.cal_timer.specs.rules.Lines.{Line, logical_lines};
 ghost use Rattle.cal_timer.specs.rules.TimerView.{shown_assignment};
 ghost use Rattle.cal_read.specs.rules.SectionAssignments.{section_assignments, shown_owned_assignment};
 
-use cal_lines::{first_logical, trim};
-use cal_timer::{Assignment, read_assignment, section};
+use cal_timer::{Assignment, first_logical, read_assignment, section, trim};
 use std::alloc::{AllocError, Global};
 use std::marker::Model;
 
@@ -49,7 +48,7 @@ pub struct Assignments<'t> {
 
 impl<'t> Model for Assignments<'t> {
     ghost use Rattle.std.specs.Prelude.{◌+◌, ◌<◌, ◌^◌, List, length};
-    ghost use Rattle.cal_lines.specs.rules.Lines.{logical_lines};
+    ghost use Rattle.cal_timer.specs.rules.Lines.{logical_lines};
     ghost use Rattle.cal_timer.specs.rules.Assignments.{Assignment};
     ghost use Rattle.cal_read.specs.rules.SectionAssignments.{section_assignments};
 

@@ -4,7 +4,7 @@ use Rattle.std.proofs.Common.{◌≡◌, ◌≤◌, ◌*◌, ◌/◌, ◌∙◌,
 use Rattle.std.proofs.lemmas.Option.{slice_get-get_or}
 use Rattle.std.specs.List.{slice_get}
 use Rattle.jiff.proofs.SpanFacts.{signed_arith}
-use Rattle.cal_streams.specs.declared.whole.WholeFault.{WholeFault}
+use Rattle.cal_bytes.specs.declared.whole.WholeFault.{WholeFault}
 use Rattle.cal_rising.specs.rules.Elements.{Has}
 use Rattle.cal_zone.specs.rules.Instant.{IsInstant}
 use Rattle.cal_stamp.proofs.StampCounted.{counted_back}

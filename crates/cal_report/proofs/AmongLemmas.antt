@@ -3,7 +3,7 @@
 use Rattle.std.proofs.Common.{◌≡◌, ◌∙◌, ℕ, ℤ, List, [], ◌∷◌, Option, None, Some, Result, Ok, Err, map, codes, refl, sym, ap}
 use Rattle.std.specs.Prelude.{is_err}
 use Rattle.std.specs.List.{AllByRecursion, AllZip, filter_map, flat_map, join_by}
-use Rattle.cal_streams.specs.declared.whole.WholeFault.{WholeFault}
+use Rattle.cal_bytes.specs.declared.whole.WholeFault.{WholeFault}
 use Rattle.cal_report.specs.rules.Answer.{Answer, report_in, reports_text}
 use Rattle.cal_report.specs.rules.TextReport.CalendarReport.{calendar_answer}
 use Rattle.cal_report.specs.rules.RunReport.{answers_report, base_in, report}

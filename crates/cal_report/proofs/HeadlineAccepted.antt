@@ -7,7 +7,7 @@ use Rattle.std.specs.List.{AllByRecursion, filter_map, find, list_any, suffix_le
 use Rattle.std.specs.Str.{is_utf8}
 use Rattle.std.proofs.lemmas.Bool.{or_parts}
 use Rattle.jiff.specs.Types.{TimeZone}
-use Rattle.cal_streams.specs.declared.whole.WholeFault.{WholeFault}
+use Rattle.cal_bytes.specs.declared.whole.WholeFault.{WholeFault}
 use Rattle.cal_zone.specs.rules.Zone.{zone_of}
 use Rattle.cal_spec.specs.computed.Expr.{expr_in}
 use Rattle.cal_spec.specs.rules.Fields.{Fields}

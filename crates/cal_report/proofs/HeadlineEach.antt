@@ -5,7 +5,7 @@ use Rattle.std.specs.Prelude.{is_err, if◌then◌else◌}
 use Rattle.std.specs.Io.KnownBytes.{Appends}
 use Rattle.std.specs.List.{AllZip, cons_option, filter_map, flat_map, join_by, list_any}
 use Rattle.std.specs.Result.{result_err, result_ok}
-use Rattle.cal_streams.specs.declared.whole.WholeFault.{WholeFault}
+use Rattle.cal_bytes.specs.declared.whole.WholeFault.{WholeFault}
 use Rattle.cal_report.specs.rules.Answer.{Answer, error_line_in, error_line, error_lines, report_in, reports_text, texts_status}
 use Rattle.cal_report.specs.rules.TextReport.CalendarReport.{calendar_answer}
 use Rattle.cal_report.specs.rules.Headline.{AreAnswered, IsAnswerTo, IsReportOf, alone}

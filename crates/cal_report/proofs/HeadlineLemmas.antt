@@ -5,7 +5,7 @@ use Rattle.std.specs.Prelude.{is_err, nat_le, if◌then◌else◌}
 use Rattle.std.specs.Io.KnownBytes.{Appends}
 use Rattle.std.specs.List.{AllByRecursion, AllZip, filter_map, find, flat_map, join_by, list_any}
 use Rattle.jiff.specs.Types.{TimeZone}
-use Rattle.cal_streams.specs.declared.whole.WholeFault.{WholeFault}
+use Rattle.cal_bytes.specs.declared.whole.WholeFault.{WholeFault}
 use Rattle.cal_spec.specs.computed.Expr.{expr_in}
 use Rattle.cal_spec.specs.rules.Fields.{Fields}
 use Rattle.cal_spec.specs.rules.NormalForm.{Spells}

@@ -5,7 +5,7 @@ use Rattle.std.proofs.Math.Seq.{take-append_seam}
 use Rattle.std.proofs.lemmas.List.{append_cancel_left, length-map}
 use Rattle.std.proofs.lemmas.List.Folds.{flat_map-map}
 use Rattle.std.specs.List.{AllByRecursion, AllZip, flat_map, join_by}
-use Rattle.cal_streams.specs.declared.whole.WholeFault.{WholeFault}
+use Rattle.cal_bytes.specs.declared.whole.WholeFault.{WholeFault}
 use Rattle.cal_report.specs.rules.RunReport.{ByReading, IsReported, base_from, base_in, report}
 use Rattle.cal_report.specs.rules.Resume.{AreAcceptedAmong, ResumesAmong, for_text, report_of_one}
 use Rattle.cal_report.specs.rules.TextReport.TimestampReport.{stamp_in}

@@ -6,7 +6,7 @@ use Rattle.cal_rising.specs.rules.Merge.{Merge, merged}
 use Rattle.cal_timer.specs.rules.TimerEntries.{Timer, timer_text}
 use Rattle.cal_timer.specs.rules.TimerView.{shown}
 use Rattle.cal_timer.specs.declared.timer.TimerLine as declared_line
-use Rattle.cal_streams.specs.declared.whole.WholeFault.{WholeFault}
+use Rattle.cal_bytes.specs.declared.whole.WholeFault.{WholeFault}
 use Rattle.cal_spec.specs.computed.Expr.{expr_in}
 use Rattle.cal_spec.specs.rules.Fields.{Fields}
 use Rattle.cal_plan.specs.rules.TimerElapses.{IsMergeOf}
@@ -15,7 +15,7 @@ use Rattle.cal_report.specs.rules.Context.{setting_of}
 use Rattle.cal_report.specs.computed.TimerPlan.{plan_text}
 use Rattle.cal_report.specs.rules.TimerReport.{HadMemory, headings_text, timer_answer, timer_report}
 use Rattle.cal_report.specs.rules.ReportLines.{heading_text}
-use Rattle.cal_text.proofs.General.{item_first}
+use Rattle.cal_bytes.proofs.General.{item_first}
 
 -- the heading of a line of a timer file, with this label
 abbrev pub line_text : List ℕ → declared_line.TimerLine → List ℕ

@@ -37,7 +37,7 @@ use Rattle.cal_zone.proofs.PlaceLemmas.{place_of-UTC}
 use Rattle.std.proofs.lemmas.Int.{ints}
 use lib.Utf8.{encode}
 use Rattle.std.specs.Str.{chars, is_utf8}
-use Rattle.cal_lines.specs.rules.Lines.{groups, is_continued, logical_lines, part_of_line, physical_lines, plain_lines}
+use Rattle.cal_timer.specs.rules.Lines.{groups, is_continued, logical_lines, part_of_line, physical_lines, plain_lines}
 use Rattle.cal_timer.specs.rules.Assignments.{Assignment, assignment_of, assignments_in, timer_lines}
 use Rattle.cal_timer.specs.rules.TimerText.{excepted, is_exception, is_exception_reset, is_expression, is_reset, listed as listed_in, max_expressions, without_mark}
 use Rattle.std.specs.Prelude.{ℤ, ◌<ℤ◌, ◌≤ℤ◌, List, length, map, slice_get, take}
@@ -51,8 +51,8 @@ use Rattle.cal_spec.specs.rules.Shorthand.{shorthand_named}
 use Rattle.cal_spec.specs.rules.WeekdayNames.{day_named, days_of}
 use Rattle.cal_spec.specs.computed.WeekdayLists.{listed_days, weekdays_of}
 use Rattle.cal_spec.specs.computed.Words.{roles_of}
-use Rattle.cal_text.specs.rules.Trim.{trim_matches, trim_end_matches, trim_start_matches}
-use Rattle.cal_text.specs.rules.Separators.{words}
+use Rattle.cal_bytes.specs.rules.Trim.{trim_matches, trim_end_matches, trim_start_matches}
+use Rattle.cal_bytes.specs.rules.Separators.{words}
 use Rattle.cal_spec.proofs.WholeRule.{valid_found}
 use Rattle.cal_elapse.proofs.ElapsesLemmas.{AreElapses-only, elapses_except-none, first_elapse-least}
 use Rattle.cal_report.specs.rules.Headline.{AreElapsesOf, AreSpelled, Expression, IsAccepted, IsFileOf, alone, assigned_in, meaning}

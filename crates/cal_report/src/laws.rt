@@ -6,7 +6,7 @@ ghost use Rattle.std.specs.Io.KnownBytes.{Appends};
 ghost use Rattle.std.specs.List.{AllByRecursion};
 ghost use Rattle.jiff.specs.Types.{Fold, Offset, TimeZone};
 ghost use Rattle.jiff.specs.Words.{ambiguous_at};
-ghost use Rattle.cal_streams.specs.declared.whole.WholeFault.{WholeFault};
+ghost use Rattle.cal_bytes.specs.declared.whole.WholeFault.{WholeFault};
 ghost use Rattle.cal_zone.specs.rules.Instant.{IsInstant};
 ghost use Rattle.cal_zone.specs.rules.Place.{datetime_of, place_of};
 ghost use Rattle.cal_zone.specs.rules.Zone.{local_shown_at};

@@ -3,8 +3,8 @@
 
 ghost use Rattle.std.specs.Prelude.{ℕ, ℤ, List, Result, Ok, map, ◌≡◌, [], ◌∷◌, false, codes, IfOk, IsErrOf};
 ghost use Rattle.std.specs.String.{string_bytes};
-ghost use Rattle.cal_streams.specs.rules.Whole.{is_read_failed};
-ghost use Rattle.cal_streams.specs.declared.whole.WholeFault.{WholeFault};
+ghost use Rattle.cal_bytes.specs.rules.Whole.{is_read_failed};
+ghost use Rattle.cal_bytes.specs.declared.whole.WholeFault.{WholeFault};
 ghost use Rattle.cal_timer.specs.rules.TimerEntries.{ReadsWhole, timer_file_limit};
 ghost use Rattle.cal_bytes.specs.rules.Writes.{Writes};
 ghost use Rattle.cal_bytes.specs.rules.Puts.{Puts};

@@ -4,8 +4,8 @@
 
 ghost use Rattle.std.specs.Prelude.{◌≡◌, ◌≢◌, ℕ, List, Result, Ok, Err, MatchResult, false, map};
 ghost use Rattle.cal_bytes.specs.rules.Puts.{Puts};
-ghost use Rattle.cal_streams.specs.rules.Whole.{is_read_failed};
-ghost use Rattle.cal_streams.specs.declared.whole.WholeFault.{WholeFault};
+ghost use Rattle.cal_bytes.specs.rules.Whole.{is_read_failed};
+ghost use Rattle.cal_bytes.specs.declared.whole.WholeFault.{WholeFault};
 ghost use Rattle.cal_timer.specs.rules.TimerEntries.{ReadsWhole, timer_file_limit};
 ghost use Rattle.cal_timer.specs.rules.TimerView.{shown};
 ghost use Rattle.cal_report.specs.rules.Context.{asked_by};

@@ -15,7 +15,7 @@ use Rattle.std.specs.declared.cmp.Ordering.TheVariants.{Less, Equal, Greater}
 use Rattle.cal_rising.specs.rules.Merge.{HasHead, Peeked, lesser, numbers, advanced}
 use Rattle.cal_rising.specs.rules.RisingList.{HasAny, with_numbers, union}
 use Rattle.cal_rising.specs.rules.Elements.{Has}
-use Rattle.cal_text.proofs.General.{lt_from_less, rises-drop}
+use Rattle.cal_bytes.proofs.General.{lt_from_less, rises-drop}
 use Rattle.cal_rising.proofs.RisingLemmas.{above_first, later_members, same_rising, Has-union, rises-union}
 
 -- the lesser of `a` and a missing number is `a`

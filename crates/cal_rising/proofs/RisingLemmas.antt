@@ -14,7 +14,7 @@ pub use Rattle.cal_rising.specs.computed.Rises.{rises-with_numbers, rises-union}
 use Rattle.cal_rising.specs.rules.RisingList.{HasAny, IsUnion, with_numbers, union}
 use Rattle.cal_rising.specs.rules.Elements.{Has}
 use Rattle.cal_rising.proofs.OrderLemmas.{all_at, has-insert_key, same_sorted}
-use Rattle.cal_text.proofs.General.{lt_from_less}
+use Rattle.cal_bytes.proofs.General.{lt_from_less}
 
 -- in a strictly increasing list, every number after the first is greater than the first
 pub above_first : (x i : ℤ) (xs : List ℤ) → IsStrictlySortedBy int_cmp (x ∷ xs) → Has xs i → x <ℤ i

@@ -21,7 +21,7 @@ use Rattle.cal_rising.specs.rules.Elements.{Has}
 use Rattle.cal_rising.proofs.RisingLemmas.{Has-union, same_rising}
 use Rattle.std.specs.Cmp.{int_eq_equiv}
 use Rattle.std.proofs.lemmas.Map.Made.{is_member-filter}
-use Rattle.cal_text.proofs.General.{lt_from_less}
+use Rattle.cal_bytes.proofs.General.{lt_from_less}
 
 -- `is_member` returns `true` only for numbers in the list; by `is_member-Has`, it returns `true` for all of them
 pub Has-is_member : (xs : List ℤ) (i : ℤ) → is_member int_eq xs i ≡ true → Has xs i

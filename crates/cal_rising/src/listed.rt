@@ -28,7 +28,7 @@ impl Listed {
 impl Rising for Listed {
     ghost rest = { λ listed. drop listed.given listed.numbers.items };
 
-    #[tactic(auto, using(cal_text::proofs::General::rises_after))]
+    #[tactic(auto, using(cal_bytes::proofs::General::rises_after))]
     fn next(&mut self) -> Option<i64> {
         let number = self.numbers.get(self.given).copied();
         if number.is_some() {

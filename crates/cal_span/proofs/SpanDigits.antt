@@ -10,7 +10,7 @@ use Rattle.std.specs.Char.{digit_value, is_ascii_digit}
 use Rattle.std.specs.List.{list_any, list_all, position_or_len, count_by}
 use Rattle.std.specs.Prelude.{decimal}
 use Rattle.std.specs.Str.Parse.{AllDigits}
-use Rattle.cal_text.specs.rules.Separators.{is_blank, is_point}
+use Rattle.cal_bytes.specs.rules.Separators.{is_blank, is_point}
 use Rattle.cal_span.specs.declared.span.word.CharKind.TheVariants.{Numeric}
 use Rattle.cal_span.specs.rules.PairValue.{kind_of, is_number, number_worth}
 

@@ -9,10 +9,10 @@ use Rattle.std.proofs.lemmas.List.{nil_from_length, at_drop_more}
 use Rattle.std.proofs.lemmas.List.Sums.{sum_by-cons}
 use Rattle.std.proofs.lemmas.Bool.{false≢true, cases_lt, lt-leb, and_parts, lt-ltb, eqb-true}
 use Rattle.std.proofs.lemmas.Bool.Decides.{nat_tests}
-use Rattle.cal_text.proofs.DigitLemmas.{top}
-use Rattle.cal_text.specs.rules.Separators.{is_point}
+use Rattle.cal_bytes.proofs.DigitLemmas.{top}
+use Rattle.cal_bytes.specs.rules.Separators.{is_point}
 use Rattle.cal_span.specs.rules.PairValue.{is_number, fraction_worth}
-use Rattle.cal_text.proofs.General.{digit_value_at}
+use Rattle.cal_bytes.proofs.General.{digit_value_at}
 
 abbrev is_digit_or_point : ℕ → Bool
 is_digit_or_point b = is_ascii_digit b || is_point b

@@ -13,7 +13,7 @@ use Rattle.cal_span.specs.rules.TimeUnit.{size_of}
 use Rattle.cal_span.specs.rules.PairValue.{limit, Piece, Pair, is_kind, is_number, unit_in, number_worth, worth_of}
 use Rattle.cal_span.specs.computed.SpanValue.{words_in, pairs_of, pairs_in, sum_with}
 use Rattle.cal_span.proofs.SpanWords.{same_from_is_kind}
-use Rattle.cal_text.proofs.DigitLemmas.{top}
+use Rattle.cal_bytes.proofs.DigitLemmas.{top}
 use Rattle.std.proofs.lemmas.Bool.Decides.{nat_tests}
 
 pub no_kind : (j k : CharKind) → (k ≡ j → ⊥) → is_kind j k ≡ false

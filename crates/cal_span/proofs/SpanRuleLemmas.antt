@@ -12,7 +12,7 @@ use Rattle.cal_span.specs.declared.span.word.CharKind.TheVariants.{Blank}
 use Rattle.cal_span.specs.rules.PairValue.{limit, unit_named, Pair, characters, is_kind, is_number, unit_in, worth_in, worth_of}
 use Rattle.cal_span.specs.computed.SpanValue.{pairs_in, pairs_of, runs, words_in, sum_with, judged, value_of_pairs, span_of}
 use Rattle.std.specs.List.{AllByRecursion}
-use Rattle.cal_text.specs.rules.AndThen.{◌>>=◌}
+use Rattle.cal_bytes.specs.rules.AndThen.{◌>>=◌}
 use Rattle.cal_span.specs.rules.SpanRule.{AreWorth, HasPairs, HasSpanValue, IsFaultAfter, IsFirstFault, Judges}
 use Rattle.cal_span.proofs.SpanPairRule.{are_pairs, only_pairs}
 use Rattle.cal_span.proofs.SpanRuns.{runs_cut, runs_longest, runs_only}

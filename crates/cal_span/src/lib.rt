@@ -4,7 +4,7 @@
 mod span;
 mod time_unit;
 
-pub use cal_text::{are_digits, decimal_value};
+pub use cal_bytes::{are_digits, decimal_value};
 pub use span::Span;
 pub use span::fault::SpanFault;
 pub use span::number::fraction_of;

@@ -5,8 +5,8 @@ use Rattle.std.specs.List.{AllByRecursion, slice_split}
 use Rattle.std.proofs.lemmas.Bool.{cases_Bool, eqb-false, eqb-true, false_from_ne_true, ne_eqb}
 use Rattle.std.proofs.lemmas.Slice.Eq.{bytes_eq-Decides}
 use Rattle.std.proofs.lemmas.Slice.Zip.{AllZip-long}
-use Rattle.cal_text.specs.rules.AndThen.{◌>>=◌}
-use Rattle.cal_text.specs.rules.Separators.{is_comma}
+use Rattle.cal_bytes.specs.rules.AndThen.{◌>>=◌}
+use Rattle.cal_bytes.specs.rules.Separators.{is_comma}
 use Rattle.cal_spec.specs.rules.ComponentFaultRule.{HasComponentFault, HasFaultAmong, HasFaultInValues, HasPieceFault, HasSyntaxFault, counted_to, uncounted}
 use Rattle.cal_spec.specs.rules.PartFaultRule.{HasValueFault}
 use Rattle.cal_spec.specs.rules.Fields.{max_counted_parts, parts_in}

@@ -2,11 +2,11 @@
 use Rattle.std.proofs.Common.{ℕ, suc, ◌+◌, ◌-◌, ◌<◌, ◌≤◌, ◌≡◌, ◌⊎◌, inl, inr, Bool, true, false, cond, ◌&&◌, List, [], ◌∷◌, length, Option, Some, None, Ok, refl, ap, arith, leb, eqb}
 use Rattle.std.specs.List.{AllByRecursion, slice_split}
 use Rattle.std.proofs.lemmas.Bool.{and_parts, cases_Bool, leb-true, ltb-false, leb-false, eqb-false, not-false}
-use Rattle.cal_text.specs.rules.Separators.{is_comma}
+use Rattle.cal_bytes.specs.rules.Separators.{is_comma}
 use Rattle.cal_spec.specs.computed.Components.{is_star, counted, room_in, part_due, parts_of, first_value_fault, parts_listed, component_of}
 use Rattle.cal_spec.specs.computed.Parts.{is_time, is_within, is_outside, is_backward, is_zero, reaches_no_further_value, fault_of, part_of}
 use Rattle.cal_spec.specs.rules.FullYears.{with_full_years}
-use Rattle.cal_text.specs.rules.AndThen.{◌>>=◌}
+use Rattle.cal_bytes.specs.rules.AndThen.{◌>>=◌}
 use Rattle.cal_spec.specs.computed.Reads.{unless}
 use Rattle.cal_spec.specs.rules.Slot.{least, greatest}
 use Rattle.cal_spec.specs.rules.ValidFields.{IsValidComponent}
@@ -15,7 +15,7 @@ use Rattle.cal_spec.specs.declared.field.Part.{Part}
 use Rattle.cal_spec.specs.declared.slot.Slot.{Slot}
 use Rattle.cal_spec.specs.declared.slot.Slot.TheVariants.{DayFromEnd}
 use Rattle.cal_spec.specs.declared.spec_fault.SpecFault.TheVariants.{OutOfField, BackwardRange, ZeroRepeat, NoRepeat, TooManyParts}
-use Rattle.cal_text.proofs.General.{some_piece, option_or_none}
+use Rattle.cal_bytes.proofs.General.{some_piece, option_or_none}
 use Rattle.cal_spec.proofs.ReadLemmas.{Follows, bind_ok, unless_ok, cond_ok}
 
 -- If a part passes the checks of its values, its values are valid

@@ -8,7 +8,7 @@ use Rattle.std.proofs.lemmas.Bool.Decides.{nat_tests}
 use Rattle.std.proofs.lemmas.List.{append-nil, append_assoc}
 use Rattle.std.proofs.lemmas.List.Splits.{join_with_byte-slice_split}
 use Rattle.std.proofs.lemmas.Slice.Eq.{bytes_eq-Decides}
-use Rattle.cal_text.specs.rules.Separators.{is_comma}
+use Rattle.cal_bytes.specs.rules.Separators.{is_comma}
 use Rattle.cal_spec.specs.computed.Components.{is_star, counted, room_in, part_due, parts_of, first_value_fault, parts_listed, component_of}
 use Rattle.cal_spec.specs.rules.GrammarRule.{IsNumber, IsNext, IsPartText, IsPartOf, AreListed, IsComponent}
 use Rattle.cal_spec.specs.computed.Parts.{is_time, is_within, is_outside, is_backward, is_zero, reaches_no_further_value, fault_of}
@@ -20,7 +20,7 @@ use Rattle.cal_spec.specs.declared.slot.Slot.{Slot}
 use Rattle.cal_spec.specs.declared.slot.Slot.TheVariants.{DayFromEnd}
 use Rattle.cal_spec.proofs.ComponentLemmas.{ListedRead, component_is, part_due_is, parts_of-cons, sound_parts}
 use Rattle.cal_spec.proofs.PartRule.{part_found, part_only}
-use Rattle.cal_text.proofs.General.{some_piece, list_all-wider, list_all-both, IsClear, Apart, clear_of, split_join_with_byte}
+use Rattle.cal_bytes.proofs.General.{some_piece, list_all-wider, list_all-both, IsClear, Apart, clear_of, split_join_with_byte}
 
 -- If the values of a part are valid, the part passes the checks of its values
 

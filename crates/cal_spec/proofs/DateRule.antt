@@ -7,7 +7,7 @@ use Rattle.std.proofs.lemmas.Bool.Decides.{nat_tests}
 use Rattle.std.proofs.lemmas.List.Splits.{join_with_byte-slice_split}
 use Rattle.cal_spec.specs.computed.Components.{counted}
 use Rattle.cal_spec.specs.computed.DateAndTime.{DateFields, TimeFields, date_texts_by, time_texts_by, date_texts, time_texts, date_fields, time_fields, room_after, date_in_word, time_in_word}
-use Rattle.cal_text.specs.rules.Separators.{is_colon}
+use Rattle.cal_bytes.specs.rules.Separators.{is_colon}
 use Rattle.cal_spec.specs.rules.UnparsedTexts.{DateTexts, TimeTexts, is_date_sign, is_tilde}
 use Rattle.cal_spec.specs.rules.Fields.{Fields, counted_parts, max_counted_parts}
 use Rattle.cal_spec.specs.rules.GrammarRule.{last_sign, IsDateShape, IsTimeShape, IsDate, IsTime, IsComponent}
@@ -18,7 +18,7 @@ use Rattle.cal_spec.specs.declared.slot.Slot.TheVariants.{Year, Month, Hour, Min
 use Rattle.cal_spec.specs.rules.ZoneSuffix.{ZoneSuffix}
 use Rattle.cal_spec.proofs.ComponentRule.{is_component_byte, component_found, component_only, component_bytes}
 use Rattle.cal_spec.proofs.FieldLemmas.{fields_with, date_found, time_found, counted_date, counted_time, day_no_time}
-use Rattle.cal_text.proofs.General.{IsClear, Apart, clear_of, split_at, split_alone, some_pieces}
+use Rattle.cal_bytes.proofs.General.{IsClear, Apart, clear_of, split_at, split_alone, some_pieces}
 
 -- if `front` has no separator and `c` is a separator, the separators of `front ++ (c ∷ rest)` are `c` and then those of
 -- `rest`

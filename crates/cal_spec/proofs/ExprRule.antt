@@ -1,7 +1,7 @@
 -- `expr_in` returns fields if and only if a text spells these fields by the rule (`Spells`), and it fails with an error
 -- if and only if the text has this error (`HasFault`).
 use Rattle.std.proofs.Common.{ℕ, ◌≡◌, inl, inr, List, Result, Ok, Err, refl, sym, ap, subst}
-use Rattle.cal_text.specs.rules.AndThen.{◌>>=◌}
+use Rattle.cal_bytes.specs.rules.AndThen.{◌>>=◌}
 use Rattle.cal_spec.specs.rules.Fields.{Fields}
 use Rattle.cal_spec.specs.rules.NormalForm.{IsNormalFieldsOf, Spells}
 use Rattle.cal_spec.specs.computed.Expr.{expr_in}

@@ -5,8 +5,8 @@ use Rattle.std.proofs.lemmas.Bool.{cases_lt, not-true, not-false}
 use Rattle.std.proofs.lemmas.Bool.Decides.{nat_tests}
 use Rattle.std.proofs.lemmas.List.{get_or-drop, length-take, take_all}
 use Rattle.std.proofs.lemmas.List.Sums.{prefix_len_passes, prefix_len_stops, suffix_len_is}
-use Rattle.cal_text.specs.rules.Trim.{trim_end_matches}
-use Rattle.cal_text.specs.rules.Separators.{is_blank}
+use Rattle.cal_bytes.specs.rules.Trim.{trim_end_matches}
+use Rattle.cal_bytes.specs.rules.Separators.{is_blank}
 use Rattle.cal_spec.specs.rules.WordsOfText.{IsWordAt}
 
 -- contracts give `&text[from..]` as `take (length text - from) (drop from text)`, which is the text without its first

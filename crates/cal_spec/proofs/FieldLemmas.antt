@@ -9,7 +9,7 @@ use Rattle.jiff_core.specs.declared.civil.weekday.Weekday.{Weekday}
 use Rattle.jiff_core.specs.declared.civil.weekday.Weekday.TheVariants.{Monday, Tuesday, Wednesday, Thursday, Friday, Saturday, Sunday}
 use Rattle.jiff_core.specs.Weekday.{monday_zero}
 use Rattle.cal_civil.specs.rules.Weekday.{week}
-use Rattle.cal_text.specs.rules.Separators.{is_comma, words}
+use Rattle.cal_bytes.specs.rules.Separators.{is_comma, words}
 use Rattle.cal_spec.specs.computed.Components.{counted, component_of}
 use Rattle.cal_spec.specs.computed.DateAndTime.{DateFields, TimeFields, date_texts, time_texts, date_fields, time_fields, date_due, time_due, room_after, date_in_word, time_in_word}
 use Rattle.cal_spec.specs.rules.UnparsedTexts.{DateTexts, TimeTexts, WordRoles}
@@ -17,7 +17,7 @@ use Rattle.cal_spec.specs.computed.Views.{fields_of}
 use Rattle.cal_spec.specs.rules.Fields.{Fields, parts_in, counted_parts, max_counted_parts}
 use Rattle.cal_spec.specs.computed.Parts.{is_time}
 use Rattle.cal_spec.specs.computed.Grammar.{max_text_bytes, fields_at, fields_due, fields_in}
-use Rattle.cal_text.specs.rules.AndThen.{◌>>=◌}
+use Rattle.cal_bytes.specs.rules.AndThen.{◌>>=◌}
 use Rattle.cal_spec.specs.computed.Reads.{GivesUnlessNoMemory}
 use Rattle.cal_spec.specs.declared.fields.Fields as declared_fields
 use Rattle.cal_spec.specs.rules.Slot.{day_slot}
@@ -39,7 +39,7 @@ use Rattle.cal_spec.specs.declared.spec_fault.SpecFault.{SpecFault}
 use Rattle.cal_spec.specs.declared.spec_fault.SpecFault.TheVariants.{TextTooLong, BadWeekday, UnknownShorthand}
 use Rattle.cal_spec.specs.declared.weekdays.WeekdayRange.{WeekdayRange}
 use Rattle.cal_spec.proofs.ComponentLemmas.{IsRead, component_read}
-use Rattle.cal_text.proofs.General.{some_piece}
+use Rattle.cal_bytes.proofs.General.{some_piece}
 use Rattle.cal_spec.proofs.ReadLemmas.{bind_ok, cond_ok, three_ok, four_ok}
 
 -- ## The components of dates and times

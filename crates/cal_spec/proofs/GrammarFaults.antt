@@ -4,9 +4,9 @@ use Rattle.std.specs.Prelude.{Result, is_some}
 use Rattle.std.specs.List.{slice_split}
 use Rattle.std.specs.Option.{ok_or}
 use Rattle.std.proofs.lemmas.Bool.{le-ltb, lt-ltb, ltb-false, ltb-true}
-use Rattle.cal_text.proofs.General.{not_some}
-use Rattle.cal_text.specs.rules.AndThen.{◌>>=◌}
-use Rattle.cal_text.specs.rules.Separators.{is_comma, words}
+use Rattle.cal_bytes.proofs.General.{not_some}
+use Rattle.cal_bytes.specs.rules.AndThen.{◌>>=◌}
+use Rattle.cal_bytes.specs.rules.Separators.{is_comma, words}
 use Rattle.cal_spec.specs.rules.Fields.{Fields, counted_parts, parts_in}
 use Rattle.cal_spec.specs.rules.GrammarFaultRule.{HasFault, HasFaultAfterDate, HasStrayWord, HasWeekdaysFault, HasWordFault, IsUnknownShorthand, counted_in_date}
 use Rattle.cal_spec.specs.rules.GrammarRule.{HasWeekdays, IsDate, IsValid, IsZoneWord, given}

@@ -23,7 +23,7 @@ use Rattle.cal_spec.specs.declared.slot.Slot.{Slot}
 use Rattle.cal_spec.specs.declared.slot.Slot.TheVariants.{Year, Month, DayFromEnd, Hour, Minute, Second}
 use Rattle.cal_spec.proofs.NormalFieldsLemmas.{are_normal, component_sound, fields_valid, starred_is}
 use Rattle.cal_spec.proofs.NormalLemmas.{each_part}
-use Rattle.cal_text.proofs.General.{check_all, each_checked}
+use Rattle.cal_bytes.proofs.General.{check_all, each_checked}
 
 -- The numbers in a normal form are small
 

@@ -6,8 +6,8 @@ use Rattle.std.specs.Char.{is_ascii_digit}
 use Rattle.std.specs.Str.Parse.{digits_value}
 use Rattle.std.proofs.lemmas.Bool.{ltb-true, ltb-false, lt-ltb, le-ltb, and_parts, cases_Bool}
 use Rattle.std.proofs.lemmas.List.{take-append-drop}
-use Rattle.cal_text.specs.rules.Separators.{is_point, is_slash}
-use Rattle.cal_text.specs.rules.AndThen.{◌>>=◌}
+use Rattle.cal_bytes.specs.rules.Separators.{is_point, is_slash}
+use Rattle.cal_bytes.specs.rules.AndThen.{◌>>=◌}
 use Rattle.cal_spec.specs.rules.GrammarRule.{IsNumber, IsNext}
 use Rattle.cal_spec.specs.rules.PartFaultRule.{AreWithin, BeginsFractional, BeginsTooLarge, HasFraction, HasLargeNumber, HasNumberDue, HasPartFault, HasValueFault, IsMalformed, begins_with, malformed}
 use Rattle.cal_spec.specs.rules.Slot.{max_number}

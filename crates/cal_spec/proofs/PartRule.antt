@@ -6,11 +6,11 @@ use Rattle.std.specs.Str.Parse.{digits_value}
 use Rattle.std.proofs.lemmas.Bool.{ltb-false, le-ltb, and_parts, and_right, eqb-true}
 use Rattle.std.proofs.lemmas.List.{append-nil}
 use Rattle.cal_spec.specs.rules.GrammarRule.{IsNumber, IsNext, IsPartText}
-use Rattle.cal_text.specs.rules.Separators.{is_point, is_slash}
+use Rattle.cal_bytes.specs.rules.Separators.{is_point, is_slash}
 use Rattle.cal_spec.specs.rules.PartFaultRule.{begins_with}
 use Rattle.cal_spec.specs.computed.Parts.{Symbol, digits, dots, slash, point, other, with_digit, with_byte, lone, symbols, starts_with_point, is_second, Counted, after_number, number_due, part_at_end, with_step, after_end, after_start, part_of}
 use Rattle.cal_spec.specs.rules.Slot.{max_number}
-use Rattle.cal_text.specs.rules.AndThen.{◌>>=◌}
+use Rattle.cal_bytes.specs.rules.AndThen.{◌>>=◌}
 use Rattle.cal_spec.specs.declared.field.Part.{Part}
 use Rattle.cal_spec.specs.declared.slot.Slot.{Slot}
 use Rattle.cal_spec.specs.declared.spec_fault.SpecFault.TheVariants.{NumberTooLarge, FractionalSecond}

@@ -7,7 +7,7 @@ use Rattle.std.proofs.lemmas.Bool.{and_parts, le-ltb, lt-ltb}
 use Rattle.std.proofs.lemmas.Bool.Decides.{nat_tests}
 use Rattle.std.proofs.lemmas.List.{append-nil}
 use Rattle.cal_bytes.specs.rules.Bytes.{joined}
-use Rattle.cal_text.specs.rules.Separators.{is_colon, is_blank, words}
+use Rattle.cal_bytes.specs.rules.Separators.{is_colon, is_blank, words}
 use Rattle.cal_spec.specs.rules.ExprText.{component_text, day_lead, expr_text, fields_text, row_text, zone_text}
 use Rattle.cal_spec.specs.rules.Fields.{Fields}
 use Rattle.cal_spec.specs.computed.Grammar.{fields_at, fields_in}
@@ -26,7 +26,7 @@ use Rattle.cal_spec.proofs.SuffixLemmas.{suffix_word, letter_some}
 use Rattle.cal_spec.specs.declared.slot.Slot.TheVariants.{Year, Month, Hour, Minute, Second}
 use Rattle.cal_spec.proofs.LengthLemmas.{AreSmall, expr_length, small_component, small_second}
 use Rattle.cal_spec.proofs.NormalFieldsLemmas.{fields_valid}
-use Rattle.cal_text.proofs.General.{split_alone, split_at, some_front, list_all-both, clear_of, list_all-wider}
+use Rattle.cal_bytes.proofs.General.{split_alone, split_at, some_front, list_all-both, clear_of, list_all-wider}
 use Rattle.cal_spec.proofs.ComponentRule.{is_component_byte}
 use Rattle.cal_spec.proofs.ReadBackParts.{component_printed, printed_bytes, printed_some}
 use Rattle.cal_spec.specs.rules.GrammarRule.{IsDate, IsTime, last_sign}

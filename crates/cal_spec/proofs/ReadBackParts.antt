@@ -18,7 +18,7 @@ use Rattle.cal_spec.specs.declared.slot.Slot.TheVariants.{Year}
 use Rattle.cal_spec.proofs.ComponentRule.{component_bytes, is_component_byte}
 use Rattle.cal_spec.proofs.LengthLemmas.{AreSmall, IsBelow, IsSmall, step_small}
 use Rattle.cal_spec.proofs.NormalLemmas.{same_part}
-use Rattle.cal_text.proofs.General.{some_front}
+use Rattle.cal_bytes.proofs.General.{some_front}
 use Rattle.std.proofs.lemmas.Str.Parse.{digit_from_value}
 use Rattle.std.specs.Char.{is_ascii_digit}
 use Rattle.std.specs.Str.Parse.{AllDigits, digits_value}

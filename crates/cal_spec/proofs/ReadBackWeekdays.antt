@@ -8,11 +8,11 @@ use Rattle.cal_spec.specs.rules.Shorthand.{shorthand_named}
 use Rattle.cal_spec.specs.rules.WeekdayRuns.{run_text, runs_from, runs_text}
 use Rattle.cal_spec.specs.rules.WeekdayNames.{day_named, days_of}
 use Rattle.cal_spec.specs.computed.WeekdayLists.{listed_days, weekdays_of}
-use Rattle.cal_text.specs.rules.Separators.{is_blank}
+use Rattle.cal_bytes.specs.rules.Separators.{is_blank}
 use Rattle.cal_civil.specs.rules.ZoneName.{begins_with_letter}
 use Rattle.cal_spec.specs.declared.shorthand.Shorthand.{Shorthand}
 use Rattle.cal_spec.specs.declared.spec_fault.SpecFault.{SpecFault}
-use Rattle.cal_text.proofs.General.{check_all, each_checked}
+use Rattle.cal_bytes.proofs.General.{check_all, each_checked}
 
 -- tests whether two Booleans are equal; `same_bools` tests two lists of Booleans
 unfoldable same_bool : Bool → Bool → Bool

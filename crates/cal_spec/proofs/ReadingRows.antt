@@ -6,7 +6,7 @@ use Rattle.cal_spec.specs.rules.GrammarFaultRule.{HasFault}
 use Rattle.cal_spec.proofs.GrammarFaults.{fault_found}
 use Rattle.cal_spec.specs.computed.Grammar.{fields_in, fields_at}
 use Rattle.cal_spec.specs.computed.Words.{roles_of}
-use Rattle.cal_text.specs.rules.Separators.{words}
+use Rattle.cal_bytes.specs.rules.Separators.{words}
 use Rattle.cal_spec.specs.rules.Shorthand.{shorthand_named}
 use Rattle.cal_spec.specs.rules.WeekdayNames.{day_named, days_of}
 use Rattle.cal_spec.specs.computed.WeekdayLists.{listed_days, weekdays_of}

@@ -9,10 +9,10 @@ use Rattle.cal_civil.specs.rules.OffsetText.{offset_text}
 use Rattle.cal_civil.specs.rules.OffsetWord.{IsOffsetWord, begins_with_sign, is_sign}
 use Rattle.cal_civil.specs.rules.ZoneName.{begins_with_letter, is_zone_byte, is_zone_name}
 use Rattle.cal_civil.proofs.OffsetWordLemmas.{is_offset_byte, offset-bytes, offset-only, printed-word}
-use Rattle.cal_text.specs.rules.Separators.{is_blank}
+use Rattle.cal_bytes.specs.rules.Separators.{is_blank}
 use Rattle.cal_spec.specs.rules.ZoneSuffix.{IsSuffix, ZoneSuffix, at_offset, of_name, suffix_text}
 use Rattle.cal_spec.specs.computed.ParsedSuffix.{suffix_of}
-use Rattle.cal_text.proofs.General.{clear_of}
+use Rattle.cal_bytes.proofs.General.{clear_of}
 
 -- `+` and `-` are not letters
 sign_letter : (b : ℕ) → is_sign b ≡ true → is_ascii_alphabetic b ≡ false

@@ -5,7 +5,7 @@ use Rattle.std.specs.List.{AllByRecursion, list_all, prefix_len}
 use Rattle.std.specs.Char.{is_ascii_digit}
 use Rattle.std.proofs.lemmas.Bool.{and_parts, and_from, cases_Bool, leb-true, le-leb, ne_eqb}
 use Rattle.std.proofs.lemmas.List.{take-append-drop}
-use Rattle.cal_text.specs.rules.Separators.{is_point, is_slash}
+use Rattle.cal_bytes.specs.rules.Separators.{is_point, is_slash}
 use Rattle.cal_spec.specs.rules.PartFaultRule.{begins_with}
 use Rattle.cal_spec.specs.computed.Parts.{Symbol, digits, dots, slash, point, other, with_digit, with_byte, lone, symbols}
 

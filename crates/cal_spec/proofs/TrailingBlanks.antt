@@ -8,9 +8,9 @@ use Rattle.std.proofs.lemmas.Bool.Decides.{nat_tests}
 use Rattle.std.proofs.lemmas.List.{get_or-drop, length-take, take-append-drop}
 use Rattle.std.proofs.lemmas.List.Folds.{list_all-append}
 use Rattle.std.proofs.lemmas.List.Sums.{list_all-from_AllPass}
-use Rattle.cal_text.specs.rules.Trim.{trim_end_matches}
-use Rattle.cal_text.specs.rules.Separators.{is_blank, words}
-use Rattle.cal_text.proofs.General.{in_suffix}
+use Rattle.cal_bytes.specs.rules.Trim.{trim_end_matches}
+use Rattle.cal_bytes.specs.rules.Separators.{is_blank, words}
+use Rattle.cal_bytes.proofs.General.{in_suffix}
 use Rattle.cal_spec.specs.computed.Expr.{expr_in}
 use Rattle.cal_spec.specs.computed.Grammar.{fields_in, max_text_bytes}
 use Rattle.cal_spec.specs.rules.WordsOfText.{AreWords, Ends}

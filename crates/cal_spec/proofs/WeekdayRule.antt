@@ -14,7 +14,7 @@ use Rattle.std.proofs.lemmas.Slice.Eq.{bytes_eq-Decides}
 use Rattle.jiff_core.specs.declared.civil.weekday.Weekday.{Weekday}
 use Rattle.jiff_core.specs.declared.civil.weekday.Weekday.TheVariants.{Monday}
 use Rattle.cal_civil.specs.rules.Weekday.{week, name_of, short_name_of}
-use Rattle.cal_text.specs.rules.Separators.{is_comma}
+use Rattle.cal_bytes.specs.rules.Separators.{is_comma}
 use Rattle.cal_spec.specs.rules.GrammarRule.{IsName, IsItem, AreWeekdays, HasWeekdays}
 use Rattle.cal_spec.specs.rules.WeekdayNames.{day_named, is_no_letter, leading_letters, after_letters, after_joint, days_to, days_from, days_by, days_of}
 use Rattle.cal_spec.specs.computed.WeekdayLists.{items_of, without_comma, listed_days, weekdays_of, weekdays_in}
@@ -22,7 +22,7 @@ use Rattle.cal_spec.specs.rules.Weekdays.{set_of}
 use Rattle.cal_civil.specs.rules.ZoneName.{begins_with_letter}
 use Rattle.cal_spec.specs.declared.weekdays.WeekdayRange.{WeekdayRange}
 use Rattle.cal_spec.proofs.FieldLemmas.{items_of-cons, weekdays_found}
-use Rattle.cal_text.proofs.General.{list_all-both, some_none, some_pieces, list_all-wider, IsClear, Apart, clear_of, split_join_with_byte}
+use Rattle.cal_bytes.proofs.General.{list_all-both, some_none, some_pieces, list_all-wider, IsClear, Apart, clear_of, split_join_with_byte}
 
 -- The parser recognizes exactly the names of weekdays that the grammar allows
 

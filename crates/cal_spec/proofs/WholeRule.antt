@@ -7,7 +7,7 @@ use Rattle.cal_spec.specs.computed.Grammar.{max_text_bytes, fields_at, fields_in
 use Rattle.cal_spec.specs.rules.GrammarRule.{IsExpression, IsValid}
 use Rattle.cal_spec.specs.computed.WeekdayLists.{weekdays_in}
 use Rattle.cal_spec.specs.computed.Words.{roles_of}
-use Rattle.cal_text.specs.rules.Separators.{words}
+use Rattle.cal_bytes.specs.rules.Separators.{words}
 use Rattle.cal_spec.specs.rules.UnparsedTexts.{WordRoles}
 use Rattle.cal_spec.specs.computed.ParsedSuffix.{suffix_in}
 use Rattle.cal_spec.specs.rules.ValidFields.{IsValidFields}

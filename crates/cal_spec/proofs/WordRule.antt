@@ -8,7 +8,7 @@ use Rattle.std.specs.Char.{is_ascii_alphabetic, to_ascii_lowercase}
 use Rattle.std.proofs.lemmas.Bool.{cases_Bool, or_parts}
 use Rattle.std.proofs.lemmas.Bool.Decides.{nat_tests}
 use Rattle.std.proofs.lemmas.List.{length-append}
-use Rattle.cal_text.specs.rules.Separators.{is_colon}
+use Rattle.cal_bytes.specs.rules.Separators.{is_colon}
 use Rattle.cal_spec.specs.rules.UnparsedTexts.{WordRoles}
 use Rattle.cal_spec.specs.rules.GrammarRule.{given, ArePlain, HasRoles, IsPastTime, IsSignless, IsTimeAfter, IsZoneWord}
 use Rattle.cal_spec.specs.rules.Shorthand.{any_date, midnight, expansion_of, shorthand_named}

@@ -4,10 +4,10 @@ use Rattle.std.specs.Prelude.{filter, nat_lt}
 use Rattle.std.specs.List.{list_all, list_any, slice_split, onto_first}
 use Rattle.std.proofs.lemmas.Bool.{and_parts, and_from, or_from, lt-ltb}
 use Rattle.std.proofs.lemmas.List.{append-nil}
-use Rattle.cal_text.proofs.WordLemmas.{words-blank}
+use Rattle.cal_bytes.proofs.WordLemmas.{words-blank}
 use Rattle.cal_spec.specs.rules.WordsOfText.{IsWord, Ends, AreWords}
-use Rattle.cal_text.specs.rules.Separators.{is_blank, words}
-use Rattle.cal_text.proofs.General.{some_piece, split_at, split_alone}
+use Rattle.cal_bytes.specs.rules.Separators.{is_blank, words}
+use Rattle.cal_bytes.proofs.General.{some_piece, split_at, split_alone}
 
 abbrev solid : List (List ℕ) → List (List ℕ)
 solid pieces = filter (λ (t : List ℕ). nat_lt 0 (length t)) pieces

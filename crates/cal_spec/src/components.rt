@@ -6,7 +6,7 @@
 ghost use Rattle.std.specs.Prelude.{◌≡◌, ◌≤◌};
 ghost use Rattle.std.specs.List.{slice_split};
 ghost use Rattle.std.specs.Option.{option_copied, option_map};
-ghost use Rattle.cal_text.specs.rules.Separators.{is_comma};
+ghost use Rattle.cal_bytes.specs.rules.Separators.{is_comma};
 ghost use Rattle.cal_spec.specs.computed.Components.{room_in, counted, part_due, parts_of, first_value_fault, parts_listed, component_of};
 ghost use Rattle.cal_spec.specs.computed.Reads.{Gives, GivesUnlessNoMemory};
 ghost use Rattle.cal_spec.specs.rules.Fields.{max_counted_parts};

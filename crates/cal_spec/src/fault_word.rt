@@ -2,13 +2,13 @@
 
 ghost use Rattle.std.specs.Prelude.{◌≡◌, ◌+◌, ◌<◌, ◌≤◌, ◌||◌, ◌==◌, ℕ, IfOk, false, is_ok, length, not, slice_index, take, true};
 ghost use Rattle.std.specs.Option.{IfSome, is_some};
-ghost use Rattle.cal_text.specs.rules.Trim.{trim_end_matches};
-ghost use Rattle.cal_text.specs.rules.Separators.{is_blank};
+ghost use Rattle.cal_bytes.specs.rules.Trim.{trim_end_matches};
+ghost use Rattle.cal_bytes.specs.rules.Separators.{is_blank};
 ghost use Rattle.cal_spec.specs.computed.Expr.{expr_in};
 ghost use Rattle.cal_spec.specs.rules.WordsOfText.{IsWordAt};
 
 use crate::{SpecFault, read_expr};
-use cal_text::{blanks_in_front, trim_blanks_end, word_len};
+use cal_bytes::{blanks_in_front, trim_blanks_end, word_len};
 use std::alloc::{AllocError, Global};
 use std::ops::Range;
 

@@ -10,7 +10,7 @@ ghost use Rattle.cal_spec.specs.rules.GrammarRule.{IsValid};
 ghost use Rattle.cal_spec.specs.rules.NormalForm.{Spells};
 ghost use Rattle.cal_spec.specs.rules.WordsOfText.{AreWords};
 ghost use Rattle.cal_spec.specs.declared.spec_fault.SpecFault.{SpecFault};
-ghost use Rattle.cal_text.specs.rules.Separators.{words};
+ghost use Rattle.cal_bytes.specs.rules.Separators.{words};
 
 /// Each text is valid or has an error, but never both. It is valid if the grammar of systemd.time(7), Calendar Events,
 /// gives it fields (`IsValid`); its error is the one that docs/GRAMMAR.md states under "Rejected expressions"

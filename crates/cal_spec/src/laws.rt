@@ -4,8 +4,8 @@
 ghost use Rattle.std.specs.Prelude.{◌≡◌, ◌⊎◌, ◌<◌, ◌≤◌, ℕ, Bool, List, None, Ok, Option, length};
 ghost use Rattle.std.specs.List.{AllByRecursion};
 ghost use Rattle.jiff_core.specs.declared.civil.date.Date.{Date};
-ghost use Rattle.cal_text.specs.rules.Trim.{trim_end_matches};
-ghost use Rattle.cal_text.specs.rules.Separators.{is_blank};
+ghost use Rattle.cal_bytes.specs.rules.Trim.{trim_end_matches};
+ghost use Rattle.cal_bytes.specs.rules.Separators.{is_blank};
 ghost use Rattle.cal_spec.specs.computed.Expr.{IsExpr, expr_in, members_of};
 ghost use Rattle.cal_spec.specs.rules.ExprText.{expr_text};
 ghost use Rattle.cal_spec.specs.rules.Fields.{Fields};

@@ -7,7 +7,7 @@ ghost use Rattle.std.specs.Str.Parse.{digits_value};
 ghost use Rattle.cal_spec.specs.computed.Parts.{symbols};
 ghost use Rattle.cal_spec.specs.computed.Views.{symbol_of};
 
-use cal_text::decimal_value;
+use cal_bytes::decimal_value;
 
 /// A symbol in the text of a part.
 #[derive(Clone, Copy)]

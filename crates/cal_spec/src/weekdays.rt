@@ -5,7 +5,7 @@ ghost use Rattle.std.specs.List.{find, list_any, list_all, position, position_or
 ghost use Rattle.std.specs.Option.{option_copied};
 ghost use Rattle.std.specs.Str.{str_eq_ignore_ascii_case};
 ghost use Rattle.cal_civil.specs.rules.Weekday.{name_of, short_name_of};
-ghost use Rattle.cal_text.specs.rules.Separators.{is_comma};
+ghost use Rattle.cal_bytes.specs.rules.Separators.{is_comma};
 ghost use Rattle.cal_spec.specs.computed.Reads.{Gives, GivesUnlessNoMemory};
 ghost use Rattle.cal_spec.specs.rules.WeekdayNames.{after_joint, day_named, days_of, is_no_letter};
 ghost use Rattle.cal_spec.specs.computed.WeekdayLists.{items_of, weekdays_of, without_comma};

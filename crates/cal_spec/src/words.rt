@@ -5,11 +5,11 @@ ghost use Rattle.std.specs.Prelude.{◌≡◌};
 ghost use Rattle.std.specs.Option.{option_copied, option_map};
 ghost use Rattle.cal_spec.specs.computed.Views.{shown_word_roles};
 ghost use Rattle.cal_spec.specs.computed.Words.{roles_after_date, after_weekdays, date_or_time, roles_of};
-ghost use Rattle.cal_text.specs.rules.Separators.{words};
+ghost use Rattle.cal_bytes.specs.rules.Separators.{words};
 
 use crate::shorthand::{ANY_DATE, MIDNIGHT, find_shorthand};
+use cal_bytes::first_word;
 use cal_civil::{begins_with_letter, begins_zone};
-use cal_text::first_word;
 
 /// The weekdays, date and time of an expression, not yet parsed, and the text after them.
 #[derive(Clone, Copy)]

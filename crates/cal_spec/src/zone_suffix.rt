@@ -4,13 +4,13 @@ ghost use Rattle.std.specs.Prelude.{◌≡◌};
 ghost use Rattle.std.specs.Option.{option_map};
 ghost use Rattle.cal_spec.specs.computed.Reads.{GivesUnlessNoMemory};
 ghost use Rattle.cal_spec.specs.computed.Views.{shown_suffix};
-ghost use Rattle.cal_text.specs.rules.Separators.{words};
+ghost use Rattle.cal_bytes.specs.rules.Separators.{words};
 ghost use Rattle.cal_spec.specs.computed.ParsedSuffix.{suffix_in};
 ghost use Rattle.cal_spec.specs.rules.ZoneSuffix.{kept_name};
 
 use crate::SpecFault;
+use cal_bytes::first_word;
 use cal_civil::{is_utc_name, is_zone_name, read_offset};
-use cal_text::first_word;
 use std::alloc::Global;
 
 /// The zone in which an expression is interpreted.

@@ -14,7 +14,7 @@ use Rattle.cal_civil.specs.computed.ReadOffset.{offset_in}
 use Rattle.cal_civil.specs.rules.OffsetWord.{IsOffsetWord}
 use Rattle.cal_zone.specs.rules.FixedOffsetZone.{fixed_offset_zone}
 use Rattle.cal_civil.specs.rules.ZoneName.{begins_with_letter}
-use Rattle.cal_text.specs.rules.Separators.{is_colon}
+use Rattle.cal_bytes.specs.rules.Separators.{is_colon}
 use Rattle.cal_spec.specs.rules.WeekdayNames.{day_named}
 use Rattle.cal_zone.specs.rules.Setting.{Setting}
 use Rattle.cal_stamp.specs.rules.StampCivilRule.{CivilStamp, IsCivilTime, MeansZone, NamesWeekday, WritesDate, WritesTime, NamesZone}
@@ -23,7 +23,7 @@ use Rattle.cal_stamp.specs.computed.Stamp.{name_found, offset_found, zone_of_wor
 use Rattle.cal_stamp.specs.declared.date.DateNumbers.{DateNumbers}
 use Rattle.cal_stamp.specs.rules.StampDate.{is_hyphen, digits_number, date_by, date_of_pieces, date_numbers, day_due, day_written}
 use Rattle.cal_spec.proofs.ReadLemmas.{bind_ok}
-use Rattle.cal_text.proofs.General.{clear_of}
+use Rattle.cal_bytes.proofs.General.{clear_of}
 
 digit_no_letter : (b : ℕ) → is_ascii_digit b ≡ true → is_ascii_alphabetic b ≡ false
 digit_no_letter b h = grind (arith, nat_tests)

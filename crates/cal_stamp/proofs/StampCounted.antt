@@ -5,10 +5,10 @@ use Rattle.std.proofs.lemmas.Int.{ints}
 use Rattle.jiff.proofs.SpanFacts.{signed_arith}
 use Rattle.cal_span.proofs.SpanDigits.{AreDigits, are_digits-decimal}
 use Rattle.cal_span.proofs.SpanReadBack.{span_of-decimal}
-use Rattle.cal_text.proofs.General.{all_reverse}
-use Rattle.cal_text.proofs.TrimLemmas.{trim_only}
-use Rattle.cal_text.specs.rules.TrimRule.{IsTrimmed, StartsSolid}
-use Rattle.cal_text.specs.rules.Separators.{is_blank}
+use Rattle.cal_bytes.proofs.General.{all_reverse}
+use Rattle.cal_bytes.proofs.TrimLemmas.{trim_only}
+use Rattle.cal_bytes.specs.rules.TrimRule.{IsTrimmed, StartsSolid}
+use Rattle.cal_bytes.specs.rules.Separators.{is_blank}
 use Rattle.cal_zone.specs.rules.Instant.{IsInstant, micros_of}
 use Rattle.cal_zone.specs.rules.Setting.{Setting}
 use Rattle.cal_stamp.specs.computed.Stamp.{after_second, in_moments, moment_in, moment_of_form}

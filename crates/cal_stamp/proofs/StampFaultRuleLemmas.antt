@@ -11,8 +11,8 @@ use Rattle.cal_civil.proofs.OffsetWordLemmas.{offset-found, offset-only}
 use Rattle.cal_civil.specs.computed.ReadOffset.{offset_in}
 use Rattle.cal_civil.specs.rules.OffsetWord.{IsOffsetWord}
 use Rattle.cal_civil.specs.rules.ZoneName.{begins_with_letter}
-use Rattle.cal_text.specs.rules.AndThen.{◌>>=◌}
-use Rattle.cal_text.specs.rules.Separators.{is_colon}
+use Rattle.cal_bytes.specs.rules.AndThen.{◌>>=◌}
+use Rattle.cal_bytes.specs.rules.Separators.{is_colon}
 use Rattle.cal_spec.specs.rules.WeekdayNames.{day_named}
 use Rattle.cal_zone.specs.rules.Setting.{Setting}
 use Rattle.cal_stamp.specs.rules.StampTime.{begins_with_digit, time_written}

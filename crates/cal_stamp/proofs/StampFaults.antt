@@ -8,9 +8,9 @@ use Rattle.cal_span.specs.declared.span.fault.SpanFault.{SpanFault}
 use Rattle.cal_span.specs.computed.SpanValue.{span_of}
 use Rattle.cal_civil.specs.computed.ReadOffset.{offset_in}
 use Rattle.cal_civil.specs.rules.ZoneName.{begins_with_letter}
-use Rattle.cal_text.specs.rules.Separators.{is_colon}
+use Rattle.cal_bytes.specs.rules.Separators.{is_colon}
 use Rattle.cal_spec.specs.rules.WeekdayNames.{day_named}
-use Rattle.cal_text.specs.rules.AndThen.{◌>>=◌}
+use Rattle.cal_bytes.specs.rules.AndThen.{◌>>=◌}
 use Rattle.cal_zone.specs.rules.Setting.{Setting}
 use Rattle.cal_stamp.specs.rules.StampCivilRule.{CivilStamp, HasNoSuchDate}
 use Rattle.cal_stamp.specs.computed.Stamp.{in_moments, after_second, before_second, settle_on, today, name_found, offset_found, zone_of_word, zone_alone, zone_by_words, civil_stamp_in, after_date, after_weekday, weekday_found, civil_time, moment_of_civil_stamp, moment_of_form, moment_in}

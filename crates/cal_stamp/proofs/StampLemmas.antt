@@ -9,10 +9,10 @@ use Rattle.jiff.specs.Types.{TimeZone}
 use Rattle.cal_zone.specs.declared.civil_fields.Civil.{Civil}
 use Rattle.cal_zone.specs.rules.Instant.{last_moment}
 use Rattle.cal_zone.specs.rules.Civil.{civil_of}
-use Rattle.cal_text.specs.rules.Separators.{is_point, is_colon}
+use Rattle.cal_bytes.specs.rules.Separators.{is_point, is_colon}
 use Rattle.cal_span.specs.rules.PairValue.{fraction_worth}
 use Rattle.cal_zone.specs.rules.Zone.{local_shown_at}
-use Rattle.cal_text.proofs.General.{some_piece, digit_below}
+use Rattle.cal_bytes.proofs.General.{some_piece, digit_below}
 use Rattle.cal_stamp.specs.computed.Stamp.{in_moments}
 use Rattle.cal_stamp.specs.rules.StampDate.{is_hyphen, date_numbers}
 use Rattle.cal_stamp.specs.rules.StampTime.{second_written, time_numbers}

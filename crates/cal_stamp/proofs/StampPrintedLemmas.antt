@@ -29,14 +29,14 @@ use Rattle.cal_zone.specs.rules.ZoneTable.{ZoneMap, zone_named}
 use Rattle.cal_zone.specs.declared.civil_fields.Civil.{Civil}
 use Rattle.cal_zone.specs.declared.zone.Zone.{Zone}
 use Rattle.cal_spec.proofs.WordsBetween.{words_only}
-use Rattle.cal_text.specs.rules.Separators.{is_colon, is_blank, words}
+use Rattle.cal_bytes.specs.rules.Separators.{is_colon, is_blank, words}
 use Rattle.cal_spec.specs.rules.WordsOfText.{IsWord}
-use Rattle.cal_text.specs.rules.TrimRule.{StartsSolid, IsTrimmed}
+use Rattle.cal_bytes.specs.rules.TrimRule.{StartsSolid, IsTrimmed}
 use Rattle.cal_stamp.proofs.StampPrintedTexts.{IsClock, IsDayName, date_back, date_no_colon, date_solid, date_some, date_word, in_week, other_date_back, short_names, time_back, time_digit, time_solid, time_some, time_word, year_of}
 use Rattle.cal_zone.proofs.PlaceLemmas.{local_shown_at-UTC}
 use Rattle.cal_stamp.proofs.StampPrintedZones.{IsLastWord, last_byte, shown_last, shown_offset, shown_read, shown_unread, shown_word, utc_minutes}
 use Rattle.cal_stamp.proofs.StampRuleLemmas.{only}
-use Rattle.cal_text.specs.rules.AndThen.{◌>>=◌}
+use Rattle.cal_bytes.specs.rules.AndThen.{◌>>=◌}
 use Rattle.cal_zone.specs.rules.Setting.{Setting}
 use Rattle.cal_stamp.specs.computed.Stamp.{after_date, civil_time, fits_weekday, in_moments, moment_in, moment_of_form, moment_of_civil_stamp, settle_on, civil_stamp_in, zone_of_word}
 use Rattle.cal_stamp.specs.rules.StampTime.{begins_with_digit, time_written}

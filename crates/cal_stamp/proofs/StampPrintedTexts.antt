@@ -11,12 +11,12 @@ use Rattle.jiff.specs.Types.{Date, Weekday}
 use Rattle.jiff.specs.Words.{epoch_day, monday_zero, month_length, IsBetween, IsYear}
 use Rattle.jiff_core.proofs.CalendarLemmas.{days_in_month_bounds}
 use Rattle.jiff_core.specs.declared.civil.weekday.Weekday.TheVariants.{Monday, Sunday}
-use Rattle.cal_text.specs.rules.Separators.{is_point, is_colon, is_blank}
+use Rattle.cal_bytes.specs.rules.Separators.{is_point, is_colon, is_blank}
 use Rattle.cal_civil.specs.rules.OffsetText.{zeros}
 use Rattle.cal_civil.specs.rules.Weekday.{name_of, short_name_of, week}
 use Rattle.cal_civil.specs.rules.ZoneName.{begins_with_letter}
 use Rattle.cal_spec.specs.rules.WeekdayNames.{day_named}
-use Rattle.cal_text.proofs.General.{below_all, some_front, IsClear, Apart, clear_of, split_alone, split_at}
+use Rattle.cal_bytes.proofs.General.{below_all, some_front, IsClear, Apart, clear_of, split_alone, split_at}
 use Rattle.cal_spec.proofs.ReadBackParts.{century_stays, number_printed, padded}
 use Rattle.cal_spec.specs.rules.GrammarRule.{IsNumber}
 use Rattle.cal_stamp.proofs.StampCivilRuleLemmas.{digit_first, digit_no_colon}

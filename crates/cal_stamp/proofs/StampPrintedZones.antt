@@ -9,7 +9,7 @@ use Rattle.jiff.proofs.SpanFacts.{signed_arith}
 use Rattle.jiff.specs.Types.{TimeZone, UTC}
 use Rattle.jiff.specs.Words.{nanos_of_seconds, offset_at, IsOffsetSeconds}
 use Rattle.cal_bytes.specs.rules.Bytes.{joined}
-use Rattle.cal_text.proofs.General.{list_all-both, clear_of, list_all-wider}
+use Rattle.cal_bytes.proofs.General.{list_all-both, clear_of, list_all-wider}
 use Rattle.cal_civil.proofs.OffsetWordLemmas.{offset-back, offset-found, two_printed, two}
 use Rattle.cal_zone.proofs.OffsetLemmas.{nearest}
 use Rattle.cal_zone.proofs.PlaceLemmas.{settle_of-UTC, settle_of-fixed_zone, local_shown_at-UTC}
@@ -27,7 +27,7 @@ use Rattle.cal_zone.specs.declared.zone.Zone.{Zone}
 use Rattle.cal_zone.specs.declared.zone.ZoneKind.{ZoneKind}
 use Rattle.cal_zone.specs.declared.zone.ZoneKind.TheVariants.{Utc}
 use Rattle.cal_spec.specs.rules.WordsOfText.{IsWord}
-use Rattle.cal_text.specs.rules.Separators.{is_blank}
+use Rattle.cal_bytes.specs.rules.Separators.{is_blank}
 use Rattle.cal_stamp.specs.computed.Stamp.{zone_of_word}
 use Rattle.cal_stamp.specs.declared.fault.StampFault.TheVariants.{StrayWord}
 

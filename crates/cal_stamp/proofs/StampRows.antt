@@ -18,8 +18,8 @@ use Rattle.cal_zone.specs.rules.Zone.{local_shown_at}
 use Rattle.cal_zone.specs.rules.FixedOffsetZone.{offset_of_seconds, fixed_offset_zone}
 use Rattle.cal_civil.specs.rules.ZoneName.{is_utc_name}
 use Rattle.cal_spec.specs.rules.WeekdayNames.{day_named}
-use Rattle.cal_text.specs.rules.Trim.{trim_matches, trim_end_matches, trim_start_matches}
-use Rattle.cal_text.specs.rules.Separators.{words}
+use Rattle.cal_bytes.specs.rules.Trim.{trim_matches, trim_end_matches, trim_start_matches}
+use Rattle.cal_bytes.specs.rules.Separators.{words}
 use Rattle.cal_zone.specs.rules.Setting.{Setting}
 use Rattle.cal_stamp.specs.computed.Stamp.{moment_in, in_moments, today, settle_on, moment_of_civil_stamp, zone_by_words}
 use Rattle.cal_stamp.specs.rules.StampDate.{digits_number, date_numbers, day_of_date, day_written}

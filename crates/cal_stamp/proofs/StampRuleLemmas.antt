@@ -9,10 +9,10 @@ use Rattle.std.proofs.lemmas.Bool.{cases_lt, and_parts, eqb-true, false≢true}
 use Rattle.std.proofs.lemmas.List.{append_cancel_left, take-append-drop}
 use Rattle.std.proofs.lemmas.List.Sums.{AllPass-from_list_all, suffix_len_is, suffix_len-le-length}
 use Rattle.std.proofs.lemmas.Slice.Eq.{bytes_eq-Decides}
-use Rattle.cal_text.proofs.TrimLemmas.{trim_is, trim_only}
-use Rattle.cal_text.proofs.WordLemmas.{is_solid, last_blank, no_blank}
-use Rattle.cal_text.specs.rules.Trim.{trim_matches}
-use Rattle.cal_text.specs.rules.Separators.{is_blank, words}
+use Rattle.cal_bytes.proofs.TrimLemmas.{trim_is, trim_only}
+use Rattle.cal_bytes.proofs.WordLemmas.{is_solid, last_blank, no_blank}
+use Rattle.cal_bytes.specs.rules.Trim.{trim_matches}
+use Rattle.cal_bytes.specs.rules.Separators.{is_blank, words}
 use Rattle.cal_stamp.specs.rules.StampRule.{Form, present, later, earlier, counted, from_today, civil, IsNothing, IsPresent, IsBehindSign, IsBeforeWord, IsRelativeDay, IsCivilForm, OrElse, FitsByWords, FitsByEnd, FitsBySign, FitsFirst, HasForm}
 use Rattle.cal_stamp.specs.computed.StampForm.{day_shift, form_of, form_by_end, form_of_solid, form_of_words, form_by_day, form_by_ago, form_by_left}
 

@@ -6,9 +6,9 @@ ghost use Rattle.cal_stamp.specs.rules.StampDate.{date_numbers, day_of_date, day
 ghost use Rattle.cal_civil.specs.rules.LocalSecond.{last_day};
 
 use crate::StampFault;
+use cal_bytes::{are_digits, decimal_value};
 use cal_civil::{FIRST_YEAR, LAST_YEAR};
 use cal_spec::{first_piece, with_century};
-use cal_text::{are_digits, decimal_value};
 use jiff_core::civil::Date;
 
 /// A year, a month and a day as they are written. The year may be written without its century, and the date may not

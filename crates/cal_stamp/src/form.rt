@@ -6,7 +6,7 @@ ghost use Rattle.cal_stamp.specs.computed.StampForm.{day_shift, form_by_end, for
 ghost use Rattle.cal_stamp.specs.rules.StampViews.{form_seen, shift_of};
 
 use crate::text::{before_word, text_after_first};
-use cal_text::{first_word, trim_blanks};
+use cal_bytes::{first_word, trim_blanks};
 
 /// Yesterday, today or tomorrow.
 #[derive(Clone, Copy)]

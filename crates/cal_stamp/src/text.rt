@@ -4,7 +4,7 @@ ghost use Rattle.std.specs.Prelude.{◌≡◌, ◌<◌, drop, length, slice_inde
 ghost use Rattle.std.specs.Option.{option_copied};
 ghost use Rattle.cal_stamp.specs.computed.StampForm.{before_word};
 
-use cal_text::last_word;
+use cal_bytes::last_word;
 
 /// Returns `text` without its first character, which must be ASCII.
 pub(crate) fn text_after_first(text: &str) -> &str

@@ -5,9 +5,9 @@ ghost use Rattle.cal_stamp.specs.rules.StampTime.{both, clock_number, fraction_i
 
 use crate::StampFault;
 use crate::date::read_number;
+use cal_bytes::are_digits;
 use cal_span::fraction_of;
 use cal_spec::first_piece;
-use cal_text::are_digits;
 use cal_zone::MICROS_PER_SECOND;
 
 /// How many digits of a fraction of a second are used. Further digits are ignored.

@@ -4,13 +4,13 @@ ghost use Rattle.std.specs.Prelude.{◌≡◌};
 ghost use Rattle.cal_zone.specs.rules.Setting.{setting_seen};
 ghost use Rattle.cal_zone.specs.rules.Zone.{zone_of};
 ghost use Rattle.cal_zone.specs.rules.ZoneTable.{zone_named};
-ghost use Rattle.cal_text.specs.rules.Separators.{words};
+ghost use Rattle.cal_bytes.specs.rules.Separators.{words};
 ghost use Rattle.cal_stamp.specs.computed.Stamp.{zone_by_words, zone_of_word};
 ghost use Rattle.cal_stamp.specs.rules.StampViews.{zone_or_fault};
 
 use crate::StampFault;
+use cal_bytes::first_word;
 use cal_civil::{begins_with_letter, read_offset};
-use cal_text::first_word;
 use cal_zone::{Setting, Zone, ZoneTable};
 
 /// Parses `text` as a zone. If `text` has no words, the zone is the local zone. If it is a single word, this word must

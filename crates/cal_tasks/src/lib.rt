@@ -5,18 +5,25 @@
 
 mod clock_note;
 mod clocked;
+mod difference;
 mod elapses;
 mod idle;
+mod next;
+mod order;
+mod range;
 mod several;
 mod shown;
 mod skipped;
+mod timer_elapse;
 mod when;
 
-pub use cal_compare::{Difference, NextOfAll, TimerElapse};
 pub use clock_note::{ClockChange, ClockNote};
 pub use clocked::Clocked;
+pub use difference::Difference;
 pub use elapses::first_elapses;
 pub use idle::{IdleKind, IdleLine, idle_lines};
+pub use next::NextOfAll;
 pub use several::{difference_of, elapses_between, next_of_timers};
 pub use skipped::clock_notes;
+pub use timer_elapse::TimerElapse;
 pub use when::{WhenFault, read_when};

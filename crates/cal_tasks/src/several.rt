@@ -4,17 +4,18 @@
 ghost use Rattle.std.specs.Prelude.{◌≡◌, ◌≢◌, ◌-ℤ◌, pos, IfErr, IfOk, MatchResult, IsPermutation, IsSorted, map, option_map};
 ghost use Rattle.std.specs.Int.{int_max};
 ghost use Rattle.std.specs.Option.{option_or};
-ghost use Rattle.cal_compare.specs.rules.Difference.{IsDifference, first_only_in};
-ghost use Rattle.cal_compare.specs.rules.SeveralTimers.{by_instant, elapse_seen, ended, next_of_each, range_of_each};
+ghost use Rattle.cal_tasks.specs.rules.Difference.{IsDifference, first_only_in};
+ghost use Rattle.cal_tasks.specs.rules.SeveralTimers.{by_instant, elapse_seen, ended, next_of_each, range_of_each};
 ghost use Rattle.cal_plan.specs.rules.ZoneFor.{IsUnzoned};
 ghost use Rattle.cal_plan.specs.declared.plan_fault.PlanFault.TheVariants.{NoMemory};
 ghost use Rattle.cal_tasks.specs.rules.LoadedElapses.{elapses_in, first_unzoned_line, unzoned_line};
 
 use crate::clocked::Clocked;
+use crate::difference::{Difference, first_only};
 use crate::elapses::elapses_in;
-use cal_compare::{
-    Difference, NextOfAll, TimerElapse, base_before, between, first_only, next_of_all,
-};
+use crate::next::{NextOfAll, next_of_all};
+use crate::range::{base_before, between};
+use crate::timer_elapse::TimerElapse;
 use cal_elapse::Elapses;
 use cal_load::LoadedTimer;
 use cal_plan::{Instants, PlanFault};

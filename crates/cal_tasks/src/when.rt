@@ -3,15 +3,15 @@
 ghost use Rattle.std.specs.Prelude.{◌≡◌, IfOk, option_map};
 ghost use Rattle.cal_zone.specs.rules.Setting.{setting_seen};
 ghost use Rattle.cal_spec.specs.rules.WeekdayNames.{leading_letters};
-ghost use Rattle.cal_text.specs.rules.Separators.{words};
+ghost use Rattle.cal_bytes.specs.rules.Separators.{words};
 ghost use Rattle.cal_tasks.specs.rules.When.{IsUnlessNoMemory, begin_with_weekday, fields_unless_dated, first_elapse, first_if_some, is_dated, next_weekday_time, setting_without_names, weekday_time_in, when_in};
 
 use crate::clocked::Clocked;
+use cal_bytes::first_word;
 use cal_elapse::Elapses;
 use cal_plan::{Instants, zone_for};
 use cal_read::{StampFault, read_stamp};
 use cal_spec::{Expr, Field, SpecFault, find_day, letters_len, read_expr};
-use cal_text::first_word;
 use cal_zone::{Instant, Setting, ZoneTable};
 use std::alloc::{AllocError, Global};
 

@@ -4,9 +4,9 @@
 //! call promises to leave an argument unchanged, the test first checks that. `tests/refused` checks that a test fails
 //! if and only if an allocation has failed.
 
+use cal_bytes::Port;
 use cal_command::Ask;
 use cal_library_tests::shared::{ensure, zone_file};
-use cal_streams::Port;
 use cal_zone::{ZoneTable, load_zone};
 use std::test::Fail;
 

@@ -9,11 +9,10 @@ mod times;
 mod writers;
 mod zones;
 
-use cal_bytes::{Sink, Source};
+use cal_bytes::{Port, Sink, Source};
 use cal_library_tests::shared::{NEW_YEAR, SUMMER_TIME, ensure, instant, posix, zone_file};
 use cal_report::run;
 use cal_request::{Request, RunFault, Status, Verb};
-use cal_streams::Port;
 use cal_zone::{Instant, Rules, Zone, ZoneTable};
 use std::alloc::{AllocError, Global};
 use std::test::Fail;

@@ -4,8 +4,8 @@
 mod disk;
 mod memory;
 
+use cal_bytes::Port;
 use cal_library_tests::shared::ensure;
-use cal_streams::Port;
 use cal_work::{System, work};
 use std::alloc::Global;
 use std::io::BufWriter;

@@ -1,8 +1,7 @@
 //! Loading zone files into the table of zones, and rejecting invalid ones.
 
-use cal_faulty::{Faulty, Then};
+use cal_bytes::{Faulty, Port, Then};
 use cal_library_tests::shared::{ensure, zone_file};
-use cal_streams::Port;
 use cal_zone::LoadFault::{self, Zone};
 use cal_zone::ZoneFault::{self, BadFile, BadName, NameTaken, TooLarge};
 use cal_zone::{ZoneTable, load_zone, place};

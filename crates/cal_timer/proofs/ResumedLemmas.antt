@@ -6,8 +6,8 @@ use Rattle.std.specs.Prelude.{nat_le}
 use Rattle.std.proofs.lemmas.Bool.Decides.{nat_tests}
 use Rattle.cal_spec.specs.declared.spec_fault.SpecFault.{SpecFault}
 use Rattle.cal_timer.specs.rules.Assignments.{Assignment, assignment_of, assignments_in, is_header, section_of, timer_lines, trimmed}
-use Rattle.cal_text.specs.rules.Trim.{trim_matches}
-use Rattle.cal_lines.specs.rules.Lines.{Line, is_blank_or_return}
+use Rattle.cal_bytes.specs.rules.Trim.{trim_matches}
+use Rattle.cal_timer.specs.rules.Lines.{Line, is_blank_or_return}
 use Rattle.cal_timer.specs.rules.TimerEntries.{TimerLine, Timer, bad_line, entry_of}
 use Rattle.cal_timer.specs.rules.TimerText.{is_exception, is_exception_reset, is_expression, is_reset, max_expressions}
 use Rattle.cal_timer.specs.computed.ResumedLists.{changed, with_assignment, resumed, with_list, with_read}

@@ -7,7 +7,7 @@ use Rattle.std.specs.Str.{is_utf8, IsUtf8}
 use Rattle.std.proofs.lemmas.Str.{IsUtf8-from_is_utf8}
 use Rattle.cal_spec.specs.declared.spec_fault.SpecFault.{SpecFault}
 use Rattle.cal_timer.specs.rules.Assignments.{Assignment, assignments_in}
-use Rattle.cal_lines.specs.rules.Lines.{logical_lines}
+use Rattle.cal_timer.specs.rules.Lines.{logical_lines}
 use Rattle.cal_timer.specs.rules.TimerEntries.{TimerLine, bad_line, broken_line, fault_following, fault_joining, first_fault, lists_of, some_expressions, timer_in, timer_of, unless_fault}
 use Rattle.cal_timer.specs.rules.TimerText.{excepted, is_exception, is_expression, listed, max_expressions, without_mark}
 use Rattle.cal_timer.specs.declared.fault.TimerFault.{TimerFault}

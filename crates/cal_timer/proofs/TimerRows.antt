@@ -10,8 +10,8 @@ use lib.Utf8.{encode}
 use Rattle.cal_spec.specs.declared.spec_fault.SpecFault.{SpecFault}
 use Rattle.cal_spec.specs.declared.spec_fault.SpecFault.TheVariants.{NoRepeat}
 use Rattle.cal_timer.specs.rules.Assignments.{assignment_of, assignments_in, timer_lines}
-use Rattle.cal_text.specs.rules.Trim.{trim_matches, trim_end_matches, trim_start_matches}
-use Rattle.cal_lines.specs.rules.Lines.{groups, is_continued, logical_lines, part_of_line, physical_lines, plain_lines}
+use Rattle.cal_bytes.specs.rules.Trim.{trim_matches, trim_end_matches, trim_start_matches}
+use Rattle.cal_timer.specs.rules.Lines.{groups, is_continued, logical_lines, part_of_line, physical_lines, plain_lines}
 use Rattle.cal_timer.specs.rules.TimerEntries.{Timer, TimerLine, broken_line, entries, fault_following, fault_joining, first_fault, lists_of, timer_in, timer_of}
 use Rattle.cal_timer.specs.rules.TimerText.{excepted, is_exception, is_exception_reset, is_expression, is_reset, listed, without_mark}
 use Rattle.cal_timer.specs.declared.fault.TimerFault.{TimerFault}

@@ -9,14 +9,14 @@ use Rattle.std.specs.Str.{bytes_eq}
 use Rattle.std.proofs.lemmas.Bool.{or_parts}
 use Rattle.cal_spec.specs.declared.spec_fault.SpecFault.{SpecFault}
 use Rattle.cal_timer.specs.rules.Assignments.{Assignment, is_header, section_of, timer_lines}
-use Rattle.cal_lines.specs.rules.Lines.{Line}
+use Rattle.cal_timer.specs.rules.Lines.{Line}
 use Rattle.cal_timer.specs.rules.TimerRule.{AreFine, IsFirstTimerFault, JudgesTimer}
 use Rattle.cal_timer.specs.rules.TimerEntries.{TimerLine, Timer, entries, fault_following, first_fault, lists_of, some_entries, some_expressions, unless_fault}
 use Rattle.cal_timer.specs.rules.TimerText.{excepted, is_exception, is_exception_reset, is_expression, is_reset, listed}
 use Rattle.cal_timer.specs.declared.fault.TimerFault.{TimerFault}
 use Rattle.cal_timer.specs.declared.fault.TimerFault.TheVariants.{NothingToDo}
 use Rattle.cal_timer.proofs.TimerLemmas.{first_is_of_line, is_of_line}
-use Rattle.cal_text.proofs.General.{after_last_here, after_last_more, option_or_none}
+use Rattle.cal_bytes.proofs.General.{after_last_here, after_last_more, option_or_none}
 
 -- if none of the lines is a header, all of them are in the section `Timer` if `inside` is true, and none of them is if
 -- `inside` is false

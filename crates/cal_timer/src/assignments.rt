@@ -7,12 +7,12 @@ ghost use Rattle.std.specs.List.{list_any};
 ghost use Rattle.std.specs.Option.{option_map};
 ghost use Rattle.std.specs.Str.{bytes_eq};
 ghost use Rattle.cal_timer.specs.rules.Assignments.{assignment_of, is_header, section_of};
-ghost use Rattle.cal_lines.specs.rules.LineView.{line_at};
+ghost use Rattle.cal_timer.specs.rules.LineView.{line_at};
 ghost use Rattle.cal_timer.specs.rules.TimerView.{shown_assignment};
 ghost use Rattle.cal_timer.specs.rules.TimerText.{is_exception, is_exception_reset, is_expression, is_reset};
 
+use crate::lines::trim;
 use cal_bytes::is_among;
-use cal_lines::trim;
 
 /// The keys whose assignments clear the list of expressions if their value is empty.
 const TIMER_KEYS: [&[u8]; 6] = [

@@ -3,15 +3,14 @@
 
 ghost use Rattle.std.specs.Prelude.{◌≡◌, ◌≢◌, ◌+◌, ◌≤◌, ◌↔◌, ◌==◌, ℕ, List, Ok, Err, Result, MatchResult, IsTrue, false, length, count_by};
 ghost use Rattle.std.specs.Result.{IsErrOf};
-ghost use Rattle.cal_streams.specs.rules.Whole.{is_read_failed};
-ghost use Rattle.cal_streams.specs.declared.whole.WholeFault.{WholeFault};
+ghost use Rattle.cal_bytes.specs.rules.Whole.{is_read_failed};
+ghost use Rattle.cal_bytes.specs.declared.whole.WholeFault.{WholeFault};
 ghost use Rattle.cal_spec.specs.computed.Expr.{expr_in};
 ghost use Rattle.cal_timer.specs.rules.TimerEntries.{timer_file_limit, timer_in, timer_of, timer_text, ReadsWhole};
 ghost use Rattle.cal_timer.specs.rules.TimerText.{without_mark};
 
 use crate::{Timer, TimerFault, TimerLists};
-use cal_bytes::Source;
-use cal_streams::{WholeFault, read_whole};
+use cal_bytes::{Source, WholeFault, read_whole};
 use std::alloc::Global;
 
 /// Reads a timer file to its end, and returns its list of calendar expressions (systemd.timer(5), OnCalendar=) and its

@@ -8,7 +8,7 @@ ghost use Rattle.std.specs.Str.{bytes_eq};
 ghost use Rattle.cal_spec.specs.rules.Fields.{Fields};
 ghost use Rattle.cal_spec.specs.declared.spec_fault.SpecFault.{SpecFault};
 ghost use Rattle.cal_timer.specs.rules.Assignments.{Assignment, is_header, section_of, timer_lines};
-ghost use Rattle.cal_lines.specs.rules.Lines.{Line};
+ghost use Rattle.cal_timer.specs.rules.Lines.{Line};
 ghost use Rattle.cal_timer.specs.rules.TimerRule.{JudgesTimer};
 ghost use Rattle.cal_timer.specs.declared.fault.TimerFault.{TimerFault};
 ghost use Rattle.cal_timer.specs.rules.TimerEntries.{Timer, lists_of, entries_or_fault};

@@ -5,15 +5,15 @@ ghost use Rattle.std.specs.Prelude.{◌≡◌, ◌≢◌, ◌+◌, ◌<◌, ◌^
 ghost use Rattle.cal_spec.specs.computed.Expr.{expr_in};
 ghost use Rattle.cal_timer.specs.rules.Assignments as assignments;
 ghost use Rattle.cal_timer.specs.rules.Assignments.{assignments_in};
-ghost use Rattle.cal_lines.specs.rules.LineView.{line_at};
+ghost use Rattle.cal_timer.specs.rules.LineView.{line_at};
 ghost use Rattle.cal_timer.specs.rules.TimerView.{shown_assignment, shown};
 ghost use Rattle.cal_timer.specs.computed.ResumedLists.{changed, empty_lists, with_assignment, resumed};
-ghost use Rattle.cal_lines.specs.rules.Lines.{Line, logical_lines};
+ghost use Rattle.cal_timer.specs.rules.Lines.{Line, logical_lines};
 ghost use Rattle.cal_timer.specs.rules.TimerEntries.{bad_line, entry_of, some_entries};
 
 use crate::assignments::{Assignment, read_assignment, section};
+use crate::lines::{first_logical, trim};
 use crate::{Timer, TimerFault, TimerLine};
-use cal_lines::{first_logical, trim};
 use cal_spec::{SpecFault, read_expr};
 use std::alloc::Global;
 use std::marker::Model;

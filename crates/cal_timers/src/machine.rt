@@ -2,7 +2,7 @@
 //! they contain.
 
 use crate::below_root;
-use cal_streams::Port;
+use cal_bytes::Port;
 use cal_units::{Entry, Names, Tree, TreeFault};
 use std::alloc::{AllocError, Global};
 use std::fs::DirEntry;

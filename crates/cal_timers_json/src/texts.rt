@@ -5,10 +5,9 @@ ghost use Rattle.std.specs.Prelude.{◌≡◌, IfOk, string_bytes};
 ghost use Rattle.cal_zone.specs.rules.InstantText.{instant_text};
 ghost use Rattle.cal_spec.specs.rules.ExprText.{expr_text};
 
-use cal_bytes::ShortText;
+use cal_bytes::{Port, ShortText};
 use cal_span::{Span, format_span};
 use cal_spec::{Expr, write_expr};
-use cal_streams::Port;
 use cal_zone::{Instant, Zone, push_instant};
 use std::alloc::{AllocError, Global};
 

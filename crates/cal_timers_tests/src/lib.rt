@@ -1,11 +1,9 @@
-//! Tests of `calendar-timers` on machines in memory, and of the public functions that the program doesn't call. What a
-//! contract proves for all arguments, or a transcript shows of the program, is not tested again.
+//! Tests of `calendar-timers` on machines in memory. What a contract proves for all arguments, or a transcript shows of
+//! the program, is not tested again.
 #![tactic(auto)]
 
 #[cfg(test)]
 mod answers;
-#[cfg(test)]
-mod compared;
 #[cfg(test)]
 mod lint;
 #[cfg(test)]

@@ -1,6 +1,6 @@
 //! A machine in memory.
 
-use cal_streams::Port;
+use cal_bytes::Port;
 use cal_units::{Entry, Names, Tree, TreeFault};
 use std::alloc::Global;
 

@@ -3,10 +3,10 @@
 use crate::cells::{push_blanks, push_printable, push_times, shown_width};
 use crate::messages::{idle_words, push_message};
 use crate::style::{Emphasis, Style};
+use cal_bytes::{first_word, trim_blanks_end};
 use cal_lint::{Finding, Problem, ProblemKind};
 use cal_load::LoadedTimer;
 use cal_tasks::IdleLine;
-use cal_text::{first_word, trim_blanks_end};
 use cal_timer::without_mark;
 use std::alloc::{AllocError, Global};
 

@@ -1,16 +1,14 @@
 //! Instants, the time until an instant, and calendar expressions, all as text.
 
 ghost use Rattle.std.specs.Prelude.{◌≡◌, ◌++◌, ◌≤ℤ◌, ◌<ℤ◌, IfOk, OnOk, codes, length, string_bytes};
-ghost use Rattle.cal_text.specs.rules.Separators.{words};
+ghost use Rattle.cal_bytes.specs.rules.Separators.{words};
 ghost use Rattle.cal_zone.specs.rules.InstantText.{instant_text};
 ghost use Rattle.cal_spec.specs.rules.ExprText.{expr_text};
 ghost use Rattle.cal_timers_text.specs.rules.TimeLeft.{two_units, two_words};
 
-use cal_bytes::ShortText;
+use cal_bytes::{Port, ShortText, first_word};
 use cal_span::{Span, format_span};
 use cal_spec::{Expr, write_expr};
-use cal_streams::Port;
-use cal_text::first_word;
 use cal_zone::{Instant, InstantFormatter, Zone};
 use std::alloc::{AllocError, Global};
 

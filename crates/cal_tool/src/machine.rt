@@ -1,7 +1,7 @@
 //! The real system, with its files and its clock. Nothing is proved about which bytes its files have and which time its
 //! clock shows.
 
-use cal_streams::Port;
+use cal_bytes::Port;
 use cal_work::System;
 use std::fs;
 use std::rt::Files;

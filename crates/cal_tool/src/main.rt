@@ -7,11 +7,10 @@ ghost use Rattle.std.specs.Prelude.{◌≡◌, false};
 pub mod machine;
 
 use crate::machine::Machine;
-use cal_bytes::Sink;
+use cal_bytes::{Port, Sink};
 pub use cal_command::{Ask, CommandFault, LocalZone, ZoneItem};
 pub use cal_report::{laws, run};
 pub use cal_request::{Request, RunFault, Status, Verb};
-use cal_streams::Port;
 pub use cal_work::{Ended, LoadFault, Stop, System, load_zone, work, write_stop};
 use std::alloc::Global;
 use std::io::{BufWriter, ErrorKind, IsTerminal};

@@ -8,7 +8,7 @@ ghost use Rattle.cal_units.specs.rules.Machine.{Machine};
 use crate::fault::{Reason, UnitFault};
 use crate::locations::look;
 use crate::tree::{Entry, Tree, TreeFault};
-use cal_streams::{WholeFault, read_whole};
+use cal_bytes::{WholeFault, read_whole};
 use std::alloc::Global;
 
 /// The maximum size of a file of a unit, in bytes.

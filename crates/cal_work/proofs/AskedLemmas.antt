@@ -14,8 +14,8 @@ use Rattle.cal_zone.specs.rules.Instant.{IsInstant, last_instant}
 use Rattle.cal_zone.specs.rules.ZoneFile.{file_limit, IsFileZone}
 use Rattle.cal_zone.specs.rules.ZoneTable.{ZoneMap, zone_named}
 use Rattle.cal_civil.specs.rules.ZoneName.{is_zone_name}
-use Rattle.cal_streams.specs.declared.whole.WholeFault.{WholeFault}
-use Rattle.cal_streams.specs.declared.whole.WholeFault.TheVariants as whole
+use Rattle.cal_bytes.specs.declared.whole.WholeFault.{WholeFault}
+use Rattle.cal_bytes.specs.declared.whole.WholeFault.TheVariants as whole
 use Rattle.cal_zone.specs.declared.zone.Zone.{Zone as ClockZone}
 use Rattle.cal_zone.specs.declared.zone_fault.ZoneFault.TheVariants as zone
 use Rattle.cal_zone.specs.declared.zone_files.LoadFault.{LoadFault}
@@ -33,7 +33,7 @@ use Rattle.cal_work.specs.rules.ProgramHeadline.{AreZonesOf, IsPresent, IsReques
 use Rattle.cal_work.specs.rules.Stop.{Stop, load_stop, memory_stop, name_stop, rule_stop, with_line}
 use Rattle.cal_work.specs.rules.System.{Known, Seen, GivesTime, Opens, SeesBytes}
 use Rattle.cal_work.specs.rules.Works.{Fits, FitsArguments, ReadsZone, SeesFile, SeesZone, SeesZones}
-use Rattle.cal_text.proofs.General.{some_none}
+use Rattle.cal_bytes.proofs.General.{some_none}
 
 -- What the arguments ask for
 

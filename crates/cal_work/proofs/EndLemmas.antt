@@ -4,7 +4,7 @@ use Rattle.std.specs.Io.KnownBytes.{append_known}
 use Rattle.std.proofs.KnownBytes.{Appends-kept}
 use Rattle.std.proofs.lemmas.Bool.{false≢true}
 use Rattle.cal_bytes.specs.rules.Writes.{AppendsFront, Writes}
-use Rattle.cal_streams.specs.rules.Output.{Flushes}
+use Rattle.cal_bytes.specs.rules.Output.{Flushes}
 use Rattle.cal_work.specs.rules.Outcome.{outcome, out_text, err_text, ended_status}
 use Rattle.cal_report.specs.rules.ReportLines.{Report}
 use Rattle.cal_work.specs.rules.Stop.{Stop, command_outlet, command_stop, command_text, fault_stop, outlet_of, shown_stop, stop_text}

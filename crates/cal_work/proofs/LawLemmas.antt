@@ -8,8 +8,8 @@ use Rattle.std.proofs.lemmas.Bool.Decides.{nat_tests}
 use Rattle.cal_zone.specs.rules.ZoneFile.{file_limit}
 use Rattle.cal_zone.specs.rules.ZoneTable.{ZoneMap}
 use Rattle.cal_civil.specs.rules.ZoneName.{is_zone_name}
-use Rattle.cal_streams.specs.declared.whole.WholeFault.{WholeFault}
-use Rattle.cal_streams.specs.declared.whole.WholeFault.TheVariants as whole
+use Rattle.cal_bytes.specs.declared.whole.WholeFault.{WholeFault}
+use Rattle.cal_bytes.specs.declared.whole.WholeFault.TheVariants as whole
 use Rattle.cal_timer.specs.rules.TimerEntries.{timer_file_limit}
 use Rattle.cal_command.specs.rules.Ask.{Ask, ZoneItem}
 use Rattle.cal_command.specs.rules.CommandFault.{CommandFault}
@@ -23,7 +23,7 @@ use Rattle.cal_work.specs.rules.WorkLaw.{TellsAll, taken_of, known_seen, known_t
 use Rattle.cal_work.specs.rules.Works.{SeesZones, SeesFor, Fits, FitsArguments}
 use Rattle.cal_zone.specs.declared.zone_files.LoadFault.{LoadFault}
 use Rattle.cal_command.proofs.CommandLineLemmas.{taken_arguments}
-use Rattle.cal_text.proofs.General.{some_none}
+use Rattle.cal_bytes.proofs.General.{some_none}
 
 -- What the program sees of one file
 

@@ -10,13 +10,13 @@ use Rattle.jiff.specs.Placed.{IsPosixZone}
 use Rattle.jiff.specs.Types.{TimeZone}
 use Rattle.jiff.specs.Words.{read_whole as rule_read}
 use Rattle.cal_bytes.specs.rules.Writes.{AppendsFront, Writes}
-use Rattle.cal_streams.specs.rules.Whole.{GivesAll, CameBeyond, is_read_failed}
+use Rattle.cal_bytes.specs.rules.Whole.{GivesAll, CameBeyond, is_read_failed}
 use Rattle.cal_zone.specs.rules.Zone.{is_utc, utc, zone_of}
 use Rattle.cal_zone.specs.rules.ZoneFile.{file_limit}
 use Rattle.cal_zone.specs.rules.ZoneTable.{ZoneMap, zone_named}
 use Rattle.cal_civil.specs.rules.ZoneName.{is_utc_name, is_zone_name}
-use Rattle.cal_streams.specs.declared.whole.WholeFault.{WholeFault}
-use Rattle.cal_streams.specs.declared.whole.WholeFault.TheVariants as whole
+use Rattle.cal_bytes.specs.declared.whole.WholeFault.{WholeFault}
+use Rattle.cal_bytes.specs.declared.whole.WholeFault.TheVariants as whole
 use Rattle.cal_zone.specs.declared.zone.Zone.{Zone as ClockZone}
 use Rattle.cal_zone.specs.declared.zone_fault.ZoneFault.TheVariants as zone
 use Rattle.cal_timer.specs.rules.TimerEntries.{timer_file_limit}
@@ -45,7 +45,7 @@ use Rattle.cal_work.specs.declared.stop.Stop as declared_stop
 use Rattle.cal_work.specs.declared.stop.Stop.TheVariants.{Command, Zones, LocalRule, LocalName, Clock, Open, Run}
 use Rattle.cal_report.proofs.ReportLemmas.{nothing_front}
 use Rattle.std.proofs.lemmas.Option.{none-some, same_Some}
-use Rattle.cal_text.proofs.General.{some_none}
+use Rattle.cal_bytes.proofs.General.{some_none}
 
 -- if `r` is an error, `IfOk r P` holds for every `P`
 no_ok : {T E : Type 0} (r : Result T E) (P : T → Type 0) → IsErr r → IfOk r P

@@ -21,7 +21,7 @@ use Rattle.cal_spec.specs.computed.Words.{roles_of}
 use Rattle.cal_spec.specs.computed.Expr.{expr_in}
 use Rattle.cal_spec.specs.computed.NormalParts.{normal_fields, normal_parts, normal_second, reduced}
 use Rattle.cal_spec.proofs.ExprRule.{read_is_spelled}
-use Rattle.cal_text.specs.rules.Separators.{words}
+use Rattle.cal_bytes.specs.rules.Separators.{words}
 use Rattle.cal_report.specs.rules.Headline.{Expression, IsAccepted, IsFine}
 use Rattle.cal_report.specs.rules.ReportLines.{Report}
 use Rattle.cal_report.specs.rules.RunReport.{base_in, report}

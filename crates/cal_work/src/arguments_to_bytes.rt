@@ -23,11 +23,10 @@ ghost use Rattle.cal_work.specs.rules.Works.{Reaches, ReportsFault, Works};
 
 use crate::stop::{Outlet, Stop, exit_status, write_stop};
 use crate::system::System;
-use cal_bytes::Sink;
+use cal_bytes::{Output, Sink};
 use cal_command::{Ask, CommandFault, LocalZone, ZoneItem};
 use cal_report::{run_texts, run_timer};
 use cal_request::{Request, RequestKind, RunFault, Status};
-use cal_streams::Output;
 use cal_zone::{Instant, LoadFault, Rules, Setting, Zone, ZoneTable, load_zone};
 use std::alloc::Global;
 use std::convert::AsStr;

@@ -29,7 +29,7 @@ use Rattle.cal_zone.specs.computed.LocalOffsetRange.{HasConstantOffset, year_end
 use Rattle.cal_zone.specs.declared.instant_offset_range.InstantOffsetRange.{InstantOffsetRange}
 use Rattle.cal_civil.proofs.DayLemmas.{epoch_day-date_of}
 use Rattle.cal_zone.proofs.LocalOffsetRangeLemmas.{floor_second-whole, offset_between, offset_after_table, offset_standard, rule_after_table}
-use Rattle.cal_text.proofs.General.{lt_test, not_lt_test}
+use Rattle.cal_bytes.proofs.General.{lt_test, not_lt_test}
 use Rattle.cal_zone.proofs.RuleLemmas.{IsApart, IsBeside, clamped, in_its_year, moment_on, next_after_table, offset_in, ordered_apart, ordered_rises, utc_year, window_apart, window_beside, window_of}
 
 -- if `moment` is at or before `low`, or at or after `high`, then any two numbers `at` and `other` in `low..high` are on

@@ -31,7 +31,7 @@ use Rattle.jiff_tz.specs.declared.posix.TimeZone.{TimeZone as Posix}
 use Rattle.jiff_tz.specs.PosixRule.{ambiguous_at_by, ambiguous_by, civil_max, civil_min, clamp_to, first_day, first_nanosecond, in_window, int_same, last_nanosecond, match_some, nanos_per_day, next_by, next_year, ordered, rule_day, rule_nanos, saturating_add, saturating_sub, shift_between, transition_of, utc_window}
 use Rattle.jiff_tz.specs.PosixRule as ByPosix
 use Rattle.jiff_tz.proofs.TzifLemmas.{le_no, le_yes}
-use Rattle.cal_text.proofs.General.{lt_test, not_lt_test}
+use Rattle.cal_bytes.proofs.General.{lt_test, not_lt_test}
 
 -- `at` and `other` are on the same side of `moment`: both before it, or both at or after it
 pub record IsBeside (moment at other : ℤ) : Type 0 where

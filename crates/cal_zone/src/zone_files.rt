@@ -4,8 +4,7 @@ ghost use Rattle.std.specs.Prelude.{◌≡◌, false, MatchResult, OnErr};
 ghost use Rattle.cal_zone.specs.rules.LoadZone.{is_load_read_failed, IsLoaded, IsLoadFault};
 
 use crate::{Rules, ZoneFault, ZoneName, ZoneTable};
-use cal_bytes::Source;
-use cal_streams::{WholeFault, read_whole};
+use cal_bytes::{Source, WholeFault, read_whole};
 use std::alloc::Global;
 
 /// Why a zone file can't be loaded.

@@ -9,7 +9,7 @@ use Rattle.cal_civil.specs.computed.ReadOffset.{offset_in}
 use Rattle.cal_civil.specs.rules.ZoneName.{is_utc_name, is_zone_name}
 use Rattle.cal_command.specs.rules.Ask.{LocalZone, in_utc, at_offset, by_rule, of_name, ZoneItem}
 use Rattle.cal_request.specs.rules.Verb.{max_iterations}
-use Rattle.cal_text.specs.rules.Separators.{is_equals, is_comma}
+use Rattle.cal_bytes.specs.rules.Separators.{is_equals, is_comma}
 
 -- the number that a text of digits stands for, if it is from `least` to `most`
 unfoldable pub number_between : ℕ → ℕ → List ℕ → Option ℕ

@@ -1,8 +1,8 @@
 -- Valid calendar expressions that may not mean what their author thinks: systemd.time(7), Calendar Events.
 use Rattle.std.specs.Prelude.{ℕ, ◌==◌, nat_le, nat_lt, Bool, false, ◌&&◌, List, [], ◌∷◌, Option, None, Some, Result, Ok}
 use Rattle.std.specs.List.{find}
-use Rattle.cal_text.specs.rules.AndThen.{◌>>=◌}
-use Rattle.cal_text.specs.rules.Separators.{words}
+use Rattle.cal_bytes.specs.rules.AndThen.{◌>>=◌}
+use Rattle.cal_bytes.specs.rules.Separators.{words}
 use Rattle.cal_spec.specs.computed.Expr.{expr_in}
 use Rattle.cal_spec.specs.rules.Fields.{Fields}
 use Rattle.cal_spec.specs.declared.field.Part.{Part}

@@ -4,7 +4,7 @@ use Rattle.std.specs.Prelude.{ℕ, ◌==◌, Bool, ◌&&◌, ◌||◌, if◌then
 use Rattle.std.specs.List.{list_any}
 use Rattle.std.specs.Char.{is_ascii_alphabetic}
 use Rattle.std.specs.Str.{str_eq_ignore_ascii_case}
-use Rattle.cal_text.specs.rules.Separators.{is_equals}
+use Rattle.cal_bytes.specs.rules.Separators.{is_equals}
 use Rattle.cal_span.specs.computed.SpanValue.{span_of}
 use Rattle.cal_lint.specs.declared.hints.Mistake.{Mistake}
 use Rattle.cal_lint.specs.declared.hints.Mistake.TheVariants.{Assignment, Comment, Now, Span}

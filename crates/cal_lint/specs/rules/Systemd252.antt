@@ -6,7 +6,7 @@ use Rattle.std.specs.Option.{option_map_or}
 use Rattle.std.specs.Char.{is_ascii_digit}
 use Rattle.std.specs.Str.Parse.{digits_value}
 use Rattle.jiff_core.specs.Weekday.{monday_zero}
-use Rattle.cal_text.specs.rules.Separators.{is_colon, is_comma, words, is_slash}
+use Rattle.cal_bytes.specs.rules.Separators.{is_colon, is_comma, words, is_slash}
 use Rattle.cal_civil.specs.rules.OffsetWord.{begins_zone, begins_with_sign}
 use Rattle.cal_civil.specs.rules.ZoneName.{begins_with_letter}
 use Rattle.cal_spec.specs.rules.Slot.{max_number}
@@ -14,7 +14,7 @@ use Rattle.cal_spec.specs.computed.Expr.{expr_in}
 use Rattle.cal_spec.specs.rules.Fields.{Fields}
 use Rattle.cal_spec.specs.declared.field.Part.{Part}
 use Rattle.cal_spec.specs.declared.spec_fault.SpecFault.{SpecFault}
-use Rattle.cal_text.specs.rules.AndThen.{◌>>=◌}
+use Rattle.cal_bytes.specs.rules.AndThen.{◌>>=◌}
 use Rattle.cal_spec.specs.rules.WeekdayNames.{day_named, days_of, leading_letters}
 use Rattle.cal_lint.specs.declared.older_systemd.Rejection.{Rejection}
 use Rattle.cal_lint.specs.declared.older_systemd.Rejection.TheVariants.{Tab, Blanks, PastSunday, OneSecond, SecondStep, DaysFromEnd, Offset, ZoneName}

@@ -3,7 +3,7 @@
 use Rattle.std.specs.Prelude.{ℕ, Bool, if◌then◌else◌, List, [], ◌∷◌, map, string_bytes}
 use Rattle.std.specs.List.{filter_map}
 use Rattle.std.specs.Str.{bytes_eq}
-use Rattle.cal_lines.specs.rules.Lines.{Line}
+use Rattle.cal_timer.specs.rules.Lines.{Line}
 use Rattle.cal_timer.specs.rules.Assignments.{Assignment, assignment_of, is_header, section_of, trimmed}
 use Rattle.cal_read.specs.declared.section_assignments.OwnedAssignment.{OwnedAssignment}
 

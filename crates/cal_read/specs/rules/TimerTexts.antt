@@ -3,7 +3,7 @@
 use Rattle.std.specs.Prelude.{◌≡◌, ◌<◌, ◌+◌, ℕ, false, List, [], length, take, Option, None, Some, Result}
 use Rattle.std.specs.List.{flat_map}
 use Rattle.cal_spec.specs.declared.spec_fault.SpecFault.{SpecFault}
-use Rattle.cal_lines.specs.rules.Lines.{logical_lines}
+use Rattle.cal_timer.specs.rules.Lines.{logical_lines}
 use Rattle.cal_timer.specs.rules.Assignments.{Assignment, assignments_in}
 use Rattle.cal_timer.specs.rules.TimerText.{without_mark}
 use Rattle.cal_timer.specs.rules.TimerEntries.{first_fault}

@@ -3,7 +3,7 @@
 -- --base-time=; systemd.timer(5), OnCalendar=).
 use Rattle.std.specs.Prelude.{◌≡◌, ◌↔◌, ◌≤◌, ◌<◌, ◌+◌, ◌-◌, ◌++◌, ℕ, zero, suc, ℤ, List, [], ◌∷◌, Option, None, Some, Result, Ok, take, drop, length, slice_get, codes, option_map}
 use Rattle.std.specs.List.{AllZip, filter_map, flat_map}
-use Rattle.cal_streams.specs.declared.whole.WholeFault.{WholeFault}
+use Rattle.cal_bytes.specs.declared.whole.WholeFault.{WholeFault}
 use Rattle.cal_zone.specs.rules.InstantText.{instant_text}
 use Rattle.cal_report.specs.rules.ElapseLines.{elapse_texts, elapses_text, label_text}
 use Rattle.cal_report.specs.rules.Headline.{AreElapsesOf, Expression, IsAccepted, IsRejected, Schedule, alone, base_text, headings}

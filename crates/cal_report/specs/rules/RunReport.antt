@@ -2,9 +2,9 @@
 use Rattle.std.specs.Prelude.{◌≡◌, ℕ, ℤ, Bool, List, [], Option, None, Some, Result, Ok, Err, IfOk, codes}
 use Rattle.std.specs.Result.{result_map_both}
 use Rattle.cal_bytes.specs.rules.Writes.{Writes}
-use Rattle.cal_streams.specs.rules.Whole.{is_read_failed}
-use Rattle.cal_streams.specs.declared.whole.WholeFault.{WholeFault}
-use Rattle.cal_streams.specs.declared.whole.WholeFault.TheVariants.{NoMemory}
+use Rattle.cal_bytes.specs.rules.Whole.{is_read_failed}
+use Rattle.cal_bytes.specs.declared.whole.WholeFault.{WholeFault}
+use Rattle.cal_bytes.specs.declared.whole.WholeFault.TheVariants.{NoMemory}
 use Rattle.cal_zone.specs.declared.instant.Instant.{Instant}
 use Rattle.cal_timer.specs.rules.TimerEntries.{ReadsWhole, timer_file_limit}
 use Rattle.cal_stamp.specs.rules.StampFault.{message_of}

@@ -2,8 +2,8 @@
 use Rattle.std.specs.Prelude.{◌≢◌, ℕ, ℤ, List, [], ◌∷◌, take, Option, None, Some, Result, Ok, Err, codes, decimal}
 use Rattle.std.specs.List.{flat_map}
 use Rattle.cal_bytes.specs.rules.Bytes.{joined}
-use Rattle.cal_streams.specs.declared.whole.WholeFault.{WholeFault}
-use Rattle.cal_streams.specs.declared.whole.WholeFault.TheVariants.{NoMemory}
+use Rattle.cal_bytes.specs.declared.whole.WholeFault.{WholeFault}
+use Rattle.cal_bytes.specs.declared.whole.WholeFault.TheVariants.{NoMemory}
 use Rattle.cal_timer.specs.rules.TimerFault.{line_of, message_of}
 use Rattle.cal_timer.specs.rules.TimerEntries.{TimerLine, Timer, timer_text}
 use Rattle.cal_timer.specs.declared.fault.TimerFault.{TimerFault}

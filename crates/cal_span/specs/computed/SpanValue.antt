@@ -6,7 +6,7 @@ use Rattle.cal_span.specs.declared.span.fault.SpanFault.{SpanFault}
 use Rattle.cal_span.specs.declared.span.fault.SpanFault.TheVariants.{Empty, TooLarge}
 use Rattle.cal_span.specs.declared.span.word.CharKind.{CharKind}
 use Rattle.cal_span.specs.declared.span.word.CharKind.TheVariants.{Blank, Numeric, Letter}
-use Rattle.cal_text.specs.rules.AndThen.{◌>>=◌}
+use Rattle.cal_bytes.specs.rules.AndThen.{◌>>=◌}
 use Rattle.cal_span.specs.rules.PairValue.{Pair, Piece, characters, is_kind, limit, worth_of}
 
 -- Words (systemd.time(7), Parsing Time Spans: blanks may come before, between and after words)

@@ -5,7 +5,7 @@ use Rattle.std.specs.List.{list_any, list_all, find, before_first, after_first}
 use Rattle.std.specs.Str.{bytes_eq}
 use Rattle.std.specs.Char.{digit_value, is_ascii_digit, is_ascii_alphabetic}
 use Rattle.std.specs.Str.Parse.{digits_value}
-use Rattle.cal_text.specs.rules.Separators.{is_blank, is_point}
+use Rattle.cal_bytes.specs.rules.Separators.{is_blank, is_point}
 use Rattle.cal_span.specs.declared.time_unit.TimeUnit.{TimeUnit}
 use Rattle.cal_span.specs.declared.time_unit.TimeUnit.TheVariants.{Second}
 use Rattle.cal_span.specs.declared.span.fault.SpanFault.{SpanFault}

@@ -6,11 +6,11 @@ ghost use Rattle.std.specs.Prelude.{◌≡◌, ◌≤◌, IsTrue, MatchOption, m
 ghost use Rattle.std.specs.List.{list_all, position, before_first, after_first};
 ghost use Rattle.std.specs.Char.{is_ascii_digit};
 ghost use Rattle.cal_span.specs.rules.TimeUnit.{size_of};
-ghost use Rattle.cal_text.specs.rules.Separators.{is_point};
+ghost use Rattle.cal_bytes.specs.rules.Separators.{is_point};
 ghost use Rattle.cal_span.specs.rules.PairValue.{is_number, fraction_worth, digits_worth};
 
 use crate::TimeUnit;
-use cal_text::{are_digits, decimal_value};
+use cal_bytes::{are_digits, decimal_value};
 
 /// A number: its digits before the decimal point and those after it.
 #[derive(Clone, Copy)]

@@ -3,7 +3,7 @@
 use Rattle.std.specs.Prelude.{ℕ, ◌+◌, ◌-◌, ◌==◌, Bool, if◌then◌else◌, List, [], ◌∷◌, length, map, codes, Option, None, Some, Result, Ok, Err}
 use Rattle.std.specs.List.{slice_split}
 use Rattle.std.specs.Str.{bytes_eq}
-use Rattle.cal_text.specs.rules.AndThen.{◌>>=◌}
+use Rattle.cal_bytes.specs.rules.AndThen.{◌>>=◌}
 use Rattle.cal_spec.specs.computed.Reads.{unless, first_of}
 use Rattle.cal_spec.specs.computed.Parts.{is_time, part_of, fault_of}
 use Rattle.cal_spec.specs.rules.FullYears.{with_full_years}
@@ -11,7 +11,7 @@ use Rattle.cal_spec.specs.declared.field.Part.{Part}
 use Rattle.cal_spec.specs.declared.slot.Slot.{Slot}
 use Rattle.cal_spec.specs.declared.spec_fault.SpecFault.{SpecFault}
 use Rattle.cal_spec.specs.declared.spec_fault.SpecFault.TheVariants.{TooManyParts}
-use Rattle.cal_text.specs.rules.Separators.{is_comma}
+use Rattle.cal_bytes.specs.rules.Separators.{is_comma}
 
 -- whether the text of a component is `*`, which matches all values
 abbrev pub is_star : List ℕ → Bool

@@ -2,13 +2,13 @@
 use Rattle.std.specs.Prelude.{ℕ, ◌-◌, Bool, if◌then◌else◌, List, [], ◌∷◌, filter, codes, Option, None, Some, Result, Ok, Err}
 use Rattle.std.specs.List.{slice_split}
 use Rattle.cal_spec.specs.computed.Components.{counted, component_of}
-use Rattle.cal_text.specs.rules.AndThen.{◌>>=◌}
+use Rattle.cal_bytes.specs.rules.AndThen.{◌>>=◌}
 use Rattle.cal_spec.specs.rules.Slot.{day_slot}
 use Rattle.cal_spec.specs.declared.field.Part.{Part}
 use Rattle.cal_spec.specs.declared.slot.Slot.TheVariants.{Year, Month, Hour, Minute, Second}
 use Rattle.cal_spec.specs.declared.spec_fault.SpecFault.{SpecFault}
 use Rattle.cal_spec.specs.declared.spec_fault.SpecFault.TheVariants.{BadDate, BadTime}
-use Rattle.cal_text.specs.rules.Separators.{is_colon}
+use Rattle.cal_bytes.specs.rules.Separators.{is_colon}
 use Rattle.cal_spec.specs.rules.UnparsedTexts.{DateTexts, TimeTexts, is_date_sign, is_tilde}
 use Rattle.cal_spec.specs.rules.Fields.{max_counted_parts}
 

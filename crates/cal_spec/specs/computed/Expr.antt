@@ -4,7 +4,7 @@ use Rattle.std.specs.Prelude.{◌≡◌, ℕ, List, Option, Result, Ok, Bool}
 use Rattle.cal_spec.specs.rules.Fields.{Fields}
 use Rattle.cal_spec.specs.computed.Grammar.{fields_in}
 use Rattle.cal_spec.specs.computed.NormalParts.{normal_fields}
-use Rattle.cal_text.specs.rules.AndThen.{◌>>=◌}
+use Rattle.cal_bytes.specs.rules.AndThen.{◌>>=◌}
 use Rattle.cal_spec.specs.rules.ValidFields.{IsValidFields}
 use Rattle.cal_spec.specs.declared.field.Field.{Field}
 use Rattle.cal_spec.specs.declared.field.Field.TheVariants as field

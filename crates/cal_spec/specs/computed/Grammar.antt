@@ -2,10 +2,10 @@
 use Rattle.std.specs.Prelude.{ℕ, nat_lt, if◌then◌else◌, List, length, Option, None, Some, Result, Ok, Err}
 use Rattle.cal_spec.specs.computed.DateAndTime.{date_in_word, time_in_word, room_after}
 use Rattle.cal_spec.specs.rules.Fields.{Fields}
-use Rattle.cal_text.specs.rules.AndThen.{◌>>=◌}
+use Rattle.cal_bytes.specs.rules.AndThen.{◌>>=◌}
 use Rattle.cal_spec.specs.computed.WeekdayLists.{weekdays_in}
 use Rattle.cal_spec.specs.computed.Words.{roles_of}
-use Rattle.cal_text.specs.rules.Separators.{words}
+use Rattle.cal_bytes.specs.rules.Separators.{words}
 use Rattle.cal_spec.specs.rules.UnparsedTexts.{WordRoles}
 use Rattle.cal_spec.specs.computed.ParsedSuffix.{suffix_in}
 use Rattle.cal_spec.specs.declared.spec_fault.SpecFault.{SpecFault}

@@ -10,7 +10,7 @@ use Rattle.cal_spec.specs.declared.zone_suffix.ZoneSuffix.TheVariants.{Name, Off
 use Rattle.cal_spec.specs.computed.Parts.{Symbol, digits, dots, slash, point, other}
 use Rattle.cal_spec.specs.declared.numbers.Symbol as declared_symbol
 use Rattle.cal_spec.specs.declared.numbers.Symbol.TheVariants.{Digits, Dots, Slash, Point, Other}
-use Rattle.cal_text.specs.rules.Separators.{words}
+use Rattle.cal_bytes.specs.rules.Separators.{words}
 use Rattle.cal_spec.specs.rules.UnparsedTexts.{WordRoles, DateTexts, TimeTexts}
 use Rattle.cal_spec.specs.declared.words.WordRoles as declared_roles
 use Rattle.cal_spec.specs.computed.DateAndTime.{DateFields, TimeFields}

@@ -2,7 +2,7 @@
 -- Calendar Events. The role of a word says which of the four it is.
 use Rattle.std.specs.Prelude.{ℕ, if◌then◌else◌, List, [], ◌∷◌, Option, None, Some}
 use Rattle.std.specs.List.{list_any}
-use Rattle.cal_text.specs.rules.Separators.{is_colon}
+use Rattle.cal_bytes.specs.rules.Separators.{is_colon}
 use Rattle.cal_spec.specs.rules.Shorthand.{any_date, midnight, shorthand_named, expansion_of}
 use Rattle.cal_civil.specs.rules.OffsetWord.{begins_zone}
 use Rattle.cal_civil.specs.rules.ZoneName.{begins_with_letter}

@@ -3,7 +3,7 @@
 -- component, the syntax of all parts is checked before any values.
 use Rattle.std.specs.Prelude.{ℕ, ◌+◌, ◌-◌, ◌≤◌, ◌≡◌, ◌⊎◌, false, List, [], ◌∷◌, ◌++◌, length, codes, Option}
 use Rattle.std.specs.List.{AllByRecursion, AllZip, list_any, slice_split}
-use Rattle.cal_text.specs.rules.Separators.{is_colon, is_comma}
+use Rattle.cal_bytes.specs.rules.Separators.{is_colon, is_comma}
 use Rattle.cal_spec.specs.rules.UnparsedTexts.{DateTexts, TimeTexts, is_date_sign}
 use Rattle.cal_spec.specs.rules.Fields.{max_counted_parts, parts_in}
 use Rattle.cal_spec.specs.rules.GrammarRule.{IsComponent, IsDateShape, IsPartOf, IsPartText, IsTimeShape}

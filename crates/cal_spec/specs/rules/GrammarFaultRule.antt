@@ -2,7 +2,7 @@
 -- Events. The length is checked first, and then the words from left to right. The law
 -- `expressions_are_those_of_the_rule` says that the parser follows this rule.
 use Rattle.std.specs.Prelude.{ℕ, ◌+◌, ◌<◌, ◌≤◌, ◌≡◌, ◌⊎◌, Bool, true, List, [], length, Option, None, Some}
-use Rattle.cal_text.specs.rules.Separators.{words}
+use Rattle.cal_bytes.specs.rules.Separators.{words}
 use Rattle.cal_spec.specs.rules.ComponentFaultRule.{HasDateFault, HasTimeFault}
 use Rattle.cal_spec.specs.rules.Fields.{Fields, counted_parts, max_counted_parts, parts_in}
 use Rattle.cal_spec.specs.rules.GrammarRule.{AreWeekdays, HasRoles, HasWeekdays, IsDate, IsTime, IsZoneWord, given}

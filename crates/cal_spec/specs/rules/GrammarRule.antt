@@ -7,7 +7,7 @@ use Rattle.std.specs.Char.{is_ascii_digit, to_ascii_lowercase}
 use Rattle.std.specs.Str.Parse.{digits_value}
 use Rattle.jiff_core.specs.declared.civil.weekday.Weekday.{Weekday}
 use Rattle.cal_civil.specs.rules.Weekday.{week, name_of, short_name_of}
-use Rattle.cal_text.specs.rules.Separators.{is_colon, words}
+use Rattle.cal_bytes.specs.rules.Separators.{is_colon, words}
 use Rattle.cal_spec.specs.rules.UnparsedTexts.{DateTexts, TimeTexts, WordRoles}
 use Rattle.cal_spec.specs.rules.Fields.{Fields, counted_parts, max_counted_parts}
 use Rattle.cal_spec.specs.rules.FullYears.{with_full_years}

@@ -4,7 +4,7 @@ use Rattle.std.specs.Prelude.{ℕ, ◌<◌, ◌≡◌, ◌⊎◌, Bool, true, fa
 use Rattle.std.specs.List.{list_all}
 use Rattle.std.specs.Char.{is_ascii_digit}
 use Rattle.std.specs.Str.Parse.{digits_value}
-use Rattle.cal_text.specs.rules.Separators.{is_point}
+use Rattle.cal_bytes.specs.rules.Separators.{is_point}
 use Rattle.cal_spec.specs.rules.GrammarRule.{IsNext, IsNumber, IsPartText}
 use Rattle.cal_spec.specs.rules.Slot.{max_number}
 use Rattle.cal_spec.specs.rules.ValidParts.{EndsAfter, GoesOn, IsEndWithin, IsStep, IsWithin}

@@ -1,7 +1,7 @@
 -- The words of a text and where they are, as relations: these say what the words are, not how to find them.
 use Rattle.std.specs.Prelude.{ℕ, ◌<◌, ◌≡◌, true, false, List, [], ◌∷◌, ◌++◌, length, ⊤, ◌≤◌, ◌+◌, slice_index}
 use Rattle.std.specs.List.{list_all, list_any}
-use Rattle.cal_text.specs.rules.Separators.{is_blank}
+use Rattle.cal_bytes.specs.rules.Separators.{is_blank}
 
 -- a word is not empty and contains no blanks
 pub record IsWord (word : List ℕ) : Type 0 where

@@ -16,7 +16,7 @@ use Rattle.cal_zone.specs.rules.Zone.{local_shown_at}
 use Rattle.cal_zone.specs.rules.Setting.{Setting}
 use Rattle.cal_zone.specs.rules.FixedOffsetZone.{fixed_offset_zone}
 use Rattle.cal_civil.specs.rules.ZoneName.{begins_with_letter}
-use Rattle.cal_text.specs.rules.Separators.{is_colon}
+use Rattle.cal_bytes.specs.rules.Separators.{is_colon}
 use Rattle.cal_spec.specs.rules.WeekdayNames.{day_named}
 use Rattle.cal_stamp.specs.rules.StampRule.{Form, nothing, present, later, earlier, counted, from_today, civil}
 use Rattle.cal_stamp.specs.computed.StampForm.{form_of}
@@ -24,7 +24,7 @@ use Rattle.cal_stamp.specs.rules.StampDate.{day_written}
 use Rattle.cal_stamp.specs.rules.StampTime.{time_written, begins_with_digit}
 use Rattle.cal_stamp.specs.declared.fault.StampFault.{StampFault}
 use Rattle.cal_stamp.specs.declared.fault.StampFault.TheVariants.{Empty, BadWeekday, BadDate, WrongWeekday, BadSpan, NoSuchZone, StrayWord, OutOfRange}
-use Rattle.cal_text.specs.rules.AndThen.{◌>>=◌}
+use Rattle.cal_bytes.specs.rules.AndThen.{◌>>=◌}
 use Rattle.cal_stamp.specs.rules.StampCivilRule.{CivilStamp}
 
 -- Time spans

@@ -2,8 +2,8 @@
 use Rattle.std.specs.Prelude.{ℕ, ◌==◌, ◌&&◌, if◌then◌else◌, ℤ, pos, neg_ℤ, List, [], ◌∷◌, codes, Option, None, Some}
 use Rattle.std.specs.List.{list_any, before_last, after_last}
 use Rattle.std.specs.Str.{bytes_eq}
-use Rattle.cal_text.specs.rules.Trim.{trim_matches}
-use Rattle.cal_text.specs.rules.Separators.{is_blank, words}
+use Rattle.cal_bytes.specs.rules.Trim.{trim_matches}
+use Rattle.cal_bytes.specs.rules.Separators.{is_blank, words}
 use Rattle.cal_stamp.specs.rules.StampRule.{Form, civil, counted, earlier, from_today, later, nothing, present}
 
 -- the text before the last blank, if the word after that blank is `word`

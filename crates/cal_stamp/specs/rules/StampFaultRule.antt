@@ -12,7 +12,7 @@ use Rattle.cal_span.specs.declared.span.fault.SpanFault.{SpanFault}
 use Rattle.cal_zone.specs.rules.Instant.{IsMoment}
 use Rattle.cal_civil.specs.rules.OffsetWord.{IsOffsetWord}
 use Rattle.cal_civil.specs.rules.ZoneName.{begins_with_letter}
-use Rattle.cal_text.specs.rules.Separators.{is_colon}
+use Rattle.cal_bytes.specs.rules.Separators.{is_colon}
 use Rattle.cal_spec.specs.rules.WeekdayNames.{day_named}
 use Rattle.cal_zone.specs.rules.Setting.{Setting}
 use Rattle.cal_stamp.specs.rules.StampCivilRule.{CivilStamp, IsCivilTime, NamesWeekday, NamesZone, WritesDate, WritesTime}

@@ -3,8 +3,8 @@
 -- `StampForm` follow this rule. The cases are tried in the order in which they are defined below; `core` is the text
 -- without leading and trailing blanks.
 use Rattle.std.specs.Prelude.{ℕ, ◌≡◌, ◌⊎◌, true, ℤ, pos, neg_ℤ, List, [], ◌∷◌, ◌++◌, codes}
-use Rattle.cal_text.specs.rules.TrimRule.{IsTrimmed}
-use Rattle.cal_text.specs.rules.Separators.{is_blank, words}
+use Rattle.cal_bytes.specs.rules.TrimRule.{IsTrimmed}
+use Rattle.cal_bytes.specs.rules.Separators.{is_blank, words}
 
 -- The forms of a timestamp: nothing; the present; the present plus a time span; the present minus a time span;
 -- 1970-01-01 00:00:00 UTC plus a time span; the midnight at which a day begins; and a civil time. `from_today` has the

@@ -2,7 +2,7 @@
 use Rattle.std.specs.Prelude.{ℕ, ◌+◌, ◌*◌, nat_le, ◌&&◌, if◌then◌else◌, List, [], ◌∷◌, length, take, Option, None, Some, Result, Ok, Err, Bool, false}
 use Rattle.std.specs.Char.{is_ascii_digit}
 use Rattle.std.specs.List.{list_all, slice_split}
-use Rattle.cal_text.specs.rules.Separators.{is_point, is_colon}
+use Rattle.cal_bytes.specs.rules.Separators.{is_point, is_colon}
 use Rattle.cal_span.specs.rules.PairValue.{fraction_worth}
 use Rattle.cal_stamp.specs.rules.StampDate.{digits_number}
 use Rattle.cal_stamp.specs.declared.fault.StampFault.{StampFault}

@@ -6,7 +6,7 @@ use Rattle.cal_zone.specs.declared.moment.Moment.{Moment}
 use Rattle.cal_zone.specs.declared.zone.Zone.{Zone}
 use Rattle.cal_zone.specs.rules.Zone.{zone_of}
 use Rattle.cal_zone.specs.rules.Setting.{Setting}
-use Rattle.cal_text.specs.rules.Separators.{words}
+use Rattle.cal_bytes.specs.rules.Separators.{words}
 use Rattle.cal_stamp.specs.rules.StampCivilRule as meaning
 use Rattle.cal_stamp.specs.rules.StampRule as forms
 use Rattle.cal_stamp.specs.declared.fault.StampFault.{StampFault}

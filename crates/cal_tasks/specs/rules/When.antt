@@ -12,7 +12,7 @@ use Rattle.cal_spec.specs.computed.Expr.{expr_in}
 use Rattle.cal_spec.specs.rules.WeekdayNames.{day_named, leading_letters}
 use Rattle.cal_spec.specs.declared.spec_fault.SpecFault.{SpecFault}
 use Rattle.cal_spec.specs.rules.Fields.{Fields}
-use Rattle.cal_text.specs.rules.Separators.{words}
+use Rattle.cal_bytes.specs.rules.Separators.{words}
 use Rattle.cal_elapse.specs.rules.ElapsesAfter.{elapses_after}
 use Rattle.cal_elapse.specs.rules.Elapses.{timed}
 use Rattle.cal_plan.specs.rules.ZoneFor.{zone_for}

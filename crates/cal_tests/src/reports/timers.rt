@@ -2,10 +2,9 @@
 //! doesn't elapse.
 
 use super::{CALENDAR, KnownZones, Local, Row, check, check_input, known_zones};
-use cal_faulty::{Faulty, Then};
+use cal_bytes::{Faulty, Port, Then};
 use cal_library_tests::shared::{EXCEPT_FILE, NEW_YEAR, TIMER_FILE};
 use cal_request::Verb;
-use cal_streams::Port;
 use std::alloc::Global;
 use std::test::Fail;
 

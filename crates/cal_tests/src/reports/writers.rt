@@ -6,10 +6,9 @@ use super::zones::{EVERY_SECOND, FROM_THE_FIRST};
 use super::{
     CALENDAR, KnownZones, NOON_THIRTY, Row, check, expect_texts, known_zones, run_row, status,
 };
-use cal_faulty::{Faulty, Then};
+use cal_bytes::{Faulty, Port, Then};
 use cal_library_tests::shared::ensure;
 use cal_request::{RunFault, Status};
-use cal_streams::Port;
 use std::alloc::Global;
 use std::test::Fail;
 

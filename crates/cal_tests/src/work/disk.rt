@@ -2,10 +2,9 @@
 //! [`Disk`], the system in these tests.
 
 use super::{check, perform};
-use cal_faulty::{Faulty, Then};
+use cal_bytes::{Faulty, Port, Then};
 use cal_library_tests::shared::{NEW_YEAR, ensure, zone_file};
 use cal_request::RunFault;
-use cal_streams::Port;
 use cal_work::{Ended, System, work};
 use std::alloc::Global;
 use std::io::BufWriter;

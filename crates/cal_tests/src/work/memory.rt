@@ -3,8 +3,8 @@
 ghost use Rattle.std.specs.Prelude.{None, Some, true, if◌then◌else◌, bytes_eq};
 
 use super::{check, check_refused, perform};
+use cal_bytes::Port;
 use cal_library_tests::shared::{NEW_YEAR, ensure, zone_file};
-use cal_streams::Port;
 use cal_work::System;
 use std::test::Fail;
 

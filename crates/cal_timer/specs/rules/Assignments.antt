@@ -2,9 +2,9 @@
 use Rattle.std.specs.Prelude.{ℕ, ◌-◌, ◌==◌, Bool, ◌&&◌, if◌then◌else◌, List, [], ◌∷◌, length, map, take, drop, slice_index, codes, Option, None, Some}
 use Rattle.std.specs.List.{after_first, before_first, filter_map, list_any}
 use Rattle.std.specs.Str.{bytes_eq}
-use Rattle.cal_text.specs.rules.Trim.{trim_matches}
-use Rattle.cal_lines.specs.rules.Lines.{Line, is_blank_or_return}
-use Rattle.cal_text.specs.rules.Separators.{is_equals}
+use Rattle.cal_bytes.specs.rules.Trim.{trim_matches}
+use Rattle.cal_timer.specs.rules.Lines.{Line, is_blank_or_return}
+use Rattle.cal_bytes.specs.rules.Separators.{is_equals}
 
 -- whether a logical line opens a section: it begins with `[` and ends with `]`, and the name of the section is between
 -- the brackets

@@ -6,14 +6,14 @@ use Rattle.std.specs.Option.{option_or}
 use Rattle.std.specs.Str.{is_utf8}
 use Rattle.std.specs.Str.Lossy.{utf8_valid_len}
 use Rattle.cal_timer.specs.rules.Assignments.{Assignment, assignments_in}
-use Rattle.cal_lines.specs.rules.Lines.{logical_lines}
-use Rattle.cal_streams.specs.rules.Whole.{GivesAll, IsWholeFault}
-use Rattle.cal_streams.specs.declared.whole.WholeFault.{WholeFault}
+use Rattle.cal_timer.specs.rules.Lines.{logical_lines}
+use Rattle.cal_bytes.specs.rules.Whole.{GivesAll, IsWholeFault}
+use Rattle.cal_bytes.specs.declared.whole.WholeFault.{WholeFault}
 use Rattle.cal_spec.specs.declared.spec_fault.SpecFault.{SpecFault}
 use Rattle.cal_timer.specs.declared.fault.TimerFault.{TimerFault}
 use Rattle.cal_timer.specs.declared.fault.TimerFault.TheVariants.{ReadFailed, TooLarge, NotUtf8, BadLine, TooMany, NothingToDo, NoMemory}
 use Rattle.cal_timer.specs.rules.TimerText.{excepted, is_exception, is_expression, listed, max_expressions, without_mark}
-use Rattle.cal_streams.specs.declared.whole.WholeFault.TheVariants as whole
+use Rattle.cal_bytes.specs.declared.whole.WholeFault.TheVariants as whole
 
 -- an entry of the list of expressions or of exceptions: the number of its line, its text, and the parsed expression
 pub record TimerLine (E : Type 0) : Type 0 where

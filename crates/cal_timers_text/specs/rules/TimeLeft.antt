@@ -1,7 +1,7 @@
 -- How long it is until an instant.
 use Rattle.std.specs.Prelude.{ℕ, ◌*◌, ℤ, ◌-ℤ◌, unsigned_abs, List, [], ◌∷◌, ◌++◌}
 use Rattle.cal_span.specs.rules.SpanText.{span_text}
-use Rattle.cal_text.specs.rules.Separators.{words}
+use Rattle.cal_bytes.specs.rules.Separators.{words}
 
 -- a space and the first word, or nothing if there are no words
 abbrev pub second_word : List (List ℕ) → List ℕ

@@ -1,8 +1,8 @@
 -- What is known about a system's files and its clock, and what the program sees of them.
 use Rattle.std.specs.Prelude.{◌≡◌, ℕ, ℤ, ◌<◌, ◌≤◌, Bool, true, false, List, length, Option, None, Some, Result, Ok, Err, IfSome}
-use Rattle.cal_streams.specs.rules.Whole.{is_read_failed}
-use Rattle.cal_streams.specs.declared.whole.WholeFault.{WholeFault}
-use Rattle.cal_streams.specs.declared.whole.WholeFault.TheVariants.{ReadFailed, TooLarge, NoMemory}
+use Rattle.cal_bytes.specs.rules.Whole.{is_read_failed}
+use Rattle.cal_bytes.specs.declared.whole.WholeFault.{WholeFault}
+use Rattle.cal_bytes.specs.declared.whole.WholeFault.TheVariants.{ReadFailed, TooLarge, NoMemory}
 
 -- What is known about a system. `file` maps a path to `Some (Some bytes)` if the file at this path has these bytes, to
 -- `Some None` if it can't be opened, and to `None` if nothing is known about it. `may_fail` says for each path whether

@@ -4,8 +4,8 @@
 -- that the program finds in it.
 use Rattle.std.specs.Prelude.{◌≡◌, ◌⊎◌, ℕ, ℤ, Bool, true, false, List, [], ◌∷◌, length, nat_le, Option, None, Some, IsSome, Result, Ok, Err, pos}
 use Rattle.cal_zone.specs.rules.ZoneFile.{file_limit}
-use Rattle.cal_streams.specs.declared.whole.WholeFault.{WholeFault}
-use Rattle.cal_streams.specs.declared.whole.WholeFault.TheVariants.{TooLarge}
+use Rattle.cal_bytes.specs.declared.whole.WholeFault.{WholeFault}
+use Rattle.cal_bytes.specs.declared.whole.WholeFault.TheVariants.{TooLarge}
 use Rattle.cal_timer.specs.rules.TimerEntries.{timer_file_limit}
 use Rattle.cal_command.specs.rules.Ask.{Ask, ZoneItem}
 use Rattle.cal_command.specs.rules.CommandFault.{CommandFault}

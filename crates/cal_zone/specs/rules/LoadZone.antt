@@ -4,7 +4,7 @@
 use Rattle.std.specs.Prelude.{◌≡◌, ℕ, Bool, true, false, List, Option, Result, Ok, Err}
 use Rattle.std.specs.FinMap.{insert}
 use Rattle.jiff.specs.Types.{TimeZone}
-use Rattle.cal_streams.specs.rules.Whole.{CameBeyond, CameWithin, GivesAll}
+use Rattle.cal_bytes.specs.rules.Whole.{CameBeyond, CameWithin, GivesAll}
 use Rattle.cal_zone.specs.rules.ZoneFile.{file_limit, IsFileFault, IsFileZone}
 use Rattle.cal_zone.specs.rules.ZoneTable.{ZoneMap}
 use Rattle.cal_civil.specs.rules.ZoneName.{is_zone_name}

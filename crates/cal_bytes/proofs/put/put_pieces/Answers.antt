@@ -1,7 +1,7 @@
 use Rattle.std.proofs.Common.{refl, arith}
 use Rattle.cal_bytes.proofs.PutLemmas.{put_cut, put_next}
 use Rattle.cal_bytes.proofs.put.put_pieces.Goals as goal
-use Rattle.cal_text.proofs.General.{item_first}
+use Rattle.cal_bytes.proofs.General.{item_first}
 
 pub loop-piece-preserved : goal.loop-piece-preserved
 loop-piece-preserved g c =

@@ -1,7 +1,7 @@
 use Rattle.std.proofs.Common.{◌+◌, ◌∙◌, ap, drop, map, rules}
 use Rattle.cal_command.specs.rules.CommandLine.{shown_option, with_rules}
 use Rattle.clap.specs.Words.{app_of, with_rule}
-use Rattle.cal_text.proofs.General.{items_end}
+use Rattle.cal_bytes.proofs.General.{items_end}
 use Rattle.cal_command.proofs.CommandLineLemmas.{next_mapped, with_rule-rules, with_rules-none}
 use Rattle.cal_command.proofs.clap_command.with_options.Goals as goal
 

@@ -1,7 +1,7 @@
 use Rattle.std.proofs.Common.{◌+◌, ◌∙◌, ap, drop, map, sym}
 use Rattle.cal_command.specs.rules.CommandLine.{verb_shape, with_subcommands}
 use Rattle.clap.specs.Words.{app_of, with_subcommand}
-use Rattle.cal_text.proofs.General.{items_end}
+use Rattle.cal_bytes.proofs.General.{items_end}
 use Rattle.cal_command.proofs.CommandLineLemmas.{next_mapped}
 use Rattle.cal_command.proofs.clap_command.with_verbs.Goals as goal
 

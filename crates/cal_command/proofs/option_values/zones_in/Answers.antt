@@ -1,7 +1,7 @@
 use Rattle.std.proofs.Common.{rules, Some, ap, ◌∙◌}
 use Rattle.std.specs.Option.{option_copied}
 use Rattle.cal_bytes.specs.computed.SplitPieces.{pieces_after}
-use Rattle.cal_text.specs.rules.Separators.{is_comma}
+use Rattle.cal_bytes.specs.rules.Separators.{is_comma}
 use Rattle.cal_command.proofs.OptionLemmas.{zones-bad, zones-end, zones-full, zones-pushed}
 use Rattle.cal_command.proofs.option_values.zones_in.Goals as goal
 

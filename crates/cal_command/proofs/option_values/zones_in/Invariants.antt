@@ -2,7 +2,7 @@ use Rattle.std.proofs.Common.{map, vec_len}
 use Rattle.std.specs.Option.{option_copied}
 use Rattle.cal_bytes.specs.computed.SplitPieces.{left, pieces_after}
 use Rattle.cal_command.specs.rules.Ask.{shown_item}
-use Rattle.cal_text.specs.rules.Separators.{is_comma}
+use Rattle.cal_bytes.specs.rules.Separators.{is_comma}
 use Rattle.cal_command.proofs.OptionLemmas.{ZonesRead}
 use Rattle.cal_command.proofs.option_values.zones_in.Given as goal
 

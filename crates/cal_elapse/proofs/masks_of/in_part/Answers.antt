@@ -2,7 +2,7 @@ use Rattle.std.proofs.Common.{◌≡◌, ◌&&◌, ◌+◌, ◌-◌, min, Some, 
 use Rattle.cal_elapse.specs.computed.Masks.{last_number}
 use Rattle.cal_elapse.proofs.PartLemmas.{part_in_slot_values}
 use Rattle.cal_elapse.proofs.masks_of.in_part.Goals as goal
-use Rattle.cal_text.proofs.General.{and_true}
+use Rattle.cal_bytes.proofs.General.{and_true}
 
 pub returns-in-Some : goal.returns-in-Some
 returns-in-Some c = λ slot w i.

@@ -2,7 +2,7 @@ use Rattle.std.proofs.Common.{◌≡◌, length}
 use denote.Shadow.{shadow}
 use denote.Text.{Utf8}
 use Rattle.std.specs.List.{list_any}
-use Rattle.cal_text.specs.rules.Separators.{words}
+use Rattle.cal_bytes.specs.rules.Separators.{words}
 use Rattle.cal_lint.specs.rules.Systemd252.{word_is_rejected_for}
 use Rattle.cal_lint.proofs.older_systemd.any_word_is_rejected_for.Given as goal
 

@@ -1,6 +1,6 @@
 use Rattle.std.proofs.Common.{◌≡◌, ◌++◌, false, length, map, codes}
 use Rattle.std.specs.Prelude.{filter}
-use Rattle.cal_lines.specs.rules.Lines.{logical_lines}
+use Rattle.cal_timer.specs.rules.Lines.{logical_lines}
 use Rattle.cal_timer.specs.rules.TimerText.{without_mark}
 use Rattle.cal_read.specs.rules.SectionAssignments.{section_assignments, shown_owned_assignment}
 use Rattle.cal_lint.specs.rules.UnknownKeys.{has_unknown_key}

@@ -1,6 +1,6 @@
 use Rattle.std.proofs.Common.{◌<◌, ◌∙◌, ap, arith, length, refl, rules, sym, string_bytes}
 use Rattle.std.proofs.lemmas.List.{get_or-map, length-map}
-use Rattle.cal_text.proofs.General.{items_next}
+use Rattle.cal_bytes.proofs.General.{items_next}
 use Rattle.cal_machine_zones.proofs.ZoneLemmas.{empty_has, empty_has_none, error_at}
 use Rattle.cal_machine_zones.proofs.load.load_zones.Goals as goal
 

@@ -1,5 +1,5 @@
 use Rattle.std.proofs.Common.{◌≡◌, ◌++◌, false, length, map}
-use Rattle.cal_lines.specs.rules.Lines.{logical_lines}
+use Rattle.cal_timer.specs.rules.Lines.{logical_lines}
 use Rattle.cal_read.specs.rules.SectionAssignments.{section_assignments, shown_owned_assignment}
 use Rattle.cal_read.proofs.section_assignments.read_assignments.Given as goal
 

@@ -1,6 +1,6 @@
 use Rattle.std.proofs.Common.{◌∙◌, ap, sym}
 use Rattle.std.specs.Str.{bytes_eq}
-use Rattle.cal_lines.specs.rules.LineView.{line_at}
+use Rattle.cal_timer.specs.rules.LineView.{line_at}
 use Rattle.cal_read.specs.rules.SectionAssignments.{section_assignments}
 use Rattle.cal_read.proofs.SectionAssignmentsLemmas.{header_opens, inside_gives, outside_none}
 use Rattle.cal_read.proofs.section_assignments.read_section_line.Goals as goal

@@ -5,7 +5,7 @@ use Rattle.cal_report.proofs.AnswerLemmas.{answered_before, err_more, err_none, 
 use Rattle.cal_report.specs.rules.Answer.{error_lines}
 use Rattle.cal_report.proofs.report.answer_all.Goals as goal
 use Rattle.std.proofs.lemmas.Result.{err_from_is_err_and}
-use Rattle.cal_text.proofs.General.{items_end, items_next}
+use Rattle.cal_bytes.proofs.General.{items_end, items_next}
 use Rattle.std.proofs.lemmas.List.{map-append, take_more}
 
 -- if `y` is the item at index `i` mapped by `f`, then the first `i + 1` mapped items are the first `i` mapped items

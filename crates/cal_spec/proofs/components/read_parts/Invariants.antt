@@ -1,10 +1,10 @@
 use Rattle.std.proofs.Common.{◌≡◌, ◌++◌, Ok}
 use Rattle.std.specs.List.{slice_split}
 use Rattle.std.specs.Option.{option_copied}
-use Rattle.cal_text.specs.rules.Separators.{is_comma}
+use Rattle.cal_bytes.specs.rules.Separators.{is_comma}
 use Rattle.cal_spec.specs.computed.Components.{parts_of}
 use Rattle.cal_bytes.specs.computed.SplitPieces.{left, pieces_after}
-use Rattle.cal_text.specs.rules.AndThen.{◌>>=◌}
+use Rattle.cal_bytes.specs.rules.AndThen.{◌>>=◌}
 use Rattle.cal_spec.proofs.components.read_parts.Given as goal
 
 -- parsing the whole text returns the parts parsed so far and then the parts of the remaining text, or the error of the

@@ -6,7 +6,7 @@ use Rattle.std.specs.Prelude.{not, filter, nat_lt}
 use Rattle.std.specs.List.{position_or_len, slice_split, position}
 use Rattle.std.proofs.lemmas.Bool.{ltb-true, ltb-false}
 use Rattle.std.proofs.lemmas.Option.{cond_some}
-use Rattle.cal_text.proofs.General.{split_some, not_found, split_none}
+use Rattle.cal_bytes.proofs.General.{split_some, not_found, split_none}
 
 -- the induction step of `filter_some`: if a text has a separator, the separators of the text are its first separator
 -- and then those of the bytes after the first separator

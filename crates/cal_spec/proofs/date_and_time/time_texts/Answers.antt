@@ -1,8 +1,8 @@
 use Rattle.std.proofs.Common.{ℕ, ◌≡◌, List, ◌∷◌, None, refl}
 use Rattle.std.specs.List.{slice_split}
 use Rattle.cal_spec.specs.computed.DateAndTime.{time_texts}
-use Rattle.cal_text.proofs.General.{some_piece}
-use Rattle.cal_text.specs.rules.Separators.{is_colon}
+use Rattle.cal_bytes.proofs.General.{some_piece}
+use Rattle.cal_bytes.specs.rules.Separators.{is_colon}
 use Rattle.cal_spec.proofs.date_and_time.time_texts.Goals as goal
 
 -- a text with three colons or more is not a time

@@ -3,7 +3,7 @@ use Rattle.cal_bytes.proofs.PutLemmas.{put_cut, put_next, put_none, puts_nothing
 use Rattle.cal_spec.specs.rules.ExprText.{part_text, parts_text}
 use Rattle.cal_spec.proofs.TextLemmas.{parts_text-none, parts_text-first, part_text-comma}
 use Rattle.cal_spec.proofs.expr_text.put_parts.Goals as goal
-use Rattle.cal_text.proofs.General.{item_first}
+use Rattle.cal_bytes.proofs.General.{item_first}
 
 pub returns-in_default : goal.returns-in_default
 returns-in_default g c = text_respelled (puts_nothing c.requires.works) (sym (parts_text-none c.args.width c.args.parts.now c.in_default.ensures.cases))

@@ -3,7 +3,7 @@ use Rattle.std.specs.Option.{option_copied}
 use Rattle.cal_bytes.proofs.PutLemmas.{put_cut, put_next}
 use Rattle.cal_spec.specs.rules.ExprText.{row_text}
 use Rattle.cal_spec.proofs.expr_text.put_rows.Goals as goal
-use Rattle.cal_text.proofs.General.{item_first}
+use Rattle.cal_bytes.proofs.General.{item_first}
 
 pub returns-in_err-put_row : goal.returns-in_err-put_row
 returns-in_err-put_row g c =

@@ -1,7 +1,7 @@
 -- The text up to the end of each word that ends at or before `from` is valid. Either `from` is 0, or it is the end of
 -- the last of these words.
 use Rattle.std.proofs.Common.{◌≡◌, ◌<◌, ◌≤◌, ◌-◌, ℕ, false, true, is_ok, length, take, slice_index}
-use Rattle.cal_text.specs.rules.Separators.{is_blank}
+use Rattle.cal_bytes.specs.rules.Separators.{is_blank}
 use Rattle.cal_spec.specs.computed.Expr.{expr_in}
 use Rattle.cal_spec.specs.rules.WordsOfText.{IsWordAt}
 use Rattle.cal_spec.proofs.fault_word.fault_span.Given as goal

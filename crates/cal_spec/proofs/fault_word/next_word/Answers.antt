@@ -1,6 +1,6 @@
 use Rattle.std.proofs.Common.{◌+◌, ◌∙◌, ap, sym, arith, not}
 use Rattle.std.specs.List.{prefix_len}
-use Rattle.cal_text.specs.rules.Separators.{is_blank}
+use Rattle.cal_bytes.specs.rules.Separators.{is_blank}
 use Rattle.cal_spec.proofs.FaultSpanLemmas.{gap_is_blank, only_blanks, rest_from, word_ends, word_is_solid}
 use Rattle.cal_spec.proofs.fault_word.next_word.Goals as goal
 

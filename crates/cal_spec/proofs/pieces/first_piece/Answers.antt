@@ -2,7 +2,7 @@ use Rattle.std.proofs.Common.{ℕ, Bool, ◌∙◌, sym, ap, ◌+◌, ◌∷◌,
 use Rattle.std.specs.List.{slice_split}
 use Rattle.std.proofs.lemmas.List.{take_rest}
 use Rattle.cal_spec.proofs.pieces.first_piece.Goals as goal
-use Rattle.cal_text.proofs.General.{split_none, split_some}
+use Rattle.cal_bytes.proofs.General.{split_none, split_some}
 
 pub returns-in-Some-clause-pieces : goal.returns-in-Some-clause-pieces
 returns-in-Some-clause-pieces c =

@@ -6,7 +6,7 @@ use Rattle.std.proofs.lemmas.Bool.Decides.{nat_tests}
 use Rattle.cal_stamp.specs.rules.StampDate.{digits_number}
 use Rattle.cal_stamp.proofs.date.read_number.Goals as goal
 use Rattle.std.proofs.lemmas.Bool.{and_parts}
-use Rattle.cal_text.proofs.General.{digit_below}
+use Rattle.cal_bytes.proofs.General.{digit_below}
 use Rattle.std.proofs.Math.Nat.{pow-le-pow_right}
 use Rattle.std.proofs.lemmas.Int.Digits.{digits_value-lt}
 

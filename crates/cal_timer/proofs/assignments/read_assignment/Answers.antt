@@ -4,7 +4,7 @@ use Rattle.std.proofs.lemmas.Bool.Decides.{nat_tests}
 use Rattle.std.proofs.lemmas.List.Elements.{All-from_get_or}
 use Rattle.std.proofs.lemmas.List.Folds.{list_any_none}
 use Rattle.std.proofs.lemmas.Str.Pattern.{NoCharPasses-char}
-use Rattle.cal_text.specs.rules.Separators.{is_equals}
+use Rattle.cal_bytes.specs.rules.Separators.{is_equals}
 use Rattle.cal_timer.specs.rules.Assignments.{assignment_of}
 use Rattle.cal_timer.proofs.assignments.read_assignment.Goals as goal
 

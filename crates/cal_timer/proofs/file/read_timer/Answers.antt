@@ -1,5 +1,5 @@
 use Rattle.std.proofs.Common.{◌≡◌, false, true, Ok, Err, refl}
-use Rattle.cal_streams.specs.declared.whole.WholeFault.TheVariants as whole
+use Rattle.cal_bytes.specs.declared.whole.WholeFault.TheVariants as whole
 use Rattle.cal_spec.specs.computed.Expr.{expr_in}
 use Rattle.cal_timer.proofs.TimerLemmas.{never_failed}
 use Rattle.cal_timer.proofs.file.read_timer.Goals as goal

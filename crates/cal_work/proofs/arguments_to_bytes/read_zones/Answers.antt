@@ -2,7 +2,7 @@ use Rattle.std.proofs.Common.{arith, refl}
 use Rattle.cal_command.specs.rules.Ask.{shown_item}
 use Rattle.cal_work.proofs.WorkLemmas.{next_loaded, next_stops, none_left}
 use Rattle.cal_work.proofs.arguments_to_bytes.read_zones.Goals as goal
-use Rattle.cal_text.proofs.General.{items_end, items_next}
+use Rattle.cal_bytes.proofs.General.{items_end, items_next}
 
 pub returns-in-Err : goal.returns-in-Err
 returns-in-Err g c =

@@ -2,7 +2,7 @@ use Rattle.std.proofs.Common.{arith}
 use Rattle.std.proofs.lemmas.Int.{to_z-of_z}
 use Rattle.jiff.proofs.SpanFacts.{signed_arith}
 use Rattle.cal_zone.proofs.instant_offset_range.instant_range_end.Goals as goal
-use Rattle.cal_text.proofs.General.{min_from}
+use Rattle.cal_bytes.proofs.General.{min_from}
 
 pub returns-in-Some : goal.returns-in-Some
 returns-in-Some c =

@@ -10,7 +10,7 @@ use Rattle.cal_zone.specs.computed.LocalOffsetRange.{IsClearOfTransition}
 use Rattle.cal_zone.proofs.SameOffsetLemmas.{same_offsets_by_next_after_table}
 use Rattle.cal_zone.proofs.LocalOffsetRangeLemmas.{all_later, same_offsets_after_table, same_offsets_without_dst, same_offsets_without_rule, length_of_copy}
 use Rattle.cal_zone.proofs.local_offset_range.range_end_after_table.Goals as goal
-use Rattle.cal_text.proofs.General.{not_some}
+use Rattle.cal_bytes.proofs.General.{not_some}
 
 pub returns-in_default : goal.returns-in_default
 returns-in_default c = λ local years begun within.

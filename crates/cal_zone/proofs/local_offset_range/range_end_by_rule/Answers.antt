@@ -8,7 +8,7 @@ use Rattle.cal_zone.specs.computed.LocalOffsetRange.{IsClearOfTransition}
 use Rattle.cal_zone.proofs.LocalOffsetRangeLemmas.{same_offsets_standard}
 use Rattle.cal_zone.proofs.SameOffsetLemmas.{same_offsets_by_next}
 use Rattle.cal_zone.proofs.local_offset_range.range_end_by_rule.Goals as goal
-use Rattle.cal_text.proofs.General.{not_some}
+use Rattle.cal_bytes.proofs.General.{not_some}
 
 pub range_end_before_transition-requires : goal.range_end_before_transition-requires
 range_end_before_transition-requires c = omega (arith, local_arith)

@@ -6,7 +6,7 @@ use Rattle.cal_elapse.specs.computed.Ring.{cells_behind}
 use Rattle.cal_elapse.proofs.FillLemmas.{AreFilled, begun_least, filled_answer, filled_from, round_of_all}
 use Rattle.cal_elapse.proofs.RingLemmas.{rises-instants}
 use Rattle.cal_elapse.proofs.pending.Pending.put_bits.Goals as goal
-use Rattle.cal_text.proofs.General.{pos_unsigned_abs}
+use Rattle.cal_bytes.proofs.General.{pos_unsigned_abs}
 
 pub invariant_of-self : goal.invariant_of-self
 invariant_of-self c =

@@ -2,7 +2,7 @@ use Rattle.std.proofs.Common.{arith}
 use Rattle.std.proofs.lemmas.Int.{ints}
 use Rattle.cal_elapse.proofs.RingLemmas.{found_inside, found_kept, least_answer, none_answer, none_kept, taken_answer, taken_from}
 use Rattle.cal_elapse.proofs.pending.Pending.take_least.Goals as goal
-use Rattle.cal_text.proofs.General.{drop_none}
+use Rattle.cal_bytes.proofs.General.{drop_none}
 
 pub returns-then-second-clause-least : goal.returns-then-second-clause-least
 returns-then-second-clause-least c =

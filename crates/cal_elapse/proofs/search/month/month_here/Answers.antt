@@ -3,7 +3,7 @@ use Rattle.cal_elapse.specs.computed.Bits.{is_bit}
 use Rattle.cal_elapse.proofs.CarryLemmas.{first_here, none_by_high, none_by_low}
 use Rattle.cal_elapse.proofs.YearWordLemmas.{months_split}
 use Rattle.cal_elapse.proofs.search.month.month_here.Goals as goal
-use Rattle.cal_text.proofs.General.{below_end}
+use Rattle.cal_bytes.proofs.General.{below_end}
 
 pub returns-then-not-has_year : goal.returns-then-not-has_year
 returns-then-not-has_year c =

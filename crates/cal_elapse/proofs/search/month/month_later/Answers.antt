@@ -3,7 +3,7 @@ use Rattle.cal_elapse.specs.computed.Bits.{is_bit, is_bit_in}
 use Rattle.cal_elapse.proofs.CarryLemmas.{first_later, none_later}
 use Rattle.cal_elapse.proofs.YearWordLemmas.{months_split, no_months}
 use Rattle.cal_elapse.proofs.search.month.month_later.Goals as goal
-use Rattle.cal_text.proofs.General.{below_end}
+use Rattle.cal_bytes.proofs.General.{below_end}
 
 pub returns-then-masks-eq0 : goal.returns-then-masks-eq0
 returns-then-masks-eq0 c = no_months c.args.masks.now (c.args.year * 12) c.if-masks-eq0.true

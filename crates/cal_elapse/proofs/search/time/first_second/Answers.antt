@@ -3,7 +3,7 @@ use Rattle.cal_elapse.specs.computed.Bits.{is_bit}
 use Rattle.cal_elapse.proofs.CarryLemmas.{first_later}
 use Rattle.cal_elapse.proofs.TimeLemmas.{minutes_split, seconds_split}
 use Rattle.cal_elapse.proofs.search.time.first_second.Goals as goal
-use Rattle.cal_text.proofs.General.{below_end}
+use Rattle.cal_bytes.proofs.General.{below_end}
 
 pub returns : goal.returns
 returns c =

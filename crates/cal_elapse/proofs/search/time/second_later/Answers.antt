@@ -3,7 +3,7 @@ use Rattle.cal_elapse.specs.computed.Bits.{is_bit}
 use Rattle.cal_elapse.proofs.CarryLemmas.{first_later, none_later}
 use Rattle.cal_elapse.proofs.TimeLemmas.{seconds_split}
 use Rattle.cal_elapse.proofs.search.time.second_later.Goals as goal
-use Rattle.cal_text.proofs.General.{below_end}
+use Rattle.cal_bytes.proofs.General.{below_end}
 
 pub returns-in-None : goal.returns-in-None
 returns-in-None c = none_later (seconds_split c.args.masks.now) c.args.minute 1_440 (omega arith) c.in-None.ensures

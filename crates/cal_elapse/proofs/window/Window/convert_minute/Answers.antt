@@ -3,7 +3,7 @@ use Rattle.std.proofs.lemmas.Int.{to_z-of_z}
 use Rattle.cal_civil.proofs.LocalLemmas.{local_arith}
 use Rattle.cal_civil.specs.rules.LocalSecond.{seconds_in_all-is}
 use Rattle.cal_zone.specs.rules.Zone.{zone_of}
-use Rattle.cal_text.proofs.General.{pos_unsigned_abs}
+use Rattle.cal_bytes.proofs.General.{pos_unsigned_abs}
 use Rattle.cal_civil.proofs.LocalLemmas.{local_inside}
 use Rattle.cal_elapse.proofs.RemainingMatchLemmas.{IsBehind, IsRun, minute_end, placed_at, placed_last, rest_begun, rest_inside, rest_instants, rest_near, rest_passed, rest_put, run_of}
 use Rattle.cal_elapse.proofs.WindowLemmas.{near_ahead}

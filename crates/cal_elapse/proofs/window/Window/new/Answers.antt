@@ -1,7 +1,7 @@
 use Rattle.std.proofs.Common.{◌≡◌, ◌∙◌, ap, of_z, subst, to_z, unsigned_abs, w64, ℕ}
 use Rattle.cal_civil.proofs.LocalLemmas.{local_arith}
 use Rattle.std.proofs.Common.{arith}
-use Rattle.cal_text.proofs.General.{max_from_zero}
+use Rattle.cal_bytes.proofs.General.{max_from_zero}
 use Rattle.cal_zone.specs.rules.Instant.{IsInstant}
 use Rattle.cal_elapse.specs.rules.ExaminedMonths.{IsSearch}
 use Rattle.cal_elapse.specs.computed.Masks.{sets_in}

@@ -3,7 +3,7 @@
 use Rattle.std.proofs.Common.{◌≡◌, ◌+◌, ◌<◌, ◌^◌, length}
 use denote.Shadow.{shadow}
 use denote.Text.{Utf8}
-use Rattle.cal_lines.specs.rules.Lines.{logical_lines}
+use Rattle.cal_timer.specs.rules.Lines.{logical_lines}
 use Rattle.cal_read.specs.rules.SectionAssignments.{section_assignments}
 use Rattle.cal_read.proofs.section_assignments.Assignments.next.Given as goal
 

@@ -4,7 +4,7 @@ use Rattle.cal_rising.specs.computed.Rises.{rises-union}
 use Rattle.cal_rising.specs.rules.RisingList.{union, without}
 use Rattle.cal_rising.proofs.WithoutLemmas.{without-first}
 use Rattle.cal_rising.proofs.merge.MergeRising.next.Goals as goal
-use Rattle.cal_text.proofs.General.{list-no_first}
+use Rattle.cal_bytes.proofs.General.{list-no_first}
 
 pub returns-then-not-has_onward : goal.returns-then-not-has_onward
 returns-then-not-has_onward g c =

@@ -2,7 +2,7 @@ use Rattle.std.proofs.Common.{◌+◌, ◌*◌, ◌/◌, min, drop, arith, ap, �
 use Rattle.std.proofs.Math.Nat.{one-le-pow}
 use Rattle.std.proofs.lemmas.List.{at_drop_all}
 use Rattle.cal_span.specs.rules.PairValue.{fraction_worth}
-use Rattle.cal_text.proofs.DigitLemmas.{top}
+use Rattle.cal_bytes.proofs.DigitLemmas.{top}
 use Rattle.cal_span.proofs.SpanNumbers.{divisor_more, term_is, fraction_more}
 use Rattle.cal_span.proofs.span.number.fraction_of.Goals as goal
 

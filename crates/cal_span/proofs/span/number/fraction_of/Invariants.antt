@@ -1,6 +1,6 @@
 use Rattle.std.proofs.Common.{◌≡◌, ◌≤◌, ◌+◌, ◌^◌, min, drop}
 use Rattle.cal_span.specs.rules.PairValue.{fraction_worth}
-use Rattle.cal_text.proofs.DigitLemmas.{top}
+use Rattle.cal_bytes.proofs.DigitLemmas.{top}
 use Rattle.cal_span.proofs.span.number.fraction_of.Given as goal
 
 -- The divisor is 10 to the power of the number of digits so far. The sum so far plus the value of the remaining digits

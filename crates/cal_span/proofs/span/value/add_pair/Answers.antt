@@ -2,10 +2,10 @@ use Rattle.std.proofs.Common.{◌≡◌, ◌+◌, ap, ◌∙◌, sym, min, rules
 use Rattle.std.specs.List.{before_first}
 use Rattle.std.specs.Option.{option_copied}
 use Rattle.cal_span.specs.rules.TimeUnit.{size_of}
-use Rattle.cal_text.specs.rules.Separators.{is_point}
+use Rattle.cal_bytes.specs.rules.Separators.{is_point}
 use Rattle.cal_span.specs.rules.PairValue.{Pair, number_worth, digits_worth}
 use Rattle.cal_span.specs.computed.SpanValue.{sum_with}
-use Rattle.cal_text.proofs.DigitLemmas.{top}
+use Rattle.cal_bytes.proofs.DigitLemmas.{top}
 use Rattle.cal_span.proofs.SpanPairs.{worth_bad_number, worth_unknown_unit, worth_good, added_is}
 use Rattle.cal_span.proofs.span.value.add_pair.Goals as goal
 

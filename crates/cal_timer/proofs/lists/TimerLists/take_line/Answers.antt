@@ -3,7 +3,7 @@ use Rattle.std.specs.Str.{bytes_eq}
 use Rattle.std.proofs.lemmas.Result.{err_from_is_err_and}
 use Rattle.cal_spec.specs.computed.Expr.{expr_in}
 use Rattle.cal_timer.specs.rules.Assignments.{assignments_in}
-use Rattle.cal_lines.specs.rules.LineView.{line_at}
+use Rattle.cal_timer.specs.rules.LineView.{line_at}
 use Rattle.cal_timer.specs.rules.TimerView.{shown_assignment}
 use Rattle.cal_timer.specs.computed.ResumedLists.{resumed}
 use Rattle.cal_timer.proofs.ResumedLemmas.{assigned_here, header_here, nothing_here, outside_here}

@@ -2,7 +2,7 @@ use Rattle.std.proofs.Common.{◌∙◌, ap}
 use Rattle.std.proofs.lemmas.Result.{err_from_is_err_and}
 use Rattle.cal_spec.specs.computed.Expr.{expr_in}
 use Rattle.cal_timer.specs.rules.Assignments.{assignments_in}
-use Rattle.cal_lines.specs.rules.Lines.{logical_lines}
+use Rattle.cal_timer.specs.rules.Lines.{logical_lines}
 use Rattle.cal_timer.specs.computed.ResumedLists.{resumed}
 use Rattle.cal_timer.proofs.ResumedLemmas.{no_lines}
 use Rattle.cal_timer.proofs.lists.TimerLists.take_text.Goals as goal

@@ -5,7 +5,7 @@ use denote.Shadow.{shadow}
 use denote.Text.{Utf8}
 use Rattle.cal_spec.specs.computed.Expr.{expr_in}
 use Rattle.cal_timer.specs.rules.Assignments.{assignments_in}
-use Rattle.cal_lines.specs.rules.Lines.{logical_lines}
+use Rattle.cal_timer.specs.rules.Lines.{logical_lines}
 use Rattle.cal_timer.specs.computed.ResumedLists.{resumed}
 use Rattle.cal_timer.proofs.lists.TimerLists.take_text.Given as goal
 

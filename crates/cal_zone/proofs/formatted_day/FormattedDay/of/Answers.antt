@@ -7,7 +7,7 @@ use Rattle.cal_zone.specs.rules.InstantText.{zone_word}
 use Rattle.cal_zone.specs.rules.Zone.{is_utc, zone_of}
 use Rattle.cal_zone.proofs.FormattedDayLemmas.{day_goes_on, seconds_shown, text_on_day}
 use Rattle.cal_zone.proofs.formatted_day.FormattedDay.of.Goals as goal
-use Rattle.cal_text.proofs.General.{min_from}
+use Rattle.cal_bytes.proofs.General.{min_from}
 use Rattle.std.specs.Int.{int_max}
 
 -- an upper bound of two numbers is an upper bound of their maximum

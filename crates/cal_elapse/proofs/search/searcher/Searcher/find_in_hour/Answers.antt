@@ -4,7 +4,7 @@ use Rattle.cal_spec.specs.rules.Match.{matches}
 use Rattle.cal_elapse.specs.computed.Bits.{is_bit}
 use Rattle.cal_elapse.specs.computed.RemainingMatches.{AreRemaining}
 use Rattle.cal_elapse.specs.computed.Masks.{sets_in}
-use Rattle.cal_text.proofs.General.{below_end}
+use Rattle.cal_bytes.proofs.General.{below_end}
 use Rattle.cal_elapse.proofs.MinuteLemmas.{minutes_inside, minutes_later, search_later, seconds_later}
 use Rattle.cal_elapse.proofs.search.searcher.Searcher.find_in_hour.Goals.{After-local_in-local, After-lowest_bit}
 use Rattle.cal_elapse.proofs.search.searcher.Searcher.find_in_hour.Goals as goal

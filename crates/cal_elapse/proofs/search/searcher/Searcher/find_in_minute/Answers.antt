@@ -2,7 +2,7 @@ use Rattle.std.proofs.Common.{◌≡◌, ◌+◌, ◌<◌, ◌+ℤ◌, ◌≤ℤ
 use Rattle.std.proofs.lemmas.Int.{to_z-of_z}
 use Rattle.jiff.proofs.SpanFacts.{signed_arith}
 use Rattle.cal_civil.specs.rules.LocalSecond.{seconds_in_all, seconds_in_all-is}
-use Rattle.cal_text.proofs.General.{pos_unsigned_abs, sum_whole}
+use Rattle.cal_bytes.proofs.General.{pos_unsigned_abs, sum_whole}
 use Rattle.cal_elapse.specs.computed.RemainingMatches.{AreRemaining, minute_matches}
 use Rattle.cal_elapse.specs.computed.Masks.{sets_in}
 use Rattle.cal_elapse.proofs.MinuteLemmas.{left_behind, left_inside, search_minute}

@@ -9,7 +9,7 @@ use Rattle.cal_elapse.specs.computed.Masks.{sets_in}
 use Rattle.cal_elapse.specs.rules.MostMonths.{IsMostAfter}
 use Rattle.cal_elapse.specs.declared.masks.Masks.{Masks}
 use Rattle.cal_elapse.proofs.CountLemmas.{count_from-most, count_from-nothing, count_from-then}
-use Rattle.cal_text.proofs.General.{pos_unsigned_abs}
+use Rattle.cal_bytes.proofs.General.{pos_unsigned_abs}
 use Rattle.cal_civil.proofs.LocalLemmas.{local_inside}
 use Rattle.cal_elapse.proofs.MinuteLemmas.{rest_on, rest_unknown}
 use Rattle.cal_elapse.proofs.MostMonthsLemmas.{most_begun, most_on, most_then}

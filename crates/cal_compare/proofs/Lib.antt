@@ -1,3 +1,0 @@
-pub mod DifferenceLemmas
-pub mod OrderLemmas
-pub mod RangeLemmas

@@ -1,8 +1,0 @@
-use Rattle.std.proofs.Common.{arith, sym}
-use Rattle.std.proofs.lemmas.Int.{ints}
-use Rattle.cal_compare.proofs.RangeLemmas.{range_past}
-use Rattle.cal_compare.proofs.range.add_range.Goals as goal
-
-pub returns-then-secs : goal.returns-then-secs
-returns-then-secs g c =
-    range_past _ _ _ _ _ _ _ (sym (rw c.in-Some.is at c.next.ensures.given)) c.next.ensures.rises (grind (arith, ints)) c.loop-instant.invariant

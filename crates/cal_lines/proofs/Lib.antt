@@ -1,4 +1,0 @@
-pub mod GroupLemmas
-pub mod LineLemmas
-pub mod LineRuleLemmas
-pub mod LogicalRuleLemmas

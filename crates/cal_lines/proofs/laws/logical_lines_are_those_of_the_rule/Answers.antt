@@ -1,5 +1,0 @@
-use Rattle.cal_lines.proofs.LogicalRuleLemmas.{logical_are, logical_only}
-use Rattle.cal_lines.proofs.laws.logical_lines_are_those_of_the_rule.Goals as goal
-
-pub returns : goal.returns
-returns c = record { these = logical_are; only = logical_only }

@@ -1,5 +1,0 @@
-use Rattle.cal_lines.proofs.LineRuleLemmas.{are_groups, groups_of_lines, lines_of_groups}
-use Rattle.cal_lines.proofs.laws.one_grouping.Goals as goal
-
-pub returns : goal.returns
-returns c = record { lines = lines_of_groups; some = are_groups; only = groups_of_lines }

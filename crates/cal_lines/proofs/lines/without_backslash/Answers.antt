@@ -1,8 +1,0 @@
-use Rattle.cal_lines.proofs.LineLemmas.{last_is_backslash}
-use Rattle.cal_lines.proofs.lines.without_backslash.Goals as goal
-
-pub overflow_sub-line : goal.overflow_sub-line
-overflow_sub-line c = (last_is_backslash c.args.line.now c.requires).0
-
-pub range-requires-clause-end_boundary : goal.range-requires-clause-end_boundary
-range-requires-clause-end_boundary c = (last_is_backslash c.args.line.now c.requires).1

@@ -1,4 +1,0 @@
-pub mod DigitLemmas
-pub mod General
-pub mod TrimLemmas
-pub mod WordLemmas
