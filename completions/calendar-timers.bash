@@ -2,14 +2,17 @@
 
 # Prints the folders that have the units of the system or, if $1 is `--user`, of the user.
 _calendar_timers_folders() {
-    if [ "$1" = --user ]; then
-        printf '%s\n' "$HOME/.config/systemd/user" /etc/xdg/systemd/user /etc/systemd/user /run/systemd/user \
-            "$HOME/.local/share/systemd/user" /usr/local/share/systemd/user /usr/share/systemd/user \
-            /usr/local/lib/systemd/user /usr/lib/systemd/user
-    else
-        printf '%s\n' /etc/systemd/system /run/systemd/system /usr/local/lib/systemd/system /usr/lib/systemd/system \
-            /lib/systemd/system
+    local config=${XDG_CONFIG_HOME-$HOME/.config} data=${XDG_DATA_HOME-$HOME/.local/share} every
+    if [ "$1" != --user ]; then
+        printf '%s\n' {/etc,/run}/systemd/system{,.control,.attached} {/usr/local/lib,/lib,/usr/lib}/systemd/system \
+            /run/systemd/{transient,generator{,.early,.late}}
+        return
     fi
+    IFS=: read -ra every <<< "${XDG_CONFIG_DIRS-/etc/xdg}:${XDG_DATA_DIRS-/usr/local/share:/usr/share}"
+    printf '%s/systemd/user\n' "$config" "$data" "${every[@]}" /etc /run /usr/{local/,}{lib,share}
+    printf '%s\n' "$config/systemd/user.control"
+    [ -z "${XDG_RUNTIME_DIR+set}" ] ||
+        printf '%s\n' "$XDG_RUNTIME_DIR"/systemd/{user{,.control},transient,generator{,.early,.late}}
 }
 
 # Prints the timers whose names begin with $2, without templates.

@@ -2,14 +2,23 @@
 
 function __calendar_timers_folders
     # Prints the folders that have the units of the system or, after --user, of the user.
-    if contains -- --user (commandline -opc)
-        string join \n ~/.config/systemd/user /etc/xdg/systemd/user /etc/systemd/user /run/systemd/user \
-            ~/.local/share/systemd/user /usr/local/share/systemd/user /usr/share/systemd/user \
-            /usr/local/lib/systemd/user /usr/lib/systemd/user
-    else
-        string join \n /etc/systemd/system /run/systemd/system /usr/local/lib/systemd/system /usr/lib/systemd/system \
-            /lib/systemd/system
+    if not contains -- --user (commandline -opc)
+        string join \n {/etc,/run}/systemd/system{,.control,.attached} {/usr/local/lib,/lib,/usr/lib}/systemd/system \
+            /run/systemd/{transient,generator{,.early,.late}}
+        return
     end
+    set -l config ~/.config
+    set -l data ~/.local/share
+    set -l every /etc/xdg
+    set -l theirs /usr/local/share /usr/share
+    set -q XDG_CONFIG_HOME; and set config "$XDG_CONFIG_HOME"
+    set -q XDG_DATA_HOME; and set data "$XDG_DATA_HOME"
+    set -q XDG_CONFIG_DIRS; and set every (string split : -- "$XDG_CONFIG_DIRS")
+    set -q XDG_DATA_DIRS; and set theirs (string split : -- "$XDG_DATA_DIRS")
+    set -a every $theirs $config $data /etc /run /usr/{local/,}{lib,share}
+    string join \n $every/systemd/user $config/systemd/user.control
+    set -q XDG_RUNTIME_DIR
+    and string join \n "$XDG_RUNTIME_DIR"/systemd/{user{,.control},transient,generator{,.early,.late}}
 end
 
 function __calendar_timers_targets

@@ -7,8 +7,8 @@ use crate::between::between;
 use crate::compare::same;
 use crate::lint::lint;
 use crate::local_clock::LocalClock;
+use crate::search_path::search_path;
 use crate::timers::{list, next, show};
-use cal_drop_ins::{system_path, user_path};
 use cal_machine_zones::ZonesFault;
 use cal_plan::PlanFault;
 use cal_targets::TargetFault;
@@ -183,23 +183,6 @@ fn answer_verb<T: Tree>(
         Verb::Between => between(alloc, tree, asked),
         Verb::Same => same(alloc, tree, asked),
         Verb::Next => next(alloc, tree, asked),
-    }
-}
-
-/// Returns the search path of the user's units if `is_user` is `true`, and otherwise that of the system's units.
-/// Returns `None` if the user's home isn't known.
-fn search_path<T: Tree>(
-    alloc: Global,
-    tree: &T,
-    is_user: bool,
-) -> Result<Option<Vec<String>>, AllocError> {
-    if !is_user {
-        return Ok(Some(system_path(alloc, "")?));
-    }
-    match tree.variable(alloc, "HOME") {
-        Ok(Some(home)) => Ok(Some(user_path(alloc, "", home.as_str())?)),
-        Err(TreeFault::NoMemory) => Err(AllocError),
-        _ => Ok(None),
     }
 }
 

@@ -8,6 +8,7 @@ mod between;
 mod compare;
 mod lint;
 mod local_clock;
+mod search_path;
 mod timers;
 
 pub use answer::{Answer, answer_question};

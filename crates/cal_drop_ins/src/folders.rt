@@ -53,7 +53,7 @@ fn reversed(alloc: Global, path: &[String]) -> Result<Vec<&str>, AllocError>
     Ok(roots)
 }
 
-fn all_texts(alloc: Global, path: &[String]) -> Result<Vec<&str>, AllocError>
+pub(crate) fn all_texts(alloc: Global, path: &[String]) -> Result<Vec<&str>, AllocError>
     ensures { IfOk result (λ roots. map (λ root. root.now) roots.items ≡ map string_bytes path.now) }
 {
     let mut roots = Vec::new(alloc);

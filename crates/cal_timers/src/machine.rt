@@ -12,12 +12,20 @@ use std::time::{Clock, SystemTime, UNIX_EPOCH};
 use std::{env, fs, io};
 
 /// The folders of the system's search path, in which most files are looked for.
-const UNIT_FOLDERS: [&str; 5] = [
+const UNIT_FOLDERS: [&str; 13] = [
+    "/etc/systemd/system.control",
+    "/run/systemd/system.control",
+    "/run/systemd/transient",
+    "/run/systemd/generator.early",
     "/etc/systemd/system",
+    "/etc/systemd/system.attached",
     "/run/systemd/system",
+    "/run/systemd/system.attached",
+    "/run/systemd/generator",
     "/usr/local/lib/systemd/system",
-    "/usr/lib/systemd/system",
     "/lib/systemd/system",
+    "/usr/lib/systemd/system",
+    "/run/systemd/generator.late",
 ];
 
 /// The system that the program runs on, or the part of it below a root folder.
