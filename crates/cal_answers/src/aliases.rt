@@ -1,6 +1,7 @@
 //! The aliases of units, which are needed if a question is about units, and the errors that are found along with them.
 
 ghost use Rattle.std.specs.Prelude.{◌≤◌, IfOk, max};
+ghost use Rattle.cal_units.specs.rules.Machine.{Machine};
 
 use crate::answer::{Answer, INVALID, fault_lines};
 use cal_plan::PlanFault;
@@ -12,11 +13,13 @@ use std::alloc::{AllocError, Global};
 /// Returns the aliases of all units in the search path, or none if the question can't be about units.
 pub(crate) fn aliases_for<T: Tree>(
     alloc: Global,
-    tree: &T,
+    tree: &mut T,
     verb: Verb,
     path: &[String],
     targets: &[&str],
-) -> Result<Aliases, AllocError> {
+) -> Result<Aliases, AllocError>
+    ensures grows { (machine : Machine) → T.shows tree.new machine → T.shows tree.old machine }
+{
     if has_units(verb, targets) {
         return find_aliases(alloc, tree, path);
     }

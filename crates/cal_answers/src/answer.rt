@@ -1,6 +1,7 @@
 //! The answer to a question: the texts for standard output and standard error, and the exit status.
 
 ghost use Rattle.std.specs.Prelude.{◌≤◌, IfOk};
+ghost use Rattle.cal_units.specs.rules.Machine.{Machine};
 
 use crate::aliases::{aliases_for, with_folder_faults};
 use crate::between::between;
@@ -63,12 +64,13 @@ pub(crate) struct Asked<'a> {
 /// If the question names a present, `clock` isn't used. Fails with [`PlanFault::NoMemory`] if allocation fails.
 pub fn answer_question<T: Tree>(
     alloc: Global,
-    tree: &T,
+    tree: &mut T,
     question: &Question,
     clock: Option<i64>,
     style: Style,
 ) -> Result<Answer, PlanFault>
-    ensures { IfOk result (λ answer. answer.status ≤ 2) }
+    ensures status { IfOk result (λ answer. answer.status ≤ 2) }
+    ensures grows { (machine : Machine) → T.shows tree.new machine → T.shows tree.old machine }
 {
     let Some(now) = present(question.now, clock) else {
         return stopped(alloc, "the clock shows a time before 1970 or after 2199");
@@ -99,7 +101,9 @@ fn present(given: Option<i64>, clock: Option<i64>) -> Option<Instant> {
 
 /// Returns whether the root of the tree is a folder. Returns `true` without a check if `root`, the root that the
 /// question names, is empty.
-fn has_root<T: Tree>(alloc: Global, tree: &T, root: &str) -> Result<bool, AllocError> {
+fn has_root<T: Tree>(alloc: Global, tree: &mut T, root: &str) -> Result<bool, AllocError>
+    ensures grows { (machine : Machine) → T.shows tree.new machine → T.shows tree.old machine }
+{
     if root.is_empty() {
         return Ok(true);
     }
@@ -125,12 +129,13 @@ pub(crate) fn stopped(alloc: Global, reason: &str) -> Result<Answer, PlanFault>
 /// Answers a question, given the present and the local zone.
 fn answer_at<T: Tree>(
     alloc: Global,
-    tree: &T,
+    tree: &mut T,
     question: &Question,
     at: Clocked<'_>,
     style: Style,
 ) -> Result<Answer, PlanFault>
-    ensures { IfOk result (λ answer. answer.status ≤ 2) }
+    ensures status { IfOk result (λ answer. answer.status ≤ 2) }
+    ensures grows { (machine : Machine) → T.shows tree.new machine → T.shows tree.old machine }
 {
     let Some(path) = search_path(alloc, tree, question.is_user)? else {
         return stopped(alloc, "the variable HOME isn't set or can't be read");
@@ -170,11 +175,12 @@ fn answer_at<T: Tree>(
 
 fn answer_verb<T: Tree>(
     alloc: Global,
-    tree: &T,
+    tree: &mut T,
     verb: Verb,
     asked: Asked<'_>,
 ) -> Result<Answer, PlanFault>
-    ensures { IfOk result (λ answer. answer.status ≤ 2) }
+    ensures status { IfOk result (λ answer. answer.status ≤ 2) }
+    ensures grows { (machine : Machine) → T.shows tree.new machine → T.shows tree.old machine }
 {
     match verb {
         Verb::List => list(alloc, tree, asked),

@@ -1,6 +1,7 @@
 //! The verb `between`: all elapses of several timers in a range of time.
 
 ghost use Rattle.std.specs.Prelude.{◌≤◌, IfOk};
+ghost use Rattle.cal_units.specs.rules.Machine.{Machine};
 
 use crate::answer::{Answer, Asked, fault_lines, status_of, stopped};
 use cal_load::{Loaded, load_timers};
@@ -17,10 +18,11 @@ use std::alloc::Global;
 /// the timers.
 pub(crate) fn between<T: Tree>(
     alloc: Global,
-    tree: &T,
+    tree: &mut T,
     asked: Asked<'_>,
 ) -> Result<Answer, PlanFault>
-    ensures { IfOk result (λ answer. answer.status ≤ 2) }
+    ensures status { IfOk result (λ answer. answer.status ≤ 2) }
+    ensures grows { (machine : Machine) → T.shows tree.new machine → T.shows tree.old machine }
 {
     let [from, before, targets @ ..] = asked.targets else {
         return stopped(alloc, "FROM and TO are missing");

@@ -1,6 +1,7 @@
 //! The verb `same`: whether two timers elapse at the same instants.
 
 ghost use Rattle.std.specs.Prelude.{◌≤◌, IfOk};
+ghost use Rattle.cal_units.specs.rules.Machine.{Machine};
 
 use crate::answer::{Answer, Asked, INVALID, fault_lines, push_masked, stopped};
 use cal_load::{Loaded, LoadedTimer, load_expressions, load_timers};
@@ -13,8 +14,13 @@ use cal_units::Tree;
 use std::alloc::{AllocError, Global};
 
 /// Compares the two timers that the targets name. Each target is a unit, a file or an expression.
-pub(crate) fn same<T: Tree>(alloc: Global, tree: &T, asked: Asked<'_>) -> Result<Answer, PlanFault>
-    ensures { IfOk result (λ answer. answer.status ≤ 2) }
+pub(crate) fn same<T: Tree>(
+    alloc: Global,
+    tree: &mut T,
+    asked: Asked<'_>,
+) -> Result<Answer, PlanFault>
+    ensures status { IfOk result (λ answer. answer.status ≤ 2) }
+    ensures grows { (machine : Machine) → T.shows tree.new machine → T.shows tree.old machine }
 {
     let [one, other] = asked.targets else {
         return stopped(alloc, "two timers are needed");
@@ -31,10 +37,12 @@ pub(crate) fn same<T: Tree>(alloc: Global, tree: &T, asked: Asked<'_>) -> Result
 /// about the unit or the file.
 fn load_one<T: Tree>(
     alloc: Global,
-    tree: &T,
+    tree: &mut T,
     asked: Asked<'_>,
     target: &str,
-) -> Result<Loaded, AllocError> {
+) -> Result<Loaded, AllocError>
+    ensures grows { (machine : Machine) → T.shows tree.new machine → T.shows tree.old machine }
+{
     let loaded = load_timers(alloc, tree, asked.path, asked.aliases, &[target])?;
     match loaded.faults.first() {
         Some(fault) if matches!(fault.reason, TargetReason::NotFound) => {

@@ -1,6 +1,7 @@
 //! The verb `lint`: all problems of the files of timers.
 
 ghost use Rattle.std.specs.Prelude.{◌≤◌, IfOk};
+ghost use Rattle.cal_units.specs.rules.Machine.{Machine};
 
 use crate::answer::{Answer, Asked, INVALID, fault_lines, push_fault_line};
 use cal_lint::{Finding, ProblemKind, findings};
@@ -34,8 +35,13 @@ struct FileProblem {
 
 /// Returns all problems of the files, and then warnings about expressions and exceptions that have no effect. Each file
 /// is checked by itself.
-pub(crate) fn lint<T: Tree>(alloc: Global, tree: &T, asked: Asked<'_>) -> Result<Answer, PlanFault>
-    ensures { IfOk result (λ answer. answer.status ≤ 2) }
+pub(crate) fn lint<T: Tree>(
+    alloc: Global,
+    tree: &mut T,
+    asked: Asked<'_>,
+) -> Result<Answer, PlanFault>
+    ensures status { IfOk result (λ answer. answer.status ≤ 2) }
+    ensures grows { (machine : Machine) → T.shows tree.new machine → T.shows tree.old machine }
 {
     let mut problems = Vec::new(alloc);
     let of_files = add_files(alloc, tree, asked, &mut problems)?;
@@ -64,10 +70,12 @@ pub(crate) fn lint<T: Tree>(alloc: Global, tree: &T, asked: Asked<'_>) -> Result
 /// can't be read.
 fn add_files<T: Tree>(
     alloc: Global,
-    tree: &T,
+    tree: &mut T,
     asked: Asked<'_>,
     problems: &mut Vec<FileProblem>,
-) -> Result<Vec<TargetFault>, AllocError> {
+) -> Result<Vec<TargetFault>, AllocError>
+    ensures grows { (machine : Machine) → T.shows tree.new machine → T.shows tree.old machine }
+{
     let loaded = load_files(alloc, tree, asked.path, asked.aliases, asked.targets)?;
     for file in &loaded.files {
         // systemd accepts comments that aren't UTF-8, so such bytes are replaced instead of being an error.
@@ -119,9 +127,11 @@ fn problem_of(file: String, finding: Finding, message: String, text: String) -> 
 /// itself.
 fn load_whole_timers<T: Tree>(
     alloc: Global,
-    tree: &T,
+    tree: &mut T,
     asked: Asked<'_>,
-) -> Result<Loaded, AllocError> {
+) -> Result<Loaded, AllocError>
+    ensures grows { (machine : Machine) → T.shows tree.new machine → T.shows tree.old machine }
+{
     let timers: Vec<&str> = asked
         .targets
         .iter()

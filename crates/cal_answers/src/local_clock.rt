@@ -1,5 +1,7 @@
 //! The local zone of the machine, with the rules or the zone table that its [`Zone`] borrows.
 
+ghost use Rattle.cal_units.specs.rules.Machine.{Machine};
+
 use cal_machine_zones::{MachineLocalZone, Origin, ZonesFault, find_local_zone, load_zones};
 use cal_units::Tree;
 use cal_zone::{Rules, Zone, ZoneFault, ZoneTable};
@@ -24,9 +26,11 @@ impl LocalClock {
     /// invalid.
     pub(crate) fn find<T: Tree>(
         alloc: Global,
-        tree: &T,
+        tree: &mut T,
         option: Option<&str>,
-    ) -> Result<LocalClock, ZonesFault> {
+    ) -> Result<LocalClock, ZonesFault>
+        ensures grows { (machine : Machine) → T.shows tree.new machine → T.shows tree.old machine }
+    {
         match find_local_zone(alloc, tree, option) {
             Ok(MachineLocalZone::Utc) => Ok(LocalClock::Fixed(Zone::utc())),
             Ok(MachineLocalZone::Offset(seconds)) => Ok(LocalClock::Fixed(Zone::offset(seconds))),
@@ -54,7 +58,9 @@ fn ruled(alloc: Global, rule: &str) -> Result<LocalClock, ZonesFault> {
     }
 }
 
-fn named<T: Tree>(alloc: Global, tree: &T, name: String) -> Result<LocalClock, ZonesFault> {
+fn named<T: Tree>(alloc: Global, tree: &mut T, name: String) -> Result<LocalClock, ZonesFault>
+    ensures grows { (machine : Machine) → T.shows tree.new machine → T.shows tree.old machine }
+{
     let names = vec![in alloc; name.clone()?]?;
     let table = load_zones(alloc, tree, names.as_slice())?;
     Ok(LocalClock::Named(name, table))

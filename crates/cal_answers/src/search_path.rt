@@ -1,17 +1,22 @@
 //! The search path for a question, which depends on variables of the environment. A variable that isn't UTF-8 or can't be
 //! read counts as one that isn't set.
 
+ghost use Rattle.cal_units.specs.rules.Machine.{Machine};
+
 use cal_drop_ins::{UserVariables, given_path, system_path, user_path};
 use cal_units::{Tree, TreeFault};
 use std::alloc::{AllocError, Global};
 
 /// Returns the search path of a user's manager if `is_user` is `true`, and otherwise that of the system's manager.
-/// Returns `None` if the user's home is needed but isn't known.
+/// Returns `None` for a user if `XDG_CONFIG_HOME` or `XDG_DATA_HOME` isn't set and `HOME` isn't an absolute path, even if
+/// `SYSTEMD_UNIT_PATH` is set.
 pub(crate) fn search_path<T: Tree>(
     alloc: Global,
-    tree: &T,
+    tree: &mut T,
     is_user: bool,
-) -> Result<Option<Vec<String>>, AllocError> {
+) -> Result<Option<Vec<String>>, AllocError>
+    ensures grows { (machine : Machine) → T.shows tree.new machine → T.shows tree.old machine }
+{
     let usual = if is_user {
         usual_user_path(alloc, tree)?
     } else {
@@ -26,9 +31,10 @@ pub(crate) fn search_path<T: Tree>(
     }
 }
 
-/// Returns the search path of a user's manager if `SYSTEMD_UNIT_PATH` isn't set, or `None` if the user's home is needed
-/// but isn't known.
-fn usual_user_path<T: Tree>(alloc: Global, tree: &T) -> Result<Option<Vec<String>>, AllocError> {
+/// Returns the search path that a user's manager has without `SYSTEMD_UNIT_PATH`, or `None` as [`search_path`] does.
+fn usual_user_path<T: Tree>(alloc: Global, tree: &mut T) -> Result<Option<Vec<String>>, AllocError>
+    ensures grows { (machine : Machine) → T.shows tree.new machine → T.shows tree.old machine }
+{
     let home = variable(alloc, tree, "HOME")?;
     let config_home = variable(alloc, tree, "XDG_CONFIG_HOME")?;
     let config_dirs = variable(alloc, tree, "XDG_CONFIG_DIRS")?;
@@ -47,7 +53,9 @@ fn usual_user_path<T: Tree>(alloc: Global, tree: &T) -> Result<Option<Vec<String
 }
 
 /// Returns the value of a variable, or `None` if it isn't set, isn't UTF-8 or can't be read.
-fn variable<T: Tree>(alloc: Global, tree: &T, name: &str) -> Result<Option<String>, AllocError> {
+fn variable<T: Tree>(alloc: Global, tree: &mut T, name: &str) -> Result<Option<String>, AllocError>
+    ensures grows { (machine : Machine) → T.shows tree.new machine → T.shows tree.old machine }
+{
     match tree.variable(alloc, name) {
         Ok(value) => Ok(value),
         Err(TreeFault::NoMemory) => Err(AllocError),

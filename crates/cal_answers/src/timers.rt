@@ -1,6 +1,7 @@
 //! The verbs that show the next elapses: `list`, `show` and `next`.
 
 ghost use Rattle.std.specs.Prelude.{◌≤◌, IfOk};
+ghost use Rattle.cal_units.specs.rules.Machine.{Machine};
 
 use crate::answer::{Answer, Asked, fault_lines, push_masked, status_of};
 use cal_load::{Loaded, LoadedTimer, load_expressions, load_timers};
@@ -20,8 +21,13 @@ struct Elapsing {
 }
 
 /// Lists the next elapse of each timer, soonest first.
-pub(crate) fn list<T: Tree>(alloc: Global, tree: &T, asked: Asked<'_>) -> Result<Answer, PlanFault>
-    ensures { IfOk result (λ answer. answer.status ≤ 2) }
+pub(crate) fn list<T: Tree>(
+    alloc: Global,
+    tree: &mut T,
+    asked: Asked<'_>,
+) -> Result<Answer, PlanFault>
+    ensures status { IfOk result (λ answer. answer.status ≤ 2) }
+    ensures grows { (machine : Machine) → T.shows tree.new machine → T.shows tree.old machine }
 {
     let loaded = load_timers(alloc, tree, asked.path, asked.aliases, asked.targets)?;
     let next = next_of_timers(alloc, asked.at, loaded.timers.as_slice())?;
@@ -34,16 +40,26 @@ pub(crate) fn list<T: Tree>(alloc: Global, tree: &T, asked: Asked<'_>) -> Result
 }
 
 /// Shows each timer with its files and its next elapses.
-pub(crate) fn show<T: Tree>(alloc: Global, tree: &T, asked: Asked<'_>) -> Result<Answer, PlanFault>
-    ensures { IfOk result (λ answer. answer.status ≤ 2) }
+pub(crate) fn show<T: Tree>(
+    alloc: Global,
+    tree: &mut T,
+    asked: Asked<'_>,
+) -> Result<Answer, PlanFault>
+    ensures status { IfOk result (λ answer. answer.status ≤ 2) }
+    ensures grows { (machine : Machine) → T.shows tree.new machine → T.shows tree.old machine }
 {
     let loaded = load_timers(alloc, tree, asked.path, asked.aliases, asked.targets)?;
     show_loaded(alloc, asked, &loaded)
 }
 
 /// Shows the next elapses of calendar expressions, which are the targets.
-pub(crate) fn next<T: Tree>(alloc: Global, tree: &T, asked: Asked<'_>) -> Result<Answer, PlanFault>
-    ensures { IfOk result (λ answer. answer.status ≤ 2) }
+pub(crate) fn next<T: Tree>(
+    alloc: Global,
+    tree: &mut T,
+    asked: Asked<'_>,
+) -> Result<Answer, PlanFault>
+    ensures status { IfOk result (λ answer. answer.status ≤ 2) }
+    ensures grows { (machine : Machine) → T.shows tree.new machine → T.shows tree.old machine }
 {
     let loaded = load_expressions(alloc, tree, asked.targets)?;
     show_loaded(alloc, asked, &loaded)

@@ -21,11 +21,12 @@ use std::alloc::{AllocError, Global};
 /// can't be loaded, returns the error of the first expression that names this zone. Fails only if allocation fails.
 pub fn load_expressions<T: Tree>(
     alloc: Global,
-    tree: &T,
+    tree: &mut T,
     expressions: &[&str],
 ) -> Result<Loaded, AllocError>
-    ensures { IfOk result (λ loaded. (machine : Machine) → T.shows tree.now machine
+    ensures known { IfOk result (λ loaded. (machine : Machine) → T.shows tree.new machine
         → All (IsMadeOf machine (map (λ text. text.now) expressions.now)) loaded.timers.items) }
+    ensures grows { (machine : Machine) → T.shows tree.new machine → T.shows tree.old machine }
 {
     let mut lines = Vec::new(alloc);
     for expression in expressions {
@@ -71,13 +72,14 @@ fn push_expression(
 /// texts of the lines are `expressions`.
 fn with_zones<T: Tree>(
     alloc: Global,
-    tree: &T,
+    tree: &mut T,
     expressions: &[&str],
     lines: Vec<TimerLine>,
 ) -> Result<Loaded, AllocError>
     requires { AreOf (map (λ text. text.now) expressions.now) (map shown lines.items) }
-    ensures { IfOk result (λ loaded. (machine : Machine) → T.shows tree.now machine
+    ensures known { IfOk result (λ loaded. (machine : Machine) → T.shows tree.new machine
         → All (IsMadeOf machine (map (λ text. text.now) expressions.now)) loaded.timers.items) }
+    ensures grows { (machine : Machine) → T.shows tree.new machine → T.shows tree.old machine }
 {
     match load_named_zones(alloc, tree, lines.as_slice(), &[]) {
         Ok(zones) => only_timer(alloc, join_with_commas(alloc, expressions)?, lines, zones),

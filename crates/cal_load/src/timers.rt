@@ -32,13 +32,14 @@ use std::alloc::{AllocError, Global};
 /// still loaded. Fails only if allocation fails.
 pub fn load_timers<T: Tree>(
     alloc: Global,
-    tree: &T,
+    tree: &mut T,
     path: &[String],
     aliases: &[Alias],
     targets: &[&str],
 ) -> Result<Loaded, AllocError>
-    ensures { IfOk result (λ loaded. (machine : Machine) → T.shows tree.now machine
+    ensures known { IfOk result (λ loaded. (machine : Machine) → T.shows tree.new machine
         → All (IsTimerOn machine (map string_bytes path.now) (map shown_alias aliases.now)) loaded.timers.items) }
+    ensures grows { (machine : Machine) → T.shows tree.new machine → T.shows tree.old machine }
 {
     if targets.is_empty() {
         return load_all(alloc, tree, path, aliases);
@@ -53,12 +54,13 @@ pub fn load_timers<T: Tree>(
 /// Loads all timers in the folders of the search path.
 fn load_all<T: Tree>(
     alloc: Global,
-    tree: &T,
+    tree: &mut T,
     path: &[String],
     aliases: &[Alias],
 ) -> Result<Loaded, AllocError>
-    ensures { IfOk result (λ loaded. (machine : Machine) → T.shows tree.now machine
+    ensures known { IfOk result (λ loaded. (machine : Machine) → T.shows tree.new machine
         → All (IsTimerOn machine (map string_bytes path.now) (map shown_alias aliases.now)) loaded.timers.items) }
+    ensures grows { (machine : Machine) → T.shows tree.new machine → T.shows tree.old machine }
 {
     let mut loaded = Loaded::new(alloc);
     let names = names_in_path(alloc, tree, path, &mut loaded.faults)?;
@@ -72,15 +74,16 @@ fn load_all<T: Tree>(
 /// example because it is the name of a folder.
 fn load_listed<T: Tree>(
     alloc: Global,
-    tree: &T,
+    tree: &mut T,
     path: &[String],
     aliases: &[Alias],
     name: &str,
     loaded: &mut Loaded,
 ) -> Result<(), AllocError>
-    ensures { OnOk result ((machine : Machine) → T.shows tree.now machine
+    ensures known { OnOk result ((machine : Machine) → T.shows tree.new machine
         → All (IsTimerOn machine (map string_bytes path.now) (map shown_alias aliases.now)) loaded.old.timers.items
         → All (IsTimerOn machine (map string_bytes path.now) (map shown_alias aliases.now)) loaded.new.timers.items) }
+    ensures grows { (machine : Machine) → T.shows tree.new machine → T.shows tree.old machine }
 {
     let found = read_named(alloc, tree, path, aliases, name);
     if is_absent(&found) {
@@ -95,15 +98,16 @@ fn is_absent(found: &Result<LoadedTarget, TargetLoadFault>) -> bool {
 
 fn load_target<T: Tree>(
     alloc: Global,
-    tree: &T,
+    tree: &mut T,
     path: &[String],
     aliases: &[Alias],
     target: &str,
     loaded: &mut Loaded,
 ) -> Result<(), AllocError>
-    ensures { OnOk result ((machine : Machine) → T.shows tree.now machine
+    ensures known { OnOk result ((machine : Machine) → T.shows tree.new machine
         → All (IsTimerOn machine (map string_bytes path.now) (map shown_alias aliases.now)) loaded.old.timers.items
         → All (IsTimerOn machine (map string_bytes path.now) (map shown_alias aliases.now)) loaded.new.timers.items) }
+    ensures grows { (machine : Machine) → T.shows tree.new machine → T.shows tree.old machine }
 {
     if is_path(target) {
         return load_path(alloc, tree, without_slashes(target), loaded);
@@ -115,13 +119,14 @@ fn load_target<T: Tree>(
 /// Reads the timer with this name, which may have the suffix `.timer`.
 fn read_named<T: Tree>(
     alloc: Global,
-    tree: &T,
+    tree: &mut T,
     path: &[String],
     aliases: &[Alias],
     name: &str,
 ) -> Result<LoadedTarget, TargetLoadFault>
-    ensures { IfOk result (λ found. (machine : Machine) → T.shows tree.now machine
+    ensures known { IfOk result (λ found. (machine : Machine) → T.shows tree.new machine
         → IsLoadedTarget machine (map string_bytes path.now) (map shown_alias aliases.now) found) }
+    ensures grows { (machine : Machine) → T.shows tree.new machine → T.shows tree.old machine }
 {
     match unit_stem(name) {
         Some(stem) => read_unit(alloc, tree, path, aliases, stem),
@@ -132,13 +137,14 @@ fn read_named<T: Tree>(
 /// Loads the timer in a file, or the timers in a folder.
 fn load_path<T: Tree>(
     alloc: Global,
-    tree: &T,
+    tree: &mut T,
     target: &str,
     loaded: &mut Loaded,
 ) -> Result<(), AllocError>
-    ensures { OnOk result ((machine : Machine) (path : List (List ℕ)) (aliases : List Known) → T.shows tree.now machine
+    ensures known { OnOk result ((machine : Machine) (path : List (List ℕ)) (aliases : List Known) → T.shows tree.new machine
         → All (IsTimerOn machine path aliases) loaded.old.timers.items
         → All (IsTimerOn machine path aliases) loaded.new.timers.items) }
+    ensures grows { (machine : Machine) → T.shows tree.new machine → T.shows tree.old machine }
 {
     match kind_at(alloc, tree, target) {
         Ok(PathKind::Folder) => load_folder(alloc, tree, target, loaded),
@@ -149,13 +155,14 @@ fn load_path<T: Tree>(
 
 fn load_folder<T: Tree>(
     alloc: Global,
-    tree: &T,
+    tree: &mut T,
     folder: &str,
     loaded: &mut Loaded,
 ) -> Result<(), AllocError>
-    ensures { OnOk result ((machine : Machine) (path : List (List ℕ)) (aliases : List Known) → T.shows tree.now machine
+    ensures known { OnOk result ((machine : Machine) (path : List (List ℕ)) (aliases : List Known) → T.shows tree.new machine
         → All (IsTimerOn machine path aliases) loaded.old.timers.items
         → All (IsTimerOn machine path aliases) loaded.new.timers.items) }
+    ensures grows { (machine : Machine) → T.shows tree.new machine → T.shows tree.old machine }
 {
     let names = match files_in(alloc, tree, folder, Wanted::Timers) {
         Ok(names) => names,
@@ -170,8 +177,13 @@ fn load_folder<T: Tree>(
 }
 
 /// Reads the timer in the file at a path.
-fn read_path<T: Tree>(alloc: Global, tree: &T, path: &str) -> Result<LoadedTarget, TargetLoadFault>
-    ensures { IfOk result (λ found. (machine : Machine) → T.shows tree.now machine → IsLoadedFile machine found) }
+fn read_path<T: Tree>(
+    alloc: Global,
+    tree: &mut T,
+    path: &str,
+) -> Result<LoadedTarget, TargetLoadFault>
+    ensures known { IfOk result (λ found. (machine : Machine) → T.shows tree.new machine → IsLoadedFile machine found) }
+    ensures grows { (machine : Machine) → T.shows tree.new machine → T.shows tree.old machine }
 {
     let kind = kind_at(alloc, tree, path)?;
     read_kind(alloc, tree, path, kind)
@@ -179,11 +191,12 @@ fn read_path<T: Tree>(alloc: Global, tree: &T, path: &str) -> Result<LoadedTarge
 
 fn read_kind<T: Tree>(
     alloc: Global,
-    tree: &T,
+    tree: &mut T,
     path: &str,
     kind: PathKind,
 ) -> Result<LoadedTarget, TargetLoadFault>
-    ensures { IfOk result (λ found. (machine : Machine) → T.shows tree.now machine → IsLoadedFile machine found) }
+    ensures known { IfOk result (λ found. (machine : Machine) → T.shows tree.new machine → IsLoadedFile machine found) }
+    ensures grows { (machine : Machine) → T.shows tree.new machine → T.shows tree.old machine }
 {
     match kind {
         PathKind::Masked => Ok(LoadedTarget::Masked),

@@ -31,13 +31,14 @@ struct ParsedFiles {
 /// Reads the timer with this stem in the search path, with its drop-ins.
 pub(crate) fn read_unit<T: Tree>(
     alloc: Global,
-    tree: &T,
+    tree: &mut T,
     path: &[String],
     aliases: &[Alias],
     stem: &str,
 ) -> Result<LoadedTarget, TargetLoadFault>
-    ensures { IfOk result (λ found. (machine : Machine) → T.shows tree.now machine
+    ensures known { IfOk result (λ found. (machine : Machine) → T.shows tree.new machine
         → IsLoadedUnit machine (map string_bytes path.now) (map shown_alias aliases.now) stem.now found) }
+    ensures grows { (machine : Machine) → T.shows tree.new machine → T.shows tree.old machine }
 {
     let file = match find_unit(alloc, tree, path, stem)? {
         Unit::NotFound => return Err(TargetLoadFault::Target(TargetReason::NotFound)),
@@ -54,14 +55,15 @@ pub(crate) fn read_unit<T: Tree>(
 /// nothing.
 fn unit_files<T: Tree>(
     alloc: Global,
-    tree: &T,
+    tree: &mut T,
     path: &[String],
     aliases: &[Alias],
     file: &UnitFile,
 ) -> Result<Vec<UnitText>, TargetLoadFault>
-    ensures { IfOk result (λ files. (machine : Machine) → T.shows tree.now machine
+    ensures known { IfOk result (λ files. (machine : Machine) → T.shows tree.new machine
         → map shown_unit_text files.items ≡ files_at machine (string_bytes file.now.path
         ∷ drop_ins (disk_of machine) (map string_bytes path.now) (unit_stems (map shown_alias aliases.now) file.now))) }
+    ensures grows { (machine : Machine) → T.shows tree.new machine → T.shows tree.old machine }
 {
     let found = find_unit_drop_ins(alloc, tree, path, aliases, file)?;
     let files = read_files(alloc, tree, file.path.as_str(), found.paths.as_slice())?;
@@ -74,10 +76,11 @@ fn unit_files<T: Tree>(
 /// Reads the timer in the file at a path, without drop-ins.
 pub(crate) fn read_timer_file<T: Tree>(
     alloc: Global,
-    tree: &T,
+    tree: &mut T,
     path: &str,
 ) -> Result<LoadedTimer, TargetLoadFault>
-    ensures { IfOk result (λ timer. (machine : Machine) → T.shows tree.now machine → IsFileOn machine timer) }
+    ensures known { IfOk result (λ timer. (machine : Machine) → T.shows tree.new machine → IsFileOn machine timer) }
+    ensures grows { (machine : Machine) → T.shows tree.new machine → T.shows tree.old machine }
 {
     let files = read_files(alloc, tree, path, &[])?;
     let name = String::from_str(alloc, path)?;
@@ -87,13 +90,14 @@ pub(crate) fn read_timer_file<T: Tree>(
 /// Returns the timer that these files make up.
 fn timer_from_files<T: Tree>(
     alloc: Global,
-    tree: &T,
+    tree: &mut T,
     name: String,
     files: Vec<UnitText>,
 ) -> Result<LoadedTimer, TargetLoadFault>
     ensures name { IfOk result (λ timer. timer.name ≡ name) }
-    ensures read { IfOk result (λ timer. (machine : Machine) → T.shows tree.now machine
+    ensures read { IfOk result (λ timer. (machine : Machine) → T.shows tree.new machine
         → IsTimerReadFrom machine (map shown_unit_text files.items) timer) }
+    ensures grows { (machine : Machine) → T.shows tree.new machine → T.shows tree.old machine }
 {
     let parsed = parse_files(alloc, files.as_slice())?;
     let calendar = &parsed.calendar;

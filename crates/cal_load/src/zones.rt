@@ -19,13 +19,14 @@ const ZONE_FOLDER: &str = "/usr/share/zoneinfo/";
 /// Loads the zones that the expressions and the exceptions name.
 pub(crate) fn load_named_zones<T: Tree>(
     alloc: Global,
-    tree: &T,
+    tree: &mut T,
     lines: &[TimerLine],
     exceptions: &[TimerLine],
 ) -> Result<ZoneTable, ZonesFault>
     ensures names { IfOk result (λ table.
         HasNames table (zone_names_in (map shown lines.now) ++ zone_names_in (map shown exceptions.now))) }
-    ensures zones { IfOk result (λ table. (machine : Machine) → T.shows tree.now machine → HasZonesOf machine table) }
+    ensures zones { IfOk result (λ table. (machine : Machine) → T.shows tree.new machine → HasZonesOf machine table) }
+    ensures grows { (machine : Machine) → T.shows tree.new machine → T.shows tree.old machine }
 {
     let mut names = Vec::new(alloc);
     push_zone_names(alloc, &mut names, lines)?;

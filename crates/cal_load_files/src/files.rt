@@ -32,13 +32,14 @@ pub struct LoadedFiles {
 /// if allocation fails.
 pub fn load_files<T: Tree>(
     alloc: Global,
-    tree: &T,
+    tree: &mut T,
     path: &[String],
     aliases: &[Alias],
     targets: &[&str],
 ) -> Result<LoadedFiles, AllocError>
-    ensures { IfOk result (λ loaded. (machine : Machine) → T.shows tree.now machine
+    ensures known { IfOk result (λ loaded. (machine : Machine) → T.shows tree.new machine
         → All (IsStoredOn machine) loaded.files.items) }
+    ensures grows { (machine : Machine) → T.shows tree.new machine → T.shows tree.old machine }
 {
     if targets.is_empty() {
         return all_files(alloc, tree, path, aliases);
@@ -53,12 +54,13 @@ pub fn load_files<T: Tree>(
 /// Reads the files of all timers in the folders of the search path.
 fn all_files<T: Tree>(
     alloc: Global,
-    tree: &T,
+    tree: &mut T,
     path: &[String],
     aliases: &[Alias],
 ) -> Result<LoadedFiles, AllocError>
-    ensures { IfOk result (λ loaded. (machine : Machine) → T.shows tree.now machine
+    ensures known { IfOk result (λ loaded. (machine : Machine) → T.shows tree.new machine
         → All (IsStoredOn machine) loaded.files.items) }
+    ensures grows { (machine : Machine) → T.shows tree.new machine → T.shows tree.old machine }
 {
     let mut reading = Reading::new(alloc);
     reading.take_all(alloc, tree, path, aliases)?;
@@ -90,12 +92,13 @@ impl Reading {
     fn take_all<T: Tree>(
         &mut self,
         alloc: Global,
-        tree: &T,
+        tree: &mut T,
         path: &[String],
         aliases: &[Alias],
     ) -> Result<(), AllocError>
-        ensures { OnOk result ((machine : Machine) → T.shows tree.now machine
+        ensures known { OnOk result ((machine : Machine) → T.shows tree.new machine
             → All (IsStoredOn machine) self.old.loaded.files.items → All (IsStoredOn machine) self.new.loaded.files.items) }
+        ensures grows { (machine : Machine) → T.shows tree.new machine → T.shows tree.old machine }
     {
         let names = names_in_path(alloc, tree, path, &mut self.loaded.faults)?;
         for name in names {
@@ -107,13 +110,14 @@ impl Reading {
     fn take_listed<T: Tree>(
         &mut self,
         alloc: Global,
-        tree: &T,
+        tree: &mut T,
         path: &[String],
         aliases: &[Alias],
         name: &str,
     ) -> Result<(), AllocError>
-        ensures { OnOk result ((machine : Machine) → T.shows tree.now machine
+        ensures known { OnOk result ((machine : Machine) → T.shows tree.new machine
             → All (IsStoredOn machine) self.old.loaded.files.items → All (IsStoredOn machine) self.new.loaded.files.items) }
+        ensures grows { (machine : Machine) → T.shows tree.new machine → T.shows tree.old machine }
     {
         match find_unit_file(alloc, tree, path, name) {
             Err(TargetLoadFault::Target(TargetReason::NotFound)) => Ok(()),
@@ -124,40 +128,37 @@ impl Reading {
     fn take_target<T: Tree>(
         &mut self,
         alloc: Global,
-        tree: &T,
+        tree: &mut T,
         path: &[String],
         aliases: &[Alias],
         target: &str,
     ) -> Result<(), AllocError>
-        ensures { OnOk result ((machine : Machine) → T.shows tree.now machine
+        ensures known { OnOk result ((machine : Machine) → T.shows tree.new machine
             → All (IsStoredOn machine) self.old.loaded.files.items → All (IsStoredOn machine) self.new.loaded.files.items) }
+        ensures grows { (machine : Machine) → T.shows tree.new machine → T.shows tree.old machine }
     {
         if is_path(target) {
             let target = without_slashes(target);
-            return self.take_paths(alloc, tree, target, paths_at(alloc, tree, target));
+            let paths = paths_at(alloc, tree, target);
+            return self.take_paths(alloc, tree, target, paths);
         }
-        self.take_unit(
-            alloc,
-            tree,
-            path,
-            aliases,
-            target,
-            find_unit_file(alloc, tree, path, target),
-        )
+        let found = find_unit_file(alloc, tree, path, target);
+        self.take_unit(alloc, tree, path, aliases, target, found)
     }
 
     /// Reads the file of a unit and its drop-ins. A masked unit has no files.
     fn take_unit<T: Tree>(
         &mut self,
         alloc: Global,
-        tree: &T,
+        tree: &mut T,
         path: &[String],
         aliases: &[Alias],
         target: &str,
         found: Result<Option<UnitFile>, TargetLoadFault>,
     ) -> Result<(), AllocError>
-        ensures { OnOk result ((machine : Machine) → T.shows tree.now machine
+        ensures known { OnOk result ((machine : Machine) → T.shows tree.new machine
             → All (IsStoredOn machine) self.old.loaded.files.items → All (IsStoredOn machine) self.new.loaded.files.items) }
+        ensures grows { (machine : Machine) → T.shows tree.new machine → T.shows tree.old machine }
     {
         match found {
             Ok(Some(file)) => {
@@ -174,12 +175,13 @@ impl Reading {
     fn take_paths<T: Tree>(
         &mut self,
         alloc: Global,
-        tree: &T,
+        tree: &mut T,
         target: &str,
         paths: Result<Vec<String>, TargetLoadFault>,
     ) -> Result<(), AllocError>
-        ensures { OnOk result ((machine : Machine) → T.shows tree.now machine
+        ensures known { OnOk result ((machine : Machine) → T.shows tree.new machine
             → All (IsStoredOn machine) self.old.loaded.files.items → All (IsStoredOn machine) self.new.loaded.files.items) }
+        ensures grows { (machine : Machine) → T.shows tree.new machine → T.shows tree.old machine }
     {
         match paths {
             Ok(paths) => {
@@ -196,12 +198,13 @@ impl Reading {
     fn take_path<T: Tree>(
         &mut self,
         alloc: Global,
-        tree: &T,
+        tree: &mut T,
         target: &str,
         path: String,
     ) -> Result<(), AllocError>
-        ensures { OnOk result ((machine : Machine) → T.shows tree.now machine
+        ensures known { OnOk result ((machine : Machine) → T.shows tree.new machine
             → All (IsStoredOn machine) self.old.loaded.files.items → All (IsStoredOn machine) self.new.loaded.files.items) }
+        ensures grows { (machine : Machine) → T.shows tree.new machine → T.shows tree.old machine }
     {
         if self.seen.contains(path.as_str()) {
             return Ok(());
@@ -234,9 +237,11 @@ fn append_files(all: &mut Vec<UnitText>, files: Vec<UnitText>) -> Result<(), All
 /// Returns the paths of the files that a path stands for.
 fn paths_at<T: Tree>(
     alloc: Global,
-    tree: &T,
+    tree: &mut T,
     target: &str,
-) -> Result<Vec<String>, TargetLoadFault> {
+) -> Result<Vec<String>, TargetLoadFault>
+    ensures grows { (machine : Machine) → T.shows tree.new machine → T.shows tree.old machine }
+{
     match kind_at(alloc, tree, target)? {
         PathKind::Folder => folder_paths(alloc, tree, target),
         PathKind::File | PathKind::Masked => Ok(vec![in alloc; String::from_str(alloc, target)?]?),
@@ -245,9 +250,11 @@ fn paths_at<T: Tree>(
 
 fn folder_paths<T: Tree>(
     alloc: Global,
-    tree: &T,
+    tree: &mut T,
     folder: &str,
-) -> Result<Vec<String>, TargetLoadFault> {
+) -> Result<Vec<String>, TargetLoadFault>
+    ensures grows { (machine : Machine) → T.shows tree.new machine → T.shows tree.old machine }
+{
     let mut paths = Vec::new(alloc);
     for name in files_in(alloc, tree, folder, Wanted::Texts)? {
         paths.push(path_in(alloc, folder, name.as_str())?)?;
@@ -258,11 +265,13 @@ fn folder_paths<T: Tree>(
 /// Returns the paths of a unit's drop-ins that are read, in order.
 fn drop_ins_of<T: Tree>(
     alloc: Global,
-    tree: &T,
+    tree: &mut T,
     path: &[String],
     aliases: &[Alias],
     file: &UnitFile,
-) -> Result<Vec<String>, TargetLoadFault> {
+) -> Result<Vec<String>, TargetLoadFault>
+    ensures grows { (machine : Machine) → T.shows tree.new machine → T.shows tree.old machine }
+{
     let found = find_unit_drop_ins(alloc, tree, path, aliases, file)?;
     Ok(found.paths)
 }
@@ -270,10 +279,12 @@ fn drop_ins_of<T: Tree>(
 /// Finds the file of the unit with this name. Returns `None` if the unit is masked.
 fn find_unit_file<T: Tree>(
     alloc: Global,
-    tree: &T,
+    tree: &mut T,
     path: &[String],
     name: &str,
-) -> Result<Option<UnitFile>, TargetLoadFault> {
+) -> Result<Option<UnitFile>, TargetLoadFault>
+    ensures grows { (machine : Machine) → T.shows tree.new machine → T.shows tree.old machine }
+{
     let Some(stem) = unit_stem(name) else {
         return Err(TargetLoadFault::Target(TargetReason::NotFound));
     };

@@ -1,27 +1,23 @@
 -- Lemmas on loading the zones of a machine into a table.
-use Rattle.std.proofs.Common.{◌≡◌, ℕ, List, ◌∷◌, map, take, drop, string_bytes, Bool, true, false, Option, Some, None, refl, sym, ap, ◌∙◌, arith}
+use Rattle.std.proofs.Common.{◌≡◌, ℕ, List, ◌∷◌, map, take, drop, string_bytes, Bool, true, false, Option, Some, None, refl, subst, sym, ap, ◌∙◌, arith}
 use Rattle.std.specs.Prelude.{◌||◌, IfSome, MatchOption, is_some, String}
 use Rattle.std.specs.FinMap.{empty, get-empty, insert}
-use Rattle.std.specs.Option.{option_map, unwrap_or}
 use Rattle.std.specs.Str.{bytes_eq}
 use Rattle.std.proofs.lemmas.Bool.{both_ways, false≢true}
-use Rattle.std.proofs.lemmas.List.{append-nil, drop-map}
+use Rattle.std.proofs.lemmas.List.{drop-map}
 use Rattle.std.specs.List.{list_any, take-map}
 use Rattle.std.specs.declared.alloc.Global.{Global}
-use Rattle.std.proofs.lemmas.Option.{none-some}
 use Rattle.std.specs.Cmp.Lexicographic.{slice_cmp}
 use Rattle.std.specs.Ordering.{nat_cmp}
 use Rattle.std.proofs.lemmas.Slice.Eq.{bytes_eq-Decides}
 use Rattle.jiff.specs.Types.{TimeZone}
 use Rattle.cal_civil.specs.rules.ZoneName.{is_utc_name}
-use Rattle.cal_bytes.specs.rules.Whole.{GivesAll}
 use Rattle.cal_units.specs.rules.Machine.{Machine}
-use Rattle.cal_zone.specs.rules.LoadZone.{IsLoaded}
-use Rattle.cal_zone.specs.rules.ZoneFile.{IsFileZone, file_limit}
+use Rattle.cal_zone.specs.rules.ZoneFile.{IsFileZone}
 use Rattle.cal_zone.specs.rules.AddedZones.{is_taken}
 use Rattle.cal_zone.specs.rules.ZoneTable.{ZoneMap, zone_named}
 use Rattle.cal_zone.proofs.ZoneMapLemmas.{zone_named-here, zone_named-elsewhere}
-use Rattle.cal_machine_zones.specs.rules.ZoneFiles.{HasZonesOf, IsFirstError, IsLoadError, IsZoneAdded, IsZoneOn}
+use Rattle.cal_machine_zones.specs.rules.ZoneFiles.{HasZonesOf, IsFirstError, IsLoadError, IsZoneAdded, IsZoneOn, zone_path}
 use Rattle.cal_machine_zones.specs.declared.fault.ZonesFault.{ZonesFault}
 
 -- every table has the name UTC, so a name that a table doesn't have isn't UTC
@@ -38,25 +34,22 @@ pub empty_has_none : (machine : Machine) → HasZonesOf machine empty
 unfolding zone_named
 empty_has_none machine name other = rw (other, get-empty {X = TimeZone} (slice_cmp nat_cmp) name) tt
 
--- if a file is read to its end, the bytes that were read are all bytes of the file
-pub read_all : (xs : List ℕ) (new : Option (List ℕ)) (limit : ℕ) (bytes : List ℕ) → GivesAll (Some xs) new limit bytes → xs ≡ bytes
-read_all xs None limit bytes all = absurd all.taken
-read_all xs (Some ys) limit bytes all = rw (all.taken, all.at_end) (append-nil bytes)
+-- if the zone that was parsed from bytes was inserted, and nothing else was changed, this zone was added
+pub zone_added : (old new : ZoneMap) (text name bytes : List ℕ) (zone : TimeZone) → text ≡ name → is_taken old name ≡ false → new ≡ insert old text zone
+    → IsFileZone text bytes zone → IsZoneAdded old new name (IsFileZone name bytes)
+zone_added old new text name bytes zone same free inserted parsed =
+    record {
+      zone = zone;
+      is_zone = subst (λ name. IsFileZone name bytes zone) same parsed;
+      other = free_is_other old name free;
+      added = inserted ∙ ap (λ name. insert old name zone) same;
+    }
 
-pub loaded_is : (xs : List ℕ) (new : Option (List ℕ)) (before after : ZoneMap) (name : List ℕ) (l : IsLoaded (Some xs) new before after name) → IsFileZone name xs l.zone
-loaded_is xs new before after name l = rw (read_all xs new file_limit l.bytes l.given) l.is_zone
-
-known_on : (file new : Option (List ℕ)) (xs : List ℕ) (before after : ZoneMap) (name : List ℕ) (l : IsLoaded file new before after name)
-    → file ≡ Some xs → IsFileZone name xs l.zone
-known_on None new xs before after name l e = absurd (none-some xs e)
-known_on (Some ys) new xs before after name l e = rw (sym (ap (λ o. unwrap_or o ys) e)) (loaded_is ys new before after name l)
-
--- `contents` is what the machine has at the path of the file. If a zone was loaded from the file, there are contents,
--- and the zone is the one that they describe.
-pub loaded_on : (file new contents : Option (List ℕ)) (before after : ZoneMap) (name : List ℕ) (l : IsLoaded file new before after name)
-    → Some file ≡ option_map Some contents → MatchOption contents ⊥ (λ bytes. IsFileZone name bytes l.zone)
-loaded_on file new None before after name l e = absurd (none-some file (sym e))
-loaded_on file new (Some xs) before after name l e = known_on file new xs before after name l (ap (λ o. unwrap_or o None) e)
+-- a zone that was parsed from bytes is the zone of the machine if the machine's file has these bytes
+pub parsed_on : (machine : Machine) (name bytes : List ℕ) (zone : TimeZone) → Some bytes ≡ machine.file (zone_path name)
+    → IsFileZone name bytes zone → IsZoneOn machine name zone
+parsed_on machine name bytes zone read parsed =
+    subst (λ contents. MatchOption contents ⊥ (λ bytes. IsFileZone name bytes zone)) read parsed
 
 or_true : (b : Bool) → (b || true) ≡ true
 or_true true = refl

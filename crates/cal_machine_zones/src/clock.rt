@@ -40,13 +40,14 @@ pub enum MachineLocalZone {
 /// [`ZonesFault::NoMemory`] if allocation fails.
 pub fn find_local_zone<T: Tree>(
     alloc: Global,
-    tree: &T,
+    tree: &mut T,
     argument: Option<&str>,
 ) -> Result<MachineLocalZone, ZonesFault>
-    ensures zone { (machine : Machine) → T.shows tree.now machine
+    ensures zone { (machine : Machine) → T.shows tree.new machine
         → IsTold (machine_local_zone machine (option_map (λ text. text.now) argument.entry)) result }
     ensures offset { IfOk result HasZoneOffset }
-    ensures fault { IfErr result (IsLocalFault (T.may_fail tree.now) (option_map (λ text. text.now) argument.entry)) }
+    ensures fault { IfErr result (IsLocalFault T.may_fail (option_map (λ text. text.now) argument.entry)) }
+    ensures grows { (machine : Machine) → T.shows tree.new machine → T.shows tree.old machine }
 {
     match argument {
         Some(text) => to_owned(alloc, argument_zone(text)),
@@ -54,10 +55,11 @@ pub fn find_local_zone<T: Tree>(
     }
 }
 
-fn find_machine_zone<T: Tree>(alloc: Global, tree: &T) -> Result<MachineLocalZone, ZonesFault>
-    ensures zone { (machine : Machine) → T.shows tree.now machine → IsTold (machine_zone machine) result }
+fn find_machine_zone<T: Tree>(alloc: Global, tree: &mut T) -> Result<MachineLocalZone, ZonesFault>
+    ensures zone { (machine : Machine) → T.shows tree.new machine → IsTold (machine_zone machine) result }
     ensures offset { IfOk result HasZoneOffset }
-    ensures fault { IfErr result (IsMachineFault (T.may_fail tree.now)) }
+    ensures fault { IfErr result (IsMachineFault T.may_fail) }
+    ensures grows { (machine : Machine) → T.shows tree.new machine → T.shows tree.old machine }
 {
     let value = match tree.variable(alloc, "TZ") {
         Ok(value) => value,
@@ -72,11 +74,12 @@ fn find_machine_zone<T: Tree>(alloc: Global, tree: &T) -> Result<MachineLocalZon
     }
 }
 
-fn find_link_zone<T: Tree>(alloc: Global, tree: &T) -> Result<MachineLocalZone, ZonesFault>
-    ensures zone { (machine : Machine) → T.shows tree.now machine
+fn find_link_zone<T: Tree>(alloc: Global, tree: &mut T) -> Result<MachineLocalZone, ZonesFault>
+    ensures zone { (machine : Machine) → T.shows tree.new machine
         → IsTold (link_zone (machine.entry localtime)) result }
     ensures offset { IfOk result HasZoneOffset }
-    ensures fault { IfErr result (IsMachineFault (T.may_fail tree.now)) }
+    ensures fault { IfErr result (IsMachineFault T.may_fail) }
+    ensures grows { (machine : Machine) → T.shows tree.new machine → T.shows tree.old machine }
 {
     match tree.look(alloc, LOCALTIME) {
         Ok(entry) => to_owned(alloc, link_zone(&entry)),

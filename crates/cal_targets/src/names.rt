@@ -1,5 +1,7 @@
 //! The names of timers in folders.
 
+ghost use Rattle.cal_units.specs.rules.Machine.{Machine};
+
 use crate::fault::{TargetLoadFault, push_fault};
 use crate::target_fault::TargetFault;
 use cal_drop_ins::{UnitKind, unit_kind_of, unit_stem};
@@ -13,10 +15,12 @@ use std::collections::BTreeSet;
 /// A folder that can't be listed is added to `faults`, and the others are still listed.
 pub fn names_in_path<T: Tree>(
     alloc: Global,
-    tree: &T,
+    tree: &mut T,
     path: &[String],
     faults: &mut Vec<TargetFault>,
-) -> Result<BTreeSet<String>, AllocError> {
+) -> Result<BTreeSet<String>, AllocError>
+    ensures grows { (machine : Machine) → T.shows tree.new machine → T.shows tree.old machine }
+{
     let mut found = BTreeSet::new(alloc);
     for folder in path {
         if let Err(fault) = push_units(alloc, tree, folder.as_str(), &mut found) {
@@ -28,10 +32,12 @@ pub fn names_in_path<T: Tree>(
 
 fn push_units<T: Tree>(
     alloc: Global,
-    tree: &T,
+    tree: &mut T,
     folder: &str,
     found: &mut BTreeSet<String>,
-) -> Result<(), TargetLoadFault> {
+) -> Result<(), TargetLoadFault>
+    ensures grows { (machine : Machine) → T.shows tree.new machine → T.shows tree.old machine }
+{
     for name in names_in(alloc, tree, folder)? {
         if is_unit_file(name.as_str()) {
             found.insert(name)?;
@@ -43,10 +49,12 @@ fn push_units<T: Tree>(
 /// Returns those names in a folder that are `wanted`, sorted by their bytes. Names that are not UTF-8 are left out.
 pub fn files_in<T: Tree>(
     alloc: Global,
-    tree: &T,
+    tree: &mut T,
     folder: &str,
     wanted: Wanted,
-) -> Result<BTreeSet<String>, TargetLoadFault> {
+) -> Result<BTreeSet<String>, TargetLoadFault>
+    ensures grows { (machine : Machine) → T.shows tree.new machine → T.shows tree.old machine }
+{
     let mut found = BTreeSet::new(alloc);
     for name in names_in(alloc, tree, folder)? {
         if wanted.has(name.as_str()) {
@@ -76,9 +84,11 @@ impl Wanted {
 
 fn names_in<T: Tree>(
     alloc: Global,
-    tree: &T,
+    tree: &mut T,
     folder: &str,
-) -> Result<Vec<String>, TargetLoadFault> {
+) -> Result<Vec<String>, TargetLoadFault>
+    ensures grows { (machine : Machine) → T.shows tree.new machine → T.shows tree.old machine }
+{
     match tree.names(alloc, folder) {
         Ok(Names { names, unnamed: _ }) => Ok(names),
         Err(fault) => Err(TargetLoadFault::of_tree(alloc, folder, fault)),

@@ -1,5 +1,7 @@
 //! Targets that are paths: folders and files.
 
+ghost use Rattle.cal_units.specs.rules.Machine.{Machine};
+
 use crate::fault::TargetLoadFault;
 use crate::target_fault::TargetReason;
 use cal_units::{Entry, Tree, TreeFault};
@@ -19,9 +21,15 @@ pub fn is_path(target: &str) -> bool {
     target.as_bytes().contains(&b'/') || target == "." || target == ".."
 }
 
-/// Returns what is at a path. A link whose target can't be opened as a file is treated as a folder. Fails with
-/// [`TargetReason::NotFound`] if nothing is at the path, or only a link to nothing.
-pub fn kind_at<T: Tree>(alloc: Global, tree: &T, path: &str) -> Result<PathKind, TargetLoadFault> {
+/// Returns what is at a path. A link to a folder, or to a file that can't be read, counts as a file, so that reading it
+/// reports the error. Fails with [`TargetReason::NotFound`] if nothing is at the path, or only a link to nothing.
+pub fn kind_at<T: Tree>(
+    alloc: Global,
+    tree: &mut T,
+    path: &str,
+) -> Result<PathKind, TargetLoadFault>
+    ensures grows { (machine : Machine) → T.shows tree.new machine → T.shows tree.old machine }
+{
     match tree.look(alloc, path) {
         Ok(Entry::Missing) => Err(TargetLoadFault::Target(TargetReason::NotFound)),
         Ok(Entry::Empty) => Ok(PathKind::Masked),
@@ -35,17 +43,18 @@ pub fn kind_at<T: Tree>(alloc: Global, tree: &T, path: &str) -> Result<PathKind,
 /// Returns what is at `path`, which is a link to `target`.
 fn kind_of_link<T: Tree>(
     alloc: Global,
-    tree: &T,
+    tree: &mut T,
     path: &str,
     target: &str,
-) -> Result<PathKind, TargetLoadFault> {
+) -> Result<PathKind, TargetLoadFault>
+    ensures grows { (machine : Machine) → T.shows tree.new machine → T.shows tree.old machine }
+{
     if target == "/dev/null" {
         return Ok(PathKind::Masked);
     }
-    match tree.open(path) {
-        Ok(Some(_)) => Ok(PathKind::File),
+    match tree.read(alloc, path) {
+        Ok(Some(_)) | Err(TreeFault::ReadFailed) => Ok(PathKind::File),
         Ok(None) => Err(TargetLoadFault::Target(TargetReason::NotFound)),
-        Err(TreeFault::ReadFailed) => Ok(PathKind::Folder),
         Err(fault) => Err(TargetLoadFault::of_tree(alloc, path, fault)),
     }
 }

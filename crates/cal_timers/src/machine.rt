@@ -1,12 +1,11 @@
 //! The real system: its folders, files and links, and the variables of the environment. Nothing is proved about what
-//! they contain.
+//! they contain. They can change while the program runs, so the program reads them through a [`cal_units::Recorder`].
 
 use crate::below_root;
-use cal_bytes::Port;
-use cal_units::{Entry, Names, Tree, TreeFault};
+use cal_units::{Entry, FILE_BYTES, Names, Raw, TreeFault};
 use std::alloc::{AllocError, Global};
 use std::fs::DirEntry;
-use std::io::{Error, ErrorKind};
+use std::io::{Error, ErrorKind, Read};
 use std::rt::{Env, Files};
 use std::time::{Clock, SystemTime, UNIX_EPOCH};
 use std::{env, fs, io};
@@ -96,9 +95,7 @@ impl<'a, R: Files + Env + AllocGlobal + Clone + Drop> Machine<'a, R> {
     }
 }
 
-impl<'a, R: Files + Env + AllocGlobal + Clone + Drop> Tree for Machine<'a, R> {
-    type File = Port<R::File>;
-
+impl<'a, R: Files + Env + AllocGlobal + Clone + Drop> Raw for Machine<'a, R> {
     fn names(&self, alloc: Global, folder: &str) -> Result<Names, TreeFault> {
         let path = self.followed(alloc, folder)?;
         let mut found = Names {
@@ -140,11 +137,16 @@ impl<'a, R: Files + Env + AllocGlobal + Clone + Drop> Tree for Machine<'a, R> {
         below_root::leads_to(self.rt, alloc, self.root, self.plain, link, target)
     }
 
-    fn open(&self, path: &str) -> Result<Option<Port<R::File>>, TreeFault> {
-        let path = self.followed(self.rt.alloc(), path)?;
-        match fs::open(self.rt, path.as_str()) {
-            Ok(file) => Ok(Some(Port::new(file))),
-            Err(error) if is_missing(&error) => Ok(None),
+    fn read(&self, alloc: Global, path: &str) -> Result<Option<Vec<u8>>, TreeFault> {
+        let path = self.followed(alloc, path)?;
+        let file = match fs::open(self.rt, path.as_str()) {
+            Ok(file) => file,
+            Err(error) if is_missing(&error) => return Ok(None),
+            Err(error) => return Err(tree_fault_of(&error)),
+        };
+        let mut bytes = Vec::new(alloc);
+        match file.take(FILE_BYTES as u64).read_to_end(&mut bytes) {
+            Ok(_) => Ok(Some(bytes)),
             Err(error) => Err(tree_fault_of(&error)),
         }
     }

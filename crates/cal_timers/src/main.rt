@@ -10,6 +10,7 @@ use cal_answers::{Answer, answer_question};
 use cal_plan::PlanFault;
 use cal_timers_command::{CommandFault, Question};
 use cal_timers_text::Style;
+use cal_units::Recorder;
 use std::io::{ErrorKind, IsTerminal};
 use std::process::ExitCode;
 use std::rt::Env;
@@ -75,13 +76,9 @@ fn answer_and_print(rt: &HostRuntime, question: &Question) -> ExitCode {
         root,
         plain: plain.as_slice(),
     };
-    match answer_question(
-        rt.alloc(),
-        &machine,
-        question,
-        machine.clock(),
-        style_of(rt),
-    ) {
+    let clock = machine.clock();
+    let mut tree = Recorder::new(rt.alloc(), machine);
+    match answer_question(rt.alloc(), &mut tree, question, clock, style_of(rt)) {
         Ok(Answer { out, err, status }) => end(rt, out.as_str(), err.as_str(), status),
         Err(PlanFault::NoMemory) => end(rt, "", OUT_OF_MEMORY, FAILED),
         Err(PlanFault::NoSuchZone(_)) => end(

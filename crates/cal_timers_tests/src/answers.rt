@@ -6,6 +6,7 @@ use cal_answers::{Answer, answer_question};
 use cal_library_tests::shared::{ensure, zone_file};
 use cal_timers_command::Question;
 use cal_timers_text::Style;
+use cal_units::Recorder;
 use std::alloc::Global;
 use std::test::Fail;
 
@@ -23,7 +24,8 @@ fn answer(alloc: Global, items: &[(&str, Item<'_>)], line: &str) -> Result<Strin
         return Err(line.into());
     };
     let clock = Some(1_704_067_200);
-    let Ok(answer) = answer_question(alloc, &Memory { items }, &question, clock, STYLE) else {
+    let mut tree = Recorder::new(alloc, Memory { items });
+    let Ok(answer) = answer_question(alloc, &mut tree, &question, clock, STYLE) else {
         return Err(line.into());
     };
     let Answer { mut out, err, .. } = answer;

@@ -1,7 +1,6 @@
 //! A machine in memory.
 
-use cal_bytes::Port;
-use cal_units::{Entry, Names, Tree, TreeFault};
+use cal_units::{Entry, Names, Raw, TreeFault};
 use std::alloc::Global;
 
 /// What is at a path.
@@ -15,7 +14,7 @@ pub enum Item<'a> {
     Unnamed,
     /// A name that is listed in a folder, although nothing is at its path, as if the file had been removed since.
     Gone,
-    /// A file or folder that can't be listed or opened. Looking at its path fails too.
+    /// A file or folder that can't be listed or read. Looking at its path fails too.
     Locked,
 }
 
@@ -36,9 +35,7 @@ impl<'a> Memory<'a> {
     }
 }
 
-impl<'a> Tree for Memory<'a> {
-    type File = Port<&'a [u8]>;
-
+impl<'a> Raw for Memory<'a> {
     fn names(&self, alloc: Global, folder: &str) -> Result<Names, TreeFault> {
         if let Some(Item::Locked) = self.at(folder) {
             return Err(TreeFault::ReadFailed);
@@ -68,9 +65,9 @@ impl<'a> Tree for Memory<'a> {
         Ok(String::from_str(alloc, target)?)
     }
 
-    fn open(&self, path: &str) -> Result<Option<Port<&'a [u8]>>, TreeFault> {
+    fn read(&self, alloc: Global, path: &str) -> Result<Option<Vec<u8>>, TreeFault> {
         match self.at(path) {
-            Some(Item::File(bytes)) => Ok(Some(Port::new(bytes))),
+            Some(Item::File(bytes)) => Ok(Some(Vec::from_slice(alloc, bytes)?)),
             Some(Item::Locked) => Err(TreeFault::ReadFailed),
             _ => Ok(None),
         }

@@ -4,11 +4,13 @@ use Rattle.std.specs.List.{All}
 use Rattle.std.specs.Prelude.{IfErr, String}
 use Rattle.std.specs.declared.alloc.Global.{Global}
 use Rattle.std.proofs.lemmas.List.{drop-map, take-map}
-use Rattle.std.proofs.lemmas.List.Elements.{All-push, All-same}
+use Rattle.std.proofs.lemmas.List.Elements.{All-push, All-same, All-weaker}
 use Rattle.cal_drop_ins.specs.rules.DropIns.{FolderFile, candidates}
-use Rattle.cal_units.specs.rules.Faults.{IfAt, IsAliasFault, IsDropInReason, IsLinkFault, IsLinkReason, IsListedFault, IsOverfull, drop_ins_in, fault_if_err, max_drop_ins}
+use Rattle.cal_units.specs.rules.Faults.{IfAt, IsOfTree, IsAliasFault, IsDropInReason, IsEndless, IsLinkFault, IsLinkReason, IsListedFault, IsOverfull, drop_ins_in, fault_if_err, max_drop_ins}
 use Rattle.cal_units.specs.rules.Machine.{Machine}
 use Rattle.cal_units.specs.declared.aliases.Alias as links
+use Rattle.cal_units.specs.declared.tree.TreeFault.{TreeFault}
+use Rattle.cal_units.specs.declared.tree.TreeFault.TheVariants as trees
 use Rattle.cal_units.specs.declared.fault.Reason.{Reason}
 use Rattle.cal_units.specs.declared.fault.Reason.TheVariants as reasons
 use Rattle.cal_units.specs.declared.fault.UnitFault.{UnitFault}
@@ -70,3 +72,28 @@ listed_more MayFail Shows path (Ok alias) before after e some told held =
 listed_more MayFail Shows path (Err fault) before after e some told held =
     All-same (IsListedFault MayFail Shows path) after _ e
     (All-push (IsListedFault MayFail Shows path) before fault held (alias_is_listed MayFail Shows path fault some told))
+
+listed_fault_weaker : (MayFail : List ℕ → Type 0) (Old New : Machine → Type 0) (path : List (List ℕ)) → ((machine : Machine) → New machine → Old machine)
+    → (fault : UnitFault) → IsListedFault MayFail Old path fault → IsListedFault MayFail New path fault
+listed_fault_weaker MayFail Old New path grows (faults.At other reason) h =
+    link_reason_weaker MayFail ((stem : List ℕ) × IsEndless Old path stem) ((stem : List ℕ) × IsEndless New path stem)
+    (λ endless. (endless.0, λ machine shows. endless.1 machine (grows machine shows))) (string_bytes other) reason h
+listed_fault_weaker MayFail Old New path grows faults.NoMemory h = h
+
+-- what is known of errors stays known after more has been read
+pub listed_weaker : (MayFail : List ℕ → Type 0) (Old New : Machine → Type 0) (path : List (List ℕ)) → ((machine : Machine) → New machine → Old machine)
+    → (listed : List UnitFault) → All (IsListedFault MayFail Old path) listed → All (IsListedFault MayFail New path) listed
+listed_weaker MayFail Old New path grows listed held =
+    All-weaker (IsListedFault MayFail Old path) (IsListedFault MayFail New path) (listed_fault_weaker MayFail Old New path grows) listed held
+
+-- an error of a `Tree` at a folder can be listed
+pub tree_is_listed : (MayFail : List ℕ → Type 0) (Shows : Machine → Type 0) (path : List (List ℕ)) (folder : List ℕ) (fault : TreeFault) (made : UnitFault)
+    → IsOfTree folder fault made → (fault ≢ trees.NoMemory → MayFail folder) → made ≢ faults.NoMemory → IsListedFault MayFail Shows path made
+tree_is_listed MayFail Shows path folder trees.ReadFailed (faults.At other reason) h fails some =
+    subst (IsLinkReason MayFail ((stem : List ℕ) × IsEndless Shows path stem) (string_bytes other)) (sym h.1)
+    (subst MayFail (sym h.0) (fails (λ e. let no : ⊥ = cc in no)))
+tree_is_listed MayFail Shows path folder trees.NotUtf8 (faults.At other reason) h fails some =
+    subst (IsLinkReason MayFail ((stem : List ℕ) × IsEndless Shows path stem) (string_bytes other)) (sym h.1)
+    (subst MayFail (sym h.0) (fails (λ e. let no : ⊥ = cc in no)))
+tree_is_listed MayFail Shows path folder trees.NoMemory (faults.At other reason) h fails some = absurd h.1
+tree_is_listed MayFail Shows path folder fault faults.NoMemory h fails some = absurd (some refl)

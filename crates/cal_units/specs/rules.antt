@@ -3,4 +3,8 @@ pub mod Aliases
 pub mod Faults
 pub mod Files
 pub mod Machine
+pub mod Recorded
+pub mod RecordedLemmas
+pub mod Recording
+pub mod Seen
 pub mod Units

@@ -47,13 +47,14 @@ pub struct Aliases {
 /// are those of [`find_unit`]. Fails only if allocation fails.
 pub fn find_aliases<T: Tree>(
     alloc: Global,
-    tree: &T,
+    tree: &mut T,
     path: &[String],
 ) -> Result<Aliases, AllocError>
-    ensures known { IfOk result (λ found. (machine : Machine) → T.shows tree.now machine → found.faults.items ≡ []
+    ensures known { IfOk result (λ found. (machine : Machine) → T.shows tree.new machine → found.faults.items ≡ []
         → map shown_alias found.aliases.items ≡ aliases_in machine (map string_bytes path.now)) }
-    ensures faults { IfOk result (λ found. All (IsListedFault (T.may_fail tree.now) (T.shows tree.now)
+    ensures faults { IfOk result (λ found. All (IsListedFault T.may_fail (T.shows tree.new)
         (map string_bytes path.now)) found.faults.items) }
+    ensures grows { (machine : Machine) → T.shows tree.new machine → T.shows tree.old machine }
 {
     let mut found = Aliases {
         aliases: Vec::new(alloc),
@@ -68,17 +69,18 @@ pub fn find_aliases<T: Tree>(
 /// Appends the aliases whose links are in a folder.
 fn push_folder<T: Tree>(
     alloc: Global,
-    tree: &T,
+    tree: &mut T,
     path: &[String],
     folder: &str,
     found: &mut Aliases,
 ) -> Result<(), AllocError>
-    ensures known { OnOk result ((machine : Machine) → T.shows tree.now machine → found.new.faults.items ≡ []
+    ensures known { OnOk result ((machine : Machine) → T.shows tree.new machine → found.new.faults.items ≡ []
         → (found.old.faults.items ≡ []) × (map shown_alias found.new.aliases.items
         ≡ map shown_alias found.old.aliases.items ++ aliases_below machine (map string_bytes path.now) folder.now)) }
     ensures faults { OnOk result (
-        All (IsListedFault (T.may_fail tree.now) (T.shows tree.now) (map string_bytes path.now)) found.old.faults.items
-        → All (IsListedFault (T.may_fail tree.now) (T.shows tree.now) (map string_bytes path.now)) found.new.faults.items) }
+        All (IsListedFault T.may_fail (T.shows tree.old) (map string_bytes path.now)) found.old.faults.items
+        → All (IsListedFault T.may_fail (T.shows tree.new) (map string_bytes path.now)) found.new.faults.items) }
+    ensures grows { (machine : Machine) → T.shows tree.new machine → T.shows tree.old machine }
 {
     match tree.names(alloc, folder) {
         Ok(Names { names, unnamed: _ }) => push_named(alloc, tree, path, folder, names, found),
@@ -89,19 +91,20 @@ fn push_folder<T: Tree>(
 /// Appends the aliases whose links have these names in a folder.
 fn push_named<T: Tree>(
     alloc: Global,
-    tree: &T,
+    tree: &mut T,
     path: &[String],
     folder: &str,
     names: Vec<String>,
     found: &mut Aliases,
 ) -> Result<(), AllocError>
-    ensures known { OnOk result ((machine : Machine) → T.shows tree.now machine → found.new.faults.items ≡ []
+    ensures known { OnOk result ((machine : Machine) → T.shows tree.new machine → found.new.faults.items ≡ []
         → (found.old.faults.items ≡ []) × (map shown_alias found.new.aliases.items
         ≡ map shown_alias found.old.aliases.items
         ++ filter_map (alias_named machine (map string_bytes path.now) folder.now) (map string_bytes names.items))) }
     ensures faults { OnOk result (
-        All (IsListedFault (T.may_fail tree.now) (T.shows tree.now) (map string_bytes path.now)) found.old.faults.items
-        → All (IsListedFault (T.may_fail tree.now) (T.shows tree.now) (map string_bytes path.now)) found.new.faults.items) }
+        All (IsListedFault T.may_fail (T.shows tree.old) (map string_bytes path.now)) found.old.faults.items
+        → All (IsListedFault T.may_fail (T.shows tree.new) (map string_bytes path.now)) found.new.faults.items) }
+    ensures grows { (machine : Machine) → T.shows tree.new machine → T.shows tree.old machine }
 {
     for name in names {
         let alias = alias_named(alloc, tree, path, folder, name.as_str());
@@ -145,14 +148,15 @@ fn push_fault(faults: &mut Vec<UnitFault>, fault: UnitFault) -> Result<(), Alloc
 /// it isn't the name of a link, or if the link isn't an alias.
 fn alias_named<T: Tree>(
     alloc: Global,
-    tree: &T,
+    tree: &mut T,
     path: &[String],
     folder: &str,
     name: &str,
 ) -> Result<Option<Alias>, UnitFault>
-    ensures known { IfOk result (λ alias. (machine : Machine) → T.shows tree.now machine
+    ensures known { IfOk result (λ alias. (machine : Machine) → T.shows tree.new machine
         → option_map shown_alias alias ≡ alias_named machine (map string_bytes path.now) folder.now name.now) }
-    ensures fault { IfErr result (IsAliasFault (T.may_fail tree.now) (T.shows tree.now) (map string_bytes path.now)) }
+    ensures fault { IfErr result (IsAliasFault T.may_fail (T.shows tree.new) (map string_bytes path.now)) }
+    ensures grows { (machine : Machine) → T.shows tree.new machine → T.shows tree.old machine }
 {
     match file_stem(name) {
         Some(stem) => alias_at(alloc, tree, path, folder, stem),
@@ -164,14 +168,15 @@ fn alias_named<T: Tree>(
 /// alias.
 fn alias_at<T: Tree>(
     alloc: Global,
-    tree: &T,
+    tree: &mut T,
     path: &[String],
     folder: &str,
     stem: &str,
 ) -> Result<Option<Alias>, UnitFault>
-    ensures known { IfOk result (λ alias. (machine : Machine) → T.shows tree.now machine
+    ensures known { IfOk result (λ alias. (machine : Machine) → T.shows tree.new machine
         → option_map shown_alias alias ≡ alias_at machine (map string_bytes path.now) folder.now stem.now) }
-    ensures fault { IfErr result (IsAliasFault (T.may_fail tree.now) (T.shows tree.now) (map string_bytes path.now)) }
+    ensures fault { IfErr result (IsAliasFault T.may_fail (T.shows tree.new) (map string_bytes path.now)) }
+    ensures grows { (machine : Machine) → T.shows tree.new machine → T.shows tree.old machine }
 {
     let file = unit_path(alloc, folder, stem)?;
     let entry = look(alloc, tree, file.as_str())?;

@@ -44,15 +44,16 @@ pub struct DropIns {
 #[tactic(auto, unfolding(cal_drop_ins::specs::rules::DropIns::drop_ins))]
 pub fn find_drop_ins<T: Tree>(
     alloc: Global,
-    tree: &T,
+    tree: &mut T,
     path: &[String],
     stems: &[&str],
 ) -> Result<DropIns, UnitFault>
-    ensures known { IfOk result (λ found. (machine : Machine) → T.shows tree.now machine
+    ensures known { IfOk result (λ found. (machine : Machine) → T.shows tree.new machine
         → map string_bytes found.paths.items
         ≡ drop_ins (disk_of machine) (map string_bytes path.now) (map (λ stem. stem.now) stems.now)) }
-    ensures fault { IfErr result (IsDropInFault (T.may_fail tree.now) (T.shows tree.now)
+    ensures fault { IfErr result (IsDropInFault T.may_fail (T.shows tree.new)
         (folders (reverse (map string_bytes path.now)) (map (λ stem. stem.now) stems.now))) }
+    ensures grows { (machine : Machine) → T.shows tree.new machine → T.shows tree.old machine }
 {
     let folders = folders_of(alloc, path, stems)?;
     let mut unnamed = Vec::new(alloc);
@@ -64,14 +65,15 @@ pub fn find_drop_ins<T: Tree>(
 /// Returns the drop-ins in the folders, and appends to `unnamed` each folder with an entry whose name is not UTF-8.
 fn find_candidates<T: Tree>(
     alloc: Global,
-    tree: &T,
+    tree: &mut T,
     folders: &[String],
     unnamed: &mut Vec<String>,
 ) -> Result<Vec<DropIn>, UnitFault>
-    ensures known { IfOk result (λ found. (machine : Machine) → T.shows tree.now machine
+    ensures known { IfOk result (λ found. (machine : Machine) → T.shows tree.new machine
         → map shown_drop_in found.items
         ≡ flat_map (λ folder. candidates folder (machine.names folder)) (map string_bytes folders.now)) }
-    ensures fault { IfErr result (IsDropInFault (T.may_fail tree.now) (T.shows tree.now) (map string_bytes folders.now)) }
+    ensures fault { IfErr result (IsDropInFault T.may_fail (T.shows tree.new) (map string_bytes folders.now)) }
+    ensures grows { (machine : Machine) → T.shows tree.new machine → T.shows tree.old machine }
 {
     let mut found = Vec::new(alloc);
     for folder in folders {
@@ -83,17 +85,18 @@ fn find_candidates<T: Tree>(
 /// Appends the drop-ins in a folder to `found`, and the folder to `unnamed` if it has an entry whose name is not UTF-8.
 fn push_folder<T: Tree>(
     alloc: Global,
-    tree: &T,
+    tree: &mut T,
     folder: &str,
     found: &mut Vec<DropIn>,
     unnamed: &mut Vec<String>,
 ) -> Result<(), UnitFault>
-    ensures known { OnOk result ((machine : Machine) → T.shows tree.now machine
+    ensures known { OnOk result ((machine : Machine) → T.shows tree.new machine
         → map shown_drop_in found.new.items ≡ map shown_drop_in found.old.items ++ candidates folder.now (machine.names folder.now)) }
     ensures fits { OnOk result (length found.new.items ≤ max_drop_ins) }
-    ensures fault { IfErr result (IfAt (IsDropInReason (T.may_fail tree.now) (λ other. (other ≡ folder.now)
-        × ((machine : Machine) → T.shows tree.now machine
+    ensures fault { IfErr result (IfAt (IsDropInReason T.may_fail (λ other. (other ≡ folder.now)
+        × ((machine : Machine) → T.shows tree.new machine
         → max_drop_ins < length (map shown_drop_in found.old.items ++ candidates folder.now (machine.names folder.now)))))) }
+    ensures grows { (machine : Machine) → T.shows tree.new machine → T.shows tree.old machine }
 {
     let listed = match tree.names(alloc, folder) {
         Ok(listed) => listed,
@@ -116,13 +119,14 @@ fn push_folder<T: Tree>(
 /// Returns the paths without those that are links to `/dev/null`.
 fn without_masked<T: Tree>(
     alloc: Global,
-    tree: &T,
+    tree: &mut T,
     paths: Vec<String>,
 ) -> Result<Vec<String>, UnitFault>
-    ensures known { IfOk result (λ kept. (machine : Machine) → T.shows tree.now machine
+    ensures known { IfOk result (λ kept. (machine : Machine) → T.shows tree.new machine
         → map string_bytes kept.items
         ≡ filter (λ path. not (is_null (machine.entry path))) (map string_bytes paths.items)) }
-    ensures fault { IfErr result (IsReadFault (T.may_fail tree.now)) }
+    ensures fault { IfErr result (IsReadFault T.may_fail) }
+    ensures grows { (machine : Machine) → T.shows tree.new machine → T.shows tree.old machine }
 {
     let mut kept = Vec::new(alloc);
     for path in paths {
@@ -134,14 +138,15 @@ fn without_masked<T: Tree>(
 /// Appends a path, unless it is a link to `/dev/null`.
 fn keep_unmasked<T: Tree>(
     alloc: Global,
-    tree: &T,
+    tree: &mut T,
     kept: &mut Vec<String>,
     path: String,
 ) -> Result<(), UnitFault>
-    ensures known { OnOk result ((machine : Machine) → T.shows tree.now machine
+    ensures known { OnOk result ((machine : Machine) → T.shows tree.new machine
         → map string_bytes kept.new.items ≡ map string_bytes kept.old.items
         ++ filter (λ path. not (is_null (machine.entry path))) (string_bytes path ∷ [])) }
-    ensures fault { IfErr result (IsReadFault (T.may_fail tree.now)) }
+    ensures fault { IfErr result (IsReadFault T.may_fail) }
+    ensures grows { (machine : Machine) → T.shows tree.new machine → T.shows tree.old machine }
 {
     match tree.look(alloc, path.as_str()) {
         Ok(entry) => push_unless(kept, path, is_null(&entry)),

@@ -31,13 +31,14 @@ pub(crate) enum Location {
 /// Returns what is found at the paths of a unit's file.
 pub(crate) fn find_location<T: Tree>(
     alloc: Global,
-    tree: &T,
+    tree: &mut T,
     path: &[String],
     stem: &str,
 ) -> Result<Location, UnitFault>
-    ensures known { IfOk result (λ location. (machine : Machine) → T.shows tree.now machine
+    ensures known { IfOk result (λ location. (machine : Machine) → T.shows tree.new machine
         → shown_location location ≡ location_in machine (map string_bytes path.now) stem.now) }
-    ensures fault { IfErr result (IsReadFault (T.may_fail tree.now)) }
+    ensures fault { IfErr result (IsReadFault T.may_fail) }
+    ensures grows { (machine : Machine) → T.shows tree.new machine → T.shows tree.old machine }
 {
     let paths = unit_paths(alloc, path, stem)?;
     match first_there(alloc, tree, paths.as_slice())? {
@@ -50,15 +51,16 @@ pub(crate) fn find_location<T: Tree>(
 /// `entry` is what is at that path.
 fn location_at<T: Tree>(
     alloc: Global,
-    tree: &T,
+    tree: &mut T,
     path: &[String],
     stem: &str,
     file: &str,
     entry: &Entry,
 ) -> Result<Location, UnitFault>
-    ensures known { IfOk result (λ location. (machine : Machine) → T.shows tree.now machine → shown_location location
+    ensures known { IfOk result (λ location. (machine : Machine) → T.shows tree.new machine → shown_location location
         ≡ location_at machine (map string_bytes path.now) stem.now file.now (shown_entry entry.now)) }
-    ensures fault { IfErr result (IsReadFault (T.may_fail tree.now)) }
+    ensures fault { IfErr result (IsReadFault T.may_fail) }
+    ensures grows { (machine : Machine) → T.shows tree.new machine → T.shows tree.old machine }
 {
     match entry {
         Entry::Empty => Ok(Location::MaskedAt(String::from_str(alloc, file)?)),
@@ -69,15 +71,16 @@ fn location_at<T: Tree>(
 
 fn location_of_link<T: Tree>(
     alloc: Global,
-    tree: &T,
+    tree: &mut T,
     path: &[String],
     stem: &str,
     file: &str,
     target: &str,
 ) -> Result<Location, UnitFault>
-    ensures known { IfOk result (λ location. (machine : Machine) → T.shows tree.now machine → shown_location location
+    ensures known { IfOk result (λ location. (machine : Machine) → T.shows tree.new machine → shown_location location
         ≡ location_of_link machine (map string_bytes path.now) stem.now file.now target.now) }
-    ensures fault { IfErr result (IsReadFault (T.may_fail tree.now)) }
+    ensures fault { IfErr result (IsReadFault T.may_fail) }
+    ensures grows { (machine : Machine) → T.shows tree.new machine → T.shows tree.old machine }
 {
     if target == NULL_DEVICE {
         return Ok(Location::MaskedAt(String::from_str(alloc, file)?));
@@ -87,10 +90,16 @@ fn location_of_link<T: Tree>(
 }
 
 /// Returns the path to which a link with this target leads, or the error with the path of the link.
-fn leads_to<T: Tree>(alloc: Global, tree: &T, link: &str, target: &str) -> Result<String, UnitFault>
-    ensures known { IfOk result (λ path. (machine : Machine) → T.shows tree.now machine
+fn leads_to<T: Tree>(
+    alloc: Global,
+    tree: &mut T,
+    link: &str,
+    target: &str,
+) -> Result<String, UnitFault>
+    ensures known { IfOk result (λ path. (machine : Machine) → T.shows tree.new machine
         → string_bytes path ≡ machine.leads_to link.now target.now) }
-    ensures fault { IfErr result (IsReadFault (T.may_fail tree.now)) }
+    ensures fault { IfErr result (IsReadFault T.may_fail) }
+    ensures grows { (machine : Machine) → T.shows tree.new machine → T.shows tree.old machine }
 {
     match tree.leads_to(alloc, link, target) {
         Ok(path) => Ok(path),
@@ -167,13 +176,14 @@ pub(crate) fn unit_path(alloc: Global, folder: &str, stem: &str) -> Result<Strin
 /// Returns the first path with a unit's file, and what is there. A folder is not a unit's file.
 pub(crate) fn first_there<'p, T: Tree>(
     alloc: Global,
-    tree: &T,
+    tree: &mut T,
     paths: &'p [String],
 ) -> Result<Option<(&'p str, Entry)>, UnitFault>
-    ensures known { IfOk result (λ found. (machine : Machine) → T.shows tree.now machine
+    ensures known { IfOk result (λ found. (machine : Machine) → T.shows tree.new machine
         → (option_map (λ pair. pair.0.now) found ≡ first_there machine (map string_bytes paths.now))
         × IfSome found (λ pair. shown_entry pair.1 ≡ machine.entry pair.0.now)) }
-    ensures fault { IfErr result (IsReadFault (T.may_fail tree.now)) }
+    ensures fault { IfErr result (IsReadFault T.may_fail) }
+    ensures grows { (machine : Machine) → T.shows tree.new machine → T.shows tree.old machine }
 {
     for path in paths {
         let entry = look(alloc, tree, path.as_str())?;
@@ -185,10 +195,11 @@ pub(crate) fn first_there<'p, T: Tree>(
 }
 
 /// Returns what is at a path, or the error with the path.
-pub(crate) fn look<T: Tree>(alloc: Global, tree: &T, path: &str) -> Result<Entry, UnitFault>
-    ensures known { IfOk result (λ entry. (machine : Machine) → T.shows tree.now machine
+pub(crate) fn look<T: Tree>(alloc: Global, tree: &mut T, path: &str) -> Result<Entry, UnitFault>
+    ensures known { IfOk result (λ entry. (machine : Machine) → T.shows tree.new machine
         → shown_entry entry ≡ machine.entry path.now) }
-    ensures fault { IfErr result (IsReadFault (T.may_fail tree.now)) }
+    ensures fault { IfErr result (IsReadFault T.may_fail) }
+    ensures grows { (machine : Machine) → T.shows tree.new machine → T.shows tree.old machine }
 {
     match tree.look(alloc, path) {
         Ok(entry) => Ok(entry),

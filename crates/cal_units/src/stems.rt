@@ -21,16 +21,17 @@ use std::alloc::{AllocError, Global};
 /// [`crate::find_aliases`] finds them. Fails like [`find_drop_ins`].
 pub fn find_unit_drop_ins<T: Tree>(
     alloc: Global,
-    tree: &T,
+    tree: &mut T,
     path: &[String],
     aliases: &[Alias],
     file: &UnitFile,
 ) -> Result<DropIns, UnitFault>
-    ensures known { IfOk result (λ found. (machine : Machine) → T.shows tree.now machine
+    ensures known { IfOk result (λ found. (machine : Machine) → T.shows tree.new machine
         → map string_bytes found.paths.items
         ≡ drop_ins (disk_of machine) (map string_bytes path.now) (unit_stems (map shown_alias aliases.now) file.now)) }
-    ensures fault { IfErr result (IsDropInFault (T.may_fail tree.now) (T.shows tree.now)
+    ensures fault { IfErr result (IsDropInFault T.may_fail (T.shows tree.new)
         (folders (reverse (map string_bytes path.now)) (unit_stems (map shown_alias aliases.now) file.now))) }
+    ensures grows { (machine : Machine) → T.shows tree.new machine → T.shows tree.old machine }
 {
     let stems = unit_stems(alloc, aliases, file)?;
     find_drop_ins(alloc, tree, path, stems.as_slice())

@@ -54,14 +54,15 @@ pub enum Unit {
 /// [`UnitFault::NoMemory`] if allocation fails.
 pub fn find_unit<T: Tree>(
     alloc: Global,
-    tree: &T,
+    tree: &mut T,
     path: &[String],
     stem: &str,
 ) -> Result<Unit, UnitFault>
-    ensures known { IfOk result (λ unit. (machine : Machine) → T.shows tree.now machine
+    ensures known { IfOk result (λ unit. (machine : Machine) → T.shows tree.new machine
         → shown_unit unit ≡ unit_on machine (map string_bytes path.now) stem.now) }
-    ensures fault { IfErr result (IsUnitFault (T.may_fail tree.now) (T.shows tree.now)
+    ensures fault { IfErr result (IsUnitFault T.may_fail (T.shows tree.new)
         (map string_bytes path.now) stem.now) }
+    ensures grows { (machine : Machine) → T.shows tree.new machine → T.shows tree.old machine }
 {
     if is_template(stem) {
         return Ok(Unit::Template);
@@ -78,14 +79,15 @@ fn is_template(stem: &str) -> bool
 /// Finds a unit that isn't a template.
 fn find_named_unit<T: Tree>(
     alloc: Global,
-    tree: &T,
+    tree: &mut T,
     path: &[String],
     stem: &str,
 ) -> Result<Unit, UnitFault>
-    ensures known { IfOk result (λ unit. (machine : Machine) → T.shows tree.now machine
+    ensures known { IfOk result (λ unit. (machine : Machine) → T.shows tree.new machine
         → shown_unit unit ≡ named_unit machine (map string_bytes path.now) stem.now) }
-    ensures fault { IfErr result (IsLinkFault (T.may_fail tree.now) ((machine : Machine) → T.shows tree.now machine
+    ensures fault { IfErr result (IsLinkFault T.may_fail ((machine : Machine) → T.shows tree.new machine
         → named_unit machine (map string_bytes path.now) stem.now ≡ Endless)) }
+    ensures grows { (machine : Machine) → T.shows tree.new machine → T.shows tree.old machine }
 {
     let stem = String::from_str(alloc, stem)?;
     follow(alloc, tree, path, MAX_LINKS + 1, Vec::new(alloc), stem)
@@ -95,16 +97,17 @@ fn find_named_unit<T: Tree>(
 /// `stem`.
 fn follow<T: Tree>(
     alloc: Global,
-    tree: &T,
+    tree: &mut T,
     path: &[String],
     count: usize,
     mut aliases: Vec<String>,
     stem: String,
 ) -> Result<Unit, UnitFault>
-    ensures known { IfOk result (λ unit. (machine : Machine) → T.shows tree.now machine
+    ensures known { IfOk result (λ unit. (machine : Machine) → T.shows tree.new machine
         → shown_unit unit ≡ follow machine (map string_bytes path.now) count (map string_bytes aliases.items) (string_bytes stem)) }
-    ensures fault { IfErr result (IsLinkFault (T.may_fail tree.now) ((machine : Machine) → T.shows tree.now machine
+    ensures fault { IfErr result (IsLinkFault T.may_fail ((machine : Machine) → T.shows tree.new machine
         → follow machine (map string_bytes path.now) count (map string_bytes aliases.items) (string_bytes stem) ≡ Endless)) }
+    ensures grows { (machine : Machine) → T.shows tree.new machine → T.shows tree.old machine }
 {
     if count == 0 {
         return Err(UnitFault::At(stem, Reason::TooManyLinks));

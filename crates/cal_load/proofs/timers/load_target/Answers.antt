@@ -4,12 +4,12 @@ use Rattle.cal_units.specs.rules.Aliases.{shown_alias}
 use Rattle.cal_load.proofs.TimerLemmas.{timers_more}
 use Rattle.cal_load.proofs.timers.load_target.Goals as goal
 
-pub returns : goal.returns
-returns g c =
+pub returns-clause-known : goal.returns-clause-known
+returns-clause-known g c =
     on_ok_weaker c.push.result (λ pushed machine shows held.
-    timers_more (λ machine. g.T.Tree.shows c.args.tree.now machine) (map string_bytes c.args.path.now) (map shown_alias c.args.aliases.now) c.read_named-found.result c.args.loaded.now.timers.items c.push.new.self.timers.items
-    c.read_named-found.ensures pushed machine shows held) c.push.ensures
+    timers_more (λ machine. g.T.Tree.shows c.read_named-found.new.tree machine) (map string_bytes c.args.path.now) (map shown_alias c.args.aliases.now) c.read_named-found.result c.args.loaded.now.timers.items c.push.new.self.timers.items
+    c.read_named-found.ensures.known pushed machine shows held) c.push.ensures
 
-pub returns-then-is_path : goal.returns-then-is_path
-returns-then-is_path g c =
-    on_ok_weaker c.load_path.result (λ loaded machine shows held. loaded machine (map string_bytes c.args.path.now) (map shown_alias c.args.aliases.now) shows held) c.load_path.ensures
+pub returns-then-is_path-clause-known : goal.returns-then-is_path-clause-known
+returns-then-is_path-clause-known g c =
+    on_ok_weaker c.load_path.result (λ loaded machine shows held. loaded machine (map string_bytes c.args.path.now) (map shown_alias c.args.aliases.now) shows held) c.load_path.ensures.known

@@ -1,4 +1,7 @@
 use Rattle.cal_load.proofs.timers.load_timers.Goals as goal
 
 pub loop-target-preserved : goal.loop-target-preserved
-loop-target-preserved g c machine shows = c.in_ok-load_target.ensures machine shows (c.loop-target.invariant machine shows)
+loop-target-preserved g c = (
+  λ machine shows. c.in_ok-load_target.ensures.known machine shows (c.loop-target.invariant.0 machine (c.load_target.ensures.grows machine shows)),
+  λ machine shows. c.loop-target.invariant.1 machine (c.load_target.ensures.grows machine shows),
+)

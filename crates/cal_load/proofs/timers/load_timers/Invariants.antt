@@ -6,4 +6,5 @@ use Rattle.cal_load.proofs.timers.load_timers.Given as goal
 
 abbrev pub invariant-loop-target : goal.invariant-loop-target
 invariant-loop-target g l =
-    (machine : Machine) → g.T.Tree.shows l.tree machine → All (IsTimerOn machine (map string_bytes l.path) (map shown_alias l.aliases)) l.loaded.timers.items
+    ((machine : Machine) → g.T.Tree.shows l.tree machine → All (IsTimerOn machine (map string_bytes l.path) (map shown_alias l.aliases)) l.loaded.timers.items)
+    × ((machine : Machine) → g.T.Tree.shows l.tree machine → g.T.Tree.shows l.fn.tree machine)

@@ -8,9 +8,11 @@ use Rattle.cal_zone.specs.rules.ZoneTable.{zone_named}
 use Rattle.cal_machine_zones.specs.rules.ZoneFiles.{HasZonesOf}
 use Rattle.cal_machine_zones.proofs.load.load_zones.Given as goal
 
--- the table has UTC and the names before the loop's index, and their zones are those of the machine
+-- The table has UTC and the names before the loop's index, and their zones are those of the machine. A machine that
+-- agrees with what was read so far agrees with what was read before.
 abbrev pub invariant-loop-name : goal.invariant-loop-name
 invariant-loop-name g l =
     ((name : List ℕ) → is_some (zone_named l.table name)
     ≡ (is_utc_name name || list_any (bytes_eq name) (map string_bytes (take l.name-index l.names))))
     × ((machine : Machine) → g.T.Tree.shows l.tree machine → HasZonesOf machine l.table)
+    × ((machine : Machine) → g.T.Tree.shows l.tree machine → g.T.Tree.shows l.fn.tree machine)

@@ -12,4 +12,5 @@ invariant-loop-folder g l =
     ((machine : Machine) → g.T.Tree.shows l.tree machine → l.found.faults.items ≡ []
     → map shown_alias l.found.aliases.items
     ≡ flat_map (aliases_below machine (map string_bytes l.path)) (map string_bytes (take l.folder-index l.path)))
-    × All (IsListedFault (g.T.Tree.may_fail l.tree) (g.T.Tree.shows l.tree) (map string_bytes l.path)) l.found.faults.items
+    × All (IsListedFault g.T.Tree.may_fail (g.T.Tree.shows l.tree) (map string_bytes l.path)) l.found.faults.items
+    × ((machine : Machine) → g.T.Tree.shows l.tree machine → g.T.Tree.shows l.fn.tree machine)

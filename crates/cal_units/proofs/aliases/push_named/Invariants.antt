@@ -13,5 +13,6 @@ invariant-loop-name g l =
     → (l.fn.found.faults.items ≡ []) × (map shown_alias l.found.aliases.items
     ≡ map shown_alias l.fn.found.aliases.items
     ++ filter_map (alias_named machine (map string_bytes l.path) l.folder) (map string_bytes l.yielded)))
-    × (All (IsListedFault (g.T.Tree.may_fail l.tree) (g.T.Tree.shows l.tree) (map string_bytes l.path)) l.fn.found.faults.items
-    → All (IsListedFault (g.T.Tree.may_fail l.tree) (g.T.Tree.shows l.tree) (map string_bytes l.path)) l.found.faults.items)
+    × (All (IsListedFault g.T.Tree.may_fail (g.T.Tree.shows l.fn.tree) (map string_bytes l.path)) l.fn.found.faults.items
+    → All (IsListedFault g.T.Tree.may_fail (g.T.Tree.shows l.tree) (map string_bytes l.path)) l.found.faults.items)
+    × ((machine : Machine) → g.T.Tree.shows l.tree machine → g.T.Tree.shows l.fn.tree machine)

@@ -12,3 +12,4 @@ invariant-loop-folder g l =
     → map shown_drop_in l.found.items
     ≡ flat_map (λ folder. candidates folder (machine.names folder)) (map string_bytes (take l.folder-index l.folders)))
     × (length l.found.items ≤ max_drop_ins)
+    × ((machine : Machine) → g.T.Tree.shows l.tree machine → g.T.Tree.shows l.fn.tree machine)

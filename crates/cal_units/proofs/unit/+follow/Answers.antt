@@ -15,7 +15,7 @@ returns-in_ok-push-in-AliasOf-clause-known g t c =
     let path = map string_bytes c.args.path.now in
     let other = string_bytes c.in-AliasOf.other in
     let location : location_in machine path (string_bytes c.args.stem) ≡ AliasOf other =
-    ap (location_in machine path) (sym c.as_str.ensures.value) ∙ sym (c.in_ok-location.ensures.known machine shows) ∙ ap shown_location c.in-AliasOf.is in
+    ap (location_in machine path) (sym c.as_str.ensures.value) ∙ sym (c.in_ok-location.ensures.known machine (c.follow.ensures.grows machine shows)) ∙ ap shown_location c.in-AliasOf.is in
     let more : c.args.count ≡ suc (c.args.count - 1) = omega arith in
     told machine shows
     ∙ ap (λ aliases. follow machine path (c.args.count - 1) aliases other) (ap (map string_bytes) c.in_ok-push-in-AliasOf.ensures.items ∙ map-append string_bytes c.args.aliases.items _)
@@ -24,7 +24,7 @@ returns-in_ok-push-in-AliasOf-clause-known g t c =
 pub returns-in_ok-push-in-AliasOf-clause-fault : goal.returns-in_ok-push-in-AliasOf-clause-fault
 returns-in_ok-push-in-AliasOf-clause-fault g t c =
     let path = map string_bytes c.args.path.now in
-    let shows = g.T.Tree.shows c.args.tree.now in
+    let shows = g.T.Tree.shows c.follow.new.tree in
     let other = string_bytes c.in-AliasOf.other in
     let stem = string_bytes c.args.stem in
     let aliases = map string_bytes c.args.aliases.items in
@@ -35,8 +35,8 @@ returns-in_ok-push-in-AliasOf-clause-fault g t c =
     let endless : Told → Asked =
     λ told machine shows.
     let location : location_in machine path stem ≡ AliasOf other =
-    ap (location_in machine path) (sym c.as_str.ensures.value) ∙ sym (c.in_ok-location.ensures.known machine shows) ∙ ap shown_location c.in-AliasOf.is in
+    ap (location_in machine path) (sym c.as_str.ensures.value) ∙ sym (c.in_ok-location.ensures.known machine (c.follow.ensures.grows machine shows)) ∙ ap shown_location c.in-AliasOf.is in
     sym (ap (λ aliases. follow machine path (c.args.count - 1) aliases other) (ap (map string_bytes) c.in_ok-push-in-AliasOf.ensures.items ∙ map-append string_bytes c.args.aliases.items _)
     ∙ follow_alias machine path c.args.count (c.args.count - 1) aliases stem other more location)
     ∙ told machine shows in
-    IfErr-weaker c.follow.result _ _ (link_weaker (g.T.Tree.may_fail c.args.tree.now) Told Asked endless) c.follow.ensures.fault
+    IfErr-weaker c.follow.result _ _ (link_weaker g.T.Tree.may_fail Told Asked endless) c.follow.ensures.fault

@@ -17,7 +17,7 @@ returns-clause-known g c =
 pub returns-clause-fault : goal.returns-clause-fault
 returns-clause-fault g c =
     let path = map string_bytes c.args.path.now in
-    let shows = g.T.Tree.shows c.args.tree.now in
+    let shows = g.T.Tree.shows c.follow.new.tree in
     let stem = string_bytes c.in_ok-stem.stem in
     let Told : Type 0 = (machine : Machine) → shows machine → follow machine path 9 (map string_bytes c.new.result.items) stem ≡ Endless in
     let Asked : Type 0 = (machine : Machine) → shows machine → named_unit machine path c.args.stem.now ≡ Endless in
@@ -25,4 +25,4 @@ returns-clause-fault g c =
     λ told machine shows.
     sym (ap (λ aliases. follow machine path 9 (map string_bytes aliases) stem) c.new.ensures.items
     ∙ ap (λ stem. follow machine path 9 [] stem) c.in_ok-stem.ensures.ok) ∙ told machine shows in
-    IfErr-weaker c.follow.result _ _ (link_weaker (g.T.Tree.may_fail c.args.tree.now) Told Asked endless) c.follow.ensures.fault
+    IfErr-weaker c.follow.result _ _ (link_weaker g.T.Tree.may_fail Told Asked endless) c.follow.ensures.fault

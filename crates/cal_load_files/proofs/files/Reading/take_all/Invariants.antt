@@ -5,5 +5,6 @@ use Rattle.cal_load_files.proofs.files.Reading.take_all.Given as goal
 
 abbrev pub invariant-loop-name : goal.invariant-loop-name
 invariant-loop-name g l =
-    (machine : Machine) → g.T.Tree.shows l.tree machine
-    → All (IsStoredOn machine) l.fn.self.loaded.files.items → All (IsStoredOn machine) l.self.loaded.files.items
+    ((machine : Machine) → g.T.Tree.shows l.tree machine
+    → All (IsStoredOn machine) l.fn.self.loaded.files.items → All (IsStoredOn machine) l.self.loaded.files.items)
+    × ((machine : Machine) → g.T.Tree.shows l.tree machine → g.T.Tree.shows l.fn.tree machine)
