@@ -4,8 +4,8 @@ ghost use Rattle.std.specs.Prelude.{◌≤◌, IfOk, max};
 ghost use Rattle.cal_units.specs.rules.Machine.{Machine};
 
 use crate::answer::{Answer, INVALID, fault_lines};
+use cal_load::{TargetFault, TargetReason, is_path};
 use cal_plan::PlanFault;
-use cal_targets::{TargetFault, TargetReason, is_path};
 use cal_timers_command::Verb;
 use cal_units::{Aliases, Tree, UnitFault, find_aliases};
 use std::alloc::{AllocError, Global};

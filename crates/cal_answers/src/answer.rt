@@ -10,9 +10,9 @@ use crate::lint::lint;
 use crate::local_clock::LocalClock;
 use crate::search_path::search_path;
 use crate::timers::{list, next, show};
+use cal_load::TargetFault;
 use cal_machine_zones::ZonesFault;
 use cal_plan::PlanFault;
-use cal_targets::TargetFault;
 use cal_tasks::Clocked;
 use cal_timers_command::{Question, Verb};
 use cal_timers_text::{Style, fault_text, zones_text};
@@ -138,7 +138,10 @@ fn answer_at<T: Tree>(
     ensures grows { (machine : Machine) → T.shows tree.new machine → T.shows tree.old machine }
 {
     let Some(path) = search_path(alloc, tree, question.is_user)? else {
-        return stopped(alloc, "the variable HOME isn't set or can't be read");
+        return stopped(
+            alloc,
+            "the variable HOME isn't set, isn't an absolute path or can't be read",
+        );
     };
     let targets: Vec<&str> = question
         .targets

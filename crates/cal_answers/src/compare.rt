@@ -4,9 +4,8 @@ ghost use Rattle.std.specs.Prelude.{◌≤◌, IfOk};
 ghost use Rattle.cal_units.specs.rules.Machine.{Machine};
 
 use crate::answer::{Answer, Asked, INVALID, fault_lines, push_masked, stopped};
-use cal_load::{Loaded, LoadedTimer, load_expressions, load_timers};
+use cal_load::{Loaded, LoadedTimer, TargetReason, load_expressions, load_timers};
 use cal_plan::PlanFault;
-use cal_targets::TargetReason;
 use cal_tasks::difference_of;
 use cal_timers_json::same_json;
 use cal_timers_text::same_text;

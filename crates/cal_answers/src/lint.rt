@@ -5,11 +5,9 @@ ghost use Rattle.cal_units.specs.rules.Machine.{Machine};
 
 use crate::answer::{Answer, Asked, INVALID, fault_lines, push_fault_line};
 use cal_lint::{Finding, ProblemKind, findings};
-use cal_load::{Loaded, LoadedTimer, load_timers};
-use cal_load_files::load_files;
+use cal_load::{Loaded, LoadedTimer, TargetFault, TargetReason, load_files, load_timers};
 use cal_plan::PlanFault;
 use cal_read::TimerFault;
-use cal_targets::{TargetFault, TargetReason};
 use cal_tasks::{IdleLine, idle_lines};
 use cal_timers_json::{LintRow, lint_json};
 use cal_timers_text::{Style, finding_text, idle_text, idle_words, message_of};

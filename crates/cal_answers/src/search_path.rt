@@ -3,8 +3,7 @@
 
 ghost use Rattle.cal_units.specs.rules.Machine.{Machine};
 
-use cal_drop_ins::{UserVariables, given_path, system_path, user_path};
-use cal_units::{Tree, TreeFault};
+use cal_units::{Tree, TreeFault, UserVariables, given_path, system_path, user_path};
 use std::alloc::{AllocError, Global};
 
 /// Returns the search path of a user's manager if `is_user` is `true`, and otherwise that of the system's manager.

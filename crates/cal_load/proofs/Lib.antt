@@ -1,3 +1,4 @@
 pub mod ExpressionLemmas
+pub mod FileLemmas
 pub mod TextLemmas
 pub mod TimerLemmas

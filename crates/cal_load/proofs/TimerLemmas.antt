@@ -6,7 +6,7 @@ use Rattle.cal_units.specs.rules.Aliases.{Alias}
 use Rattle.cal_units.specs.rules.Machine.{Machine}
 use Rattle.cal_load.specs.rules.LoadedTarget.{IsLoadedFile, IsLoadedTarget, IsLoadedUnit, timers_in}
 use Rattle.cal_load.specs.rules.Loaded.{IsTimerOn}
-use Rattle.cal_targets.specs.declared.fault.TargetLoadFault.{TargetLoadFault}
+use Rattle.cal_load.specs.declared.fault.TargetLoadFault.{TargetLoadFault}
 use Rattle.cal_load.specs.declared.loaded.LoadedTarget as targets
 use Rattle.cal_load.specs.declared.loaded.LoadedTimer.{LoadedTimer}
 

@@ -6,11 +6,12 @@ ghost use Rattle.cal_units.specs.rules.Machine.{Machine};
 ghost use Rattle.cal_load.specs.rules.Expressions.{AreOf, IsMadeOf, IsTimerOf};
 
 use crate::calendar::Calendar;
+use crate::fault::{TargetLoadFault, push_fault};
 use crate::loaded::{Loaded, LoadedTimer};
+use crate::target_fault::TargetReason;
 use crate::zones::{first_with_zone, load_named_zones};
 use cal_machine_zones::{FileReason, ZonesFault};
 use cal_spec::{SpecFault, read_expr};
-use cal_targets::{TargetLoadFault, TargetReason, push_fault};
 use cal_timer::TimerLine;
 use cal_units::Tree;
 use cal_zone::ZoneTable;

@@ -1,11 +1,16 @@
 //! The timers that a user names by unit, by file, by folder or by expression, with the zones that their expressions
-//! name.
+//! name; and the files that a user names, not parsed.
 #![tactic(auto)]
 
 mod calendar;
 mod expressions;
+mod fault;
+mod files;
 mod loaded;
+mod names;
 mod notes;
+mod paths;
+mod target_fault;
 mod texts;
 mod timers;
 mod unit;
@@ -13,5 +18,8 @@ mod zones;
 
 pub use calendar::Calendar;
 pub use expressions::load_expressions;
+pub use files::{LoadedFiles, load_files};
 pub use loaded::{Loaded, LoadedTimer};
+pub use paths::is_path;
+pub use target_fault::{TargetFault, TargetReason};
 pub use timers::load_timers;

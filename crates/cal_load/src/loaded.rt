@@ -7,7 +7,8 @@ ghost use Rattle.cal_load.specs.rules.LoadedTarget.{timers_in};
 ghost use Rattle.cal_load.specs.rules.Position.{IsLastUntil, IsPosition};
 
 use crate::calendar::Calendar;
-use cal_targets::{TargetFault, TargetLoadFault, push_fault};
+use crate::fault::{TargetLoadFault, push_fault};
+use crate::target_fault::TargetFault;
 use cal_timer::TimerLine;
 use cal_units::UnitText;
 use cal_zone::ZoneTable;

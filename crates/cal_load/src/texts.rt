@@ -6,8 +6,8 @@ ghost use Rattle.cal_read.specs.rules.TimerTexts.{assignments_of};
 ghost use Rattle.cal_units.specs.rules.Files.{shown_unit_text};
 ghost use Rattle.cal_load.specs.rules.Loaded.{assignments_of_files};
 
+use crate::fault::TargetLoadFault;
 use cal_read::NumberedText;
-use cal_targets::TargetLoadFault;
 use cal_units::{Reason, UnitText};
 use std::alloc::{AllocError, Global};
 

@@ -6,14 +6,13 @@ ghost use Rattle.cal_units.specs.rules.Machine.{Machine};
 ghost use Rattle.cal_load.specs.rules.Loaded.{IsTimerOn};
 ghost use Rattle.cal_load.specs.rules.LoadedTarget.{IsLoadedFile, IsLoadedTarget};
 
+use crate::fault::{TargetLoadFault, push_fault};
 use crate::loaded::{Loaded, LoadedTarget};
+use crate::names::{Wanted, files_in, names_in_path};
+use crate::paths::{PathKind, is_path, kind_at, path_in, without_slashes};
+use crate::target_fault::TargetReason;
 use crate::unit::{read_timer_file, read_unit};
-use cal_drop_ins::unit_stem;
-use cal_targets::{
-    PathKind, TargetLoadFault, TargetReason, Wanted, files_in, is_path, kind_at, names_in_path,
-    path_in, push_fault, without_slashes,
-};
-use cal_units::{Alias, Tree};
+use cal_units::{Alias, Tree, unit_stem};
 use std::alloc::{AllocError, Global};
 
 /// Loads the timers that the targets stand for, in their order. Without a target, these are all timers in the folders

@@ -1,7 +1,7 @@
 //! Reading a timer from its files.
 
 ghost use Rattle.std.specs.Prelude.{◌≡◌, ◌+◌, ◌<◌, ◌^◌, ◌∷◌, ◌++◌, All, IfOk, codes, length, map, string_bytes};
-ghost use Rattle.cal_drop_ins.specs.rules.DropIns.{drop_ins};
+ghost use Rattle.cal_units.specs.rules.DropIns.{drop_ins};
 ghost use Rattle.cal_read.specs.rules.TimerTexts.{assignments_of};
 ghost use Rattle.cal_units.specs.rules.Aliases.{shown_alias, unit_stems};
 ghost use Rattle.cal_units.specs.rules.Files.{files_at, shown_unit_text};
@@ -10,13 +10,14 @@ ghost use Rattle.cal_load.specs.rules.Loaded.{IsCalendarBy, IsCalendarOf, IsFile
 ghost use Rattle.cal_load.specs.rules.LoadedTarget.{IsLoadedUnit};
 
 use crate::calendar::Calendar;
+use crate::fault::TargetLoadFault;
 use crate::loaded::{LoadedTarget, LoadedTimer, position_in};
 use crate::notes::{can_start, notes_of, shown_notes};
+use crate::target_fault::TargetReason;
 use crate::texts::{first_lines, numbered_texts};
 use crate::zones::{first_with_zone, load_named_zones};
 use cal_machine_zones::{FileReason, ZonesFault};
 use cal_read::{FileFault, NumberedText, TimerFault, read_texts};
-use cal_targets::{TargetLoadFault, TargetReason};
 use cal_units::{Alias, Tree, Unit, UnitFile, UnitText, find_unit, find_unit_drop_ins, read_files};
 use std::alloc::{AllocError, Global};
 

@@ -1,8 +1,8 @@
 //! Error lines about timers that can't be loaded, and about a local zone that can't be used.
 
 use crate::cells::push_printable;
+use cal_load::{TargetFault, TargetReason};
 use cal_machine_zones::{FileReason, Origin, ZonesFault};
-use cal_targets::{TargetFault, TargetReason};
 use cal_timer::TimerFault;
 use cal_units::Reason;
 use std::alloc::{AllocError, Global};

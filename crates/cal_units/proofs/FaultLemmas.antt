@@ -5,7 +5,7 @@ use Rattle.std.specs.Prelude.{IfErr, String}
 use Rattle.std.specs.declared.alloc.Global.{Global}
 use Rattle.std.proofs.lemmas.List.{drop-map, take-map}
 use Rattle.std.proofs.lemmas.List.Elements.{All-push, All-same, All-weaker}
-use Rattle.cal_drop_ins.specs.rules.DropIns.{FolderFile, candidates}
+use Rattle.cal_units.specs.rules.DropIns.{FolderFile, candidates}
 use Rattle.cal_units.specs.rules.Faults.{IfAt, IsOfTree, IsAliasFault, IsDropInReason, IsEndless, IsLinkFault, IsLinkReason, IsListedFault, IsOverfull, drop_ins_in, fault_if_err, max_drop_ins}
 use Rattle.cal_units.specs.rules.Machine.{Machine}
 use Rattle.cal_units.specs.declared.aliases.Alias as links

@@ -3,7 +3,7 @@ use Rattle.std.proofs.Common.{◌≡◌, ℕ, List, [], ◌∷◌, codes, map, r
 use Rattle.std.specs.Map.{lookup}
 use Rattle.std.specs.Option.{unwrap_or}
 use Rattle.std.specs.Str.{bytes_eq}
-use Rattle.cal_drop_ins.specs.rules.UnitName.{is_stem, template_of, unit_kind_of, unit_stem, without_suffix}
+use Rattle.cal_units.specs.rules.UnitName.{is_stem, template_of, unit_kind_of, unit_stem, without_suffix}
 use Rattle.cal_units.specs.rules.Aliases.{aliases_in, stems_of}
 use Rattle.cal_units.specs.rules.Machine.{Entry, Machine}
 use Rattle.cal_units.specs.rules.Machine.Entry.{Missing, Empty, File, Folder, Link}

@@ -2,15 +2,16 @@
 
 ghost use Rattle.std.specs.Prelude.{◌≡◌, ◌<◌, ◌≤◌, ◌++◌, ◌∷◌, [], IfErr, IfOk, OnOk, length, map, not, filter, reverse, if◌then◌else◌, string_bytes};
 ghost use Rattle.std.specs.List.{flat_map};
-ghost use Rattle.cal_drop_ins.specs.rules.DropIns.{candidates, drop_ins, shown_drop_in};
-ghost use Rattle.cal_drop_ins.specs.rules.Folders.{folders};
+ghost use Rattle.cal_units.specs.rules.DropIns.{candidates, drop_ins, shown_drop_in};
+ghost use Rattle.cal_units.specs.rules.Folders.{folders};
 ghost use Rattle.cal_units.specs.rules.Faults.{IfAt, IsDropInFault, IsDropInReason, IsReadFault, max_drop_ins};
 ghost use Rattle.cal_units.specs.rules.Machine.{Machine, disk_of, is_null, shown_entry};
 ghost use Rattle.cal_units.specs.declared.fault.UnitFault.TheVariants.{NoMemory};
 
+use crate::drop_in_files::{DropIn, choose, push_candidates};
 use crate::fault::{Reason, UnitFault};
+use crate::folders::folders_of;
 use crate::tree::{Entry, Names, Tree};
-use cal_drop_ins::{DropIn, choose, folders_of, push_candidates};
 use std::alloc::Global;
 
 /// The maximum number of drop-ins in the folders of a unit.
@@ -33,16 +34,9 @@ pub struct DropIns {
 /// `path` is the search path, the most important folder first. `stems` are the unit's names without `.timer`: its
 /// aliases, and last its own name.
 ///
-/// Fails with [`UnitFault::At`] and one of these reasons:
-///
-/// - [`Reason::ReadFailed`] if a folder can't be listed or a drop-in can't be looked at;
-/// - [`Reason::NotUtf8`] if the target of a link is not UTF-8, and the link is a drop-in or `tree` can't follow it;
-/// - [`Reason::TooMany`] at the folder with the 10,001st drop-in; drop-ins that are hidden by others of the same name
-///   count, too.
-///
-/// Fails with [`UnitFault::NoMemory`] if allocation fails.
-#[tactic(auto, unfolding(cal_drop_ins::specs::rules::DropIns::drop_ins))]
-pub fn find_drop_ins<T: Tree>(
+/// Fails like [`crate::find_unit_drop_ins`].
+#[tactic(auto, unfolding(crate::specs::rules::DropIns::drop_ins))]
+pub(crate) fn find_drop_ins<T: Tree>(
     alloc: Global,
     tree: &mut T,
     path: &[String],

@@ -1,6 +1,6 @@
 //! Recording an answer under its question.
 //!
-//! That memory ran out says nothing about the machine, so it isn't recorded as an answer.
+//! That memory ran out isn't recorded: it isn't an answer of the machine, and a later call may have enough memory.
 
 ghost use Rattle.std.specs.Prelude.{◌≡◌, ◌≢◌, IfErr, None, Some, OnOk};
 ghost use Rattle.std.specs.BTreeMap.{get_by_text};

@@ -3,7 +3,7 @@
 ghost use Rattle.std.specs.Prelude.{◌≡◌, map, option_map, string_bytes};
 ghost use Rattle.cal_units.specs.rules.Units.{after_prefix, alias_of, file_stem, stem_in};
 
-use cal_drop_ins::unit_stem;
+use crate::unit_name::unit_stem;
 
 /// Returns the stem of the timer for which a link stands. The stem is the timer's name without `.timer`.
 ///

@@ -12,7 +12,7 @@ use crate::drop_ins::NULL_DEVICE;
 use crate::fault::UnitFault;
 use crate::links::alias_of;
 use crate::tree::{Entry, Tree};
-use cal_drop_ins::{UnitKind, template_of, unit_kind_of};
+use crate::unit_name::{UnitKind, template_of, unit_kind_of};
 use std::alloc::{AllocError, Global};
 
 /// What is found at the paths of a unit's file.

@@ -10,8 +10,8 @@ use std::alloc::Global;
 /// The calls by which a machine is read. Nothing is promised about what they return: the machine may change, so the
 /// same call may return something else each time.
 ///
-/// `gives` is true of every answer that a call returns. Nothing else is known of it in code that is generic over `Raw`,
-/// so if such code has only answers of which `gives` is true, it has made up none of them.
+/// `gives` is true of every answer that a call returns. Code that is generic over `Raw` knows nothing else of `gives`. So
+/// if it proves `gives` of an answer, a call returned that answer.
 pub trait Raw {
     /// Whether a call may give this answer to this question.
     ghost gives: { Said → Bool } = { λ _. true };

@@ -14,7 +14,7 @@ use std::alloc::Global;
 use std::collections::BTreeMap;
 
 /// A [`Tree`] that asks each question of `raw` once and records the answer. From then on, it gives the recorded answer,
-/// also if this is an error. It never records that memory ran out.
+/// even if it is an error. It never records that memory ran out.
 ///
 /// So what it returns is the same as on a machine that doesn't change, and each answer is one that `raw` gave.
 #[derive(Drop)]
@@ -44,7 +44,7 @@ impl<R: Raw> Recorder<R> {
         }
     }
 
-    /// Returns what the recorder asks, for calls that aren't recorded.
+    /// Returns `raw`, to call it without recording the answer.
     pub fn raw(&self) -> &R
         ensures { result.now ≡ self.now.raw }
     {

@@ -1,8 +1,8 @@
 //! The stems for which the drop-ins of a unit are read: all its names without the suffix `.timer`.
 
 ghost use Rattle.std.specs.Prelude.{◌≡◌, ◌++◌, IfErr, IfOk, OnOk, map, reverse, string_bytes};
-ghost use Rattle.cal_drop_ins.specs.rules.DropIns.{drop_ins};
-ghost use Rattle.cal_drop_ins.specs.rules.Folders.{folders};
+ghost use Rattle.cal_units.specs.rules.DropIns.{drop_ins};
+ghost use Rattle.cal_units.specs.rules.Folders.{folders};
 ghost use Rattle.cal_units.specs.rules.Aliases.{shown_alias, stem_if_of, stems_leading_to, unit_stems};
 ghost use Rattle.cal_units.specs.rules.Faults.{IsDropInFault};
 ghost use Rattle.cal_units.specs.rules.Machine.{Machine, disk_of};
@@ -18,7 +18,16 @@ use std::alloc::{AllocError, Global};
 /// its own name, of the aliases that were followed to find it, and of its other aliases (systemd.unit(5), Description).
 ///
 /// `path` is the search path, the most important folder first. `aliases` are the aliases of all units, as
-/// [`crate::find_aliases`] finds them. Fails like [`find_drop_ins`].
+/// [`crate::find_aliases`] finds them.
+///
+/// Fails with [`UnitFault::At`] and one of these reasons:
+///
+/// - [`crate::Reason::ReadFailed`] if a folder can't be listed or a drop-in can't be looked at;
+/// - [`crate::Reason::NotUtf8`] if the target of a link is not UTF-8, and the link is a drop-in or `tree` can't follow it;
+/// - [`crate::Reason::TooMany`] at the folder with the 10,001st drop-in; drop-ins that are hidden by others of the same name
+///   count, too.
+///
+/// Fails with [`UnitFault::NoMemory`] if allocation fails.
 pub fn find_unit_drop_ins<T: Tree>(
     alloc: Global,
     tree: &mut T,

@@ -10,7 +10,7 @@ ghost use Rattle.cal_units.specs.rules.Units.Unit.{Endless};
 use crate::fault::{Reason, UnitFault};
 use crate::locations::{Location, find_location};
 use crate::tree::Tree;
-use cal_drop_ins::{UnitKind, unit_kind_of};
+use crate::unit_name::{UnitKind, unit_kind_of};
 use std::alloc::Global;
 
 /// The maximum number of links from unit to unit.

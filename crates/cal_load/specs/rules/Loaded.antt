@@ -5,7 +5,7 @@ use Rattle.std.specs.Option.{option_to_list}
 use Rattle.std.specs.Str.{bytes_eq}
 use Rattle.std.specs.Str.Lines.{lines}
 use Rattle.cal_civil.specs.rules.ZoneName.{is_utc_name}
-use Rattle.cal_drop_ins.specs.rules.DropIns.{drop_ins}
+use Rattle.cal_units.specs.rules.DropIns.{drop_ins}
 use Rattle.cal_timer.specs.rules.Lines.{logical_lines}
 use Rattle.cal_machine_zones.specs.rules.ZoneFiles.{HasZonesOf}
 use Rattle.cal_spec.specs.computed.Expr.{expr_in}

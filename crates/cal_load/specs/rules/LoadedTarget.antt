@@ -5,7 +5,7 @@ use Rattle.cal_units.specs.rules.Machine.{Machine}
 use Rattle.cal_units.specs.rules.Units.{unit_on}
 use Rattle.cal_units.specs.rules.Units.Unit.{MaskedBy}
 use Rattle.cal_load.specs.rules.Loaded.{IsFileOn, IsTimerOn, IsUnitOn}
-use Rattle.cal_targets.specs.declared.fault.TargetLoadFault.{TargetLoadFault}
+use Rattle.cal_load.specs.declared.fault.TargetLoadFault.{TargetLoadFault}
 use Rattle.cal_load.specs.declared.loaded.LoadedTarget as targets
 use Rattle.cal_load.specs.declared.loaded.LoadedTimer.{LoadedTimer}
 

@@ -3,7 +3,7 @@
 -- always run out.
 use Rattle.std.specs.Prelude.{◌≡◌, ◌<◌, ◌≤◌, ⊤, ℕ, List, [], ◌∷◌, ◌++◌, None, MatchOption, Result, Ok, Err, drop, length, string_bytes, take}
 use Rattle.std.specs.List.{flat_map}
-use Rattle.cal_drop_ins.specs.rules.DropIns.{FolderFile, candidates}
+use Rattle.cal_units.specs.rules.DropIns.{FolderFile, candidates}
 use Rattle.cal_units.specs.rules.Machine.{Entry, Machine}
 use Rattle.cal_units.specs.rules.Machine.Entry.{Missing, Empty, File, Folder, Link}
 use Rattle.cal_units.specs.rules.Units.{unit_on}

@@ -3,7 +3,7 @@
 use Rattle.std.specs.Prelude.{ℕ, Bool, false, List, Option, Vec, codes, string_bytes}
 use Rattle.std.specs.Str.{bytes_eq}
 use Rattle.std.specs.declared.alloc.Global.{Global}
-use Rattle.cal_drop_ins.specs.rules.DropIns.{Disk}
+use Rattle.cal_units.specs.rules.DropIns.{Disk}
 use Rattle.cal_units.specs.declared.tree.Entry as entries
 
 -- what is at a path; links aren't followed

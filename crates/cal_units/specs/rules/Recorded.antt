@@ -12,7 +12,7 @@ use Rattle.cal_units.specs.declared.tree.TreeFault.TheVariants.{NoMemory}
 use Rattle.cal_units.specs.rules.Machine.{Machine, bytes_of, shown_entry}
 use Rattle.cal_units.specs.rules.Seen.{Said, NamesAre, EntryIs, LinkLeadsTo, FileIs, VariableIs, Seen, seen, shown_listing}
 
--- whether `copy` shows by `view` what the answer shows, unless memory ran out
+-- whether the last argument is a copy of the answer, as `view` shows it, or says that memory ran out
 abbrev pub IsCopyOf : {X Y : Type 0} → (X → Y) → Result Y TreeFault → Result X TreeFault → Type 0
 IsCopyOf view answer (Ok found) = answer ≡ Ok (view found)
 IsCopyOf view answer (Err fault) = fault ≢ NoMemory → answer ≡ Err fault
@@ -27,11 +27,11 @@ Adds {Q} {A} old new added with =
     (question : Q) (answer : A) → new question ≡ Some answer
     → (old question ≡ Some answer) ⊎ ((question ≡ added) × (answer ≡ with))
 
--- recorded answers to questions that are a text
+-- recorded answers, each to a question that is one text
 abbrev pub Answers : Type 0 → Type 0
 Answers X = BTreeMap (String Global) (Result X TreeFault)
 
--- recorded answers to where links lead
+-- where each link leads, as recorded
 abbrev pub Links : Type 0
 Links = BTreeMap (String Global × String Global) (Result (String Global) TreeFault)
 
@@ -41,7 +41,7 @@ compare_pairs one other = ordering_then (slice_cmp nat_cmp one.0 other.0) (slice
 abbrev pub pair_bytes : String Global × String Global → List ℕ × List ℕ
 pair_bytes key = (string_bytes key.0, string_bytes key.1)
 
--- the value at the key of these two texts
+-- the value whose key is this pair of texts
 abbrev pub get_by_pair : {X : Type 0} → BTreeMap (String Global × String Global) X → List ℕ × List ℕ → Option X
 get_by_pair recorded pair = get_by (λ key. compare_pairs pair (pair_bytes key)) recorded
 

@@ -1,4 +1,4 @@
--- What is known of what was read, because it is what was recorded.
+-- What is true of all recorded answers is true of what was read.
 use Rattle.std.specs.Prelude.{◌≡◌, ℕ, IsTrue, Bool, Option, None, Some, option_map, string_bytes, String, Vec}
 use Rattle.std.specs.declared.alloc.Global.{Global}
 use Rattle.std.proofs.Common.{ap, subst, refl}
@@ -8,7 +8,7 @@ use Rattle.cal_units.specs.rules.Machine.{Machine, bytes_of, shown_entry}
 use Rattle.cal_units.specs.rules.Recorded.{AgreesWith, Answers, IsHonest, Links, seen_of}
 use Rattle.cal_units.specs.rules.Seen.{AllGiven, Matches, Said, NamesAre, EntryIs, LinkLeadsTo, FileIs, VariableIs, seen, shown_listing, some_machine, some_machine-matches}
 
--- what is seen of an option is seen of the value in it
+-- if `P` is true of what `view` shows of the value in `found`, it is true of the value in `option_map view found`
 from_seen : {X Y : Type 0} (view : X → Y) (P : Y → Type 0) (found : Option X) (answer : Y)
     → ((x : X) → found ≡ Some x → P (view x)) → option_map view found ≡ Some answer → P answer
 from_seen view P None answer all e = absurd (let no : ⊥ = cc in no)

@@ -4,9 +4,9 @@ use Rattle.std.specs.Prelude.{ℕ, zero, suc, ◌+◌, nat_eq, Bool, true, false
 use Rattle.std.specs.List.{ends_with, filter_map, find, flat_map, starts_with}
 use Rattle.std.specs.Option.{option_or, option_to_list}
 use Rattle.std.specs.Str.{bytes_eq}
-use Rattle.cal_drop_ins.specs.rules.UnitName.{suffix, template_of, unit_kind_of, unit_stem}
-use Rattle.cal_drop_ins.specs.declared.unit_name.UnitKind.{UnitKind}
-use Rattle.cal_drop_ins.specs.declared.unit_name.UnitKind.TheVariants.{Plain, Template, Instance}
+use Rattle.cal_units.specs.rules.UnitName.{suffix, template_of, unit_kind_of, unit_stem}
+use Rattle.cal_units.specs.declared.unit_name.UnitKind.{UnitKind}
+use Rattle.cal_units.specs.declared.unit_name.UnitKind.TheVariants.{Plain, Template, Instance}
 use Rattle.cal_units.specs.rules.Machine.{Entry, Machine, null_device}
 use Rattle.cal_units.specs.rules.Machine.Entry.{Missing, Empty, File, Folder, Link}
 use Rattle.cal_units.specs.declared.locations.Location as locations

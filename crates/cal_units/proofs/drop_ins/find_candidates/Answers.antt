@@ -1,7 +1,7 @@
 use Rattle.std.proofs.Common.{◌≡◌, ◌<◌, ◌≤◌, ◌∙◌, ◌∷◌, ◌++◌, List, ℕ, ap, arith, drop, drop-cons, length, map, suc, sym, string_bytes}
 use Rattle.std.proofs.lemmas.List.{length-map}
 use Rattle.std.proofs.lemmas.Result.{err_from_is_err_and}
-use Rattle.cal_drop_ins.specs.rules.DropIns.{candidates, shown_drop_in}
+use Rattle.cal_units.specs.rules.DropIns.{candidates, shown_drop_in}
 use Rattle.cal_units.specs.rules.Faults.{IsOverfull, max_drop_ins}
 use Rattle.cal_units.specs.rules.Machine.{Machine}
 use Rattle.cal_units.proofs.FaultLemmas.{drop_in_weaker, overfull}

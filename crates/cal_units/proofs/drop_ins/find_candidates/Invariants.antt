@@ -1,6 +1,6 @@
 use Rattle.std.proofs.Common.{◌≡◌, ◌≤◌, length, map, take, string_bytes}
 use Rattle.std.specs.List.{flat_map}
-use Rattle.cal_drop_ins.specs.rules.DropIns.{candidates, shown_drop_in}
+use Rattle.cal_units.specs.rules.DropIns.{candidates, shown_drop_in}
 use Rattle.cal_units.specs.rules.Faults.{max_drop_ins}
 use Rattle.cal_units.specs.rules.Machine.{Machine}
 use Rattle.cal_units.proofs.drop_ins.find_candidates.Given as goal
