@@ -35,6 +35,9 @@ pub(crate) fn between<T: Tree>(
         Ok(instant) => instant,
         Err(fault) => return bad_time(alloc, before, fault),
     };
+    if before.secs() < from.secs() {
+        return stopped(alloc, "TO is before FROM");
+    }
     let loaded = load_timers(alloc, tree, asked.path, asked.aliases, targets)?;
     range_of(alloc, asked, &loaded, from, before)
 }
