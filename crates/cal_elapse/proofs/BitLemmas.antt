@@ -1,10 +1,10 @@
 -- Which bits are set in a word, in a shifted word, in the result of a bitwise operation, and in a word without its
 -- lowest set bit.
 use Rattle.std.proofs.Common.{◌≡◌, ◌==◌, ℕ, ◌+◌, ◌&&◌, ◌||◌, bit_and, bit_or, ◌*◌, ◌-◌, ◌/◌, ◌%◌, ◌^◌, ◌<◌, ◌≤◌, true, false, Some, w64, ap, pow_pos, subst, inl, inr, sym, ◌∙◌, arith, nat_le, nat_lt, ◌≢◌, min, max, suc}
-use Rattle.std.specs.Int.{bit_at, trailing_zeros}
+use Rattle.std.specs.Int.{bit_at, leading_zeros, trailing_zeros}
 use Rattle.std.proofs.lemmas.Bool.{cases_lt, le-ltb, lt-ltb}
 use Rattle.std.proofs.lemmas.Bool.Decides.{nat_tests}
-use Rattle.std.proofs.lemmas.Nat.{shr_le, shr-shr}
+use Rattle.std.proofs.lemmas.Nat.{div_below, le-div, leading_top, shr_le, shr-shr}
 use Rattle.std.proofs.lemmas.Nat.Bits.{bit_at-lt, bit_at-trailing_zeros, bit_at-zero, bit_at_above, bit_at_and, bit_at_cat_high, bit_at_cat_low, bit_at_or, bit_at_mask_above, bit_at_mask_below, bit_at_mask_inside, bit_at_ones, bit_at_ones_above, ones_shl, ones_shr, bit_at-pow_other, bit_at-pow_same, same_from_bits_below}
 use Rattle.cal_elapse.specs.computed.Bits.{is_bit}
 use Rattle.cal_elapse.specs.rules.Search.{IsFirstPassing, NonePasses}
@@ -98,6 +98,20 @@ pub first_bit : (m : ℕ) → 0 < m → m < 2 ^ 64 → IsFirstPassing (is_bit m)
 first_bit m some fits =
     let h = bit_at-trailing_zeros w64 m some fits in
     (omega arith, h.0, is_bit-one m (trailing_zeros w64 m) h.1, λ t low below. is_bit-zero m t (h.2 t below))
+
+-- if a word isn't 0, the index of its highest set bit is 63 minus the number of its leading zeros
+pub last_bit : (m : ℕ) → 0 < m → m < 2 ^ 64
+    → (leading_zeros w64 m < 64) × (is_bit m (63 - leading_zeros w64 m) ≡ true) × (m < 2 ^ (63 - leading_zeros w64 m + 1))
+last_bit m some fits =
+    let top = leading_top 64 m some fits in
+    let j = top.0 in
+    let place : 63 - leading_zeros w64 m ≡ j = omega (arith, top.1) in
+    let power = pow-suc 2 j in
+    let next : j + 1 ≡ suc j = omega arith in
+    let low : m / 2 ^ j < 2 = div_below m (2 ^ j) 2 (pow_pos j) (omega (arith, top.3)) in
+    let high : 1 ≤ m / 2 ^ j = le-div 1 m (2 ^ j) (pow_pos j) (omega (arith, top.2)) in
+    let one : m / 2 ^ j ≡ 1 = omega arith in
+    (omega (arith, top.1), rw place (is_bit-one m j (ap (λ (x : ℕ). x % 2) one)), rw (place, next) top.3)
 
 -- If `m` shifted right by `from` bits is 0, no bit of `m` with an index of `from` or more is set. Otherwise at least
 -- one of these bits is set, and the index of the lowest set one is `from` plus the number of trailing zeros of the

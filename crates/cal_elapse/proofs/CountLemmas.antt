@@ -1,5 +1,11 @@
 -- Lemmas about how many of several consecutive numbers pass a test.
-use Rattle.std.proofs.Common.{◌≡◌, ℕ, zero, suc, ◌+◌, ◌-◌, subst, ◌<◌, ◌≤◌, cond, Bool, true, refl, ap, ◌∙◌, arith}
+use Rattle.std.proofs.Common.{◌≡◌, ◌==◌, ℕ, zero, suc, ◌+◌, ◌-◌, ◌/◌, ◌%◌, ◌^◌, subst, ◌<◌, ◌≤◌, cond, count_ones, Bool, true, refl, ap, pow_pos, sym, inl, inr, ◌∙◌, arith}
+use Rattle.std.specs.Int.{bit_at}
+use Rattle.std.proofs.Math.Nat.{pow-suc}
+use Rattle.std.proofs.lemmas.Bool.{cases_eq}
+use Rattle.std.proofs.lemmas.Nat.{div_below, mod_below, ones_cat, ones_le_self, shr_split, zero_from_ones}
+use Rattle.std.proofs.lemmas.Nat.Bits.{bit_at_cat_low}
+use Rattle.cal_elapse.specs.computed.Bits.{is_bit}
 use Rattle.cal_elapse.specs.rules.Search.{NonePasses}
 use Rattle.cal_elapse.specs.computed.Window.{count_from}
 
@@ -47,19 +53,6 @@ count_from-on passes start middle bound low high none =
     let nothing = λ (t : ℕ) (above : start + k ≤ t) (below : t < start + k + n). none t (omega arith) (omega arith) in
     ap (count_from passes start) ends ∙ count_from-none passes start k n nothing
 
--- if `next` is the first number after `local` that passes, the range after `start` up to and including `next` contains
--- one more passing number than the range after `start` up to and including `local`
-pub count_from-to : (passes : ℕ → Bool) (start local next : ℕ) → start ≤ local → local + 1 ≤ next → passes next ≡ true → NonePasses passes (local + 1) next
-    → count_from passes (start + 1) (next - start) ≡ count_from passes (start + 1) (local - start) + 1
-count_from-to passes start local next low high holds none =
-    let k = local - start in
-    let n = next - (local + 1) in
-    let there : next ≡ start + 1 + (k + n) = omega arith in
-    let ends : next - start ≡ k + n + 1 = omega arith in
-    let nothing = λ (t : ℕ) (above : start + 1 + k ≤ t) (below : t < start + 1 + k + n). none t (omega arith) (omega arith) in
-    ap (count_from passes (start + 1)) ends
-    ∙ (count_from-one passes (start + 1) (k + n) (subst (λ (t : ℕ). passes t ≡ true) there holds) ∙ ap (λ (c : ℕ). c + 1) (count_from-none passes (start + 1) k n nothing))
-
 -- in an empty range, no number passes
 pub count_from-nothing : (passes : ℕ → Bool) (a k : ℕ) → count_from passes a (k - k) ≡ 0
 unfolding count_from
@@ -74,7 +67,7 @@ count_from-both passes a k (suc n) =
     rw (next, place) (omega (arith, count_from-both passes a k n))
 
 -- the number of passing numbers from `start` up to and including `last` is the sum of two counts: of those up to and
--- including `local`, and of those after `local`; `count_from-then` says the same without counting `start`
+-- including `local`, and of those after `local`
 pub count_from-part : (passes : ℕ → Bool) (start local last : ℕ) → start ≤ local → local ≤ last
     → count_from passes start (last + 1 - start) ≡ count_from passes start (local + 1 - start) + count_from passes (local + 1) (last - local)
 count_from-part passes start local last low high =
@@ -84,21 +77,35 @@ count_from-part passes start local last low high =
     ap (count_from passes start) ends
     ∙ (count_from-both passes start k (last - local) ∙ ap (λ (t : ℕ). count_from passes start k + count_from passes t (last - local)) there)
 
-pub count_from-then : (passes : ℕ → Bool) (start local last : ℕ) → start ≤ local → local ≤ last
-    → count_from passes (start + 1) (last - start) ≡ count_from passes (start + 1) (local - start) + count_from passes (local + 1) (last - local)
-count_from-then passes start local last low high =
-    let ends : last - start ≡ local - start + (last - local) = omega arith in
-    let there : start + 1 + (local - start) ≡ local + 1 = omega arith in
-    ap (count_from passes (start + 1)) ends
-    ∙ (count_from-both passes (start + 1) (local - start) (last - local)
-    ∙ ap (λ (t : ℕ). count_from passes (start + 1) (local - start) + count_from passes t (last - local)) there)
-
 -- if no number from `start` up to but not including `bound` passes, the number of passing numbers in this range is 0
 pub count_from-begun : (passes : ℕ → Bool) (start bound : ℕ) → start ≤ bound → NonePasses passes start bound → count_from passes start (bound - start) ≡ 0
 unfolding count_from
 count_from-begun passes start bound low none =
     let nothing = λ (t : ℕ) (above : start + 0 ≤ t) (below : t < start + 0 + (bound - start)). none t (omega arith) (omega arith) in
     ap (count_from passes start) (omega arith) ∙ count_from-none passes start 0 (bound - start) nothing
+
+one_bit : (b : Bool) (x : ℕ) → x < 2 → b ≡ (x % 2 == 1) → cond b 1 0 ≡ count_ones x
+one_bit b zero low is = rw is (omega (arith, ones_le_self 0))
+one_bit b (suc zero) low is =
+    let some : 0 < count_ones 1 = elim (cases_eq (count_ones 1) 0) [ inl none ↦ absurd (omega (arith, zero_from_ones 1 none)) | inr other ↦ omega arith ] in
+    rw is (omega (arith, ones_le_self 1))
+one_bit b (suc (suc x)) low is = absurd (omega arith)
+
+-- if bit `i` of `word` says whether the number `a` + `i` passes, and all set bits are below bit `n`, then as many of the
+-- `n` numbers from `a` on pass as `word` has set bits
+pub count_from-ones : (passes : ℕ → Bool) (a n word : ℕ) → word < 2 ^ n → ((i : ℕ) → i < n → passes (a + i) ≡ is_bit word i) → count_from passes a n ≡ count_ones word
+unfolding count_from is_bit
+count_from-ones passes a zero word small bits = let none : word ≡ 0 = omega arith in omega (arith, ones_le_self word)
+count_from-ones passes a (suc n) word small bits =
+    let power = pow-suc 2 n in
+    let high : word / 2 ^ n < 2 = div_below word (2 ^ n) 2 (pow_pos n) (omega arith) in
+    let low : word % 2 ^ n < 2 ^ n = mod_below word (2 ^ n) (pow_pos n) in
+    let whole = shr_split word n in
+    let parts = ap count_ones (sym whole) ∙ ones_cat n (word / 2 ^ n) (word % 2 ^ n) low in
+    let before = count_from-ones passes a n (word % 2 ^ n) low
+    (λ i below. bits i (omega arith) ∙ ap (λ (b : ℕ). b == 1) (ap (λ (w : ℕ). bit_at w i) (sym whole) ∙ bit_at_cat_low (word / 2 ^ n) n (word % 2 ^ n) i below)) in
+    let last = one_bit (passes (a + n)) (word / 2 ^ n) high (bits n (omega arith)) in
+    omega arith
 
 -- bounds of counts, as a set of rules for the prover
 pub ruleset count_bounds = (count_from-begun, count_from-most)

@@ -1,20 +1,23 @@
 -- The bits that are stored when a match is found: one for each later match in its minute, and one for each later minute
 -- with matches in its hour. A search that takes its result from these bits removes one of them.
-use Rattle.std.proofs.Common.{IfSome, IsSome, ◌≡◌, ◌≢◌, ◌∙◌, ℕ, ◌+◌, ◌-◌, ◌*◌, ◌/◌, ◌%◌, ◌^◌, ◌<◌, ◌≤◌, Bool, true, false, ◌&&◌, Option, Some, ℤ, option_map, pos, unsigned_abs, w64, sym, subst, refl, arith, ltb-true, nat_lt}
-use Rattle.std.proofs.lemmas.Bool.{and_from, and_parts, false_from_ne_true, lt-ltb}
+use Rattle.std.proofs.Common.{IfSome, IsSome, ◌≡◌, ◌≢◌, ◌∙◌, ℕ, ◌+◌, ◌-◌, ◌*◌, ◌/◌, ◌%◌, ◌^◌, ◌<◌, ◌≤◌, Bool, true, false, ◌&&◌, Option, None, Some, ℤ, pos, unsigned_abs, w64, ap, inl, inr, sym, subst, refl, arith, count_ones, ltb-true, max, nat_lt}
+use Rattle.std.proofs.lemmas.Bool.{and_from, and_parts, cases_lt, false_from_ne_true, lt-ltb}
 use Rattle.std.specs.Int.{trailing_zeros}
 use Rattle.cal_civil.specs.rules.LocalSecond.{seconds_in_all, seconds_in_all-is}
 use Rattle.cal_spec.specs.rules.Match.{Sets, matches, time_in}
 use Rattle.cal_elapse.specs.computed.Bits.{is_bit}
-use Rattle.cal_elapse.specs.computed.RemainingMatches.{AreRemaining, HasMoreInHour, HasMoreInMinute, IsNextInHour, IsNextInMinute, IsRestOfMinute, NoneLeftInMinute, minute_matches}
-use Rattle.cal_elapse.specs.rules.ExaminedMonths.{IsSearch}
+use Rattle.cal_elapse.specs.computed.RemainingMatches.{AreRemaining, HasMoreInHour, HasMoreInMinute, IsNextInHour, IsRestOfMinute, NoneLeftInMinute, minute_matches}
+use Rattle.cal_elapse.specs.rules.ExaminedMonths.{IsSearch, examined_months}
+use Rattle.cal_elapse.specs.rules.MostMonths.{IsExamined, IsMostAfter}
 use Rattle.cal_elapse.specs.computed.Masks.{sets_in}
 use Rattle.cal_elapse.specs.rules.Months.{day_in, minute_in}
-use Rattle.cal_elapse.specs.rules.Search.{IsFirstLocal, IsFirstPassing}
+use Rattle.cal_elapse.specs.rules.Search.{IsFirstLocal, IsFirstPassing, count_from}
 use Rattle.cal_elapse.specs.declared.masks.Masks.{Masks}
-use Rattle.cal_elapse.proofs.BitLemmas.{first_bit, is_bit-none, is_bit-shifted}
+use Rattle.cal_elapse.proofs.BitLemmas.{first_bit, is_bit-above, is_bit-none, is_bit-shifted}
 use Rattle.cal_elapse.proofs.CarryLemmas.{Splits, first_later, first_then, split_at}
+use Rattle.cal_elapse.proofs.CountLemmas.{count_from-ones}
 use Rattle.cal_elapse.proofs.FoundLemmas.{first_local, first_passing}
+use Rattle.cal_elapse.proofs.MostMonthsLemmas.{max_is}
 use Rattle.cal_elapse.proofs.ExaminedMonthLemmas.{examined_today}
 use Rattle.cal_elapse.proofs.SearchLemmas.{locals_split}
 use Rattle.cal_elapse.proofs.TimeLemmas.{minutes_split, seconds_split}
@@ -262,25 +265,72 @@ more_left m found from left local h fits some same =
 pub none_left : (m : Masks) (found from left local : ℕ) → AreRemaining (matches (sets_in m)) found from left → left ≡ 0 → local ≡ found → NoneLeftInMinute (matches (sets_in m)) local
 none_left m found from left local h nothing same = grind (arith, is_bit-none)
 
--- if a later local second in the minute of `local` passes, the first local second after `local` that passes is in that
--- minute
-next_known : (passes : ℕ → Bool) (local : ℕ) (next : Option ℕ) → ((t : ℕ) → passes t ≡ true → t < seconds_in_all) → HasMoreInMinute passes local
-    → IsFirstPassing passes (local + 1) seconds_in_all next → IsNextInMinute passes local next × IsSome next
-next_known passes local next inside more none = grind arith
+-- A word without bits stands for the rest of a minute in which no match follows `local`, with `local` itself as the last
+-- match.
+pub rest_none : (passes : ℕ → Bool) (local bits : ℕ) → AreRemaining passes local (local + 1) bits → bits ≡ 0 → passes local ≡ true
+    → IsRestOfMinute passes local bits local × NoneLeftInMinute passes local
+rest_none passes local bits h nothing holds = (grind (arith, is_bit-none), grind (arith, is_bit-none))
 
--- if a later local second in the minute of `local` matches, a search after `local` finds a match in that minute
-pub next_found : (m : Masks) (local : ℕ) (next : Option ℤ) → HasMoreInMinute (matches (sets_in m)) local → IsFirstLocal (matches (sets_in m)) (pos (local + 1)) next
-    → IsNextInMinute (matches (sets_in m)) local (option_map unsigned_abs next) × IsSome next
-next_found m local next more first = grind (arith, next_known, match_inside, first_passing)
+-- In this module, `bits` stands for the matches after `local` in its minute, and `top` is the highest set bit.
+module _ (passes : ℕ → Bool) (local bits top : ℕ) (h : AreRemaining passes local (local + 1) bits) (set : is_bit bits top ≡ true) (small : bits < 2 ^ (top + 1)) where
+  same_minute : (local + 1 + top) / 60 ≡ local / 60
+  same_minute = h.unit top set
 
--- before the rest of a minute is searched, `IsRestOfMinute` holds with no bits, and with the match `local` itself as
--- the last match
-pub rest_unknown : (passes : ℕ → Bool) (local : ℕ) → passes local ≡ true → IsRestOfMinute passes local 0 local
-rest_unknown passes local holds = grind (arith, no_bit)
+  bit_is : (t : ℕ) → local < t → t / 60 ≡ local / 60 → passes t ≡ is_bit bits (t - (local + 1))
+  bit_is t later same = h.passing t later same
 
--- Suppose that `bits` stands for the matches after `local` up to `last`, and that `next`, the first match after `last`,
--- is in the same minute. Then `more`, which is `bits` with the bit of `next` added, stands for the matches after
--- `local` up to `next`.
-pub rest_on : (passes : ℕ → Bool) (local bits last next more place : ℕ) → IsRestOfMinute passes local bits last → next / 60 ≡ last / 60 → IsFirstPassing passes (last + 1) seconds_in_all (Some next)
-    → is_bit more place ≡ true → ((i : ℕ) → i ≢ place → is_bit more i ≡ is_bit bits i) → place ≡ next - local - 1 → IsRestOfMinute passes local more next
-rest_on passes local bits last next more place rest same first set others at = grind (arith, false_from_ne_true)
+  -- the local second that the highest bit stands for is the last match of the minute
+  pub rest_some : IsRestOfMinute passes local bits (local + 1 + top)
+  rest_some =
+      let same = same_minute in
+      record {
+        begun = omega arith;
+        minute = same;
+        is_match = bit_passes passes local (local + 1) bits top h set;
+        within = λ i one. (let below = below_end (is_bit bits) (top + 1) i (λ j high. is_bit-above bits (top + 1) j small high) one in omega arith);
+        matching = λ t later early. bit_is t later (omega arith);
+      }
+
+  pub rest_whole : NoneLeftInMinute passes (local + 1 + top)
+  rest_whole = λ t later below.
+      let same = same_minute in
+      bit_is t (omega arith) (omega arith) ∙ is_bit-above bits (top + 1) (t - (local + 1)) small (omega arith)
+
+  pub rest_counted : count_from passes (local + 1) (local + 1 + top - local) ≡ count_ones bits
+  rest_counted =
+      let same = same_minute in
+      let length : local + 1 + top - local ≡ top + 1 = omega arith in
+      rw length
+      (count_from-ones passes (local + 1) (top + 1) bits small
+      (λ i below. (let place : local + 1 + i - (local + 1) ≡ i = omega arith in bit_is (local + 1 + i) (omega arith) (omega arith) ∙ ap (is_bit bits) place)))
+
+-- a search that finds a match on the day on which it starts examines one month
+one_by : (sets : Sets) (t last months : ℕ) (answer : Option ℕ) → matches sets last ≡ true → t < last → t / 86_400 ≡ last / 86_400
+    → IsFirstPassing (matches sets) (t + 1) seconds_in_all answer → months ≡ examined_months sets (t + 1) answer → months ≡ 1
+one_by sets t last months None holds later day none is = absurd (let no = none last (omega arith) (match_inside sets last holds) in cc)
+one_by sets t last months (Some next) holds later day first is =
+    let count = seconds_in_all-is in
+    let inside = match_inside sets last holds in
+    let low = first.0 in
+    let early : next ≤ last = elim (cases_lt last next) [ inl less ↦ absurd (let no = first.3 last (omega arith) less in cc) | inr most ↦ most ] in
+    let place : t / 86_400 * 86_400 + next % 86_400 ≡ next = omega arith in
+    let here : day_in sets (t / 86_400) ≡ true = subst (λ (d : ℕ). day_in sets d ≡ true) (sym day) (day_of_match sets last holds).0 in
+    let examined = examined_today sets t (next % 86_400) (omega arith) here (omega arith) (omega arith) in
+    is ∙ rw place at examined
+
+-- If a search after the match `local` examines one month, and `last` is a later match on the same day, then each search
+-- after a match from `local` up to but not including `last` examines one month.
+pub most_of_day : (sets : Sets) (local last before : ℕ) → matches sets local ≡ true → matches sets last ≡ true → local < last → last / 86_400 ≡ local / 86_400
+    → IsExamined sets (local + 1) 1 → IsMostAfter sets local last before (max before 1)
+most_of_day sets local last before begins ends later day examined = record {
+  not_below = omega arith;
+  all = λ months one.
+      let low = one.low in
+      let high = one.high in
+      let few = one_by sets one.local last months one.examined.answer ends high (omega arith) one.examined.first one.examined.examined in
+      omega arith;
+  one = elim (max_is before 1) [
+    | inl same ↦ inl same.0
+    | inr more ↦ inr (record { local = local; low = omega arith; high = later; is_match = begins; examined = subst (IsExamined sets (local + 1)) (sym more.0) examined })
+  ];
+}

@@ -1,28 +1,22 @@
 -- The largest number of months that a single search examines, among several searches, and how this number changes when
 -- more searches are made.
-use Rattle.std.proofs.Common.{◌≡◌, ◌∙◌, ℕ, ◌+◌, ◌<◌, ◌≤◌, Bool, true, Option, max, unwrap_or, IsSome, ◌-◌, arith, inl, inr, option_map, refl, subst, sym, unsigned_abs, ℤ, ◌⊎◌}
+use Rattle.std.proofs.Common.{◌≡◌, ◌∙◌, ℕ, ◌+◌, ◌<◌, ◌≤◌, true, max, arith, inl, inr, option_map, subst, sym, unsigned_abs, ◌⊎◌}
 use Rattle.std.proofs.lemmas.Bool.{cases_lt}
 use Rattle.cal_spec.specs.rules.Match.{Sets, matches}
-use Rattle.cal_elapse.specs.rules.Search.{count_from, IsFirstPassing, NonePasses}
+use Rattle.cal_elapse.specs.rules.Search.{NonePasses}
 use Rattle.cal_elapse.specs.rules.ExaminedMonths.{IsSearch}
 use Rattle.cal_elapse.specs.rules.MostMonths.{IsExamined, IsMost, IsMostAfter}
-use Rattle.cal_civil.specs.rules.LocalSecond.{seconds_in_all}
 use Rattle.cal_elapse.specs.declared.search.Found.{Found}
-use Rattle.cal_elapse.proofs.CountLemmas.{count_from-nothing, count_from-to}
 use Rattle.cal_elapse.proofs.FoundLemmas.{first_passing}
 use Rattle.cal_bytes.proofs.General.{max_from_zero}
 
-max_is : (a b : ℕ) → ((max a b ≡ a) × (b ≤ a)) ⊎ ((max a b ≡ b) × (a ≤ b))
+pub max_is : (a b : ℕ) → ((max a b ≡ a) × (b ≤ a)) ⊎ ((max a b ≡ b) × (a ≤ b))
 max_is a b = grind arith
 
 -- if `found` is the result of a search that starts at `from`, this search examines `found.months` months
 pub search_examined : (sets : Sets) (from : ℕ) (found : Found) → IsSearch sets from found → IsExamined sets from found.months
 search_examined sets from found search =
     record { answer = option_map unsigned_abs found.local; first = first_passing (matches sets) from found.local search.first; examined = search.counted }
-
--- an empty range contains no match, so the largest number of months stays the same
-pub most_begun : (sets : Sets) (from before : ℕ) → IsMostAfter sets from from before before
-most_begun sets from before = record { not_below = omega arith; all = λ months one. absurd (let low = one.low in let high = one.high in omega arith); one = inl refl }
 
 -- Suppose that `t` is the only match from `t` up to but not including `next`, and that the search after `t` examines
 -- `months` months. If the largest number of months was `before`, it is now the larger of `before` and `months`.
@@ -56,9 +50,6 @@ most_on sets a b c x y z low high one two =
     late : (t : ℕ) → b ≤ t → a ≤ t
     late t above = omega arith
 
-pub most_then : (sets : Sets) (a b c x y z most : ℕ) → a ≤ b → b ≤ c → IsMostAfter sets a b x y → IsMostAfter sets b c y z → most ≡ z → IsMostAfter sets a c x most
-most_then sets a b c x y z most low high one two is = subst (IsMostAfter sets a c x) (sym is) (most_on sets a b c x y z low high one two)
-
 -- if a range with a different end contains the same matches, the largest number of months is the same
 pub most_same : (sets : Sets) (start a b most : ℕ) → ((t : ℕ) → start ≤ t → matches sets t ≡ true → (t < a → t < b) × (t < b → t < a)) → IsMost sets start a most → IsMost sets start b most
 most_same sets start a b most same h = record {
@@ -87,17 +78,3 @@ most_more sets start a b most more low high h later = record { first = h.first; 
 pub most_start : (sets : Sets) (start bound old most months : ℕ) → IsExamined sets start months → start ≤ bound → NonePasses (matches sets) start bound → old ≡ 0
     → most ≡ max old months → IsMost sets start bound most
 most_start sets start bound old most months examined low none zero is = grind (arith, max_from_zero, most_same)
-
--- What changes when a search after a match finds the next match: one more match is counted, and the largest number of
--- months may rise.
-
-pub next_counted : (passes : ℕ → Bool) (local : ℤ) (next : Option ℤ) → IsFirstPassing passes (unsigned_abs local + 1) seconds_in_all (option_map unsigned_abs next) → IsSome next
-    → count_from passes (unsigned_abs local + 1) (unsigned_abs (unwrap_or next local) - unsigned_abs local) ≡ 1
-next_counted passes local next first some = grind (arith, count_from-nothing, count_from-to)
-
-pub next_most : (sets : Sets) (local : ℤ) (before : ℕ) (found : Found) (next : Option ℤ) → matches sets (unsigned_abs local) ≡ true → IsSearch sets (unsigned_abs local + 1) found
-    → IsFirstPassing (matches sets) (unsigned_abs local + 1) seconds_in_all (option_map unsigned_abs next) → IsSome next
-    → IsMostAfter sets (unsigned_abs local) (unsigned_abs (unwrap_or next local)) before (max before found.months)
-next_most sets local before found next holds search first some =
-    let examined = search_examined sets (unsigned_abs local + 1) found search in
-    grind (arith, most_next)

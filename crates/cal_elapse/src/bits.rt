@@ -1,6 +1,6 @@
 //! Sets of numbers below 64, stored as the bits of a word.
 
-ghost use Rattle.std.specs.Prelude.{◌≡◌, ◌≢◌, ◌<◌, ℕ, true, false};
+ghost use Rattle.std.specs.Prelude.{◌≡◌, ◌≢◌, ◌+◌, ◌^◌, ◌<◌, ℕ, true, false};
 ghost use Rattle.cal_elapse.specs.computed.Bits.{is_bit};
 ghost use Rattle.cal_elapse.specs.rules.Search.{IsFirstPassing};
 
@@ -59,4 +59,13 @@ pub(crate) fn lowest_bit(mask: u64) -> u32
     ensures { IsFirstPassing (is_bit mask) 0 64 (Some result) }
 {
     mask.trailing_zeros()
+}
+
+/// Returns the largest number of `mask`, which must not be empty.
+pub(crate) fn highest_bit(mask: u64) -> u32
+    requires { 0 < mask }
+    ensures set { is_bit mask result ≡ true }
+    ensures top { mask < 2 ^ (result + 1) }
+{
+    63 - mask.leading_zeros()
 }

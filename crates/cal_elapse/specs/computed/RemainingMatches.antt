@@ -1,5 +1,5 @@
 -- The remaining matches in the minute and in the hour of a match, as bits.
-use Rattle.std.specs.Prelude.{◌≡◌, ◌+◌, ◌-◌, ◌*◌, ◌/◌, ◌%◌, ◌<◌, ◌≤◌, ◌&&◌, nat_lt, ℕ, Bool, true, Option, None, Some}
+use Rattle.std.specs.Prelude.{◌≡◌, ◌+◌, ◌-◌, ◌*◌, ◌/◌, ◌%◌, ◌<◌, ◌≤◌, ◌&&◌, nat_lt, ℕ, Bool, true, Some}
 use Rattle.cal_civil.specs.rules.LocalSecond.{seconds_in_all}
 use Rattle.cal_elapse.specs.computed.Bits.{is_bit}
 use Rattle.cal_elapse.specs.rules.Months.{day_in, minute_in, minutes_per_day, minutes_in_all}
@@ -19,12 +19,6 @@ pub record AreRemaining (passes : ℕ → Bool) (found from left : ℕ) : Type 0
   pub behind : (i : ℕ) → is_bit left i ≡ true → found < from + i
   pub unit : (i : ℕ) → is_bit left i ≡ true → (from + i) / 60 ≡ found / 60
   pub passing : (t : ℕ) → found < t → t / 60 ≡ found / 60 → passes t ≡ is_bit left (t - from)
-
--- if the result is `Some next`, `next` is the first local second after `local` that passes, and is in the minute of
--- `local`; nothing is said about the result `None`
-abbrev pub IsNextInMinute : (ℕ → Bool) → ℕ → Option ℕ → Type 0
-IsNextInMinute passes local None = Unit {0}
-IsNextInMinute passes local (Some next) = (next / 60 ≡ local / 60) × IsFirstPassing passes (local + 1) seconds_in_all (Some next)
 
 -- a later local second in the minute of `local` passes
 pub record HasMoreInMinute (passes : ℕ → Bool) (local : ℕ) : Type 0 where

@@ -2,11 +2,10 @@
 //! uses it. Unless the next match is already stored, the searcher calls `next_local` or `next_after` of the module
 //! `search`.
 
-ghost use Rattle.std.specs.Prelude.{◌≡◌, ◌+◌, ◌-◌, ◌*◌, ◌/◌, ◌<◌, ◌≤◌, ◌≤ℤ◌, pos, true, false, max, None, IfSome, unsigned_abs, unwrap_or};
-ghost use Rattle.std.specs.Option.{option_map};
+ghost use Rattle.std.specs.Prelude.{◌≡◌, ◌+◌, ◌-◌, ◌*◌, ◌/◌, ◌<◌, ◌≤◌, ◌≤ℤ◌, pos, true, false, max, IfSome, unsigned_abs};
 ghost use Rattle.cal_civil.specs.rules.LocalSecond.{IsLocalSecond, seconds_in_all};
 ghost use Rattle.cal_elapse.specs.rules.Search.{count_from};
-ghost use Rattle.cal_elapse.specs.computed.RemainingMatches.{AreRemaining, HasMoreInHour, HasMoreInMinute, IsNextInMinute, IsRestOfMinute, NoneLeftInMinute, minute_matches};
+ghost use Rattle.cal_elapse.specs.computed.RemainingMatches.{AreRemaining, HasMoreInHour, HasMoreInMinute, IsRestOfMinute, NoneLeftInMinute, minute_matches};
 ghost use Rattle.cal_elapse.specs.rules.ExaminedMonths.{IsSearch};
 ghost use Rattle.cal_elapse.specs.computed.Masks.{sets_in};
 ghost use Rattle.cal_elapse.specs.rules.MostMonths.{IsMostAfter};
@@ -15,7 +14,7 @@ ghost use Rattle.cal_spec.specs.rules.Match.{matches};
 ghost use Rattle.cal_spec.specs.rules.Members.{sets_of};
 ghost use Rattle.cal_elapse.specs.rules.Months.{months_in_all, minutes_in_all};
 
-use crate::bits::{lowest_bit, with_bit, without_lowest};
+use crate::bits::{highest_bit, lowest_bit, without_lowest};
 use crate::search::{Found, next_after, next_local};
 use crate::{Masks, match_test};
 use cal_civil::{LOCAL_END, second_of_day};
@@ -145,50 +144,40 @@ impl Searcher {
         self.left != 0 && self.found == local
     }
 
-    /// Searches for the matches after `local`, which must itself match, up to the end of its minute. Finds none if
-    /// `local` isn't the match that was found last. Each match in the result counts as one search.
+    /// Searches for the matches after `local`, which must itself match, up to the end of its minute. Each match in the
+    /// result counts as one search, which examines one month, because all these matches are in the month of `local`.
+    #[tactic(auto, using(cal_civil::proofs::LocalLemmas::local_arith))]
     pub fn search_minute(&mut self, local: i64) -> RestOfMinute
         requires start { CanStart (matches (sets_in self.old.masks)) (SearchStart.After local) }
         requires few { self.old.searches ≤ unsigned_abs local + 1 }
         ensures rest { IsRestOfMinute (matches (sets_in self.old.masks)) (unsigned_abs local) result.bits (unsigned_abs result.last) }
-        ensures whole { local ≡ self.old.found → NoneLeftInMinute (matches (sets_in self.old.masks)) (unsigned_abs result.last) }
+        ensures whole { NoneLeftInMinute (matches (sets_in self.old.masks)) (unsigned_abs result.last) }
         ensures masks { self.new.masks ≡ self.old.masks }
         ensures counted { self.new.searches ≡ self.old.searches
             + count_from (matches (sets_in self.old.masks)) (unsigned_abs local + 1) (unsigned_abs result.last - unsigned_abs local) }
         ensures most { IsMostAfter (sets_in self.old.masks) (unsigned_abs local) (unsigned_abs result.last)
             self.old.most_months self.new.most_months }
     {
-        let mut bits = 0;
-        let mut last = local;
-        while let Some(next) = self.next_in_minute(last) {
-            bits = with_bit(bits, (next - local - 1) as u32);
-            last = next;
+        let bits = self.rest_of_minute(local);
+        if bits == 0 {
+            return RestOfMinute { bits, last: local };
         }
+        let last = local + 1 + i64::from(highest_bit(bits));
+        self.searches += u64::from(bits.count_ones());
+        self.most_months = self.most_months.max(1);
+        self.keep(Some(last));
         RestOfMinute { bits, last }
     }
 
-    /// Searches for the next match after `local` and returns it, if a later match in the minute of `local` is known.
-    /// Otherwise returns `None` without a search. `local` must itself match.
-    #[inline(always)]
-    fn next_in_minute(&mut self, local: i64) -> Option<i64>
-        requires start { CanStart (matches (sets_in self.old.masks)) (SearchStart.After local) }
-        requires few { self.old.searches ≤ seconds_in_all }
-        ensures inside { IfSome result IsLocalSecond }
-        ensures next { IsNextInMinute (matches (sets_in self.old.masks)) (unsigned_abs local) (option_map unsigned_abs result) }
-        ensures none { result ≡ None → local ≡ self.old.found
-            → NoneLeftInMinute (matches (sets_in self.old.masks)) (unsigned_abs local) }
-        ensures last { local ≡ self.old.found → unwrap_or result local ≡ self.new.found }
-        ensures masks { self.new.masks ≡ self.old.masks }
-        ensures counted { self.new.searches ≡ self.old.searches
-            + count_from (matches (sets_in self.old.masks)) (unsigned_abs local + 1)
-            (unsigned_abs (unwrap_or result local) - unsigned_abs local) }
-        ensures most { IsMostAfter (sets_in self.old.masks) (unsigned_abs local) (unsigned_abs (unwrap_or result local))
-            self.old.most_months self.new.most_months }
+    /// Returns the matches after `local`, which must itself match, in the same minute. Bit i of the result stands for
+    /// the local second that comes i + 1 seconds after `local`.
+    #[tactic(auto, using(cal_civil::proofs::LocalLemmas::local_arith))]
+    fn rest_of_minute(&self, local: i64) -> u64
+        requires inside { IsLocalSecond local }
+        requires is_match { matches (sets_in self.now.masks) (unsigned_abs local) ≡ true }
+        ensures { AreRemaining (matches (sets_in self.now.masks)) (unsigned_abs local) (unsigned_abs local + 1) result }
     {
-        if !self.has_more_in_minute(local) {
-            return None;
-        }
-        self.search(SearchStart::After(local)).local
+        self.masks.seconds >> (second_of_day(local) % 60 + 1)
     }
 
     /// Returns whether the hour of `local` is known to have a later minute with matches. Later minutes are known only
@@ -301,9 +290,10 @@ impl Searcher {
         let Some(local) = found else {
             return;
         };
+        let left = self.rest_of_minute(local);
         self.found = local;
         self.from = local + 1;
-        self.left = self.masks.seconds >> (second_of_day(local) % 60 + 1);
+        self.left = left;
         let minute = minute_of(local);
         self.minute = minute + 1;
         self.minutes = self.masks.minutes >> (minute % 60 + 1);

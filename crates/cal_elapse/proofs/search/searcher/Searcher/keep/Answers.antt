@@ -1,7 +1,7 @@
-use Rattle.std.proofs.Common.{◌≡◌, ◌+◌, ◌/◌, ◌%◌, ◌+ℤ◌, arith, rules, of_z, pos, to_z, unsigned_abs, w64}
+use Rattle.std.proofs.Common.{◌≡◌, ◌+◌, ◌/◌, ◌+ℤ◌, arith, rules, of_z, pos, to_z, unsigned_abs, w64}
 use Rattle.std.proofs.lemmas.Int.{to_z-of_z}
 use Rattle.cal_civil.proofs.LocalLemmas.{local_arith}
-use Rattle.cal_elapse.proofs.MinuteLemmas.{minutes_after, seconds_after}
+use Rattle.cal_elapse.proofs.MinuteLemmas.{minutes_after}
 use Rattle.cal_elapse.proofs.search.searcher.Searcher.keep.Goals.{In-Some}
 use Rattle.cal_elapse.proofs.search.searcher.Searcher.keep.Goals as goal
 
@@ -14,11 +14,8 @@ invariant_of-self-clause-from_low c = rw (next_is (goal.at.invariant_of-self-cla
 
 pub invariant_of-self-clause-is_left : goal.invariant_of-self-clause-is_left
 invariant_of-self-clause-is_left c =
-    let found = rw c.in-Some.is at c.requires in
-    let of_day : c.second_of_day.result ≡ unsigned_abs c.in-Some.local % 86_400 = grind (arith, local_arith) in
-    let second : c.second_of_day.result % 60 ≡ unsigned_abs c.in-Some.local % 60 = omega arith in
-    rw (next_is (goal.at.invariant_of-self-clause-is_left c).In-Some, to_z-of_z w64 c.in-Some.local (search rules), second)
-    (search (seconds_after c.args.self.now.masks (unsigned_abs c.in-Some.local) found.1))
+    rw (next_is (goal.at.invariant_of-self-clause-is_left c).In-Some, to_z-of_z w64 c.in-Some.local (search rules))
+    (rw (to_z-of_z w64 c.in-Some.local (search rules)) at c.rest_of_minute-left.ensures)
 
 pub invariant_of-self-clause-are_left : goal.invariant_of-self-clause-are_left
 invariant_of-self-clause-are_left c =

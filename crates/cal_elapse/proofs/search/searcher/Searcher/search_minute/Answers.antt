@@ -1,78 +1,81 @@
-use Rattle.std.proofs.Common.{◌≡◌, ◌∙◌, ◌+◌, ◌-◌, Some, arith, of_z, refl, rules, subst, sym, to_z, unsigned_abs, w64, ℕ, ℤ, ◌-ℤ◌, ◌<◌, pos, ◌^◌}
-use Rattle.cal_civil.proofs.LocalLemmas.{local_arith}
-use Rattle.std.proofs.lemmas.Int.{to_z-of_z, ints}
-use Rattle.cal_civil.specs.rules.LocalSecond.{seconds_in_all-is}
+use Rattle.std.proofs.Common.{◌≡◌, ◌+◌, ◌+ℤ◌, arith, of_z, pos, subst, sym, to_z, unsigned_abs, w64, ◌∙◌}
+use Rattle.std.proofs.lemmas.Int.{to_z-of_z}
+use Rattle.cal_civil.proofs.LocalLemmas.{local_arith, local_inside-pos}
 use Rattle.cal_spec.specs.rules.Match.{matches}
-use Rattle.cal_elapse.specs.rules.Search.{count_from}
-use Rattle.cal_elapse.specs.computed.RemainingMatches.{IsNextInMinute, NoneLeftInMinute}
+use Rattle.cal_elapse.specs.computed.RemainingMatches.{AreRemaining, IsRestOfMinute, NoneLeftInMinute}
 use Rattle.cal_elapse.specs.computed.Masks.{sets_in}
 use Rattle.cal_elapse.specs.rules.MostMonths.{IsMostAfter}
-use Rattle.cal_elapse.specs.declared.masks.Masks.{Masks}
-use Rattle.cal_elapse.proofs.CountLemmas.{count_from-most, count_from-nothing, count_from-then}
-use Rattle.cal_bytes.proofs.General.{pos_unsigned_abs}
-use Rattle.cal_civil.proofs.LocalLemmas.{local_inside}
-use Rattle.cal_elapse.proofs.MinuteLemmas.{rest_on, rest_unknown}
-use Rattle.cal_elapse.proofs.MostMonthsLemmas.{most_begun, most_on, most_then}
+use Rattle.cal_elapse.proofs.BitLemmas.{first_bit}
+use Rattle.cal_elapse.proofs.CountLemmas.{count_from-nothing}
+use Rattle.cal_elapse.proofs.MinuteLemmas.{match_inside, most_of_day, rest_counted, rest_none, rest_some, rest_whole, search_minute}
+use Rattle.cal_elapse.proofs.MostMonthsLemmas.{search_examined}
+use Rattle.cal_elapse.proofs.search.searcher.Searcher.search_minute.Goals.{After-from, After-rest_of_minute-bits}
 use Rattle.cal_elapse.proofs.search.searcher.Searcher.search_minute.Goals as goal
 
--- if m < n < 2 ^ 63, then n - m - 1, the number of integers strictly between m and n, can be computed with 64-bit
--- integers without overflow
-between_whole : (a b : ℤ) (n m : ℕ) → a ≡ pos n → b ≡ pos m → m < n → n < 2 ^ 63
-    → unsigned_abs (to_z w64 (of_z w64 (to_z w64 (of_z w64 (to_z w64 (of_z w64 a) -ℤ to_z w64 (of_z w64 b))) -ℤ pos 1))) ≡ n - m - 1
-between_whole a b n m is_n is_m less small = omega (arith, ints)
+-- if no bits are left, `local` is the last match of its minute
+nothing : (c : After-rest_of_minute-bits) → c.rest_of_minute-bits.result ≡ 0
+    → IsRestOfMinute (matches (sets_in c.args.self.now.masks)) (unsigned_abs c.args.local) c.rest_of_minute-bits.result (unsigned_abs c.args.local)
+    × NoneLeftInMinute (matches (sets_in c.args.self.now.masks)) (unsigned_abs c.args.local)
+nothing c none = rest_none _ (unsigned_abs c.args.local) c.rest_of_minute-bits.result (rw (to_z-of_z w64 _ c.ranges.local) at c.rest_of_minute-bits.ensures) none c.requires.start.1
 
-pub loop-next-init : goal.loop-next-init
-loop-next-init c =
-    let sets = sets_in c.args.self.now.masks in
-    let nothing = count_from-nothing (matches sets) (unsigned_abs c.args.local + 1) (unsigned_abs c.args.local) in
-    rw (to_z-of_z w64 _ c.ranges.local) (record {
-      inside = c.requires.start.0;
-      rest = rest_unknown (matches sets) (unsigned_abs c.args.local) c.requires.start.1;
-      masks = refl;
-      found = λ same. same;
-      counted = omega arith;
-      most = most_begun sets (unsigned_abs c.args.local) c.args.self.now.most_months;
-    })
+remaining : (c : After-from) → AreRemaining (matches (sets_in c.args.self.now.masks)) (unsigned_abs c.args.local) (unsigned_abs c.args.local + 1) c.rest_of_minute-bits.result
+remaining c = rw (to_z-of_z w64 _ c.ranges.local) at c.rest_of_minute-bits.ensures
 
-pub next_in_minute-requires-clause-few : goal.next_in_minute-requires-clause-few
-next_in_minute-requires-clause-few c = grind (arith, local_arith, count_from-most)
+-- the last match fits into a 64-bit integer, so storing it doesn't change it
+last_is : (c : After-from) → to_z w64 (of_z w64 (to_z w64 (of_z w64 (to_z w64 (of_z w64 c.args.local) +ℤ pos 1)) +ℤ to_z w64 (of_z w64 c.from.result)))
+    ≡ pos (unsigned_abs c.args.local + 1 + c.highest_bit.result)
+last_is c = let inside = c.requires.start.0 in grind (arith, local_arith)
 
-pub loop-next-preserved : goal.loop-next-preserved
-loop-next-preserved c =
-    let kept = rw (to_z-of_z w64 _ c.ranges.local) at c.loop-next.invariant in
-    let sets = sets_in c.args.self.now.masks in
-    let local : ℕ = unsigned_abs c.args.local in
-    let last : ℕ = unsigned_abs (to_z w64 c.loop-next.last-bits) in
-    let next : ℕ = unsigned_abs c.in-Some.next in
-    let inside = c.in-Some.ensures.inside in
-    let found = subst (λ (m : Masks). IsNextInMinute (matches (sets_in m)) last (Some next)) kept.masks c.in-Some.ensures.next in
-    let begun = kept.rest.begun in
-    let one = subst (λ (m : Masks). c.next_in_minute.new.self.searches ≡ c.loop-next.self.searches + count_from (matches (sets_in m)) (last + 1) (next - last)) kept.masks c.in-Some.ensures.counted in
-    let both = count_from-then (matches sets) local last next begun (omega arith) in
-    let counted = kept.counted in
-    rw (to_z-of_z w64 _ c.ranges.local, to_z-of_z w64 c.in-Some.next (search rules))
-    (record {
-      inside = inside;
-      rest = rest_on (matches sets) local c.loop-next.bits last next c.with_bit-bits.result _ kept.rest found.0 found.1 c.with_bit-bits.ensures.set c.with_bit-bits.ensures.others
-          (between_whole c.in-Some.next c.args.local next local (sym (pos_unsigned_abs c.in-Some.next _ inside.0 refl)) (sym (pos_unsigned_abs c.args.local _ c.requires.start.0.0 refl)) (omega arith) (omega (arith, local_inside c.in-Some.next inside, seconds_in_all-is)));
-      masks = c.in-Some.ensures.masks ∙ kept.masks;
-      found = λ same. c.in-Some.ensures.last (kept.found same);
-      counted = omega arith;
-      most = most_then sets local last next c.args.self.now.most_months c.loop-next.self.most_months c.next_in_minute.new.self.most_months _ begun (omega arith) kept.most
-          (subst (λ (m : Masks). IsMostAfter (sets_in m) last next c.loop-next.self.most_months c.next_in_minute.new.self.most_months) kept.masks c.in-Some.ensures.most) (omega arith);
-    })
+some : (c : After-from) → IsRestOfMinute (matches (sets_in c.args.self.now.masks)) (unsigned_abs c.args.local) c.rest_of_minute-bits.result (unsigned_abs c.args.local + 1 + c.highest_bit.result)
+some c = rest_some _ (unsigned_abs c.args.local) c.rest_of_minute-bits.result c.highest_bit.result (remaining c) c.highest_bit.ensures.set c.highest_bit.ensures.top
+
+pub returns-then-bits-eq0-clause-rest : goal.returns-then-bits-eq0-clause-rest
+returns-then-bits-eq0-clause-rest c =
+    rw (to_z-of_z w64 _ c.ranges.local) (nothing (goal.at.returns-then-bits-eq0-clause-rest c).After-rest_of_minute-bits c.if-bits-eq0.true).0
+
+pub returns-then-bits-eq0-clause-whole : goal.returns-then-bits-eq0-clause-whole
+returns-then-bits-eq0-clause-whole c =
+    rw (to_z-of_z w64 _ c.ranges.local) (nothing (goal.at.returns-then-bits-eq0-clause-whole c).After-rest_of_minute-bits c.if-bits-eq0.true).1
+
+pub returns-then-bits-eq0-clause-counted : goal.returns-then-bits-eq0-clause-counted
+returns-then-bits-eq0-clause-counted c =
+    let none = count_from-nothing (matches (sets_in c.args.self.now.masks)) (unsigned_abs c.args.local + 1) (unsigned_abs c.args.local) in
+    rw (to_z-of_z w64 _ c.ranges.local) (omega arith)
+
+pub keep-requires : goal.keep-requires
+keep-requires c =
+    let at = (goal.at.keep-requires c).After-from in
+    let rest = some at in
+    rw (last_is at) (local_inside-pos _ (match_inside _ _ rest.is_match), rest.is_match)
+
+pub invariant_of-result-2 : goal.invariant_of-result-2
+invariant_of-result-2 c =
+    let at = (goal.at.invariant_of-result-2 c).After-from in
+    rw (last_is at) (record { last_in = local_inside-pos _ (match_inside _ _ (some at).is_match) })
+
+pub returns-clause-rest : goal.returns-clause-rest
+returns-clause-rest c = let at = (goal.at.returns-clause-rest c).After-from in rw (last_is at) (some at)
 
 pub returns-clause-whole : goal.returns-clause-whole
-returns-clause-whole c = λ same.
-    let kept = rw (to_z-of_z w64 _ c.ranges.local) at c.loop-next.invariant in
-    subst (λ (m : Masks). NoneLeftInMinute (matches (sets_in m)) (unsigned_abs (to_z w64 c.loop-next.last-bits))) kept.masks (c.next_in_minute.ensures.none c.in_default.is (kept.found same))
+returns-clause-whole c =
+    let at = (goal.at.returns-clause-whole c).After-from in
+    rw (last_is at) (rest_whole _ (unsigned_abs c.args.local) _ _ (remaining at) c.highest_bit.ensures.set c.highest_bit.ensures.top)
 
 pub returns-clause-counted : goal.returns-clause-counted
-returns-clause-counted c = grind (arith, local_arith, count_from-nothing)
+returns-clause-counted c =
+    let at = (goal.at.returns-clause-counted c).After-from in
+    let counted = rest_counted _ (unsigned_abs c.args.local) _ _ (remaining at) c.highest_bit.ensures.set c.highest_bit.ensures.top in
+    rw (last_is at) (omega (arith, c.keep.ensures.searches, c.from-2.ensures))
 
 pub returns-clause-most : goal.returns-clause-most
 returns-clause-most c =
-    let kept = rw (to_z-of_z w64 _ c.ranges.local) at c.loop-next.invariant in
-    let last : ℕ = unsigned_abs (to_z w64 c.loop-next.last-bits) in
-    most_on (sets_in c.args.self.now.masks) (unsigned_abs c.args.local) last last c.args.self.now.most_months c.loop-next.self.most_months c.next_in_minute.new.self.most_months kept.rest.begun (omega arith) kept.most
-    (subst (λ (m : Masks). IsMostAfter (sets_in m) last last c.loop-next.self.most_months c.next_in_minute.new.self.most_months) kept.masks c.in_default.ensures.most)
+    let at = (goal.at.returns-clause-most c).After-from in
+    let now = c.args.self.now in
+    let bits = c.rest_of_minute-bits.result in
+    let rest = some at in
+    let same = rest.minute in
+    let search = search_minute now.masks (unsigned_abs c.args.local) (unsigned_abs c.args.local + 1) bits _ (remaining at) (first_bit bits (omega arith) (omega arith)) in
+    rw (last_is at)
+    (subst (IsMostAfter (sets_in now.masks) (unsigned_abs c.args.local) (unsigned_abs c.args.local + 1 + c.highest_bit.result) now.most_months) (sym (c.keep.ensures.most ∙ c.max-self.ensures))
+    (most_of_day (sets_in now.masks) (unsigned_abs c.args.local) (unsigned_abs c.args.local + 1 + c.highest_bit.result) now.most_months c.requires.start.1 rest.is_match (omega arith) (omega arith)
+    (search_examined (sets_in now.masks) (unsigned_abs c.args.local + 1) _ search)))

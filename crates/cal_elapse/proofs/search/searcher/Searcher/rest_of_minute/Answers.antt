@@ -1,0 +1,10 @@
+use Rattle.std.proofs.Common.{◌≡◌, ◌%◌, arith, unsigned_abs}
+use Rattle.cal_civil.proofs.LocalLemmas.{local_arith}
+use Rattle.cal_elapse.proofs.MinuteLemmas.{seconds_after}
+use Rattle.cal_elapse.proofs.search.searcher.Searcher.rest_of_minute.Goals as goal
+
+pub returns : goal.returns
+returns c =
+    let of_day : c.second_of_day.result ≡ unsigned_abs c.args.local % 86_400 = grind (arith, local_arith) in
+    let second : c.second_of_day.result % 60 ≡ unsigned_abs c.args.local % 60 = omega arith in
+    rw second (search (seconds_after c.args.self.now.masks (unsigned_abs c.args.local) c.requires.is_match))
