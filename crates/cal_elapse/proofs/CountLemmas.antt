@@ -18,6 +18,10 @@ unfolding count_from
 count_from-most passes a zero = omega arith
 count_from-most passes a (suc k) = omega (arith, count_from-most passes a k, one_at_most (passes (a + k)))
 
+pub count_from-next : (passes : ℕ → Bool) (a k : ℕ) → count_from passes a (suc k) ≡ count_from passes a k + cond (passes (a + k)) 1 0
+unfolding count_from
+count_from-next passes a k = refl
+
 -- counting one more number adds 1 if that number passes
 pub count_from-one : (passes : ℕ → Bool) (a k : ℕ) → passes (a + k) ≡ true → count_from passes a (k + 1) ≡ count_from passes a k + 1
 unfolding count_from

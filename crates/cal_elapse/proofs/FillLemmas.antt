@@ -3,12 +3,14 @@ use Rattle.std.proofs.Common.{◌≡◌, ◌≢◌, ◌⊎◌, ◌↔◌, ◌<�
 use Rattle.std.proofs.Math.ListN.{length-set}
 use Rattle.std.proofs.lemmas.Bool.{cases_eq, cases_lt, or_cases, or_left, or_right}
 use Rattle.std.proofs.lemmas.Int.{ints}
+use Rattle.std.specs.Ordering.{int_cmp}
+use Rattle.std.specs.List.Sorted.{IsStrictlySortedBy}
 use Rattle.cal_zone.specs.rules.Instant.{IsInstant}
 use Rattle.cal_rising.specs.rules.Elements.{Has}
 use Rattle.cal_elapse.specs.computed.Bits.{is_bit, is_bit_in}
-use Rattle.cal_elapse.specs.computed.Ring.{IsNear, IsOneOf, IsRoundFrom, cells_behind, instants_in, is_held, no_second}
+use Rattle.cal_elapse.specs.computed.Ring.{IsInMinutes, IsNear, IsOneOf, IsRoundFrom, cells_behind, instants_in, is_held, no_second}
 use Rattle.cal_elapse.specs.rules.Search.{IsFirstPassing}
-use Rattle.cal_elapse.proofs.BitLemmas.{is_bit-above, is_bit-or, is_bit-shifted, is_bit-up, is_bit-up_none}
+use Rattle.cal_elapse.proofs.BitLemmas.{is_bit-above, is_bit-none, is_bit-or, is_bit-shifted, is_bit-up, is_bit-up_none}
 use Rattle.cal_elapse.proofs.CellLemmas.{in_word}
 use Rattle.cal_elapse.proofs.RingLemmas.{Has-instants, IsIn, first_found, found_kept, kept_some, member, none_found, none_kept, same_second}
 use Rattle.cal_bytes.proofs.General.{below_end, lt_from_pos}
@@ -205,6 +207,13 @@ filled_from old new least start bits at all round fits whole begun was =
       first = subst (IsFirstPassing (is_held new) least (least + 187_200)) (sym (kept_some least begun.some)) first;
     }
 
+-- the smallest element stays the same
+pub filled_first : (old new : List ℕ) (least start bits : ℕ) (at : ℤ) (members : List ℤ) → AreFilled old new start bits → IsBegun old least at → instants_in old least ≡ members
+    → slice_get (instants_in new least) 0 ≡ slice_get members 0
+filled_first old new least start bits at members all begun view =
+    first_found new least least (omega arith, omega arith, still_held old new start bits least all begun.found.2, λ t above below. absurd (omega arith))
+    ∙ (sym (first_found old least least begun.found) ∙ ap (λ (xs : List ℤ). slice_get xs 0) view)
+
 pub filled_answer : (old new : List ℕ) (least second bits : ℕ) (start : ℤ) (members : List ℤ) → AreFilled old new second bits → IsRoundOfAll least second bits → bits < 2 ^ 64
     → instants_in old least ≡ members → pos second ≡ start → (i : ℤ) → Has (instants_in new least) i ↔ (Has members i ⊎ IsOneOf start bits i)
 filled_answer old new least second bits start members all round fits view is i =
@@ -212,3 +221,88 @@ filled_answer old new least second bits start members all round fits view is i =
       λ m. elim (seen.0 m) [ inl n ↦ inl (subst (λ (xs : List ℤ). Has xs i) view n) | inr one ↦ inr (subst (λ (z : ℤ). IsOneOf z bits i) is one) ],
       λ o. seen.1 (elim o [ inl n ↦ inl (subst (λ (xs : List ℤ). Has xs i) (sym view) n) | inr one ↦ inr (subst (λ (z : ℤ). IsOneOf z bits i) (sym is) one) ]),
     )
+
+-- Adding the instants of several minutes, one minute after another.
+
+-- `i` is in one of the minutes for which `minutes` has a bit, and `left` doesn't have the bit of that minute
+pub record IsPut (start : ℤ) (minutes left seconds : ℕ) (i : ℤ) : Type 0 where
+  pub one : IsInMinutes start minutes seconds i
+  pub taken : is_bit left one.minute ≡ false
+
+-- the bits of `left` are among those of `minutes`, and `now` consists of `old` and of the instants in the other minutes
+pub record ArePut (old now : List ℤ) (start : ℤ) (minutes left seconds : ℕ) : Type 0 where
+  pub kept : (a : ℕ) → is_bit left a ≡ true → is_bit minutes a ≡ true
+  pub first : slice_get now 0 ≡ slice_get old 0
+  pub rises : IsStrictlySortedBy int_cmp now
+  pub members : (i : ℤ) → Has now i ↔ (Has old i ⊎ IsPut start minutes left seconds i)
+
+pub put_begun : (old : List ℤ) (start : ℤ) (minutes seconds : ℕ) → IsStrictlySortedBy int_cmp old → ArePut old old start minutes minutes seconds
+put_begun old start minutes seconds rises = record {
+  kept = λ a set. set;
+  first = refl;
+  rises = rises;
+  members = λ i. (λ m. inl m, λ o. elim o [ inl m ↦ m | inr p ↦ absurd (let set = p.one.minute_set in let no = p.taken in cc) ]);
+}
+
+pub put_ended : (old now : List ℤ) (start : ℤ) (minutes left seconds : ℕ) → ArePut old now start minutes left seconds → left ≡ 0
+    → (i : ℤ) → Has now i ↔ (Has old i ⊎ IsInMinutes start minutes seconds i)
+put_ended old now start minutes left seconds h none i = (
+  λ m. elim ((h.members i).0 m) [ inl was ↦ inl was | inr p ↦ inr p.one ],
+  λ o. (h.members i).1 (elim o [ inl was ↦ inl was | inr one ↦ inr (record { one = one; taken = rw none (is_bit-none one.minute) }) ]),
+)
+
+minute_sum : (start at : ℤ) (a s : ℕ) (i : ℤ) → at ≡ (start +ℤ pos (a * 60)) → (at +ℤ pos s) ≡ i → (start +ℤ pos (a * 60 + s)) ≡ i
+minute_sum start at a s i at_is is = omega (arith, ints)
+
+sum_minute : (start at : ℤ) (a b s : ℕ) (i : ℤ) → at ≡ (start +ℤ pos (a * 60)) → b ≡ a → (start +ℤ pos (b * 60 + s)) ≡ i → (at +ℤ pos s) ≡ i
+sum_minute start at a b s i at_is same is = omega (arith, ints)
+
+near_minutes : (start : ℤ) (x y : ℕ) (i j : ℤ) → x < 3_904 → y < 3_904 → (start +ℤ pos x) ≡ i → (start +ℤ pos y) ≡ j → IsNear i j
+near_minutes start x y i j low high is_i is_j = (omega (arith, ints), omega (arith, ints))
+
+-- In this module, the instants of the minute of bit `a` are added next. The instant at which this minute begins is `at`.
+module _ (old now : List ℤ) (start at : ℤ) (minutes left seconds a : ℕ) (h : ArePut old now start minutes left seconds) (set : is_bit left a ≡ true)
+    (at_is : at ≡ (start +ℤ pos (a * 60)))
+  where
+    pub one_in : (i : ℤ) → IsOneOf at seconds i → IsInMinutes start minutes seconds i
+    one_in i one = record { minute = a; second = one.bit; minute_set = h.kept a set; second_set = one.set; is = minute_sum start at a one.bit i at_is one.is }
+
+    pub next_near : minutes < 2 ^ 64 → seconds < 2 ^ 64 → ((member i : ℤ) → Has old member → IsInMinutes start minutes seconds i → IsNear member i)
+        → (member i : ℤ) → Has now member → IsOneOf at seconds i → IsNear member i
+    next_near fits small near member i m one =
+        let new = one_in i one in
+        elim ((h.members member).0 m) [
+          | inl was ↦ near member i was new
+          | inr p ↦
+              near_minutes start (p.one.minute * 60 + p.one.second) (new.minute * 60 + new.second) member i
+              (omega (arith, small_bit minutes p.one.minute fits p.one.minute_set, small_bit seconds p.one.second small p.one.second_set))
+              (omega (arith, small_bit minutes new.minute fits new.minute_set, small_bit seconds new.second small new.second_set)) p.one.is new.is
+        ]
+
+    pub put_next : (new : List ℤ) (more : ℕ) → is_bit more a ≡ false → ((x : ℕ) → x ≢ a → is_bit more x ≡ is_bit left x) → slice_get new 0 ≡ slice_get now 0
+        → IsStrictlySortedBy int_cmp new → ((i : ℤ) → Has new i ↔ (Has now i ⊎ IsOneOf at seconds i)) → ArePut old new start minutes more seconds
+    unfolding one_in
+    put_next new more cleared others first rises members = record {
+      kept = λ x one. elim (cases_eq x a) [
+        | inl same ↦ absurd (let no : is_bit more x ≡ false = ap (is_bit more) same ∙ cleared in cc)
+        | inr other ↦ h.kept x (sym (others x other) ∙ one)
+      ];
+      first = first ∙ h.first;
+      rises = rises;
+      members = λ i. (
+        λ m. elim ((members i).0 m) [
+          | inl was ↦ elim ((h.members i).0 was) [ inl o ↦ inl o | inr p ↦ inr (record { one = p.one; taken = still_taken p.one.minute p.taken }) ]
+          | inr one ↦ inr (record { one = one_in i one; taken = cleared })
+        ],
+        λ o. (members i).1 (elim o [
+          | inl was ↦ inl ((h.members i).1 (inl was))
+          | inr p ↦ elim (cases_eq p.one.minute a) [
+            | inl same ↦ inr (record { bit = p.one.second; set = p.one.second_set; is = sum_minute start at a p.one.minute p.one.second i at_is same p.one.is })
+            | inr other ↦ inl ((h.members i).1 (inr (record { one = p.one; taken = sym (others p.one.minute other) ∙ p.taken })))
+          ]
+        ]),
+      );
+    }
+      where
+        still_taken : (x : ℕ) → is_bit left x ≡ false → is_bit more x ≡ false
+        still_taken x clear = elim (cases_eq x a) [ inl same ↦ ap (is_bit more) same ∙ cleared | inr other ↦ others x other ∙ clear ]

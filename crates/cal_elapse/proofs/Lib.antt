@@ -10,6 +10,7 @@ pub mod ElapsesLemmas
 pub mod ExaminedMonthLemmas
 pub mod FillLemmas
 pub mod FoundLemmas
+pub mod HourLemmas
 pub mod InstantLemmas
 pub mod MasksLemmas
 pub mod MinuteLemmas

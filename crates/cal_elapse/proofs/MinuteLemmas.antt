@@ -1,22 +1,21 @@
 -- The bits that are stored when a match is found: one for each later match in its minute, and one for each later minute
 -- with matches in its hour. A search that takes its result from these bits removes one of them.
-use Rattle.std.proofs.Common.{IfSome, IsSome, ◌≡◌, ◌≢◌, ◌∙◌, ℕ, ◌+◌, ◌-◌, ◌*◌, ◌/◌, ◌%◌, ◌^◌, ◌<◌, ◌≤◌, Bool, true, false, ◌&&◌, Option, None, Some, ℤ, pos, unsigned_abs, w64, ap, inl, inr, sym, subst, refl, arith, count_ones, ltb-true, max, nat_lt}
-use Rattle.std.proofs.lemmas.Bool.{and_from, and_parts, cases_lt, false_from_ne_true, lt-ltb}
-use Rattle.std.specs.Int.{trailing_zeros}
+use Rattle.std.proofs.Common.{◌≡◌, ◌≢◌, ◌∙◌, ℕ, ◌+◌, ◌-◌, ◌*◌, ◌/◌, ◌%◌, ◌^◌, ◌<◌, ◌≤◌, Bool, true, false, ◌&&◌, Option, None, Some, pos, ap, inl, inr, sym, subst, refl, arith, count_ones, ltb-true, max, nat_lt}
+use Rattle.std.proofs.lemmas.Bool.{and_parts, cases_lt, false_from_ne_true, lt-ltb}
 use Rattle.cal_civil.specs.rules.LocalSecond.{seconds_in_all, seconds_in_all-is}
 use Rattle.cal_spec.specs.rules.Match.{Sets, matches, time_in}
 use Rattle.cal_elapse.specs.computed.Bits.{is_bit}
-use Rattle.cal_elapse.specs.computed.RemainingMatches.{AreRemaining, HasMoreInHour, HasMoreInMinute, IsNextInHour, IsRestOfMinute, NoneLeftInMinute, minute_matches}
+use Rattle.cal_elapse.specs.computed.RemainingMatches.{AreRemaining, IsRestOfMinute, NoneLeftInMinute, minute_matches}
 use Rattle.cal_elapse.specs.rules.ExaminedMonths.{IsSearch, examined_months}
 use Rattle.cal_elapse.specs.rules.MostMonths.{IsExamined, IsMostAfter}
 use Rattle.cal_elapse.specs.computed.Masks.{sets_in}
 use Rattle.cal_elapse.specs.rules.Months.{day_in, minute_in}
-use Rattle.cal_elapse.specs.rules.Search.{IsFirstLocal, IsFirstPassing, count_from}
+use Rattle.cal_elapse.specs.rules.Search.{IsFirstPassing, count_from}
 use Rattle.cal_elapse.specs.declared.masks.Masks.{Masks}
-use Rattle.cal_elapse.proofs.BitLemmas.{first_bit, is_bit-above, is_bit-none, is_bit-shifted}
+use Rattle.cal_elapse.proofs.BitLemmas.{is_bit-above, is_bit-none, is_bit-shifted}
 use Rattle.cal_elapse.proofs.CarryLemmas.{Splits, first_later, first_then, split_at}
 use Rattle.cal_elapse.proofs.CountLemmas.{count_from-ones}
-use Rattle.cal_elapse.proofs.FoundLemmas.{first_local, first_passing}
+use Rattle.cal_elapse.proofs.FoundLemmas.{first_local}
 use Rattle.cal_elapse.proofs.MostMonthsLemmas.{max_is}
 use Rattle.cal_elapse.proofs.ExaminedMonthLemmas.{examined_today}
 use Rattle.cal_elapse.proofs.SearchLemmas.{locals_split}
@@ -58,7 +57,7 @@ hours_split m = record {
 }
 
 -- a local second matches if and only if its minute passes `minute_matches` and its second matches
-minutes_of_all : (m : Masks) → Splits (matches (sets_in m)) (minute_matches (sets_in m)) (is_bit m.seconds) 60 120_968_640
+pub minutes_of_all : (m : Masks) → Splits (matches (sets_in m)) (minute_matches (sets_in m)) (is_bit m.seconds) 60 120_968_640
 unfolding minute_matches
 minutes_of_all m = record {
   positive = omega arith;
@@ -219,47 +218,7 @@ minutes_later m found start minutes bit first more later lowest second cleared o
     let same : ((start + bit) * 60 + first) / 60 ≡ start + bit = omega arith in
     rw same (left_behind _ (found / 60) start minutes bit more later lowest cleared others)
 
--- Finding later matches in the same hour.
-
--- if bits of the hour are left after the match `found`, there is a later match in its hour, for example at the second
--- of `found` in the first later minute with matches
-pub more_later : (m : Masks) (found start minutes : ℕ) → AreRemaining (minute_matches (sets_in m)) (found / 60) start minutes → minutes < 2 ^ 64 → 0 < minutes → matches (sets_in m) found ≡ true
-    → HasMoreInHour (matches (sets_in m)) found
-more_later m found start minutes h fits some holds =
-    let count = seconds_in_all-is in
-    let bit : ℕ = trailing_zeros w64 minutes in
-    let lowest = first_bit minutes some fits in
-    let here = match_inside (sets_in m) found holds in
-    let second = (and_parts _ _ (sym (split_at (minutes_of_all m) (found / 60) found (omega arith) refl) ∙ holds)).1 in
-    let inside = minutes_inside m found start minutes bit h lowest in
-    let unit = h.unit bit lowest.2 in
-    let behind = h.behind bit lowest.2 in
-    record {
-      match_at = (start + bit) * 60 + found % 60;
-      behind = omega arith;
-      hour = omega arith;
-      is_match = (minutes_of_all m).split (start + bit) (found % 60) inside (omega arith) ∙ and_from _ _ (bit_passes _ (found / 60) start minutes bit h lowest.2) second;
-    }
-
--- if a later local second in the hour of `local` passes, the first local second after `local` that passes is in that
--- hour
-hour_known : (passes : ℕ → Bool) (local : ℕ) (next : Option ℕ) → ((t : ℕ) → passes t ≡ true → t < seconds_in_all) → HasMoreInHour passes local
-    → IsFirstPassing passes (local + 1) seconds_in_all next → IfSome next (λ next. IsNextInHour passes local next) × IsSome next
-hour_known passes local next inside more none = grind arith
-
--- if a later local second in the hour of `local` matches, a search after `local` finds a match in that hour
-pub hour_found : (m : Masks) (local : ℕ) (next : Option ℤ) → HasMoreInHour (matches (sets_in m)) local → IsFirstLocal (matches (sets_in m)) (pos (local + 1)) next
-    → IfSome next (λ next. IsNextInHour (matches (sets_in m)) local (unsigned_abs next)) × IsSome next
-hour_found m local next more first = grind (arith, hour_known, match_inside, first_passing)
-
--- Finding all later matches in the same minute.
-
--- if bits are left after the match found last, there is another match in its minute
-pub more_left : (m : Masks) (found from left local : ℕ) → AreRemaining (matches (sets_in m)) found from left → left < 2 ^ 64 → 0 < left → found ≡ local → HasMoreInMinute (matches (sets_in m)) local
-more_left m found from left local h fits some same =
-    let lowest = first_bit left some fits in
-    subst (HasMoreInMinute (matches (sets_in m))) same
-    (record { match_at = from + trailing_zeros w64 left; behind = h.behind _ lowest.2; minute = h.unit _ lowest.2; is_match = bit_passes _ found from left _ h lowest.2 })
+-- Taking all remaining matches of a minute at once.
 
 -- if no bits are left after the match found last, there is no later match in its minute
 pub none_left : (m : Masks) (found from left local : ℕ) → AreRemaining (matches (sets_in m)) found from left → left ≡ 0 → local ≡ found → NoneLeftInMinute (matches (sets_in m)) local

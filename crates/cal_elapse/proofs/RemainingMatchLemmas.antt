@@ -1,6 +1,8 @@
--- Converting all remaining matches of a minute at once, after one of its matches has been converted.
-use Rattle.std.proofs.Common.{◌≡◌, ◌⊎◌, ◌↔◌, ◌+◌, ◌-◌, ◌*◌, ◌/◌, ◌<◌, ◌≤◌, ◌∙◌, Bool, true, ℕ, IsSomeAnd, List, None, Option, Some, ℤ, pos, ◌+ℤ◌, ◌-ℤ◌, ◌≤ℤ◌, ◌<ℤ◌, FitsSigned, arith, ap, inl, inr, of_z, refl, subst, sym, to_z, unsigned_abs, w64, slice_get}
-use Rattle.std.proofs.lemmas.Int.{ints, to_z-of_z, to_z_pos}
+-- Converting several matches at once: all remaining matches of a minute, or of the later minutes of an hour, after one
+-- of its matches has been converted.
+use Rattle.std.proofs.Common.{◌≡◌, ◌⊎◌, ◌↔◌, ◌+◌, ◌-◌, ◌*◌, ◌/◌, ◌<◌, ◌≤◌, ◌∙◌, Bool, true, false, not, ℕ, IsSomeAnd, List, MatchOption, None, Option, Some, ℤ, pos, ◌+ℤ◌, ◌-ℤ◌, ◌≤ℤ◌, ◌<ℤ◌, FitsSigned, arith, is_some, ap, inl, inr, of_z, refl, subst, sym, to_z, unsigned_abs, w64, slice_get}
+use Rattle.std.proofs.lemmas.Bool.{both_ways}
+use Rattle.std.proofs.lemmas.Int.{ints, to_z-of_z}
 use Rattle.jiff.proofs.SpanFacts.{signed_arith}
 use Rattle.jiff.specs.Types.{TimeZone}
 use Rattle.std.specs.Ordering.{int_cmp}
@@ -11,16 +13,15 @@ use Rattle.cal_spec.specs.rules.Match.{matches}
 use Rattle.cal_zone.proofs.PlaceLemmas.{within}
 use Rattle.cal_civil.specs.rules.LocalSecond.{seconds_in_all, seconds_in_all-is, IsLocalSecond}
 use Rattle.cal_zone.specs.computed.LocalOffsetRange.{AreAtOffset}
-use Rattle.cal_zone.specs.rules.Zone.{zone_of}
 use Rattle.cal_zone.specs.rules.Instant.{IsInstant}
 use Rattle.cal_elapse.specs.computed.Bits.{is_bit}
-use Rattle.cal_elapse.specs.computed.Ring.{IsNear, IsOneOf}
+use Rattle.cal_elapse.specs.computed.Ring.{IsInMinutes, IsNear, IsOneOf}
 use Rattle.cal_elapse.specs.rules.Search.{count_from}
 use Rattle.cal_elapse.specs.rules.Elapses.{Timed}
-use Rattle.cal_elapse.specs.computed.RemainingMatches.{IsRestOfMinute}
+use Rattle.cal_elapse.specs.computed.RemainingMatches.{IsRestOfHour, IsRestOfMinute}
 use Rattle.cal_elapse.specs.computed.Masks.{sets_in}
 use Rattle.cal_elapse.specs.rules.MostMonths.{IsMost, IsMostAfter}
-use Rattle.cal_elapse.specs.computed.Window.{IsMatchAhead, IsPlacedTo, Windowed, start_of, timed_by, timed_of}
+use Rattle.cal_elapse.specs.computed.Window.{AreConvertible, IsMatchAhead, IsPlacedTo, Windowed, start_of, timed_by, timed_of}
 use Rattle.cal_elapse.specs.declared.masks.Masks.{Masks}
 use Rattle.cal_elapse.specs.declared.search.searcher.Searcher.{Searcher}
 use Rattle.cal_elapse.specs.declared.window.Window.{Window}
@@ -30,186 +31,215 @@ use Rattle.cal_elapse.proofs.MinuteLemmas.{match_inside}
 use Rattle.cal_elapse.proofs.MostMonthsLemmas.{most_more}
 use Rattle.cal_elapse.proofs.WindowLemmas.{IsPlacedFrom, timed_by-near, windowed_more}
 
--- the last second of a local second's minute is a local second too
+-- the last second of a local second's minute is a local second too, and so is the last second of its hour
 pub minute_end : (local : ℕ) → local < seconds_in_all → local / 60 * 60 + 59 < seconds_in_all
 minute_end local inside = let count = seconds_in_all-is in omega arith
 
--- the last match found in the rest of a minute isn't after the end of that minute
-pub rest_inside : (passes : ℕ → Bool) (local bits last : ℕ) → IsRestOfMinute passes local bits last → last ≤ local / 60 * 60 + 59
-rest_inside passes local bits last rest = let same = rest.minute in omega arith
+pub hour_end : (local : ℕ) → local < seconds_in_all → local / 3_600 * 3_600 + 3_599 < seconds_in_all
+hour_end local inside = let count = seconds_in_all-is in omega arith
 
 -- a UTC offset is at most 93,599 seconds in either direction
-pub ahead_near : (tz : TimeZone) (from to : ℕ) (offset : ℤ) → AreAtOffset tz (pos from) (pos to) offset → from ≤ to → to < seconds_in_all
+pub offset_near : (tz : TimeZone) (from to offset : ℤ) → AreAtOffset tz from to offset → IsLocalSecond from → from ≤ℤ to
     → (offset ≤ℤ pos 93_599) × (pos 0 ≤ℤ (offset +ℤ pos 93_599))
-ahead_near tz from to offset ahead order inside =
-    let count = seconds_in_all-is in
-    let near = within tz (pos from) (pos from -ℤ offset) (ahead (pos from) (omega (arith, ints), omega (arith, ints)) (omega (arith, ints)) (omega (arith, ints))) in
+offset_near tz from to offset constant inside order =
+    let near = within tz from (from -ℤ offset) (constant from inside (omega (arith, ints)) order) in
     (omega (arith, signed_arith, near), omega (arith, signed_arith, near))
 
--- a local second fits into a 64-bit integer, so converting it to one and back doesn't change it
-signed_word : (local : ℕ) (signed : ℤ) → local < seconds_in_all → signed ≡ pos local → to_z w64 (of_z w64 signed) ≡ pos local
-signed_word local signed inside is = ap (λ z. to_z w64 (of_z w64 z)) is ∙ to_z_pos w64 local (omega (arith, seconds_in_all-is))
-
--- In the program, `local` is a local second, and `end` is the last second of its minute. `from` and `to` are the same
--- two numbers as signed integers. From `local` to `end`, the UTC offset is `offset`, at most 93,599 seconds in either
--- direction. All of the following fit into 64-bit integers: `from`, `to`, the offset, the instants of `local` and
--- `end`, and the second after the instant of `local`.
-pub record IsRun (tz : TimeZone) (local end : ℕ) (from to offset : ℤ) : Type 0 where
-  pub ahead : AreAtOffset tz (pos local) (pos end) offset
-  pub low : offset ≤ℤ pos 93_599
-  pub high : pos 0 ≤ℤ (offset +ℤ pos 93_599)
-  pub from_is : to_z w64 (of_z w64 from) ≡ pos local
-  pub to_is : to_z w64 (of_z w64 to) ≡ pos end
-  pub offset_is : to_z w64 (of_z w64 offset) ≡ offset
-  pub place : to_z w64 (of_z w64 (to_z w64 (of_z w64 from) -ℤ to_z w64 (of_z w64 offset))) ≡ (pos local -ℤ offset)
-  pub last : to_z w64 (of_z w64 (to_z w64 (of_z w64 to) -ℤ to_z w64 (of_z w64 offset))) ≡ (pos end -ℤ offset)
-  pub start : to_z w64 (of_z w64 (to_z w64 (of_z w64 (to_z w64 (of_z w64 from) -ℤ to_z w64 (of_z w64 offset))) +ℤ pos 1)) ≡ ((pos local -ℤ offset) +ℤ pos 1)
-
-pub run_of : (tz : TimeZone) (local end : ℕ) (from to offset : ℤ) → local ≤ end → end < seconds_in_all → FitsSigned w64 offset → from ≡ pos local → to ≡ pos end
-    → AreAtOffset tz (to_z w64 (of_z w64 from)) (to_z w64 (of_z w64 to)) offset → IsRun tz local end from to offset
-run_of tz local end from to offset order inside fits from_is to_is ahead =
-    let count = seconds_in_all-is in
-    let first = signed_word local from (omega arith) from_is in
-    let last = signed_word end to inside to_is in
-    let there : AreAtOffset tz (pos local) (pos end) offset = rw (first, last) at ahead in
-    let near = ahead_near tz local end offset there order inside in
-    let shift = to_z-of_z w64 offset fits in
-    let low = near.0 in
-    let high = near.1 in
-    let place : to_z w64 (of_z w64 (to_z w64 (of_z w64 from) -ℤ to_z w64 (of_z w64 offset))) ≡ (pos local -ℤ offset)
-    = rw (first, shift) (to_z-of_z w64 (pos local -ℤ offset) (omega (arith, signed_arith))) in
-    record {
-      ahead = there;
-      low = low;
-      high = high;
-      from_is = first;
-      to_is = last;
-      offset_is = shift;
-      place = place;
-      last = rw (last, shift) (to_z-of_z w64 (pos end -ℤ offset) (omega (arith, signed_arith)));
-      start = rw place (to_z-of_z w64 ((pos local -ℤ offset) +ℤ pos 1) (omega (arith, signed_arith)));
-    }
-
--- Suppose that `IsPlacedTo` holds for the match converted last. It still holds after this local second is converted to
--- a natural number and back, and also after it is then stored as a 64-bit integer (`placed_last`).
+-- `IsPlacedTo` still holds after the local second is converted to a natural number and back, and also after it is then
+-- stored as a 64-bit integer (`placed_last`)
 pub placed_at : (v : Window) (local : ℤ) → IsPlacedTo v local → IsPlacedTo v (pos (unsigned_abs local))
 placed_at v local h = subst (IsPlacedTo v) (sym (pos_unsigned_abs local _ h.found.0.0 refl)) h
 
 pub placed_last : (v : Window) (last : ℤ) → IsLocalSecond last → FitsSigned w64 last → IsPlacedTo v (pos (unsigned_abs last)) → IsPlacedTo v (to_z w64 (of_z w64 last))
 placed_last v last inside fits h = subst (IsPlacedTo v) (pos_unsigned_abs last _ inside.0 refl ∙ sym (to_z-of_z w64 last fits)) h
 
--- if the zone has the constant UTC offset `offset` from `local` to `end`, the place of each local second `t` in this
--- range is `t` minus `offset`
-place_there : (v : Window) (local t end : ℕ) (offset : ℤ) → IsPlacedTo v (pos local) → AreAtOffset (zone_of v.place_cache) (pos local) (pos end) offset → local ≤ t → t ≤ end → end < seconds_in_all
+-- what `is_none` says of the smallest pending instant
+pub no_least : (least first : Option ℤ) (b : Bool) → least ≡ first → is_some least ≡ not b → b ≡ true → first ≡ None
+no_least None first b same test holds = sym same
+no_least (Some x) first b same test holds = absurd (both_ways true (test ∙ ap not holds) refl)
+
+pub some_least : (least first : Option ℤ) (b : Bool) → least ≡ first → is_some least ≡ not b → b ≡ false → (x : ℤ) × (first ≡ Some x)
+some_least None first b same test fails = absurd (both_ways false refl (test ∙ ap not fails))
+some_least (Some x) first b same test fails = (x, sym same)
+
+-- The matches after `local` up to `last` can be converted together, because all matches up to `end` can (`AreConvertible`).
+-- Their instants are exactly the numbers of which `new` holds.
+pub record AreNew (v : Window) (local last end : ℕ) (offset : ℤ) (new : ℤ → Type 0) : Type 0 where
+  pub convertible : AreConvertible v (pos local) (pos end) offset
+  pub begun : local ≤ last
+  pub up : last ≤ end
+  pub inside : end < seconds_in_all
+  pub placed : (i : ℤ) → new i → IsPlacedFrom (timed_of v) (local + 1) (last + 1) i
+  pub all : (i : ℤ) → IsPlacedFrom (timed_of v) (local + 1) (last + 1) i → new i
+
+-- from `local` to `end`, the place of each local second `t` is `t` minus the offset
+place_there : (v : Window) (local t end : ℕ) (offset : ℤ) → AreConvertible v (pos local) (pos end) offset → local ≤ t → t ≤ end → end < seconds_in_all
     → (timed_of v).place t ≡ Some (pos t -ℤ offset)
 unfolding timed_by
-place_there v local t end offset h ahead low high inside =
+place_there v local t end offset c low high inside =
     let count = seconds_in_all-is in
-    ahead (pos t) (omega (arith, ints), omega (arith, ints)) (omega (arith, ints)) (omega (arith, ints))
+    c.constant (pos t) (omega (arith, ints), omega (arith, ints)) (omega (arith, ints)) (omega (arith, ints))
 
--- What has to be true before the remaining matches of a minute are added to the pending instants. `bits` stands for the
--- matches after `local` up to `last`, all in the minute of `local` (`IsRestOfMinute`). The UTC offset is constant from
--- `local` to the end of the minute. The instant of `local` isn't before `least`, the smallest pending instant. The end
--- of the minute is at most 93,599 seconds after every pending instant.
-pub record IsBehind (v : Window) (local bits last : ℕ) (offset least : ℤ) : Type 0 where
-  pub rest : IsRestOfMinute (matches (sets_in v.searcher.masks)) local bits last
-  pub ahead : AreAtOffset (zone_of v.place_cache) (pos local) (pos (local / 60 * 60 + 59)) offset
-  pub least_is : Some least ≡ slice_get v.pending 0
-  pub behind : least ≤ℤ (pos local -ℤ offset)
-  pub near : (i : ℤ) → Has v.pending i → pos (local / 60 * 60 + 59) ≤ℤ (i +ℤ pos 93_599)
+pub new_offset : (v : Window) (local last end : ℕ) (offset : ℤ) (new : ℤ → Type 0) → AreNew v local last end offset new → (offset ≤ℤ pos 93_599) × (pos 0 ≤ℤ (offset +ℤ pos 93_599))
+new_offset v local last end offset new b =
+    let count = seconds_in_all-is in
+    let inside = b.inside in
+    let begun = b.begun in
+    let up = b.up in
+    offset_near _ (pos local) (pos end) offset b.convertible.constant (omega (arith, ints), omega (arith, ints)) (omega (arith, ints))
 
-one_at : (local bit : ℕ) (offset i : ℤ) → (((pos local -ℤ offset) +ℤ pos 1) +ℤ pos bit) ≡ i → (pos (local + 1 + bit) -ℤ offset) ≡ i
-one_at local bit offset i is = omega (arith, signed_arith)
+-- `b` seconds after the instant of the local second `a` is the instant of `a` + `b`
+later_place : (a b : ℕ) (offset i : ℤ) → ((pos a -ℤ offset) +ℤ pos b) ≡ i → (pos (a + b) -ℤ offset) ≡ i
+later_place a b offset i is = omega (arith, signed_arith)
 
-at_one : (local bit t : ℕ) (offset i : ℤ) → t ≡ local + 1 + bit → (pos t -ℤ offset) ≡ i → (((pos local -ℤ offset) +ℤ pos 1) +ℤ pos bit) ≡ i
-at_one local bit t offset i there is = omega (arith, signed_arith)
+place_later : (a b t : ℕ) (offset i : ℤ) → t ≡ a + b → (pos t -ℤ offset) ≡ i → ((pos a -ℤ offset) +ℤ pos b) ≡ i
+place_later a b t offset i there is = omega (arith, signed_arith)
 
-above_least : (place least i : ℤ) (bit : ℕ) → least ≤ℤ place → ((place +ℤ pos 1) +ℤ pos bit) ≡ i → least <ℤ i
-above_least place least i bit le is = omega (arith, ints)
+-- the remaining matches of a minute
+pub minute_new : (v : Window) (local bits last : ℕ) (offset : ℤ) → IsPlacedTo v (pos local) → AreConvertible v (pos local) (pos (local / 60 * 60 + 59)) offset
+    → IsRestOfMinute (matches (sets_in v.searcher.masks)) local bits last → AreNew v local last (local / 60 * 60 + 59) offset (IsOneOf (pos (local + 1) -ℤ offset) bits)
+unfolding timed_by
+minute_new v local bits last offset h c rest =
+    let inside = minute_end local (local_inside (pos local) h.found.0) in
+    let minute = rest.minute in
+    record {
+      convertible = c;
+      begun = rest.begun;
+      up = omega arith;
+      inside = inside;
+      placed = λ i one.
+          let t : ℕ = local + 1 + one.bit in
+          let high : t ≤ last = rest.within one.bit one.set in
+          let same : t - (local + 1) ≡ one.bit = omega arith in
+          record {
+            local = t;
+            from = omega arith;
+            below = omega arith;
+            is_match = rest.matching t (omega arith) high ∙ (ap (is_bit bits) same ∙ one.set);
+            placed = place_there v local t (local / 60 * 60 + 59) offset c (omega arith) (omega arith) inside ∙ ap Some (later_place (local + 1) one.bit offset i one.is);
+          };
+      all = λ i p.
+          let there : Some (pos p.local -ℤ offset) ≡ Some i = sym (place_there v local p.local (local / 60 * 60 + 59) offset c (omega (arith, p.from)) (omega (arith, p.below)) inside) ∙ p.placed in
+          let same : (pos p.local -ℤ offset) ≡ i = cc in
+          record {
+            bit = p.local - (local + 1);
+            set = sym (rest.matching p.local (omega (arith, p.from)) (omega (arith, p.below))) ∙ p.is_match;
+            is = place_later (local + 1) (p.local - (local + 1)) p.local offset i (omega (arith, p.from)) same;
+          };
+    }
+
+at_of : (a b : ℕ) → pos a +ℤ pos b ≡ pos (a + b)
+at_of a b = omega (arith, ints)
+
+of_at : (a b t : ℕ) → pos a +ℤ pos b ≡ pos t → t ≡ a + b
+of_at a b t is = omega (arith, ints)
+
+-- the matches in the later minutes of an hour
+pub hour_new : (v : Window) (local start minutes seconds last : ℕ) (offset : ℤ) → IsPlacedTo v (pos local) → AreConvertible v (pos local) (pos (local / 3_600 * 3_600 + 3_599)) offset
+    → IsRestOfHour (matches (sets_in v.searcher.masks)) local start minutes seconds last
+    → AreNew v local last (local / 3_600 * 3_600 + 3_599) offset (IsInMinutes (pos start -ℤ offset) minutes seconds)
+unfolding timed_by
+hour_new v local start minutes seconds last offset h c rest =
+    let inside = hour_end local (local_inside (pos local) h.found.0) in
+    let hour = rest.hour in
+    let begin = rest.start_is in
+    record {
+      convertible = c;
+      begun = rest.begun;
+      up = omega arith;
+      inside = inside;
+      placed = λ i one.
+          let behind : ℕ = one.minute * 60 + one.second in
+          let t : ℕ = start + behind in
+          let found = rest.found t (record { minute = one.minute; second = one.second; minute_set = one.minute_set; second_set = one.second_set; is = at_of start behind }) in
+          let high = found.0 in
+          record {
+            local = t;
+            from = omega arith;
+            below = omega arith;
+            is_match = found.1;
+            placed = place_there v local t (local / 3_600 * 3_600 + 3_599) offset c (omega arith) (omega arith) inside ∙ ap Some (later_place start behind offset i one.is);
+          };
+      all = λ i p.
+          let there : Some (pos p.local -ℤ offset) ≡ Some i = sym (place_there v local p.local (local / 3_600 * 3_600 + 3_599) offset c (omega (arith, p.from)) (omega (arith, p.below)) inside) ∙ p.placed in
+          let same : (pos p.local -ℤ offset) ≡ i = cc in
+          let one = rest.all p.local (omega (arith, p.from)) (omega (arith, p.below)) p.is_match in
+          record {
+            minute = one.minute;
+            second = one.second;
+            minute_set = one.minute_set;
+            second_set = one.second_set;
+            is = place_later start (one.minute * 60 + one.second) p.local offset i (of_at start (one.minute * 60 + one.second) p.local one.is) same;
+          };
+    }
 
 near_both : (local end t s : ℕ) (member i : ℤ) → s < local + 1 → local + 1 ≤ t → t ≤ end → pos end ≤ℤ (member +ℤ pos 93_599) → member ≤ℤ (pos s +ℤ pos 93_599)
     → (pos t ≤ℤ (i +ℤ pos 93_599)) × (i ≤ℤ (pos t +ℤ pos 93_599)) → IsNear member i
 near_both local end t s member i early late up far old near = (omega (arith, ints, near), omega (arith, ints, near))
 
-begins : (least place : ℤ) → least ≤ℤ place → least <ℤ (place +ℤ pos 1)
-begins least place le = omega (arith, ints)
-
 reaches : (end t : ℕ) (least i : ℤ) → t ≤ end → pos end ≤ℤ (least +ℤ pos 93_599) → least ≤ℤ i → pos t ≤ℤ (i +ℤ pos 93_599)
 reaches end t least i up near le = omega (arith, ints)
 
-module _ (v : Window) (local bits last : ℕ) (offset least : ℤ) (h : IsPlacedTo v (pos local)) (b : IsBehind v local bits last offset least) where
-  up : last ≤ local / 60 * 60 + 59
-  up = rest_inside _ local bits last b.rest
+-- In this module, `least` is the smallest pending instant.
+module _ (v : Window) (local last end : ℕ) (offset least : ℤ) (new : ℤ → Type 0) (h : IsPlacedTo v (pos local)) (b : AreNew v local last end offset new)
+    (least_is : slice_get v.pending 0 ≡ Some least)
+  where
+    least_has : Has v.pending least
+    least_has = subst (λ (ys : List ℤ). Has ys least) (sym (list-first v.pending least least_is)) (inl refl)
 
-  least_has : Has v.pending least
-  least_has = subst (λ (ys : List ℤ). Has ys least) (sym (list-first v.pending least (sym b.least_is))) (inl refl)
+    pub least_low : least ≤ℤ (pos local -ℤ offset)
+    least_low = subst (λ (o : Option ℤ). MatchOption o ((pos end -ℤ offset) ≤ℤ v.last) (λ x. x ≤ℤ (pos local -ℤ offset))) least_is b.convertible.begun
 
-  -- each instant for which a bit stands is the instant of a remaining match; the converse is `placed_one`
-  one_placed : (i : ℤ) → IsOneOf ((pos local -ℤ offset) +ℤ pos 1) bits i → IsPlacedFrom (timed_of v) (local + 1) (last + 1) i
-  unfolding timed_by
-  one_placed i one =
-      let t : ℕ = local + 1 + one.bit in
-      let end = minute_end local (local_inside (pos local) h.found.0) in
-      let high : t ≤ last = b.rest.within one.bit one.set in
-      let same : t - (local + 1) ≡ one.bit = omega arith in
-      record {
-        local = t;
-        from = omega arith;
-        below = omega arith;
-        is_match = b.rest.matching t (omega arith) high ∙ (ap (is_bit bits) same ∙ one.set);
-        placed = place_there v local t (local / 60 * 60 + 59) offset h b.ahead (omega arith) (omega arith) end ∙ ap Some (one_at local one.bit offset i one.is);
-      }
+    new_above : (i : ℤ) → new i → (least <ℤ i) × (v.last <ℤ i)
+    new_above i one =
+        let p = b.placed i one in
+        let up = b.up in
+        let inside = b.inside in
+        let from = p.from in
+        let there : Some (pos p.local -ℤ offset) ≡ Some i = sym (place_there v local p.local end offset b.convertible (omega arith) (omega (arith, p.below)) inside) ∙ p.placed in
+        let same : (pos p.local -ℤ offset) ≡ i = cc in
+        let low = least_low in
+        let above = ((h.windowed.members least).0 least_has).0 in
+        (omega (arith, signed_arith), omega (arith, signed_arith))
 
-  placed_one : (i : ℤ) → IsPlacedFrom (timed_of v) (local + 1) (last + 1) i → IsOneOf ((pos local -ℤ offset) +ℤ pos 1) bits i
-  unfolding timed_by
-  placed_one i p =
-      let high = up in
-      let end = minute_end local (local_inside (pos local) h.found.0) in
-      let there : Some (pos p.local -ℤ offset) ≡ Some i = sym (place_there v local p.local (local / 60 * 60 + 59) offset h b.ahead (omega arith) (omega arith) end) ∙ p.placed in
-      let same : (pos p.local -ℤ offset) ≡ i = cc in
-      record {
-        bit = p.local - (local + 1);
-        set = sym (b.rest.matching p.local (omega arith) (omega arith)) ∙ p.is_match;
-        is = at_one local (p.local - (local + 1)) p.local offset i (omega arith) same;
-      }
+    pub new_instants : (i : ℤ) → new i → IsInstant i
+    new_instants i one =
+        let above = (new_above i one).1 in
+        let p = b.placed i one in
+        let near = (timed_by-near v.searcher.masks v.place_cache p.local i p.placed).1 in
+        let below = p.below in
+        let count = seconds_in_all-is in
+        let up = b.up in
+        let inside = b.inside in
+        let low = h.low in
+        let base = h.above in
+        (omega (arith, ints), omega (arith, ints))
 
-  one_above : (i : ℤ) → IsOneOf ((pos local -ℤ offset) +ℤ pos 1) bits i → (least <ℤ i) × (v.last <ℤ i)
-  one_above i one = grind (arith, ints, above_least, least_has)
+    pub new_near : (member i : ℤ) → Has v.pending member → new i → IsNear member i
+    new_near member i m one =
+        let p = b.placed i one in
+        let near = timed_by-near v.searcher.masks v.place_cache p.local i p.placed in
+        let q = ((h.windowed.members member).0 m).1 in
+        let old = timed_by-near v.searcher.masks v.place_cache q.local member q.placed in
+        let up = b.up in
+        near_both local end p.local q.local member i q.below p.from (omega (arith, p.below)) (b.convertible.near member m) old.1 near
 
-  pub rest_instants : (i : ℤ) → IsOneOf ((pos local -ℤ offset) +ℤ pos 1) bits i → IsInstant i
-  rest_instants i one =
-      let above = (one_above i one).1 in
-      let p = one_placed i one in
-      let near = (timed_by-near v.searcher.masks v.place_cache p.local i p.placed).1 in
-      let below = p.below in
-      let count = seconds_in_all-is in
-      let inside = up in
-      let end = minute_end local (local_inside (pos local) h.found.0) in
-      (omega (arith, ints), omega (arith, ints))
+    pub new_begun : (start : ℤ) → (pos local -ℤ offset) <ℤ start → IsSomeAnd (slice_get v.pending 0) (λ x. x <ℤ start)
+    new_begun start later = let low = least_low in subst (λ (o : Option ℤ). IsSomeAnd o (λ x. x <ℤ start)) (sym least_is) (omega (arith, signed_arith))
 
-  pub rest_near : (member i : ℤ) → Has v.pending member → IsOneOf ((pos local -ℤ offset) +ℤ pos 1) bits i → IsNear member i
-  rest_near member i m one =
-      let p = one_placed i one in
-      let near = timed_by-near v.searcher.masks v.place_cache p.local i p.placed in
-      let q = ((h.windowed.members member).0 m).1 in
-      let old = timed_by-near v.searcher.masks v.place_cache q.local member q.placed in
-      near_both local (local / 60 * 60 + 59) p.local q.local member i q.below p.from (omega (arith, p.below)) (b.near member m) old.1 near
-
-  pub rest_begun : IsSomeAnd (slice_get v.pending 0) (λ i. i <ℤ ((pos local -ℤ offset) +ℤ pos 1))
-  rest_begun = subst (λ (o : Option ℤ). IsSomeAnd o (λ i. i <ℤ ((pos local -ℤ offset) +ℤ pos 1))) b.least_is (begins least (pos local -ℤ offset) b.behind)
-
-no_later : (xs : List ℤ) → None ≡ slice_get xs 0 → (i : ℤ) → Has xs i → ⊥
-no_later xs none i m = subst (λ (ys : List ℤ). Has ys i) (list-no_first xs (sym none)) m
+no_later : (xs : List ℤ) → slice_get xs 0 ≡ None → (i : ℤ) → Has xs i → ⊥
+no_later xs none i m = subst (λ (ys : List ℤ). Has ys i) (list-no_first xs none) m
 
 passed_by : (t end : ℕ) (last offset i : ℤ) → Some (pos t -ℤ offset) ≡ Some i → t ≤ end → (pos end -ℤ offset) ≤ℤ last → last <ℤ i → ⊥
 passed_by t end last offset i at up early above = grind (arith, signed_arith)
 
--- In this module, `v` is the window before the search for the remaining matches up to `last`, and `searcher` is the
--- searcher after it has found them.
-module _ (v : Window) (local : ℕ) (searcher : Searcher) (last : ℕ) (h : IsPlacedTo v (pos local)) (masks : searcher.masks ≡ v.searcher.masks)
+-- In this module, `v` is the window before the search for the matches up to `last`, and `searcher` is the searcher after
+-- it has found them.
+module _ (v : Window) (local : ℕ) (searcher : Searcher) (last end : ℕ) (offset : ℤ) (new : ℤ → Type 0) (h : IsPlacedTo v (pos local)) (b : AreNew v local last end offset new)
+    (masks : searcher.masks ≡ v.searcher.masks)
     (more : searcher.searches ≡ v.searcher.searches + count_from (matches (sets_in v.searcher.masks)) (local + 1) (last - local))
     (most : IsMostAfter (sets_in v.searcher.masks) local last v.searcher.most_months searcher.most_months)
-    (later : local ≤ last) (holds : matches (sets_in v.searcher.masks) last ≡ true)
+    (holds : matches (sets_in v.searcher.masks) last ≡ true)
   where
     -- if `pending` consists of the pending instants of the matches up to and including `last` (`Windowed`), then all of
     -- these matches have been converted
@@ -219,6 +249,7 @@ module _ (v : Window) (local : ℕ) (searcher : Searcher) (last : ℕ) (h : IsPl
     rest_placed pending windowed =
         let same : timed_of v ≡ timed_by searcher.masks v.place_cache = ap (λ m. timed_by m v.place_cache) (sym masks) in
         let start = start_of v.base in
+        let later = b.begun in
         let count = seconds_in_all-is in
         let inside : last < seconds_in_all = match_inside (sets_in v.searcher.masks) last holds in
         let part = count_from-part (matches (sets_in v.searcher.masks)) start local last h.begun later in
@@ -235,36 +266,38 @@ module _ (v : Window) (local : ℕ) (searcher : Searcher) (last : ℕ) (h : IsPl
               (most_more (sets_in v.searcher.masks) start local last v.searcher.most_months searcher.most_months begun later h.examined most);
         }
 
-    -- if nothing is pending, and no local second from `local` to `end` resolves to an instant after the one returned
-    -- last, then all matches up to `last` count as converted, and still nothing is pending
-    pub rest_passed : (end : ℕ) (offset : ℤ) → last ≤ end → end < seconds_in_all → None ≡ slice_get v.pending 0 → AreAtOffset (zone_of v.place_cache) (pos local) (pos end) offset
-        → (pos end -ℤ offset) ≤ℤ v.last → IsPlacedTo (record v { searcher = searcher }) (pos last)
-    rest_passed end offset high end_in none ahead early =
+    -- if nothing is pending, the matches up to `last` count as converted, and still nothing is pending
+    pub rest_passed : slice_get v.pending 0 ≡ None → IsPlacedTo (record v { searcher = searcher }) (pos last)
+    rest_passed none =
+        let begun = b.begun in
+        let up = b.up in
+        let early : (pos end -ℤ offset) ≤ℤ v.last = subst (λ (o : Option ℤ). MatchOption o ((pos end -ℤ offset) ≤ℤ v.last) (λ x. x ≤ℤ (pos local -ℤ offset))) none b.convertible.begun in
         let not_above = λ (i : ℤ) (above : v.last <ℤ i) (p : IsPlacedFrom (timed_of v) (local + 1) (last + 1) i).
         let below = p.below in
-        let at = sym (place_there v local p.local end offset h ahead (omega arith) (omega arith) end_in) ∙ p.placed in
+        let from = p.from in
+        let at = sym (place_there v local p.local end offset b.convertible (omega arith) (omega arith) b.inside) ∙ p.placed in
         passed_by p.local end v.last offset i at (omega arith) early above in
         rest_placed v.pending
         (windowed_more (timed_of v) (start_of v.base) (local + 1) (last + 1) v.last v.pending v.pending (omega arith) h.windowed h.windowed.rises
         (λ i. (λ m. inl m, λ o. elim o [ inl m ↦ m | inr p ↦ absurd (not_above i p.0 p.1) ]))
         (λ i m. absurd (no_later v.pending none i m)))
 
-    -- if the instants of the remaining matches have been added to the pending instants, all matches up to `last` have
-    -- been converted
-    pub rest_put : (bits : ℕ) (offset least : ℤ) (pending : List ℤ) → IsBehind v local bits last offset least → IsStrictlySortedBy int_cmp pending
-        → ((i : ℤ) → Has pending i ↔ (Has v.pending i ⊎ IsOneOf ((pos local -ℤ offset) +ℤ pos 1) bits i)) → IsPlacedTo (record v { searcher = searcher; pending = pending }) (pos last)
-    rest_put bits offset least pending b rises members =
-        let inside = rest_inside _ local bits last b.rest in
-        let above = one_above v local bits last offset least h b in
+    -- if their instants have been added to the pending instants, all matches up to `last` have been converted
+    pub rest_put : (least : ℤ) (pending : List ℤ) → slice_get v.pending 0 ≡ Some least → IsStrictlySortedBy int_cmp pending
+        → ((i : ℤ) → Has pending i ↔ (Has v.pending i ⊎ new i)) → IsPlacedTo (record v { searcher = searcher; pending = pending }) (pos last)
+    rest_put least pending least_is rises members =
+        let begun = b.begun in
+        let up = b.up in
+        let above = new_above v local last end offset least new h b least_is in
         rest_placed pending
         (windowed_more (timed_of v) (start_of v.base) (local + 1) (last + 1) v.last v.pending pending (omega arith) h.windowed rises
         (λ i. (
-          λ m. elim ((members i).0 m) [ inl old ↦ inl old | inr one ↦ inr ((above i one).1, one_placed v local bits last offset least h b i one) ],
-          λ o. (members i).1 (elim o [ inl old ↦ inl old | inr p ↦ inr (placed_one v local bits last offset least h b i p.1) ]),
+          λ m. elim ((members i).0 m) [ inl old ↦ inl old | inr one ↦ inr ((above i one).1, b.placed i one) ],
+          λ o. (members i).1 (elim o [ inl old ↦ inl old | inr p ↦ inr (b.all i p.1) ]),
         ))
         (λ i m t below. elim ((members i).0 m) [
-          | inl old ↦ reaches (local / 60 * 60 + 59) t i i (omega arith) (b.near i old) (omega (arith, ints))
+          | inl old ↦ reaches end t i i (omega arith) (b.convertible.near i old) (omega (arith, ints))
           | inr one ↦
               (let later = (above i one).0 in
-              reaches (local / 60 * 60 + 59) t least i (omega arith) (b.near least (least_has v local bits last offset least h b)) (omega (arith, ints)))
+              reaches end t least i (omega arith) (b.convertible.near least (least_has v local last end offset least new h b least_is)) (omega (arith, ints)))
         ]))

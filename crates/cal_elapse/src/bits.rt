@@ -36,6 +36,7 @@ pub(crate) fn without_lowest(mask: u64) -> u64
     ensures cleared { (lowest : ℕ) → IsFirstPassing (is_bit mask) 0 64 (Some lowest) → is_bit result lowest ≡ false }
     ensures others { (lowest i : ℕ) → IsFirstPassing (is_bit mask) 0 64 (Some lowest) → i ≢ lowest
         → is_bit result i ≡ is_bit mask i }
+    ensures less { result < mask }
 {
     mask & (mask - 1)
 }

@@ -71,6 +71,7 @@ impl Pending {
         requires begun { IsSomeAnd (slice_get self.old 0) (λ least. least <ℤ start) }
         requires instants { (i : ℤ) → IsOneOf start bits i → IsInstant i }
         requires near { (member i : ℤ) → Has self.old member → IsOneOf start bits i → IsNear member i }
+        ensures first { slice_get self.new 0 ≡ slice_get self.old 0 }
         ensures rises { IsStrictlySortedBy int_cmp self.new }
         ensures members { (i : ℤ) → Has self.new i ↔ (Has self.old i ⊎ IsOneOf start bits i) }
     {

@@ -1,14 +1,17 @@
 //! The conversion of an expression's matches to instants, in the order in which the matches are found.
 
-ghost use Rattle.std.specs.Prelude.{◌≡◌, ◌+◌, ◌*◌, ◌/◌, ◌≤◌, ℤ, pos, ◌+ℤ◌, ◌≤ℤ◌, ◌<ℤ◌, Some, cond, unsigned_abs};
+ghost use Rattle.std.specs.Prelude.{◌≡◌, ◌⊎◌, ◌↔◌, ◌+◌, ◌*◌, ◌/◌, ◌≤◌, ℤ, pos, ◌+ℤ◌, ◌≤ℤ◌, ◌<ℤ◌, Some, IsSomeAnd, cond, slice_get, unsigned_abs};
+ghost use Rattle.std.specs.Ordering.{int_cmp};
+ghost use Rattle.std.specs.List.Sorted.{IsStrictlySortedBy};
 ghost use Rattle.cal_civil.specs.rules.LocalSecond.{IsLocalSecond, seconds_in_all, max_offset};
-ghost use Rattle.cal_zone.specs.rules.Instant.{IsInstant};
+ghost use Rattle.cal_zone.specs.rules.Instant.{IsInstant, last_instant};
 ghost use Rattle.cal_zone.specs.rules.Place.{place_of};
 ghost use Rattle.cal_zone.specs.rules.Zone.{zone_of};
 ghost use Rattle.cal_rising.specs.rules.Elements.{Has};
-ghost use Rattle.cal_elapse.specs.computed.Ring.{IsNear};
+ghost use Rattle.cal_elapse.specs.computed.Ring.{IsInMinutes, IsNear};
 ghost use Rattle.cal_elapse.specs.computed.Window.{start_of, to_place, with_place};
 
+use crate::bits::{lowest_bit, without_lowest};
 use crate::search::searcher::{SearchStart, Searcher};
 use crate::{NoMemory, Pending};
 use cal_civil::MAX_OFFSET;
@@ -33,7 +36,7 @@ pub struct Window<'z> {
 }
 
 impl<'z> Window<'z> {
-    ghost use Rattle.std.specs.Prelude.{◌≡◌, ◌↔◌, ◌<◌, ◌≤◌, [], ◌∷◌, ℤ, pos, ◌+ℤ◌, ◌≤ℤ◌, true, None, Some, IfOk, drop, slice_get};
+    ghost use Rattle.std.specs.Prelude.{◌≡◌, ◌↔◌, ◌<◌, ◌≤◌, [], ◌∷◌, ℤ, pos, ◌+ℤ◌, ◌≤ℤ◌, true, None, Some, IfOk, IfSome, drop, slice_get};
     ghost use Rattle.cal_zone.specs.rules.Zone.{zone_of};
     ghost use Rattle.cal_elapse.specs.rules.ElapsesAfter.{elapses_after};
     ghost use Rattle.cal_rising.specs.rules.Elements.{Has};
@@ -41,7 +44,7 @@ impl<'z> Window<'z> {
     ghost use Rattle.cal_elapse.specs.rules.MostMonths.{IsExamined};
     ghost use Rattle.cal_elapse.specs.computed.Searched.{IsMostSearched, IsSearched};
     ghost use Rattle.cal_elapse.specs.rules.Elapses.{IsPlace, timed};
-    ghost use Rattle.cal_elapse.specs.computed.Window.{IsPlacedTo, IsReady, timed_of, to_place};
+    ghost use Rattle.cal_elapse.specs.computed.Window.{AreConvertible, IsPlacedTo, IsReady, timed_of, to_place};
     ghost use Rattle.cal_spec.specs.rules.Members.{sets_of};
 
     /// Creates the window and searches for the first match. The search starts at the first local second that can
@@ -94,40 +97,16 @@ impl<'z> Window<'z> {
                 break;
             }
             put_place(&mut self.pending, &mut self.place_cache, local, self.last);
-            let placed = self.convert_following(local);
+            let placed = self.convert_minute(local);
+            let placed = self.convert_hour(placed);
             ahead = self.searcher.search(SearchStart::After(placed)).local;
         }
         self.ahead = ahead;
     }
 
-    /// Converts matches that follow `local`: in the same minute if later matches are known there, and otherwise in the
-    /// same hour. `local` is a match that has already been converted. Returns the last match that has been converted,
-    /// which can be `local`.
-    fn convert_following(&mut self, local: i64) -> i64
-        requires { IsPlacedTo self.old local }
-        ensures placed { IsPlacedTo self.new result }
-        ensures on { local ≤ℤ result }
-        ensures masks { self.new.searcher.masks ≡ self.old.searcher.masks }
-        ensures timed { timed_of self.new ≡ timed_of self.old }
-        ensures base { self.new.base ≡ self.old.base }
-        ensures last { self.new.last ≡ self.old.last }
-    {
-        if self.searcher.has_more_in_minute(local) {
-            self.convert_minute(local)
-        } else {
-            self.convert_hour(local)
-        }
-    }
-
-    /// Searches for all remaining matches in the minute of `local` and converts them together. `local` is a match that
-    /// has already been converted. Returns the last match that has been converted, which can be `local`.
-    ///
-    /// Does nothing unless all of these conditions are met:
-    ///
-    /// - All matches in the minute have to be converted before the smallest pending instant can be returned.
-    /// - The UTC offset is known to be constant from `local` to the end of the minute.
-    /// - Either the smallest pending instant is at or before the instant of `local`, or nothing is pending and the end
-    ///   of the minute doesn't resolve to an instant after the one returned last.
+    /// Searches for all remaining matches in the minute of `local` and converts them together, if they are known and can
+    /// be converted together. `local` is a match that has already been converted. Returns the last match that has been
+    /// converted, which can be `local`.
     #[tactic(auto, using(cal_civil::proofs::LocalLemmas::local_arith, crate::proofs::ReadyLemmas::few_searches, crate::proofs::ReadyLemmas::placed_is_match))]
     fn convert_minute(&mut self, local: i64) -> i64
         requires { IsPlacedTo self.old local }
@@ -138,40 +117,24 @@ impl<'z> Window<'z> {
         ensures base { self.new.base ≡ self.old.base }
         ensures last { self.new.last ≡ self.old.last }
     {
-        let end = minute_end(local);
-        let least = self.pending.least();
-        if !is_to_place(end, least) {
+        if !self.searcher.has_more_in_minute(local) {
             return local;
         }
-        let Some(offset) = self.place_cache.offset_over(local, end) else {
+        let Some(offset) = self.offset_to(local, minute_end(local)) else {
             return local;
         };
-        let place = local - offset;
-        match least {
-            // No remaining match of the minute resolves to an instant after the one returned last, so none becomes
-            // pending.
-            None if end - offset <= self.last => self.searcher.search_minute(local).last,
-            // The remaining matches of the minute resolve to instants after `place`, the instant of `local`, and so
-            // after the smallest pending instant, as `put_bits` requires.
-            Some(least) if least <= place => {
-                let rest = self.searcher.search_minute(local);
-                self.pending.put_bits(place + 1, rest.bits);
-                rest.last
-            }
-            _ => local,
+        let rest = self.searcher.search_minute(local);
+        // If nothing is pending, none of these matches resolves to an instant after the one returned last.
+        if self.pending.least().is_none() {
+            return rest.last;
         }
+        self.pending.put_bits(local + 1 - offset, rest.bits);
+        rest.last
     }
 
-    /// Searches for later matches in the hour of `local`, one after another, and converts them. Stops at the first
-    /// match after which no later minute of this hour has matches. `local` is a match that has already been converted.
-    /// Returns the last match that has been converted, which can be `local`.
-    ///
-    /// Does nothing unless all of these conditions are met:
-    ///
-    /// - The hour of `local` is known to have a later minute with matches.
-    /// - None of the 3,600 local seconds from `local` on is more than `MAX_OFFSET` seconds after the instant returned
-    ///   last, so that each match among them has to be converted now.
-    /// - The UTC offset is known to be constant for these 3,600 local seconds.
+    /// Searches for all matches in the later minutes of the hour of `local` and converts them together, if they are known
+    /// and can be converted together. Does nothing if matches are left in the minute of `local`. `local` is a match that
+    /// has already been converted. Returns the last match that has been converted, which can be `local`.
     #[tactic(auto, using(cal_civil::proofs::LocalLemmas::local_arith, crate::proofs::ReadyLemmas::few_searches, crate::proofs::ReadyLemmas::placed_is_match))]
     fn convert_hour(&mut self, local: i64) -> i64
         requires { IsPlacedTo self.old local }
@@ -182,22 +145,47 @@ impl<'z> Window<'z> {
         ensures base { self.new.base ≡ self.old.base }
         ensures last { self.new.last ≡ self.old.last }
     {
-        let end = local + 3_599;
-        if end - MAX_OFFSET > self.last || !self.searcher.has_more_in_hour(local) {
+        if !self.searcher.has_more_in_hour(local) {
             return local;
         }
-        let Some(offset) = self.place_cache.offset_over(local, end) else {
+        let Some(offset) = self.offset_to(local, hour_end(local)) else {
             return local;
         };
-        let mut last = local;
-        while self.searcher.has_more_in_hour(last) {
-            let Some(next) = self.searcher.search(SearchStart::After(last)).local else {
-                unreachable!()
-            };
-            put_if_after(&mut self.pending, next - offset, self.last);
-            last = next;
+        let rest = self.searcher.search_hour(local);
+        if self.pending.least().is_none() {
+            return rest.last;
         }
-        last
+        let start = i64::from(rest.minute) * 60 - offset;
+        put_minutes(&mut self.pending, start, rest.minutes, rest.seconds);
+        rest.last
+    }
+
+    /// Returns the UTC offset from `local` to `end`, if all matches after `local` up to `end` can be converted together
+    /// with this offset. `local` is a match that has already been converted.
+    ///
+    /// Returns `None` unless all of these conditions are met:
+    ///
+    /// - All these matches have to be converted before the smallest pending instant can be returned.
+    /// - The UTC offset is known to be constant from `local` to `end`.
+    /// - Either the smallest pending instant is at or before the instant of `local`, or nothing is pending and `end`
+    ///   doesn't resolve to an instant after the one returned last.
+    #[tactic(auto, using(cal_civil::proofs::LocalLemmas::local_arith))]
+    fn offset_to(&self, local: i64, end: i64) -> Option<i64>
+        requires local_in { IsLocalSecond local }
+        requires end_in { IsLocalSecond end }
+        requires order { local ≤ℤ end }
+        ensures { IfSome result (AreConvertible self.now local end) }
+    {
+        let least = self.pending.least();
+        if !is_to_place(end, least) {
+            return None;
+        }
+        let offset = self.place_cache.offset_over(local, end)?;
+        match least {
+            Some(least) if least <= local - offset => Some(offset),
+            None if end - offset <= self.last => Some(offset),
+            _ => None,
+        }
     }
 
     /// Removes and returns the smallest pending instant, which is the next elapse, or returns `None` if nothing is
@@ -256,6 +244,14 @@ fn minute_end(local: i64) -> i64
     local / 60 * 60 + 59
 }
 
+/// Returns the last local second of the hour of `local`.
+fn hour_end(local: i64) -> i64
+    requires { IsLocalSecond local }
+    ensures { result ≡ pos (unsigned_abs local / 3_600 * 3_600 + 3_599) }
+{
+    local / 3_600 * 3_600 + 3_599
+}
+
 /// Returns whether the match `local` could resolve to an instant at or before `least`, the smallest pending instant,
 /// and so has to be converted first. If nothing is pending, every match has to be converted.
 fn is_to_place(local: i64, least: Option<i64>) -> bool
@@ -291,5 +287,25 @@ fn put_if_after(pending: &mut Pending, instant: i64, last: i64)
 {
     if last < instant {
         pending.put(instant);
+    }
+}
+
+/// Adds the instants that are m minutes and s seconds after `start` to the pending instants, for each set bit m of
+/// `minutes` and each set bit s of `seconds`. `pending` must not be empty, and `start` must be after the smallest pending
+/// instant, and at most 1 second after the last of all instants. All new instants must differ from each pending instant
+/// by at most 187,199 seconds.
+fn put_minutes(pending: &mut Pending, start: i64, minutes: u64, seconds: u64)
+    requires rises { IsStrictlySortedBy int_cmp pending.old }
+    requires begun { IsSomeAnd (slice_get pending.old 0) (λ least. least <ℤ start) }
+    requires inside { start ≤ℤ (last_instant +ℤ pos 1) }
+    requires instants { (i : ℤ) → IsInMinutes start minutes seconds i → IsInstant i }
+    requires near { (member i : ℤ) → Has pending.old member → IsInMinutes start minutes seconds i → IsNear member i }
+    ensures rises { IsStrictlySortedBy int_cmp pending.new }
+    ensures members { (i : ℤ) → Has pending.new i ↔ (Has pending.old i ⊎ IsInMinutes start minutes seconds i) }
+{
+    let mut left = minutes;
+    while left != 0 {
+        pending.put_bits(start + 60 * i64::from(lowest_bit(left)), seconds);
+        left = without_lowest(left);
     }
 }

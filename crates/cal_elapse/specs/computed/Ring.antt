@@ -1,6 +1,6 @@
 -- A ring of cells, one bit each. The cell of an instant is its number of seconds modulo the number of cells. Among
 -- `cell_count` consecutive seconds, no two have the same cell.
-use Rattle.std.specs.Prelude.{◌≡◌, ◌+◌, ◌-◌, ◌%◌, ◌+ℤ◌, true, cond, if◌then◌else◌, ◌==◌, ℕ, zero, suc, Bool, List, [], ◌∷◌, length, Option, None, Some, ℤ, pos, ◌≤ℤ◌, refl}
+use Rattle.std.specs.Prelude.{◌≡◌, ◌+◌, ◌-◌, ◌*◌, ◌%◌, ◌+ℤ◌, true, cond, if◌then◌else◌, ◌==◌, ℕ, zero, suc, Bool, List, [], ◌∷◌, length, Option, None, Some, ℤ, pos, ◌≤ℤ◌, refl}
 use Rattle.cal_zone.specs.rules.Instant.{last_instant}
 use Rattle.cal_elapse.specs.computed.Bits.{is_bit, is_bit_in}
 use Rattle.cal_rising.specs.rules.Elements.{Has}
@@ -35,6 +35,14 @@ pub record IsOneOf (start : ℤ) (bits : ℕ) (i : ℤ) : Type 0 where
   pub bit : ℕ
   pub set : is_bit bits bit ≡ true
   pub is : (start +ℤ pos bit) ≡ i
+
+-- `i` is m minutes and s seconds after `start`, where m is the index of a set bit of `minutes`, and s of `seconds`
+pub record IsInMinutes (start : ℤ) (minutes seconds : ℕ) (i : ℤ) : Type 0 where
+  pub minute : ℕ
+  pub second : ℕ
+  pub minute_set : is_bit minutes minute ≡ true
+  pub second_set : is_bit seconds second ≡ true
+  pub is : (start +ℤ pos (minute * 60 + second)) ≡ i
 
 -- of the `n` numbers from `from` on, the list of those that pass, in increasing order
 abbrev pub rising_from : (ℕ → Bool) → ℕ → ℕ → List ℤ

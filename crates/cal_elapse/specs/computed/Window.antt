@@ -1,11 +1,12 @@
 -- The state of a source of elapses: the local second before which all matches have been converted to instants, and the
 -- pending instants, which have been found but not returned yet.
-use Rattle.std.specs.Prelude.{◌≡◌, ◌↔◌, ◌+◌, ◌-◌, ◌<◌, ◌≤◌, cond, ℕ, true, List, Option, None, Some, ℤ, pos, negsuc, ◌+ℤ◌, ◌-ℤ◌, ◌<ℤ◌, ◌≤ℤ◌, int_lt, unsigned_abs, IfSome, unwrap_or}
+use Rattle.std.specs.Prelude.{◌≡◌, ◌↔◌, ◌+◌, ◌-◌, ◌<◌, ◌≤◌, cond, ℕ, true, List, Option, None, Some, ℤ, pos, negsuc, ◌+ℤ◌, ◌-ℤ◌, ◌<ℤ◌, ◌≤ℤ◌, int_lt, unsigned_abs, IfSome, MatchOption, slice_get, unwrap_or}
 use Rattle.std.specs.Option.{option_map}
 use Rattle.std.specs.Ordering.{int_cmp}
 use Rattle.std.specs.List.Sorted.{IsStrictlySortedBy}
 use Rattle.std.specs.BTreeSet.{insert_key}
 use Rattle.cal_civil.specs.rules.LocalSecond.{IsLocalSecond, seconds_in_all, max_offset}
+use Rattle.cal_zone.specs.computed.LocalOffsetRange.{AreAtOffset}
 use Rattle.cal_zone.specs.rules.Place.{place_of}
 use Rattle.cal_zone.specs.rules.Zone.{zone_of}
 use Rattle.cal_zone.specs.declared.zone.Zone.{Zone}
@@ -89,3 +90,12 @@ pub record IsPlacedTo (w : Window) (local : ℤ) : Type 0 where
   pub begun : start_of w.base ≤ unsigned_abs local
   pub counted : w.searcher.searches ≡ count_from (timed_of w).matches (start_of w.base) (unsigned_abs local + 1 - start_of w.base)
   pub examined : IsMost (sets_in w.searcher.masks) (start_of w.base) (unsigned_abs local) w.searcher.most_months
+
+-- The matches after the match `local` up to `end` can be converted together, with the UTC offset `offset`. The zone has
+-- this offset from `local` to `end`, and `end` is at most `max_offset` seconds after each pending instant. If nothing is
+-- pending, `end` doesn't resolve to an instant after the one returned last. Otherwise the smallest pending instant isn't
+-- after the instant of `local`.
+pub record AreConvertible (w : Window) (local end offset : ℤ) : Type 0 where
+  pub constant : AreAtOffset (zone_of w.place_cache) local end offset
+  pub near : (i : ℤ) → Has w.pending i → end ≤ℤ (i +ℤ pos max_offset)
+  pub begun : MatchOption (slice_get w.pending 0) ((end -ℤ offset) ≤ℤ w.last) (λ least. least ≤ℤ (local -ℤ offset))

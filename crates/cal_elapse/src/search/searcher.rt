@@ -5,7 +5,7 @@
 ghost use Rattle.std.specs.Prelude.{◌≡◌, ◌+◌, ◌-◌, ◌*◌, ◌/◌, ◌<◌, ◌≤◌, ◌≤ℤ◌, pos, true, false, max, IfSome, unsigned_abs};
 ghost use Rattle.cal_civil.specs.rules.LocalSecond.{IsLocalSecond, seconds_in_all};
 ghost use Rattle.cal_elapse.specs.rules.Search.{count_from};
-ghost use Rattle.cal_elapse.specs.computed.RemainingMatches.{AreRemaining, HasMoreInHour, HasMoreInMinute, IsRestOfMinute, NoneLeftInMinute, minute_matches};
+ghost use Rattle.cal_elapse.specs.computed.RemainingMatches.{AreRemaining, IsRestOfHour, IsRestOfMinute, NoneLeftInMinute, minute_matches};
 ghost use Rattle.cal_elapse.specs.rules.ExaminedMonths.{IsSearch};
 ghost use Rattle.cal_elapse.specs.computed.Masks.{sets_in};
 ghost use Rattle.cal_elapse.specs.rules.MostMonths.{IsMostAfter};
@@ -35,6 +35,21 @@ pub enum SearchStart {
 pub struct RestOfMinute {
     /// One bit for each match found. Bit i stands for the local second that comes i + 1 seconds after the given match.
     pub bits: u64,
+    /// The last match found, or the given match if none was found.
+    pub last: i64,
+    ghost last_in: { IsLocalSecond last },
+}
+
+/// The matches that `search_hour` found: those in the later minutes of the hour of a given match. All these minutes have
+/// matches at the same seconds.
+#[derive(Drop)]
+pub struct RestOfHour {
+    /// The minute that bit 0 of `minutes` stands for, counted from the start of 1970.
+    pub minute: u32,
+    /// One bit for each minute with matches.
+    pub minutes: u64,
+    /// One bit for each second at which these minutes have a match.
+    pub seconds: u64,
     /// The last match found, or the given match if none was found.
     pub last: i64,
     ghost last_in: { IsLocalSecond last },
@@ -135,12 +150,8 @@ impl Searcher {
     }
 
     /// Returns whether later matches in the minute of `local` are known. They are known only if `local` is the match
-    /// that was found last.
-    pub fn has_more_in_minute(&self, local: i64) -> bool
-        ensures more { result ≡ true → HasMoreInMinute (matches (sets_in self.now.masks)) (unsigned_abs local) }
-        ensures none { result ≡ false → local ≡ self.now.found
-            → NoneLeftInMinute (matches (sets_in self.now.masks)) (unsigned_abs local) }
-    {
+    /// that was found last. `search_minute` finds them in any case, but takes longer than this test.
+    pub fn has_more_in_minute(&self, local: i64) -> bool {
         self.left != 0 && self.found == local
     }
 
@@ -169,6 +180,52 @@ impl Searcher {
         RestOfMinute { bits, last }
     }
 
+    /// Returns whether the hour of `local` is known to have a later minute with matches, and no match is left in the
+    /// minute of `local`. This is known only if `local` is the match that was found last.
+    pub fn has_more_in_hour(&self, local: i64) -> bool
+        ensures { result ≡ true → NoneLeftInMinute (matches (sets_in self.now.masks)) (unsigned_abs local) }
+    {
+        self.left == 0 && self.minutes != 0 && self.found == local
+    }
+
+    /// Searches for the matches after `local`, which must itself match, up to the end of its hour. No match may be left
+    /// in the minute of `local`. Each match in the result counts as one search, as in `search_minute`.
+    #[tactic(auto, using(cal_civil::proofs::LocalLemmas::local_arith))]
+    pub fn search_hour(&mut self, local: i64) -> RestOfHour
+        requires start { CanStart (matches (sets_in self.old.masks)) (SearchStart.After local) }
+        requires none { NoneLeftInMinute (matches (sets_in self.old.masks)) (unsigned_abs local) }
+        requires few { self.old.searches ≤ unsigned_abs local + 1 }
+        ensures rest { IsRestOfHour (matches (sets_in self.old.masks)) (unsigned_abs local) (result.minute * 60) result.minutes result.seconds
+            (unsigned_abs result.last) }
+        ensures masks { self.new.masks ≡ self.old.masks }
+        ensures counted { self.new.searches ≡ self.old.searches
+            + count_from (matches (sets_in self.old.masks)) (unsigned_abs local + 1) (unsigned_abs result.last - unsigned_abs local) }
+        ensures most { IsMostAfter (sets_in self.old.masks) (unsigned_abs local) (unsigned_abs result.last)
+            self.old.most_months self.new.most_months }
+    {
+        let minute = minute_of(local) + 1;
+        let minutes = self.rest_of_hour(local);
+        let seconds = self.masks.seconds;
+        if minutes == 0 {
+            return RestOfHour {
+                minute,
+                minutes,
+                seconds,
+                last: local,
+            };
+        }
+        let last = local_in(minute + highest_bit(minutes), highest_bit(seconds));
+        self.searches += u64::from(minutes.count_ones() * seconds.count_ones());
+        self.most_months = self.most_months.max(1);
+        self.keep(Some(last));
+        RestOfHour {
+            minute,
+            minutes,
+            seconds,
+            last,
+        }
+    }
+
     /// Returns the matches after `local`, which must itself match, in the same minute. Bit i of the result stands for
     /// the local second that comes i + 1 seconds after `local`.
     #[tactic(auto, using(cal_civil::proofs::LocalLemmas::local_arith))]
@@ -180,13 +237,15 @@ impl Searcher {
         self.masks.seconds >> (second_of_day(local) % 60 + 1)
     }
 
-    /// Returns whether the hour of `local` is known to have a later minute with matches. Later minutes are known only
-    /// if `local` is the match that was found last.
-    pub fn has_more_in_hour(&self, local: i64) -> bool
-        ensures { result ≡ true → matches (sets_in self.now.masks) (unsigned_abs local) ≡ true
-            → HasMoreInHour (matches (sets_in self.now.masks)) (unsigned_abs local) }
+    /// Returns the minutes with matches after the minute of `local` in the same hour. Bit i of the result stands for the
+    /// minute that comes i + 1 minutes after that of `local`, which must itself match.
+    #[tactic(auto, using(cal_civil::proofs::LocalLemmas::local_arith))]
+    fn rest_of_hour(&self, local: i64) -> u64
+        requires inside { IsLocalSecond local }
+        requires is_match { matches (sets_in self.now.masks) (unsigned_abs local) ≡ true }
+        ensures { AreRemaining (minute_matches (sets_in self.now.masks)) (unsigned_abs local / 60) (unsigned_abs local / 60 + 1) result }
     {
-        self.minutes != 0 && self.found == local
+        self.masks.minutes >> (minute_of(local) % 60 + 1)
     }
 
     /// Finds the first match at or after a local second.
@@ -291,12 +350,12 @@ impl Searcher {
             return;
         };
         let left = self.rest_of_minute(local);
+        let minutes = self.rest_of_hour(local);
         self.found = local;
         self.from = local + 1;
         self.left = left;
-        let minute = minute_of(local);
-        self.minute = minute + 1;
-        self.minutes = self.masks.minutes >> (minute % 60 + 1);
+        self.minute = minute_of(local) + 1;
+        self.minutes = minutes;
     }
 }
 

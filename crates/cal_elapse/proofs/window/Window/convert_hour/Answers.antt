@@ -1,147 +1,98 @@
-use Rattle.std.proofs.Common.{◌≡◌, ◌≤◌, ◌/◌, ◌∙◌, FitsSigned, IfSome, IsSome, List, Option, Some, ℤ, negsuc, pos, ◌+ℤ◌, ◌-ℤ◌, ◌≤ℤ◌, ◌<ℤ◌, ap, false, int_lt, arith, of_z, refl, rules, subst, sym, to_z, unsigned_abs, w64}
+use Rattle.std.proofs.Common.{Some, false, slice_get, ◌≡◌, ◌+◌, ◌*◌, ◌/◌, ◌-ℤ◌, ◌<ℤ◌, ◌*ℤ◌, ◌≤◌, ℤ, arith, of_z, pos, refl, rules, subst, sym, to_z, unsigned_abs, w64}
 use Rattle.std.proofs.lemmas.Int.{ints, to_z-of_z}
-use Rattle.cal_civil.proofs.LocalLemmas.{local_arith}
-use Rattle.jiff.specs.Types.{TimeZone}
-use Rattle.cal_civil.specs.rules.LocalSecond.{IsLocalSecond}
-use Rattle.cal_civil.proofs.LocalLemmas.{local_inside}
-use Rattle.cal_rising.specs.rules.Elements.{Has}
-use Rattle.cal_spec.specs.rules.Match.{matches}
-use Rattle.cal_zone.proofs.PlaceLemmas.{within}
-use Rattle.cal_zone.specs.rules.Instant.{IsInstant}
-use Rattle.cal_zone.specs.rules.Place.{place_of}
-use Rattle.cal_zone.specs.rules.Zone.{zone_of}
-use Rattle.cal_elapse.specs.computed.Masks.{sets_in}
-use Rattle.cal_elapse.specs.computed.Ring.{IsNear}
-use Rattle.cal_elapse.specs.computed.RemainingMatches.{IsNextInHour}
-use Rattle.cal_elapse.specs.computed.Window.{IsPlacedTo, IsReady, with_place}
-use Rattle.cal_elapse.specs.declared.search.searcher.Searcher.{Searcher}
-use Rattle.cal_elapse.specs.declared.window.Window.{Window}
-use Rattle.cal_elapse.proofs.MinuteLemmas.{hour_found}
-use Rattle.cal_elapse.proofs.ReadyLemmas.{next_ready, placed_before, placed_is_match, placed_to}
-use Rattle.cal_elapse.proofs.WindowLemmas.{put_instant, put_near}
-use Rattle.cal_elapse.proofs.window.Window.convert_hour.Goals.{After-search}
+use Rattle.cal_civil.proofs.LocalLemmas.{local_arith, local_inside}
+use Rattle.jiff.proofs.SpanFacts.{signed_arith}
+use Rattle.cal_civil.specs.rules.LocalSecond.{seconds_in_all, seconds_in_all-is}
+use Rattle.cal_bytes.proofs.General.{pos_unsigned_abs}
+use Rattle.cal_elapse.specs.computed.Ring.{IsInMinutes}
+use Rattle.cal_elapse.specs.computed.Window.{AreConvertible}
+use Rattle.cal_elapse.proofs.RemainingMatchLemmas.{AreNew, hour_end, hour_new, new_begun, new_instants, new_near, new_offset, no_least, placed_at, placed_last, rest_passed, rest_put, some_least}
+use Rattle.cal_elapse.proofs.window.Window.convert_hour.Goals.{After-from, After-is_none}
 use Rattle.cal_elapse.proofs.window.Window.convert_hour.Goals as goal
 
--- A search found the match `next` in a range with a constant UTC offset. `next` is at most 93,599 seconds after the
--- instant returned last. `next`, the offset, the instant of `next` and the instant returned last fit into 64-bit
--- integers.
-record IsStep (v : Window) (searcher : Searcher) (next offset : ℤ) : Type 0 where
-  ready : IsReady (record v { searcher = searcher; ahead = Some next })
-  place : place_of (zone_of v.place_cache) next ≡ Some (next -ℤ offset)
-  late : next ≤ℤ (v.last +ℤ pos 93_599)
-  fits : FitsSigned w64 (next -ℤ offset)
-  next_is : to_z w64 (of_z w64 next) ≡ next
-  offset_is : to_z w64 (of_z w64 offset) ≡ offset
-  last_is : to_z w64 (of_z w64 v.last) ≡ v.last
+-- the matches in the later minutes of the hour can be converted together
+batch : (c : After-is_none) → AreNew c.args.self.now (unsigned_abs c.args.local) (unsigned_abs c.search_hour-rest.result.last) (unsigned_abs c.args.local / 3_600 * 3_600 + 3_599) c.in-Some.offset
+    (IsInMinutes (pos (c.search_hour-rest.result.minute * 60) -ℤ c.in-Some.offset) c.search_hour-rest.result.minutes c.search_hour-rest.result.seconds)
+batch c =
+    let inside = hour_end (unsigned_abs c.args.local) (local_inside c.args.local c.requires.found.0) in
+    let local : c.args.local ≡ pos (unsigned_abs c.args.local) = sym (pos_unsigned_abs c.args.local _ c.requires.found.0.0 refl) in
+    let end : to_z w64 (of_z w64 c.hour_end.result) ≡ pos (unsigned_abs c.args.local / 3_600 * 3_600 + 3_599) = grind (arith, local_arith) in
+    hour_new c.args.self.now (unsigned_abs c.args.local) _ _ _ _ c.in-Some.offset (placed_at _ _ c.requires)
+    (subst (λ (l : ℤ). AreConvertible c.args.self.now l (pos (unsigned_abs c.args.local / 3_600 * 3_600 + 3_599)) c.in-Some.offset) local (rw (to_z-of_z w64 _ c.ranges.local, end) at c.in-Some.ensures))
+    (rw (to_z-of_z w64 _ c.ranges.local) at c.search_hour-rest.ensures.rest)
 
-module _ (v : Window) (searcher : Searcher) (next offset : ℤ) (s : IsStep v searcher next offset) where
-  -- if `next` resolves to a second of Unix time after the instant returned last, this second is an instant, so it may
-  -- be added to the pending ones
-  step_instant : v.last <ℤ (next -ℤ offset) → IsInstant (next -ℤ offset)
-  step_instant later = put_instant (zone_of v.place_cache) next (next -ℤ offset) v.last s.place s.ready.found.0 (omega (arith, ints, s.ready.low, s.ready.above)) later
+-- the first of these minutes begins in the years 1970 to 2199, or at their end
+start_inside : (c : After-is_none) → c.search_hour-rest.result.minute * 60 ≤ seconds_in_all
+start_inside c =
+    let count = seconds_in_all-is in
+    let rest = rw (to_z-of_z w64 _ c.ranges.local) at c.search_hour-rest.ensures.rest in
+    let begin = rest.start_is in
+    omega (arith, local_inside c.args.local c.requires.found.0)
 
-  step_reach : (i : ℤ) → Has v.pending i → next ≤ℤ (i +ℤ pos 93_599)
-  step_reach i has = let above = ((s.ready.windowed.members i).0 has).0 in omega (arith, ints, s.late)
+-- the instant at which it begins fits into a 64-bit integer
+start_is : (c : After-is_none) (from : ℤ) → from ≡ pos c.search_hour-rest.result.minute
+    → to_z w64 (of_z w64 (to_z w64 (of_z w64 (to_z w64 (of_z w64 from) *ℤ pos 60)) -ℤ to_z w64 (of_z w64 c.in-Some.offset))) ≡ (pos (c.search_hour-rest.result.minute * 60) -ℤ c.in-Some.offset)
+start_is c from is =
+    let near = new_offset _ _ _ _ _ _ (batch c) in
+    let inside = start_inside c in
+    omega (arith, local_arith, near, is)
 
-  step_near : (i : ℤ) → Has v.pending i → IsNear i (next -ℤ offset)
-  step_near i has = put_near (zone_of v.place_cache) next (next -ℤ offset) i s.place (step_reach i has) (placed_before (record v { searcher = searcher; ahead = Some next }) next s.ready refl i has)
+pub overflow_sub-start : goal.overflow_sub-start
+overflow_sub-start c =
+    let at = (goal.at.overflow_sub-start c).After-is_none in
+    let near = new_offset _ _ _ _ _ _ (batch at) in
+    let inside = start_inside at in
+    omega (arith, local_arith, near, c.from.ensures)
 
-  -- once the instant of `next` is added, all matches up to and including `next` have been converted
-  step_placed : (pending : List ℤ) → pending ≡ with_place (Some (next -ℤ offset)) v.last v.pending → IsPlacedTo (record v { searcher = searcher; pending = pending }) next
-  step_placed pending put = placed_to (record v { searcher = searcher; ahead = Some next }) next v.ahead pending s.ready refl step_reach
-      (put ∙ ap (λ place. with_place place v.last v.pending) (sym s.place))
+pub put_minutes-requires-clause-inside : goal.put_minutes-requires-clause-inside
+put_minutes-requires-clause-inside c =
+    let at = (goal.at.put_minutes-requires-clause-inside c).After-is_none in
+    let near = new_offset _ _ _ _ _ _ (batch at) in
+    let inside = start_inside at in
+    let count = seconds_in_all-is in
+    rw (start_is at c.from.result c.from.ensures) (omega (arith, ints, near))
 
--- the instant of a local second fits into a 64-bit integer
-fits_instant : (tz : TimeZone) (next instant : ℤ) → IsLocalSecond next → place_of tz next ≡ Some instant → FitsSigned w64 instant
-fits_instant tz next instant inside at = let near = within tz next instant at in omega (arith, local_arith, near, inside)
+-- `least` returned the smallest pending instant
+least_is : (c : After-is_none) → c.is_none.result ≡ false → (least : ℤ) × (slice_get c.args.self.now.pending 0 ≡ Some least)
+least_is c none = some_least c.least.result _ c.is_none.result c.least.ensures.least c.is_none.ensures none
 
--- a later local second in the hour of `local` is at most 3,599 seconds after `local`
-in_hour : (local next : ℤ) → pos 0 ≤ℤ local → pos 0 ≤ℤ next → unsigned_abs next / 3_600 ≡ unsigned_abs local / 3_600 → unsigned_abs local ≤ unsigned_abs next
-    → (local ≤ℤ next) × (next ≤ℤ (local +ℤ pos 3_599))
-in_hour (pos a) (pos b) low next_low same on = (omega (arith, ints), omega (arith, ints))
-in_hour (negsuc a) next low next_low same on = absurd (omega (arith, ints, low))
-in_hour (pos a) (negsuc b) low next_low same on = absurd (omega (arith, ints, next_low))
+pub returns-then-is_none-clause-placed : goal.returns-then-is_none-clause-placed
+returns-then-is_none-clause-placed c =
+    let searched = rw (to_z-of_z w64 _ c.ranges.local) at c.search_hour-rest.ensures in
+    placed_last _ c.search_hour-rest.result.last c.search_hour-rest.result.last_in (search rules)
+    (rest_passed _ _ _ _ _ _ _ (placed_at _ _ c.requires) (batch (goal.at.returns-then-is_none-clause-placed c).After-is_none) searched.masks searched.counted searched.most searched.rest.is_match
+    (no_least c.least.result _ c.is_none.result c.least.ensures.least c.is_none.ensures c.if-is_none.true))
 
--- if the local second `local` + 3,599 is at most 93,599 seconds after `last`, then so are all local seconds before it
-not_late : (last local next : ℤ) → int_lt last ((local +ℤ pos 3_599) -ℤ pos 93_599) ≡ false → next ≤ℤ (local +ℤ pos 3_599) → next ≤ℤ (last +ℤ pos 93_599)
-not_late last local next test near = grind (arith, ints)
+-- `local` is before the start of these minutes
+begun : (c : After-is_none) → (pos (unsigned_abs c.args.local) -ℤ c.in-Some.offset) <ℤ (pos (c.search_hour-rest.result.minute * 60) -ℤ c.in-Some.offset)
+begun c =
+    let rest = rw (to_z-of_z w64 _ c.ranges.local) at c.search_hour-rest.ensures.rest in
+    let begin = rest.start_is in
+    omega (arith, signed_arith)
 
--- the search finds a later match in the hour
-next_in : (c : After-search) → IfSome c.search.result.local (λ next. IsNextInHour (matches (sets_in c.loop-self.self.searcher.masks)) (unsigned_abs (to_z w64 c.loop-self.last-bits)) (unsigned_abs next)) × IsSome c.search.result.local
-next_in c = hour_found c.loop-self.self.searcher.masks (unsigned_abs (to_z w64 c.loop-self.last-bits)) c.search.result.local
-    (c.has_more_in_hour-in-loop-self.ensures c.loop-self-test.true (placed_is_match _ _ c.loop-self.invariant.placed).1) c.search.ensures.found.first
+pub put_minutes-requires-clause-begun : goal.put_minutes-requires-clause-begun
+put_minutes-requires-clause-begun c =
+    let at = (goal.at.put_minutes-requires-clause-begun c).After-is_none in
+    let some = least_is at c.if-is_none.false in
+    rw (start_is at c.from.result c.from.ensures) (new_begun _ _ _ _ _ some.0 _ (placed_at _ _ c.requires) (batch at) some.1 _ (begun at))
 
--- the match that the search found can be converted
-step : (c : After-search) (next : ℤ) → c.search.result.local ≡ Some next → IsStep c.loop-self.self c.search.new.self next c.in-Some.offset
-step c next is =
-    let kept = c.loop-self.invariant in
-    let local = to_z-of_z w64 _ c.ranges.local in
-    let inside = c.requires.found.0 in
-    let end : to_z w64 (of_z w64 (to_z w64 (of_z w64 c.args.local) +ℤ pos 3_599)) ≡ (c.args.local +ℤ pos 3_599) = omega (arith, local_arith, inside) in
-    let found = rw is at (next_in c).0 in
-    let ready = subst (λ (ahead : Option ℤ). IsReady (record c.loop-self.self { searcher = c.search.new.self; ahead = ahead })) is
-    (next_ready c.loop-self.self (to_z w64 c.loop-self.last-bits) c.search.new.self c.search.result kept.placed c.search.ensures.masks c.search.ensures.counted c.search.ensures.most c.search.ensures.found) in
-    let hour = rw local at kept.hour in
-    let begun = rw local at kept.on in
-    let on : unsigned_abs c.args.local ≤ unsigned_abs next = omega (arith, found, begun) in
-    let near = in_hour c.args.local next inside.0 ready.found.0.0 (found.0 ∙ hour) on in
-    let from : to_z w64 (of_z w64 c.args.local) ≤ℤ next = rw local near.0 in
-    let to : next ≤ℤ to_z w64 (of_z w64 (to_z w64 (of_z w64 c.args.local) +ℤ pos 3_599)) = rw end near.1 in
-    let place : place_of (zone_of c.loop-self.self.place_cache) next ≡ Some (next -ℤ c.in-Some.offset) = rw kept.zone (c.in-Some.ensures next ready.found.0 from to) in
-    let reach : to_z w64 (of_z w64 (to_z w64 (of_z w64 (to_z w64 (of_z w64 c.args.local) +ℤ pos 3_599)) -ℤ pos 93_599)) ≡ ((c.args.local +ℤ pos 3_599) -ℤ pos 93_599)
-    = omega (arith, local_arith, inside) in
-    let next_inside = ready.found.0 in
-    record {
-      ready = ready;
-      place = place;
-      late = rw kept.last (not_late _ c.args.local next (rw (to_z-of_z w64 c.args.self.now.last (search rules), reach) at c.if-end-self.false) near.1);
-      fits = fits_instant (zone_of c.loop-self.self.place_cache) next _ ready.found.0 place;
-      next_is = to_z-of_z w64 next (omega (arith, local_arith, next_inside));
-      offset_is = to_z-of_z w64 c.in-Some.offset (search rules);
-      last_is = to_z-of_z w64 c.loop-self.self.last (search rules);
-    }
+pub put_minutes-requires-clause-instants : goal.put_minutes-requires-clause-instants
+put_minutes-requires-clause-instants c =
+    let at = (goal.at.put_minutes-requires-clause-instants c).After-is_none in
+    let some = least_is at c.if-is_none.false in
+    rw (start_is at c.from.result c.from.ensures) (new_instants _ _ _ _ _ some.0 _ (placed_at _ _ c.requires) (batch at) some.1)
 
-pub unreachable-requires : goal.unreachable-requires
-unreachable-requires c = let some = rw c.in_default-local.is at (next_in (goal.at.unreachable-requires c).After-search).1 in absurd (cc)
+pub put_minutes-requires-clause-near : goal.put_minutes-requires-clause-near
+put_minutes-requires-clause-near c =
+    let at = (goal.at.put_minutes-requires-clause-near c).After-is_none in
+    let some = least_is at c.if-is_none.false in
+    rw (start_is at c.from.result c.from.ensures) (λ member i. new_near _ _ _ _ _ some.0 _ (placed_at _ _ c.requires) (batch at) some.1 member i)
 
-pub overflow_sub-next : goal.overflow_sub-next
-overflow_sub-next c =
-    let s = step (goal.at.overflow_sub-next c).After-search c.in-Some-local.next c.in-Some-local.is in
-    rw (s.next_is, s.offset_is) s.fits
-
-pub put_if_after-requires-clause-instant : goal.put_if_after-requires-clause-instant
-put_if_after-requires-clause-instant c =
-    let s = step (goal.at.put_if_after-requires-clause-instant c).After-search c.in-Some-local.next c.in-Some-local.is in
-    rw (s.next_is, s.offset_is, s.last_is, to_z-of_z w64 (c.in-Some-local.next -ℤ c.in-Some.offset) s.fits) (step_instant _ _ _ _ s)
-
-pub put_if_after-requires-clause-near : goal.put_if_after-requires-clause-near
-put_if_after-requires-clause-near c = λ member has later.
-    let s = step (goal.at.put_if_after-requires-clause-near c).After-search c.in-Some-local.next c.in-Some-local.is in
-    rw (s.next_is, s.offset_is, to_z-of_z w64 (c.in-Some-local.next -ℤ c.in-Some.offset) s.fits) (step_near _ _ _ _ s member has)
-
-pub loop-self-smaller : goal.loop-self-smaller
-loop-self-smaller c =
-    let at = (goal.at.loop-self-smaller c).After-search in
-    let s = step at c.in-Some-local.next c.in-Some-local.is in
-    let found = rw c.in-Some-local.is at (next_in at).0 in
-    rw s.next_is (omega (arith, found, local_inside c.in-Some-local.next s.ready.found.0))
-
-pub loop-self-preserved : goal.loop-self-preserved
-loop-self-preserved c =
-    let kept = c.loop-self.invariant in
-    let at = (goal.at.loop-self-preserved c).After-search in
-    let s = step at c.in-Some-local.next c.in-Some-local.is in
-    let found = rw c.in-Some-local.is at (next_in at).0 in
-    let begun = kept.on in
-    rw s.next_is (record {
-      placed = step_placed _ _ _ _ s c.put_if_after.new.pending (rw (s.next_is, s.offset_is, s.last_is, to_z-of_z w64 (c.in-Some-local.next -ℤ c.in-Some.offset) s.fits) at c.put_if_after.ensures);
-      hour = found.0 ∙ kept.hour;
-      on = omega (arith, found, begun);
-      masks = c.search.ensures.masks ∙ kept.masks;
-      zone = kept.zone;
-      base = kept.base;
-      last = kept.last;
-    })
-
-pub returns-clause-on : goal.returns-clause-on
-returns-clause-on c = grind (arith, local_arith, in_hour, placed_is_match)
+pub returns-clause-placed : goal.returns-clause-placed
+returns-clause-placed c =
+    let at = (goal.at.returns-clause-placed c).After-is_none in
+    let some = least_is at c.if-is_none.false in
+    let searched = rw (to_z-of_z w64 _ c.ranges.local) at c.search_hour-rest.ensures in
+    placed_last _ c.search_hour-rest.result.last c.search_hour-rest.result.last_in (search rules)
+    (rest_put _ _ _ _ _ _ _ (placed_at _ _ c.requires) (batch at) searched.masks searched.counted searched.most searched.rest.is_match some.0 c.put_minutes.new.pending some.1 c.put_minutes.ensures.rises
+    (rw (start_is at c.from.result c.from.ensures) at c.put_minutes.ensures.members))

@@ -1,7 +1,6 @@
 use Rattle.std.proofs.Common.{◌≡◌, ◌+◌, ◌/◌, ◌+ℤ◌, arith, rules, of_z, pos, to_z, unsigned_abs, w64}
 use Rattle.std.proofs.lemmas.Int.{to_z-of_z}
 use Rattle.cal_civil.proofs.LocalLemmas.{local_arith}
-use Rattle.cal_elapse.proofs.MinuteLemmas.{minutes_after}
 use Rattle.cal_elapse.proofs.search.searcher.Searcher.keep.Goals.{In-Some}
 use Rattle.cal_elapse.proofs.search.searcher.Searcher.keep.Goals as goal
 
@@ -17,8 +16,14 @@ invariant_of-self-clause-is_left c =
     rw (next_is (goal.at.invariant_of-self-clause-is_left c).In-Some, to_z-of_z w64 c.in-Some.local (search rules))
     (rw (to_z-of_z w64 c.in-Some.local (search rules)) at c.rest_of_minute-left.ensures)
 
+pub overflow_add-self : goal.overflow_add-self
+overflow_add-self c =
+    let found = rw c.in-Some.is at c.requires in
+    let inside = found.0 in
+    omega (arith, local_arith, inside)
+
 pub invariant_of-self-clause-are_left : goal.invariant_of-self-clause-are_left
 invariant_of-self-clause-are_left c =
     let found = rw c.in-Some.is at c.requires in
-    let minute : c.minute_of-minute.result ≡ unsigned_abs c.in-Some.local / 60 = grind (arith, local_arith) in
-    rw (minute, to_z-of_z w64 c.in-Some.local (search rules)) (search (minutes_after c.args.self.now.masks (unsigned_abs c.in-Some.local) found.1))
+    let minute : c.minute_of.result ≡ unsigned_abs c.in-Some.local / 60 = grind (arith, local_arith) in
+    rw (minute, to_z-of_z w64 c.in-Some.local (search rules)) (rw (to_z-of_z w64 c.in-Some.local (search rules)) at c.rest_of_hour-minutes.ensures)
