@@ -92,16 +92,37 @@ impl<'z> Window<'z> {
     {
         // A local variable, so that it stays in a register from one match to the next.
         let mut ahead = self.ahead;
+        // Most calls convert a single match, so only after the first one is it worth trying to convert several at once.
+        let mut several = false;
         while let Some(local) = ahead {
             if !is_to_place(local, self.pending.least()) {
                 break;
             }
             put_place(&mut self.pending, &mut self.place_cache, local, self.last);
-            let placed = self.convert_minute(local);
-            let placed = self.convert_hour(placed);
+            let placed = self.convert_following(local, several);
+            several = true;
             ahead = self.searcher.search(SearchStart::After(placed)).local;
         }
         self.ahead = ahead;
+    }
+
+    /// Converts matches that follow `local` together, if `several` is true: those in its minute, and then those in its
+    /// hour, as far as `convert_minute` and `convert_hour` do. `local` is a match that has already been converted.
+    /// Returns the last match that has been converted, which can be `local`.
+    fn convert_following(&mut self, local: i64, several: bool) -> i64
+        requires { IsPlacedTo self.old local }
+        ensures placed { IsPlacedTo self.new result }
+        ensures on { local ≤ℤ result }
+        ensures masks { self.new.searcher.masks ≡ self.old.searcher.masks }
+        ensures timed { timed_of self.new ≡ timed_of self.old }
+        ensures base { self.new.base ≡ self.old.base }
+        ensures last { self.new.last ≡ self.old.last }
+    {
+        if !several {
+            return local;
+        }
+        let placed = self.convert_minute(local);
+        self.convert_hour(placed)
     }
 
     /// Searches for all remaining matches in the minute of `local` and converts them together, if they are known and can

@@ -15,43 +15,34 @@ pub put_place-requires-clause-near : goal.put_place-requires-clause-near
 put_place-requires-clause-near c =
     near_ahead c.loop-ahead.self.pending _ c.least.result c.is_to_place.result c.least.ensures.rises c.least.ensures.least c.is_to_place.ensures c.if-not-is_to_place.false
 
-pub convert_minute-placed-requires : goal.convert_minute-placed-requires
-convert_minute-placed-requires c =
+pub convert_following-placed-requires : goal.convert_following-placed-requires
+convert_following-placed-requires c =
     let local = to_z-of_z w64 c.in-Some.local (search rules) in
     let near = rw local at (near_ahead c.loop-ahead.self.pending _ c.least.result c.is_to_place.result c.least.ensures.rises c.least.ensures.least c.is_to_place.ensures c.if-not-is_to_place.false) in
     rw (c.put_place.ensures.zone, local) (placed_to _ c.in-Some.local c.loop-ahead.self.ahead c.put_place.new.pending c.loop-ahead.invariant.ready c.in-Some.is near
     (rw (to_z-of_z w64 c.loop-ahead.self.last (search rules), local) at c.put_place.ensures.put))
 
-pub convert_hour-placed-requires : goal.convert_hour-placed-requires
-convert_hour-placed-requires c = rw (to_z-of_z w64 c.convert_minute-placed.result (search rules)) c.convert_minute-placed.ensures.placed
-
 smaller : (local placed : ℤ) (bound all : ℕ) → pos 0 ≤ℤ local → local ≤ℤ placed → unsigned_abs placed + 1 ≤ bound → unsigned_abs placed < all → all - bound < all - unsigned_abs local
 smaller local placed bound all low on later inside = grind (arith, ints)
 
-on_both : (a b c : ℤ) → a ≤ℤ b → b ≤ℤ c → a ≤ℤ c
-on_both a b c low high = omega (arith, ints)
-
 pub loop-ahead-smaller : goal.loop-ahead-smaller
 loop-ahead-smaller c =
-    let placed = c.convert_hour-placed.ensures.placed in
-    let inside = local_inside c.convert_hour-placed.result placed.found.0 in
-    let found = rw (to_z-of_z w64 c.convert_hour-placed.result (search rules)) at c.search-ahead.ensures.found in
-    let next = is_next c.convert_hour-placed.new.self.searcher.masks c.convert_hour-placed.new.self.place_cache (unsigned_abs c.convert_hour-placed.result + 1) c.search-ahead.result.local (omega arith) found.first in
+    let placed = c.convert_following-placed.ensures.placed in
+    let inside = local_inside c.convert_following-placed.result placed.found.0 in
+    let found = rw (to_z-of_z w64 c.convert_following-placed.result (search rules)) at c.search-ahead.ensures.found in
+    let next = is_next c.convert_following-placed.new.self.searcher.masks c.convert_following-placed.new.self.place_cache (unsigned_abs c.convert_following-placed.result + 1) c.search-ahead.result.local (omega arith) found.first in
     let ahead = rw c.in-Some.is at c.loop-ahead.invariant.ready.found in
-    let on = on_both _ _ _ (rw (to_z-of_z w64 c.in-Some.local (search rules)) at c.convert_minute-placed.ensures.on) (rw (to_z-of_z w64 c.convert_minute-placed.result (search rules)) at c.convert_hour-placed.ensures.on) in
-    rw c.in-Some.is (smaller c.in-Some.local c.convert_hour-placed.result _ seconds_in_all ahead.0.0 on next.low inside)
+    rw c.in-Some.is (smaller c.in-Some.local c.convert_following-placed.result _ seconds_in_all ahead.0.0 (rw (to_z-of_z w64 c.in-Some.local (search rules)) at c.convert_following-placed.ensures.on) next.low inside)
 
 pub loop-ahead-preserved : goal.loop-ahead-preserved
 loop-ahead-preserved c =
     let kept = c.loop-ahead.invariant in
-    let minute = c.convert_minute-placed.ensures in
-    let rest = c.convert_hour-placed.ensures in
+    let rest = c.convert_following-placed.ensures in
     record {
-      ready = next_ready _ c.convert_hour-placed.result c.search-ahead.new.self c.search-ahead.result rest.placed c.search-ahead.ensures.masks c.search-ahead.ensures.counted
-          c.search-ahead.ensures.most (rw (to_z-of_z w64 c.convert_hour-placed.result (search rules)) at c.search-ahead.ensures.found);
-      masks = c.search-ahead.ensures.masks ∙ (rest.masks ∙ (minute.masks ∙ kept.masks));
-      base = rest.base ∙ (minute.base ∙ kept.base);
-      timed = ap (λ masks. timed_by masks c.convert_hour-placed.new.self.place_cache) c.search-ahead.ensures.masks
-          ∙ (rest.timed ∙ (minute.timed ∙ (ap (timed_by c.loop-ahead.self.searcher.masks) c.put_place.ensures.zone ∙ kept.timed)));
-      last = rest.last ∙ (minute.last ∙ kept.last);
+      ready = next_ready _ c.convert_following-placed.result c.search-ahead.new.self c.search-ahead.result rest.placed c.search-ahead.ensures.masks c.search-ahead.ensures.counted
+          c.search-ahead.ensures.most (rw (to_z-of_z w64 c.convert_following-placed.result (search rules)) at c.search-ahead.ensures.found);
+      masks = c.search-ahead.ensures.masks ∙ (rest.masks ∙ kept.masks);
+      base = rest.base ∙ kept.base;
+      timed = ap (λ masks. timed_by masks c.convert_following-placed.new.self.place_cache) c.search-ahead.ensures.masks ∙ (rest.timed ∙ (ap (timed_by c.loop-ahead.self.searcher.masks) c.put_place.ensures.zone ∙ kept.timed));
+      last = rest.last ∙ kept.last;
     }
