@@ -2,7 +2,7 @@
 //! uses it. Unless the next match is already stored, the searcher calls `next_local` or `next_after` of the module
 //! `search`.
 
-ghost use Rattle.std.specs.Prelude.{◌≡◌, ◌+◌, ◌-◌, ◌*◌, ◌/◌, ◌<◌, ◌≤◌, ◌≤ℤ◌, pos, true, false, max, IfSome, unsigned_abs};
+ghost use Rattle.std.specs.Prelude.{◌%◌, ◌≡◌, ◌+◌, ◌-◌, ◌*◌, ◌/◌, ◌<◌, ◌≤◌, ◌≤ℤ◌, pos, true, false, max, IfSome, unsigned_abs};
 ghost use Rattle.cal_civil.specs.rules.LocalSecond.{IsLocalSecond, seconds_in_all};
 ghost use Rattle.cal_elapse.specs.rules.Search.{count_from};
 ghost use Rattle.cal_elapse.specs.computed.RemainingMatches.{AreRemaining, IsRestOfHour, IsRestOfMinute, NoneLeftInMinute, minute_matches};
@@ -17,7 +17,7 @@ ghost use Rattle.cal_elapse.specs.rules.Months.{months_in_all, minutes_in_all};
 use crate::bits::{highest_bit, lowest_bit, without_lowest};
 use crate::search::{Found, next_after, next_local};
 use crate::{Masks, match_test};
-use cal_civil::{LOCAL_END, second_of_day};
+use cal_civil::LOCAL_END;
 use cal_spec::Expr;
 
 /// The starting point of a search.
@@ -234,7 +234,7 @@ impl Searcher {
         requires is_match { matches (sets_in self.now.masks) (unsigned_abs local) ≡ true }
         ensures { AreRemaining (matches (sets_in self.now.masks)) (unsigned_abs local) (unsigned_abs local + 1) result }
     {
-        self.masks.seconds >> (second_of_day(local) % 60 + 1)
+        self.masks.seconds >> (second_of_minute(local) + 1)
     }
 
     /// Returns the minutes with matches after the minute of `local` in the same hour. Bit i of the result stands for the
@@ -366,6 +366,15 @@ fn minute_of(local: i64) -> u32
     ensures { result ≡ unsigned_abs local / 60 }
 {
     (local / 60) as u32
+}
+
+/// Returns how many seconds after the start of its minute a local second is, 0 to 59.
+#[tactic(auto, using(cal_civil::proofs::LocalLemmas::local_arith))]
+fn second_of_minute(local: i64) -> u32
+    requires { IsLocalSecond local }
+    ensures { result ≡ unsigned_abs local % 60 }
+{
+    (local % 60) as u32
 }
 
 /// Returns the local second that is `second` seconds after the start of `minute`, which is counted from the start of

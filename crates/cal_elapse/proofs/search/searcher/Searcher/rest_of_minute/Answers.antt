@@ -5,6 +5,5 @@ use Rattle.cal_elapse.proofs.search.searcher.Searcher.rest_of_minute.Goals as go
 
 pub returns : goal.returns
 returns c =
-    let of_day : c.second_of_day.result ≡ unsigned_abs c.args.local % 86_400 = grind (arith, local_arith) in
-    let second : c.second_of_day.result % 60 ≡ unsigned_abs c.args.local % 60 = omega arith in
+    let second : c.second_of_minute.result ≡ unsigned_abs c.args.local % 60 = grind (arith, local_arith) in
     rw second (search (seconds_after c.args.self.now.masks (unsigned_abs c.args.local) c.requires.is_match))
