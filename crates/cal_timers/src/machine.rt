@@ -2,30 +2,13 @@
 //! they contain. They can change while the program runs, so the program reads them through a [`cal_units::Recorder`].
 
 use crate::below_root;
-use cal_units::{Entry, FILE_BYTES, Names, Raw, TreeFault};
+use cal_units::{Entry, FILE_BYTES, Names, Raw, TreeFault, system_path};
 use std::alloc::{AllocError, Global};
 use std::fs::DirEntry;
 use std::io::{Error, ErrorKind, Read};
 use std::rt::{Env, Files};
 use std::time::{Clock, SystemTime, UNIX_EPOCH};
 use std::{env, fs, io};
-
-/// The folders of the system's search path, in which most files are looked for.
-const UNIT_FOLDERS: [&str; 13] = [
-    "/etc/systemd/system.control",
-    "/run/systemd/system.control",
-    "/run/systemd/transient",
-    "/run/systemd/generator.early",
-    "/etc/systemd/system",
-    "/etc/systemd/system.attached",
-    "/run/systemd/system",
-    "/run/systemd/system.attached",
-    "/run/systemd/generator",
-    "/usr/local/lib/systemd/system",
-    "/lib/systemd/system",
-    "/usr/lib/systemd/system",
-    "/run/systemd/generator.late",
-];
 
 /// The system that the program runs on, or the part of it below a root folder.
 #[derive(Clone, Copy)]
@@ -58,16 +41,16 @@ impl<'a, R: Files + Env + AllocGlobal + Clone + Drop> Machine<'a, R> {
         below_root::followed(self.rt, alloc, self.root, self.plain, path)
     }
 
-    /// Returns those of [`UNIT_FOLDERS`] whose paths lead through no links, for [`Machine::plain`]. Returns an empty
-    /// list if the root is the system's own.
+    /// Returns the folders of the system's search path whose paths lead through no links, for [`Machine::plain`]. Most
+    /// files are looked for there. Returns an empty list if the root is the system's own.
     pub fn plain_folders(&self, alloc: Global) -> Result<Vec<String>, AllocError> {
         let mut plain = Vec::new(alloc);
         if self.root.is_empty() {
             return Ok(plain);
         }
-        for folder in UNIT_FOLDERS {
-            if self.is_plain(alloc, folder)? {
-                plain.push(String::from_str(alloc, folder)?)?;
+        for folder in system_path(alloc)? {
+            if self.is_plain(alloc, folder.as_str())? {
+                plain.push(folder)?;
             }
         }
         Ok(plain)
