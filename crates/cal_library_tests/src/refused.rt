@@ -1,7 +1,7 @@
-//! Calls that allocate. `tests/refused` makes each of their allocations fail in turn.
+//! Calls that allocate. `tests/refused.py` makes each of their allocations fail in turn.
 //!
 //! A test succeeds if every allocation succeeds. Otherwise it fails with the call's `NoMemory` or `AllocError`; if the
-//! call promises to leave an argument unchanged, or to return it, the test first checks that. `tests/refused` checks
+//! call promises to leave an argument unchanged, or to return it, the test first checks that. `tests/refused.py` checks
 //! that a test fails if and only if an allocation has failed.
 
 ghost use Rattle.std.specs.Prelude.{◌≡◌, false};

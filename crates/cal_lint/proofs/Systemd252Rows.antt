@@ -1,6 +1,6 @@
--- Examples of what systemd 252 rejects, checked by computation. The script tests/systemd_252 compares such expressions
--- with systemd-analyze. The fields of an expression matter only if days are counted from the month's end, as in the
--- rows `days_from_end` and `days_within`. All other rows use the fields of `daily`, whatever their text is.
+-- Examples of what systemd 252 rejects, checked by computation. The script tests/systemd_252.py compares such
+-- expressions with systemd-analyze. The fields of an expression matter only if days are counted from the month's end,
+-- as in the rows `days_from_end` and `days_within`. All other rows use the fields of `daily`, whatever their text is.
 use Rattle.std.proofs.Common.{◌≡◌, ℕ, List, true, false, ◌++◌, ◌∷◌, [], codes, refl, Option, None, Some}
 use Rattle.cal_bytes.specs.rules.Separators.{words}
 use Rattle.cal_civil.specs.rules.Weekday.{name_of}

@@ -1,8 +1,8 @@
-//! Calls that allocate. `tests/refused` makes each of their allocations fail in turn.
+//! Calls that allocate. `tests/refused.py` makes each of their allocations fail in turn.
 //!
 //! A test succeeds if every allocation succeeds. Otherwise it fails with the call's `NoMemory` or `AllocError`; if the
-//! call promises to leave an argument unchanged, the test first checks that. `tests/refused` checks that a test fails
-//! if and only if an allocation has failed.
+//! call promises to leave an argument unchanged, the test first checks that. `tests/refused.py` checks that a test
+//! fails if and only if an allocation has failed.
 
 use cal_bytes::Port;
 use cal_command::Ask;

@@ -1,5 +1,5 @@
-//! Reports for which the script `tests/refused` makes each allocation fail in turn. The script checks that a test fails
-//! with `NoMemory` or `AllocError` if and only if an allocation has failed.
+//! Reports for which the script `tests/refused.py` makes each allocation fail in turn. The script checks that a test
+//! fails with `NoMemory` or `AllocError` if and only if an allocation has failed.
 
 use super::calendar::LEAP_DAYS;
 use super::timers::{CONTINUED_TIMER, EXCEPT_TIMER};

@@ -1,7 +1,7 @@
 #!/bin/sh
 # Runs the commands of the transcripts, and compares what they print with the transcripts.
 #
-#     tests/run PROGRAM TIMERS [TRANSCRIPT..]
+#     tests/run.sh PROGRAM TIMERS [TRANSCRIPT..]
 #
 # A transcript is a text file in tests/transcripts/. It begins with lines that start with '#' and say what it shows. Each of
 # its sections begins with a line '== NAME':
@@ -19,7 +19,7 @@
 set -u
 
 if [ $# -lt 2 ] || [ ! -x "$1" ] || [ ! -x "$2" ]; then
-    echo 'usage: tests/run PROGRAM TIMERS [TRANSCRIPT..]' >&2
+    echo 'usage: tests/run.sh PROGRAM TIMERS [TRANSCRIPT..]' >&2
     exit 2
 fi
 program=$1 timers=$2

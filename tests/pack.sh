@@ -1,7 +1,7 @@
 #!/bin/sh
 # Tests ./pack: packs both programs twice, compares the bytes, and tries what is in the archive and in the Debian package.
 #
-#     tests/pack PROGRAM TIMERS
+#     tests/pack.sh PROGRAM TIMERS
 #
 # PROGRAM is calendar-analyze, and TIMERS is calendar-timers.
 # ./pack runs in copies of the repository in a temporary folder. Steps that need dpkg-deb or lintian are skipped if it is
@@ -9,7 +9,7 @@
 set -u
 
 if [ $# -ne 2 ] || [ ! -x "$1" ] || [ ! -x "$2" ]; then
-    echo 'usage: tests/pack PROGRAM TIMERS' >&2
+    echo 'usage: tests/pack.sh PROGRAM TIMERS' >&2
     exit 2
 fi
 program=$1 timers=$2
@@ -26,13 +26,13 @@ step() {
         passed=$((passed + 1))
     else
         failed=$((failed + 1))
-        echo "tests/pack: $2"
+        echo "tests/pack.sh: $2"
     fi
 }
 
 skip() {
     skipped=$((skipped + 1))
-    echo "tests/pack: skipped: $1"
+    echo "tests/pack.sh: skipped: $1"
 }
 
 # Prints the files that have to be below the prefix; the argument is the folder of the completion of zsh.

@@ -1,7 +1,7 @@
 #!/usr/bin/env bash
 # Tests the completions of bash, fish and zsh: what each shell offers at the end of a line.
 #
-#     tests/completions [PROGRAM]
+#     tests/completions.sh [PROGRAM]
 #
 # A row has a line as far as it was typed, with `_` for a blank, then an arrow, and all words that have to be offered.
 # The shells run in a folder with a timer file, a text file, a zone file, and a folder with one more timer file. The
@@ -47,7 +47,7 @@ by_fish() {
 }
 
 by_zsh() {
-    zsh -f "$here/tests/completions.zsh" "$here/completions" "$1"
+    zsh -f "$here/tests/lib/completions.zsh" "$here/completions" "$1"
 }
 
 # Prints all words in one line, in the order of their bytes.
@@ -61,7 +61,7 @@ passed=0 failed=0 skipped=0
 try() {
     local row line wanted found
     if ! command -v "$1" > /dev/null; then
-        echo "tests/completions: skipped: $1 is missing"
+        echo "tests/completions.sh: skipped: $1 is missing"
         skipped=$((skipped + $(wc -l)))
         return
     fi
@@ -73,7 +73,7 @@ try() {
             passed=$((passed + 1))
         else
             failed=$((failed + 1))
-            echo "tests/completions: $1: '$line' offers '$found' instead of '$wanted'"
+            echo "tests/completions.sh: $1: '$line' offers '$found' instead of '$wanted'"
         fi
     done
 }

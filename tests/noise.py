@@ -1,7 +1,7 @@
 #!/usr/bin/env python3
 """Runs the program on random arguments, timer files and zone files.
 
-    tests/noise PROGRAM
+    tests/noise.py PROGRAM
 
 No run may crash, hang, or end with a status other than 0, 1 or 2. If the status is 0, standard error has to be empty.
 Otherwise each of its lines ends in a message that the manual page explains, or it is the text of `clap`. The seed is fixed,
@@ -106,7 +106,7 @@ def fault(program, scratch, errors, make, number):
 
 def main():
     if len(sys.argv) != 2 or not os.access(sys.argv[1], os.X_OK):
-        print("usage: tests/noise PROGRAM", file=sys.stderr)
+        print("usage: tests/noise.py PROGRAM", file=sys.stderr)
         return 2
     program, errors, failed = os.path.realpath(sys.argv[1]), known_errors(), 0
     kinds = [random_arguments, random_timer, random_zone]
@@ -115,7 +115,7 @@ def main():
             results = pool.map(lambda number: fault(program, scratch, errors, make, number), range(RUNS))
             faults = [result for result in results if result]
             for line in faults[:5]:
-                print(f"tests/noise: {line}")
+                print(f"tests/noise.py: {line}")
             failed += bool(faults)
     print(f"{len(kinds) - failed} passed, {failed} failed")
     return 1 if failed else 0

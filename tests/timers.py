@@ -1,7 +1,7 @@
 #!/usr/bin/env python3
 """Tests calendar-timers beyond its transcripts.
 
-    tests/timers PROGRAM TIMERS
+    tests/timers.py PROGRAM TIMERS
 
 PROGRAM is calendar-analyze, and TIMERS is calendar-timers.
 
@@ -107,11 +107,11 @@ class Tests:
             self.passed += 1
         else:
             self.failed += 1
-            print(f"tests/timers: {what}: {found!r} instead of {wanted!r}")
+            print(f"tests/timers.py: {what}: {found!r} instead of {wanted!r}")
 
     def skip(self, what, why):
         self.skipped += 1
-        print(f"tests/timers: {what}: skipped: {why}")
+        print(f"tests/timers.py: {what}: skipped: {why}")
 
     def expression(self):
         return (self.random.choice(DAYS) + self.random.choice(DATES) + self.random.choice(TIMES)).strip()
@@ -232,7 +232,7 @@ class Tests:
             self.passed += 1
         else:
             self.failed += 1
-            print(f"tests/timers: 1,000 units took {took[1000]:.3f} s, and 100 {took[100]:.3f} s")
+            print(f"tests/timers.py: 1,000 units took {took[1000]:.3f} s, and 100 {took[100]:.3f} s")
 
     def outputs(self):
         command = f"{self.timers} next -n 100000 --utc --now=@{NOW} '*:*:*' 2> {self.scratch}/said | head -n 1"
@@ -254,7 +254,7 @@ class Tests:
 
 def main():
     if len(sys.argv) != 3 or not all(os.access(path, os.X_OK) for path in sys.argv[1:]):
-        print("usage: tests/timers PROGRAM TIMERS", file=sys.stderr)
+        print("usage: tests/timers.py PROGRAM TIMERS", file=sys.stderr)
         return 2
     with tempfile.TemporaryDirectory() as scratch:
         tests = Tests(*map(os.path.realpath, sys.argv[1:]), scratch)

@@ -1,7 +1,7 @@
 #!/usr/bin/env python3
 """Cuts the output of the program after each of its bytes, and asks for the rest.
 
-    tests/cuts PROGRAM
+    tests/cuts.py PROGRAM
 
 In each run, standard output is a file that can't grow beyond a number of bytes. The file has to be a prefix of the
 whole output. If bytes are missing, the status has to be 1, and standard error has to say that the output failed. A
@@ -106,12 +106,12 @@ class Cuts:
             self.passed += 1
         else:
             self.failed += 1
-            print(f"tests/cuts: {report.verb} after {size} bytes: {found}, and then {rest}")
+            print(f"tests/cuts.py: {report.verb} after {size} bytes: {found}, and then {rest}")
 
 
 def main():
     if len(sys.argv) != 2 or not os.access(sys.argv[1], os.X_OK):
-        print("usage: tests/cuts PROGRAM", file=sys.stderr)
+        print("usage: tests/cuts.py PROGRAM", file=sys.stderr)
         return 2
     with tempfile.TemporaryDirectory() as folder:
         with open(f"{folder}/t", "w") as file:

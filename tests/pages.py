@@ -1,7 +1,7 @@
 #!/usr/bin/env python3
 """Compares what the pages say about this repository with its files (the tree).
 
-    tests/pages [--headline]
+    tests/pages.py [--headline]
 
 In README, CONTRIBUTING, CHANGELOG, docs/ and the README of each crate
 
@@ -16,12 +16,12 @@ cal_timer.
 
 Each definition is in specs/rules/ or specs/computed/. From specs/computed/, rules cite only the functions that
 docs/MAP.md names, each with the law that ties it to a rule. The clause `headline` of `work` and the laws of cal_report
-rest only on files in specs/rules/ and on such functions, and docs/MAP.md says on how many files; `tests/pages
+rest only on files in specs/rules/ and on such functions, and docs/MAP.md says on how many files; `tests/pages.py
 --headline` lists these definitions. docs/HEADLINE.md shows formal text as it is in its files. README and docs/PROVED.md
 quote its sentence. README has figures of docs/SPEED.md and a link to each page; docs/PROVED.md names each crate, and
 docs/MAP.md each crate and each script of ./test. A must-fail edit on a page is one of the tree's. The README of a crate
-quotes code of the tests that it names. The outputs that the pages show are tested by tests/examples, tests/recipes and
-tests/differences.
+quotes code of the tests that it names. The outputs that the pages show are tested by tests/examples.py,
+tests/recipes.py and tests/differences.py.
 
 The kit that README names and the kit installed here have the same logic. If they don't, or if there is no `rt`, this is
 skipped. The last line is 'N passed, M failed', with ', 1 skipped' in that case."""
@@ -336,7 +336,7 @@ def differences(tree, page):
     if page in ("docs/PROVED.md", "docs/MAP.md"):
         found += unnamed(page, tree.crates, "the crate")
     if page == "docs/MAP.md":
-        found += unnamed(page, re.findall(r'\["(tests/\w+)"', text_of("test")), "the script")
+        found += unnamed(page, re.findall(r'\["(tests/[\w/]+\.\w+)"', text_of("test")), "the script")
     if page == "README.md":
         found += of_readme(tree)
     if page == "docs/HEADLINE.md":
@@ -372,10 +372,10 @@ def main():
     found["the tree"] = [f"there is no {page}" for page in missing]
     for where, wrong in found.items():
         for difference in wrong:
-            print(f"tests/pages: {where}: {difference}")
+            print(f"tests/pages.py: {where}: {difference}")
     kit = skipped_kit()
     if kit:
-        print(f"tests/pages: the kit: skipped, since {kit}")
+        print(f"tests/pages.py: the kit: skipped, since {kit}")
     failed = sum(map(bool, found.values()))
     print(f"{len(found) - failed + (not kit)} passed, {failed} failed" + (", 1 skipped" if kit else ""))
     return 1 if failed else 0

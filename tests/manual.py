@@ -1,7 +1,7 @@
 #!/usr/bin/env python3
 """Tests the manual pages: their form, and whether they have the verbs, options and messages of the programs.
 
-    tests/manual PROGRAM TIMERS
+    tests/manual.py PROGRAM TIMERS
 
 PROGRAM is calendar-analyze, and TIMERS is calendar-timers. mandoc or groff must not warn of anything, and no line may
 be longer than 80 columns, neither in the source nor as they show the page. Each page names the verbs and options of the
@@ -19,6 +19,7 @@ import sys
 import tempfile
 
 sys.dont_write_bytecode = True
+sys.path.insert(0, f"{os.path.dirname(os.path.realpath(__file__))}/lib")
 import repository
 from repository import ROOT
 
@@ -131,15 +132,15 @@ def page_faults(name, program):
 
 def main():
     if len(sys.argv) != 3 or not all(os.access(path, os.X_OK) for path in sys.argv[1:]):
-        print("usage: tests/manual PROGRAM TIMERS", file=sys.stderr)
+        print("usage: tests/manual.py PROGRAM TIMERS", file=sys.stderr)
         return 2
     program, timers = map(os.path.realpath, sys.argv[1:])
     faults = {**page_faults("calendar-analyze", program), **page_faults("calendar-timers", timers)}
     for what, fault in faults.items():
-        print("".join(f"tests/manual: {what}: {line}\n" for line in fault.splitlines()), end="")
+        print("".join(f"tests/manual.py: {what}: {line}\n" for line in fault.splitlines()), end="")
     skipped = 0 if any(shutil.which(show[0]) for _, show in FORMATTERS) else 4
     if skipped:
-        print("tests/manual: skipped: mandoc and groff are missing, so nothing formats the pages")
+        print("tests/manual.py: skipped: mandoc and groff are missing, so nothing formats the pages")
     failed = sum(map(bool, faults.values()))
     print(f"{len(faults) - failed} passed, {failed} failed" + (f", {skipped} skipped" if skipped else ""))
     return 1 if failed else 0

@@ -1,7 +1,7 @@
 #!/usr/bin/env python3
 """Compares what cal_lint says that systemd 252 rejects with what systemd-analyze 252 rejects.
 
-    tests/systemd_252
+    tests/systemd_252.py
 
 The expressions are those of `ROWS` and random ones, and the normal forms of all of them. A copy of the crates and a
 program that calls `systemd_252` are made in a temporary folder, where `rt try` runs the program without proving it;
@@ -200,7 +200,7 @@ def reasons(folder, texts):
     run = subprocess.run(command, cwd=place, input=given, stdout=subprocess.PIPE, stderr=subprocess.STDOUT, text=True)
     lines = [line for line in run.stdout.splitlines() if line.count("|") == 2]
     if len(lines) != len(texts):
-        sys.exit(f"tests/systemd_252: {len(lines)} lines for {len(texts)} expressions\n{run.stdout[-2000:]}")
+        sys.exit(f"tests/systemd_252.py: {len(lines)} lines for {len(texts)} expressions\n{run.stdout[-2000:]}")
     return lines
 
 
@@ -222,10 +222,10 @@ def compare(text, line, wanted):
 
 def main():
     if len(sys.argv) != 1:
-        print("usage: tests/systemd_252", file=sys.stderr)
+        print("usage: tests/systemd_252.py", file=sys.stderr)
         return 2
     if not is_installed():
-        print("tests/systemd_252: nothing compared, since there is no systemd-analyze 252")
+        print("tests/systemd_252.py: nothing compared, since there is no systemd-analyze 252")
         return 0
     random.seed(252)
     rows = ROWS + [(expression(), None) for _ in range(COUNT)]
@@ -238,7 +238,7 @@ def main():
         wrong = compare(text, line, wanted)
         if wrong:
             failed += 1
-            print(f"tests/systemd_252: {text!r}: {wrong}")
+            print(f"tests/systemd_252.py: {text!r}: {wrong}")
     print(", ".join(f"{reason} {count}" for reason, count in sorted(counts.items())))
     print(f"{len(rows) - failed} passed, {failed} failed")
     return 1 if failed else 0

@@ -1,7 +1,7 @@
 #!/usr/bin/env python3
 """Tests timer files with exceptions against a filter that shares no code with the program.
 
-    tests/exceptions PROGRAM
+    tests/exceptions.py PROGRAM
 
 The files are random, with up to six expressions and four exceptions. They are run in three zones, each over a month
 with a clock change. The filter takes the local time of each instant of that month from the C library, leaves out the
@@ -130,13 +130,13 @@ def is_right(program, numbers, zone, start, instants):
     later = found[len(wanted) :]
     if ended.returncode == 0 and not ended.stderr and found[: len(wanted)] == wanted and all(at > start + MONTH for at in later):
         return True
-    print(f"tests/exceptions: {zone}: {expressions} without {exceptions}: {ended.stdout[-200:]!r} {ended.stderr!r}")
+    print(f"tests/exceptions.py: {zone}: {expressions} without {exceptions}: {ended.stdout[-200:]!r} {ended.stderr!r}")
     return False
 
 
 def main():
     if len(sys.argv) != 2:
-        print("usage: tests/exceptions PROGRAM", file=sys.stderr)
+        print("usage: tests/exceptions.py PROGRAM", file=sys.stderr)
         return 2
     numbers, results = random.Random(25), []
     for zone, start in ZONES:

@@ -1,4 +1,4 @@
-# Prints what zsh offers at the end of a line, one word in each line. tests/completions calls this with the folder of
+# Prints what zsh offers at the end of a line, one word in each line. tests/completions.sh calls this with the folder of
 # the completions and the line. The units of calendar-timers are those in `../system`. A second shell, on a terminal of
 # its own, gets the line and a tab. There `compadd` prints the words.
 zmodload zsh/zpty

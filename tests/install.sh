@@ -1,14 +1,14 @@
 #!/bin/sh
 # Tests ./install: installs both programs, runs them from there, removes them, and checks that no file is left.
 #
-#     tests/install PROGRAM TIMERS
+#     tests/install.sh PROGRAM TIMERS
 #
 # PROGRAM is calendar-analyze, and TIMERS is calendar-timers. ./install runs in a copy of the repository that has both,
 # and installs below a temporary folder. The last line is 'N passed, M failed', and the status is 1 if a step failed.
 set -u
 
 if [ $# -ne 2 ] || [ ! -x "$1" ] || [ ! -x "$2" ]; then
-    echo 'usage: tests/install PROGRAM TIMERS' >&2
+    echo 'usage: tests/install.sh PROGRAM TIMERS' >&2
     exit 2
 fi
 program=$1 timers=$2
@@ -33,7 +33,7 @@ step() {
         passed=$((passed + 1))
     else
         failed=$((failed + 1))
-        echo "tests/install: $2"
+        echo "tests/install.sh: $2"
     fi
 }
 

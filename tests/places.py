@@ -1,7 +1,7 @@
 #!/usr/bin/env python3
 """Compares elapses around each clock change of eight real time zones with Python's zoneinfo.
 
-    tests/places PROGRAM
+    tests/places.py PROGRAM
 
 For each clock change from 1970 to 2037 and in some later years, the program is asked for the elapses of `*:*:00`, every
 minute, in three days around the change. These have to be the local times that zoneinfo finds, in order, with their
@@ -66,12 +66,12 @@ def printed_elapses(program, name, base, count):
 
 def main():
     if len(sys.argv) != 2:
-        print("usage: tests/places PROGRAM", file=sys.stderr)
+        print("usage: tests/places.py PROGRAM", file=sys.stderr)
         return 2
     passed = failed = skipped = 0
     for name in ZONES:
         if not os.path.exists(f"{FOLDER}/{name}"):
-            print(f"tests/places: skipped: there is no {FOLDER}/{name}")
+            print(f"tests/places.py: skipped: there is no {FOLDER}/{name}")
             skipped += 1
             continue
         with open(f"{FOLDER}/{name}", "rb") as file:
@@ -83,7 +83,7 @@ def main():
                 passed += 1
             else:
                 failed += 1
-                print(f"tests/places: {name}: other elapses in the three days after @{base}")
+                print(f"tests/places.py: {name}: other elapses in the three days after @{base}")
     print(f"{passed} passed, {failed} failed" + (f", {skipped} skipped" if skipped else ""))
     return 1 if failed else 0
 

@@ -1,5 +1,5 @@
 /* A library that is preloaded and makes allocations fail: the one with the number REFUSE_FIRST, and if REFUSE_ALL is
-   set, also all that follow it. Each failure writes one byte to the file that REFUSED names. tests/refused builds the
+   set, also all that follow it. Each failure writes one byte to the file that REFUSED names. tests/refused.py builds the
    library. */
 #include <errno.h>
 #include <fcntl.h>

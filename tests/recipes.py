@@ -1,7 +1,7 @@
 #!/usr/bin/env python3
 """Runs the commands that the pages for users show, and compares what they print with the pages.
 
-    tests/recipes PROGRAM TIMERS
+    tests/recipes.py PROGRAM TIMERS
 
 PROGRAM is calendar-analyze, and TIMERS is calendar-timers. Each block `sh` of docs/RECIPES.md is pasted into bash; its
 scripts are run by `sh`. It has to end with status 0 and to print the block `text` right after it, or nothing if there
@@ -83,11 +83,11 @@ class Recipes:
             self.passed += 1
         else:
             self.failed += 1
-            print(f"tests/recipes: {what}:\n{found}instead of\n{wanted}")
+            print(f"tests/recipes.py: {what}:\n{found}instead of\n{wanted}")
 
     def skip(self, what, why):
         self.skipped += 1
-        print(f"tests/recipes: {what}: skipped: {why}")
+        print(f"tests/recipes.py: {what}: skipped: {why}")
 
     def paste(self):
         """Runs all blocks `sh`, and keeps the scripts that they make."""
@@ -185,7 +185,7 @@ def cron_minutes(line):
 
 def main():
     if len(sys.argv) != 3 or not all(os.access(path, os.X_OK) for path in sys.argv[1:]):
-        print("usage: tests/recipes PROGRAM TIMERS", file=sys.stderr)
+        print("usage: tests/recipes.py PROGRAM TIMERS", file=sys.stderr)
         return 2
     with tempfile.TemporaryDirectory(prefix="recipes-") as scratch:
         recipes = Recipes(scratch, *sys.argv[1:])

@@ -1,7 +1,7 @@
 #!/usr/bin/env python3
 """Runs the examples in the tables of the pages about grammar.
 
-    tests/examples PROGRAM
+    tests/examples.py PROGRAM
 
 A table of docs/GRAMMAR.md, docs/TIMESTAMPS.md or docs/TIMESPANS.md has examples if one of its columns is named in INPUTS or is
 `spelled`: what is in code quotes in that column is an input, and the other columns have what the program prints for it.
@@ -88,14 +88,14 @@ def faults(program, page, row):
 
 def main():
     if len(sys.argv) != 2 or not os.access(sys.argv[1], os.X_OK):
-        print("usage: tests/examples PROGRAM", file=sys.stderr)
+        print("usage: tests/examples.py PROGRAM", file=sys.stderr)
         return 2
     passed = failed = 0
     for page in PAGES:
         for row in rows(page):
             found = faults(sys.argv[1], page, row)
             for fault in found:
-                print(f"tests/examples: {page}: {' | '.join(row.values())}: {fault}")
+                print(f"tests/examples.py: {page}: {' | '.join(row.values())}: {fault}")
             passed, failed = passed + (not found), failed + bool(found)
     print(f"{passed} passed, {failed} failed")
     return 1 if failed else 0

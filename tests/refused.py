@@ -1,7 +1,7 @@
 #!/usr/bin/env python3
 """Makes each allocation of the programs, and of calls of the library, fail in turn.
 
-    tests/refused PROGRAM TIMERS [TESTS..]
+    tests/refused.py PROGRAM TIMERS [TESTS..]
 
 In the first run of a row its first allocation fails, in the second run its second one, and so on, until all have
 failed once. This is done in two ways: only that allocation fails, or all that follow it fail too. Each run has to end
@@ -181,7 +181,7 @@ ROWS = [
 
 
 def timers_row(about, arguments, status=0):
-    """Returns a row of calendar-timers. Its outputs are not compared: tests/run does that."""
+    """Returns a row of calendar-timers. Its outputs are not compared: tests/run.sh does that."""
     return Row(about, arguments, None, None, status, TIMERS_MEMORY_LINE)
 
 
@@ -226,7 +226,7 @@ class Refusals:
         """Builds the library, and returns whether it can be preloaded."""
         if not shutil.which("cc"):
             return False
-        built = subprocess.run(["cc", "-shared", "-fPIC", "-O1", "-o", self.library, f"{HERE}/refuse.c"], capture_output=True)
+        built = subprocess.run(["cc", "-shared", "-fPIC", "-O1", "-o", self.library, f"{HERE}/lib/refuse.c"], capture_output=True)
         return built.returncode == 0 and self.run(ROWS[0].arguments, 1, True)[0]
 
     def run(self, arguments, first=0, is_all=False, program=None):
@@ -319,7 +319,7 @@ class Refusals:
 
 def main():
     if len(sys.argv) < 3 or not all(os.access(path, os.X_OK) for path in sys.argv[1:]):
-        print("usage: tests/refused PROGRAM TIMERS [TESTS..]", file=sys.stderr)
+        print("usage: tests/refused.py PROGRAM TIMERS [TESTS..]", file=sys.stderr)
         return 2
     with tempfile.TemporaryDirectory(prefix="refused-") as scratch:
         refusals = Refusals(*map(os.path.realpath, sys.argv[1:3]), scratch)

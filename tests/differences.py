@@ -1,7 +1,7 @@
 #!/usr/bin/env python3
 """Runs every command of docs/DIFFERENCES.md, and says which of them still print what it shows.
 
-    tests/differences PROGRAM
+    tests/differences.py PROGRAM
 
 The commands run PROGRAM as `calendar-analyze`. A command is skipped if it names systemd-analyze or a zone file and this
 machine doesn't have it. A command of systemd-analyze that prints something else is skipped too if its version isn't the
@@ -74,16 +74,16 @@ class Page:
         if run.stdout == printed:
             self.passed += 1
         elif is_other:
-            print(f"tests/differences: no longer so: $ {line}\n{run.stdout}", end="")
+            print(f"tests/differences.py: no longer so: $ {line}\n{run.stdout}", end="")
             self.skip("since this systemd-analyze prints something else")
         else:
             self.failed += 1
-            print(f"tests/differences: $ {line}\n{run.stdout}instead of\n{printed}")
+            print(f"tests/differences.py: $ {line}\n{run.stdout}instead of\n{printed}")
 
     def tell(self):
         """Prints what was skipped and why, and the counts."""
         for why, count in self.skipped.items():
-            print(f"tests/differences: {count} commands skipped, {why}")
+            print(f"tests/differences.py: {count} commands skipped, {why}")
         skipped = sum(self.skipped.values())
         print(f"{self.passed} passed, {self.failed} failed" + (f", {skipped} skipped" if skipped else ""))
         return 1 if self.failed else 0
@@ -91,13 +91,13 @@ class Page:
 
 def main():
     if len(sys.argv) != 2 or not os.access(sys.argv[1], os.X_OK):
-        print("usage: tests/differences PROGRAM", file=sys.stderr)
+        print("usage: tests/differences.py PROGRAM", file=sys.stderr)
         return 2
     with open(PAGE, encoding="utf-8") as file:
         text = file.read()
     version, wanted = installed(), VERSION.search(text)[0]
     if version not in (None, wanted):
-        print(f"tests/differences: {version} is here, and {wanted} on the page")
+        print(f"tests/differences.py: {version} is here, and {wanted} on the page")
     with tempfile.TemporaryDirectory(prefix="differences-") as scratch:
         page = Page(scratch, sys.argv[1])
         for line, printed in commands(text):

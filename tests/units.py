@@ -1,7 +1,7 @@
 #!/usr/bin/env python3
 """Compares which files make up a timer unit with what systemd reads.
 
-    tests/units [COMMAND..]
+    tests/units.py [COMMAND..]
 
 In each of 300 random trees of units and drop-ins, every file that isn't empty has a line that systemd-analyze rejects,
 so that `systemd-analyze verify` names the files in the order in which it reads them. COMMAND, to which the folder of
