@@ -121,10 +121,3 @@ one_examined sets day within holds =
 pub examined_today : (sets : Sets) (t second : ℕ) → t / 86_400 < 84_006 → day_in sets (t / 86_400) ≡ true → t % 86_400 + 1 ≤ second → second < 86_400
     → examined_months sets (t + 1) (Some (t / 86_400 * 86_400 + second)) ≡ 1
 examined_today sets t second within holds later small = grind (arith, one_examined)
-
--- Suppose that a search for a local second and a search for a day start in the same month, `n`, and that the local
--- second found is on `found`, the day that the other search finds. Then both searches examine the same number of
--- months.
-pub examined_of_days : (sets : Sets) (n from found second : ℕ) → n ≡ month_of (civil_date (from / 86_400)) → second < 86_400
-    → examined_from sets n (Some found) ≡ examined_months sets from (Some (found * 86_400 + second))
-examined_of_days sets n from found second start small = grind arith

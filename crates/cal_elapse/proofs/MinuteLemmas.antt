@@ -1,29 +1,25 @@
--- The bits that are stored when a match is found: one for each later match in its minute, and one for each later minute
--- with matches in its hour. A search that takes its result from these bits removes one of them.
-use Rattle.std.proofs.Common.{◌≡◌, ◌≢◌, ◌∙◌, ℕ, ◌+◌, ◌-◌, ◌*◌, ◌/◌, ◌%◌, ◌^◌, ◌<◌, ◌≤◌, Bool, true, false, ◌&&◌, Option, None, Some, pos, ap, inl, inr, sym, subst, refl, arith, count_ones, ltb-true, max, nat_lt}
-use Rattle.std.proofs.lemmas.Bool.{and_parts, cases_lt, false_from_ne_true, lt-ltb}
+-- The searches after a match that find the next match in its minute or in its hour. The later matches in its minute are
+-- the bits of a word, and so are the later minutes with matches in its hour.
+use Rattle.std.proofs.Common.{◌≡◌, ◌∙◌, ℕ, zero, suc, ◌+◌, ◌-◌, ◌*◌, ◌/◌, ◌%◌, ◌^◌, ◌<◌, ◌≤◌, Bool, true, false, ◌&&◌, Option, None, Some, pos, ap, inl, inr, sym, subst, refl, arith, ltb-true, max, nat_lt}
+use Rattle.std.proofs.lemmas.Bool.{and_parts, cases_Bool, cases_lt, lt-ltb}
 use Rattle.cal_civil.specs.rules.LocalSecond.{seconds_in_all, seconds_in_all-is}
 use Rattle.cal_spec.specs.rules.Match.{Sets, matches, time_in}
 use Rattle.cal_elapse.specs.computed.Bits.{is_bit}
-use Rattle.cal_elapse.specs.computed.RemainingMatches.{AreRemaining, IsRestOfMinute, NoneLeftInMinute, minute_matches}
+use Rattle.cal_elapse.specs.computed.RemainingMatches.{AreRemaining, minute_matches}
 use Rattle.cal_elapse.specs.rules.ExaminedMonths.{IsSearch, examined_months}
 use Rattle.cal_elapse.specs.rules.MostMonths.{IsExamined, IsMostAfter}
 use Rattle.cal_elapse.specs.computed.Masks.{sets_in}
 use Rattle.cal_elapse.specs.rules.Months.{day_in, minute_in}
-use Rattle.cal_elapse.specs.rules.Search.{IsFirstPassing, count_from}
+use Rattle.cal_elapse.specs.rules.Search.{IsFirstPassing}
 use Rattle.cal_elapse.specs.declared.masks.Masks.{Masks}
-use Rattle.cal_elapse.proofs.BitLemmas.{is_bit-above, is_bit-none, is_bit-shifted}
+use Rattle.cal_elapse.proofs.BitLemmas.{is_bit-none, is_bit-shifted}
 use Rattle.cal_elapse.proofs.CarryLemmas.{Splits, first_later, first_then, split_at}
-use Rattle.cal_elapse.proofs.CountLemmas.{count_from-ones}
 use Rattle.cal_elapse.proofs.FoundLemmas.{first_local}
 use Rattle.cal_elapse.proofs.MostMonthsLemmas.{max_is}
 use Rattle.cal_elapse.proofs.ExaminedMonthLemmas.{examined_today}
 use Rattle.cal_elapse.proofs.SearchLemmas.{locals_split}
 use Rattle.cal_elapse.proofs.TimeLemmas.{minutes_split, seconds_split}
 use Rattle.cal_bytes.proofs.General.{and_regrouped, below_end}
-
-no_bit : (i : ℕ) → is_bit 0 i ≡ true → ⊥
-no_bit i bit = let none = is_bit-none i in cc
 
 -- a number that matches is a local second
 pub match_inside : (sets : Sets) (t : ℕ) → matches sets t ≡ true → t < seconds_in_all
@@ -78,10 +74,8 @@ by_low passes high low limit found t s within holds same =
 -- if `found` passes, the bits of `mask` above bit `found` % 60 stand for the numbers after `found` that pass and are in
 -- the same unit of 60
 left_after : (passes high : ℕ → Bool) (mask limit found : ℕ) → Splits passes high (is_bit mask) 60 limit → ((i : ℕ) → 60 ≤ i → is_bit mask i ≡ false) → found / 60 < limit
-    → passes found ≡ true → AreRemaining passes found (found + 1) (mask / 2 ^ (found % 60 + 1))
+    → passes found ≡ true → AreRemaining passes found (mask / 2 ^ (found % 60 + 1))
 left_after passes high mask limit found s last within holds = record {
-  begun = omega arith;
-  behind = λ i set. omega arith;
   unit = λ i set.
       let small = below_end (is_bit mask) 60 (found % 60 + 1 + i) last (sym (is_bit-shifted mask (found % 60 + 1) i) ∙ set) in
       omega arith;
@@ -90,36 +84,23 @@ left_after passes high mask limit found s last within holds = record {
       by_low passes high (is_bit mask) limit found t s within holds same ∙ rw place (sym (is_bit-shifted mask (found % 60 + 1) (t - (found + 1))));
 }
 
--- if no number after `found` passes, no bits remain: `AreRemaining` is true of the word 0
-left_none : (passes : ℕ → Bool) (found : ℕ) → ((t : ℕ) → found < t → passes t ≡ false) → AreRemaining passes found 0 0
-left_none passes found none = grind (arith, no_bit, is_bit-none)
-
-bit_passes : (passes : ℕ → Bool) (found from left bit : ℕ) → AreRemaining passes found from left → is_bit left bit ≡ true → passes (from + bit) ≡ true
-bit_passes passes found from left bit h set = grind arith
+bit_passes : (passes : ℕ → Bool) (found left bit : ℕ) → AreRemaining passes found left → is_bit left bit ≡ true → passes (found + 1 + bit) ≡ true
+bit_passes passes found left bit h set = grind arith
 
 -- the lowest set bit of `left` stands for the first number after `found` that passes
-next_in_minute : (passes : ℕ → Bool) (found from left bit end : ℕ) → AreRemaining passes found from left → IsFirstPassing (is_bit left) 0 64 (Some bit) → from + bit < end
-    → IsFirstPassing passes (found + 1) end (Some (from + bit))
-next_in_minute passes found from left bit end h lowest inside = grind (arith, bit_passes)
-
--- once `bit`, the lowest set bit of `left`, is cleared, the remaining bits stand for the passing numbers in the same
--- unit of 60 that are after the number of the cleared bit
-pub left_behind : (passes : ℕ → Bool) (found from left bit more : ℕ) → AreRemaining passes found from left → IsFirstPassing (is_bit left) 0 64 (Some bit) → is_bit more bit ≡ false
-    → ((i : ℕ) → i ≢ bit → is_bit more i ≡ is_bit left i) → AreRemaining passes (from + bit) from more
-left_behind passes found from left bit more h lowest cleared others = grind arith
+next_in_minute : (passes : ℕ → Bool) (found left bit end : ℕ) → AreRemaining passes found left → IsFirstPassing (is_bit left) 0 64 (Some bit) → found + 1 + bit < end
+    → IsFirstPassing passes (found + 1) end (Some (found + 1 + bit))
+next_in_minute passes found left bit end h lowest inside = grind (arith, bit_passes)
 
 -- The remaining bits of a minute.
 
-pub seconds_none : (m : Masks) (end : ℕ) → end ≡ seconds_in_all → AreRemaining (matches (sets_in m)) end 0 0
-seconds_none m end is = left_none _ end (λ t later. grind (arith, false_from_ne_true, match_inside))
-
-pub seconds_after : (m : Masks) (local : ℕ) → matches (sets_in m) local ≡ true → AreRemaining (matches (sets_in m)) local (local + 1) (m.seconds / 2 ^ (local % 60 + 1))
+pub seconds_after : (m : Masks) (local : ℕ) → matches (sets_in m) local ≡ true → AreRemaining (matches (sets_in m)) local (m.seconds / 2 ^ (local % 60 + 1))
 seconds_after m local holds =
     let count = seconds_in_all-is in
     left_after _ _ m.seconds 120_968_640 local (minutes_of_all m) m.last_second (omega (arith, match_inside (sets_in m) local holds)) holds
 
-pub left_inside : (m : Masks) (found from left bit : ℕ) → AreRemaining (matches (sets_in m)) found from left → IsFirstPassing (is_bit left) 0 64 (Some bit) → from + bit < seconds_in_all
-left_inside m found from left bit h lowest = match_inside (sets_in m) (from + bit) (bit_passes _ found from left bit h lowest.2)
+pub left_inside : (m : Masks) (found left bit : ℕ) → AreRemaining (matches (sets_in m)) found left → is_bit left bit ≡ true → found + 1 + bit < seconds_in_all
+left_inside m found left bit h set = match_inside (sets_in m) (found + 1 + bit) (bit_passes _ found left bit h set)
 
 -- a search after a match examines one month if it finds a match later on the same day
 search_on : (m : Masks) (found next : ℕ) → next / 86_400 ≡ found / 86_400 → IsFirstPassing (matches (sets_in m)) (found + 1) seconds_in_all (Some next)
@@ -138,11 +119,11 @@ search_on m found next day first =
       few = omega arith;
     }
 
-pub search_minute : (m : Masks) (found from left bit : ℕ) → AreRemaining (matches (sets_in m)) found from left → IsFirstPassing (is_bit left) 0 64 (Some bit)
-    → IsSearch (sets_in m) (found + 1) (record { local = Some (pos (from + bit)); months = 1 })
-search_minute m found from left bit h lowest =
+pub search_minute : (m : Masks) (found left bit : ℕ) → AreRemaining (matches (sets_in m)) found left → IsFirstPassing (is_bit left) 0 64 (Some bit)
+    → IsSearch (sets_in m) (found + 1) (record { local = Some (pos (found + 1 + bit)); months = 1 })
+search_minute m found left bit h lowest =
     let same = h.unit bit lowest.2 in
-    search_on m found (from + bit) (omega arith) (next_in_minute _ found from left bit seconds_in_all h lowest (left_inside m found from left bit h lowest))
+    search_on m found (found + 1 + bit) (omega arith) (next_in_minute _ found left bit seconds_in_all h lowest (left_inside m found left bit h lowest.2))
 
 -- The remaining bits of an hour.
 
@@ -157,111 +138,57 @@ minute_of_match m local holds =
     let within = match_inside (sets_in m) local holds in
     (and_parts _ _ (sym (split_at (minutes_of_all m) (local / 60) local (omega arith) refl) ∙ holds)).0
 
-pub minutes_none : (m : Masks) (end : ℕ) → end ≡ seconds_in_all → AreRemaining (minute_matches (sets_in m)) (end / 60) 0 0
-minutes_none m end is =
-    let count = seconds_in_all-is in
-    left_none _ (end / 60) (λ t later. false_from_ne_true _ (λ holds. let within = minute_inside (sets_in m) t holds in omega arith))
-
-pub minutes_after : (m : Masks) (local : ℕ) → matches (sets_in m) local ≡ true
-    → AreRemaining (minute_matches (sets_in m)) (local / 60) (local / 60 + 1) (m.minutes / 2 ^ (local / 60 % 60 + 1))
+pub minutes_after : (m : Masks) (local : ℕ) → matches (sets_in m) local ≡ true → AreRemaining (minute_matches (sets_in m)) (local / 60) (m.minutes / 2 ^ (local / 60 % 60 + 1))
 minutes_after m local holds =
     let count = seconds_in_all-is in
     left_after _ _ m.minutes 2_016_144 (local / 60) (hours_split m) m.last_minute (omega (arith, match_inside (sets_in m) local holds)) (minute_of_match m local holds)
 
-pub minutes_inside : (m : Masks) (found from minutes bit : ℕ) → AreRemaining (minute_matches (sets_in m)) (found / 60) from minutes → IsFirstPassing (is_bit minutes) 0 64 (Some bit)
-    → from + bit < 120_968_640
-minutes_inside m found from minutes bit h lowest = minute_inside (sets_in m) (from + bit) (bit_passes _ (found / 60) from minutes bit h lowest.2)
+pub minutes_inside : (m : Masks) (found minutes bit : ℕ) → AreRemaining (minute_matches (sets_in m)) (found / 60) minutes → is_bit minutes bit ≡ true → found / 60 + 1 + bit < 120_968_640
+minutes_inside m found minutes bit h set = minute_inside (sets_in m) (found / 60 + 1 + bit) (bit_passes _ (found / 60) minutes bit h set)
+
+-- if no bits of the minute of `found` remain, no number in this minute after `found` passes
+pub none_left : (passes : ℕ → Bool) (found t : ℕ) → AreRemaining passes found 0 → found < t → t / 60 ≡ found / 60 → passes t ≡ false
+none_left passes found t h later same = h.passing t later same ∙ is_bit-none (t - (found + 1))
 
 -- If no match is left in the minute of `found`, the lowest set bit of `minutes` stands for the minute of the next
 -- match, which is at the first matching second of that minute.
-pub next_in_hour : (m : Masks) (found from start minutes bit first : ℕ) → AreRemaining (matches (sets_in m)) found from 0
-    → AreRemaining (minute_matches (sets_in m)) (found / 60) start minutes → IsFirstPassing (is_bit minutes) 0 64 (Some bit) → IsFirstPassing (is_bit m.seconds) 0 64 (Some first)
-    → IsFirstPassing (matches (sets_in m)) (found + 1) seconds_in_all (Some ((start + bit) * 60 + first))
-next_in_hour m found from start minutes bit first h later lowest second =
+next_in_hour : (m : Masks) (found minutes bit first : ℕ) → AreRemaining (matches (sets_in m)) found 0 → AreRemaining (minute_matches (sets_in m)) (found / 60) minutes
+    → IsFirstPassing (is_bit minutes) 0 64 (Some bit) → IsFirstPassing (is_bit m.seconds) 0 64 (Some first)
+    → IsFirstPassing (matches (sets_in m)) (found + 1) seconds_in_all (Some ((found / 60 + 1 + bit) * 60 + first))
+next_in_hour m found minutes bit first h later lowest second =
     let count = seconds_in_all-is in
     let passes = matches (sets_in m) in
     let low = below_end (is_bit m.seconds) 60 first m.last_second second.2 in
-    let inside = minutes_inside m found start minutes bit later lowest in
-    let minute = next_in_minute _ (found / 60) start minutes bit 120_968_640 later lowest inside in
+    let inside = minutes_inside m found minutes bit later lowest.2 in
+    let minute = next_in_minute _ (found / 60) minutes bit 120_968_640 later lowest inside in
     let all : 120_968_640 * 60 ≡ seconds_in_all = omega arith in
     rw (← all)
-    (first_then passes (found + 1) ((found / 60 + 1) * 60) (120_968_640 * 60) (Some ((start + bit) * 60 + first))
-    (λ t above below. h.passing t (omega arith) (omega arith) ∙ is_bit-none (t - from)) (omega arith)
-    (first_later (minutes_of_all m) (found / 60 + 1) 120_968_640 (start + bit) 64 first inside low minute second))
+    (first_then passes (found + 1) ((found / 60 + 1) * 60) (120_968_640 * 60) (Some ((found / 60 + 1 + bit) * 60 + first))
+    (λ t above below. none_left passes found t h (omega arith) (omega arith)) (omega arith)
+    (first_later (minutes_of_all m) (found / 60 + 1) 120_968_640 (found / 60 + 1 + bit) 64 first inside low minute second))
 
 -- if no match is left in the minute of `found`, and its hour has a later minute with matches, a search finds the first
 -- match of the first such minute, and examines one month
-pub search_later : (m : Masks) (found from start minutes bit first : ℕ) → AreRemaining (matches (sets_in m)) found from 0
-    → AreRemaining (minute_matches (sets_in m)) (found / 60) start minutes → IsFirstPassing (is_bit minutes) 0 64 (Some bit) → IsFirstPassing (is_bit m.seconds) 0 64 (Some first)
-    → IsSearch (sets_in m) (found + 1) (record { local = Some (pos ((start + bit) * 60 + first)); months = 1 })
-search_later m found from start minutes bit first h later lowest second =
+pub search_later : (m : Masks) (found minutes bit first : ℕ) → AreRemaining (matches (sets_in m)) found 0 → AreRemaining (minute_matches (sets_in m)) (found / 60) minutes
+    → IsFirstPassing (is_bit minutes) 0 64 (Some bit) → IsFirstPassing (is_bit m.seconds) 0 64 (Some first)
+    → IsSearch (sets_in m) (found + 1) (record { local = Some (pos ((found / 60 + 1 + bit) * 60 + first)); months = 1 })
+search_later m found minutes bit first h later lowest second =
     let low = below_end (is_bit m.seconds) 60 first m.last_second second.2 in
     let same = later.unit bit lowest.2 in
-    search_on m found ((start + bit) * 60 + first) (omega arith) (next_in_hour m found from start minutes bit first h later lowest second)
+    search_on m found ((found / 60 + 1 + bit) * 60 + first) (omega arith) (next_in_hour m found minutes bit first h later lowest second)
 
--- When the first match of a later minute is found, the remaining bits of that minute are the bits of `m.seconds` above
--- the second of the match. The remaining bits of the hour are the old ones without the bit of that minute
--- (`minutes_later`).
-pub seconds_later : (m : Masks) (found from start minutes bit first : ℕ) → AreRemaining (matches (sets_in m)) found from 0
-    → AreRemaining (minute_matches (sets_in m)) (found / 60) start minutes → IsFirstPassing (is_bit minutes) 0 64 (Some bit) → IsFirstPassing (is_bit m.seconds) 0 64 (Some first)
-    → AreRemaining (matches (sets_in m)) ((start + bit) * 60 + first) ((start + bit) * 60 + first + 1) (m.seconds / 2 ^ (first + 1))
-seconds_later m found from start minutes bit first h later lowest second =
-    let low = below_end (is_bit m.seconds) 60 first m.last_second second.2 in
-    let same : ((start + bit) * 60 + first) % 60 ≡ first = omega arith in
-    rw same at (seconds_after m ((start + bit) * 60 + first) (next_in_hour m found from start minutes bit first h later lowest second).2)
+-- Counting the searches that find several matches of a day.
 
-pub minutes_later : (m : Masks) (found start minutes bit first more : ℕ) → AreRemaining (minute_matches (sets_in m)) (found / 60) start minutes → IsFirstPassing (is_bit minutes) 0 64 (Some bit)
-    → IsFirstPassing (is_bit m.seconds) 0 64 (Some first) → is_bit more bit ≡ false → ((i : ℕ) → i ≢ bit → is_bit more i ≡ is_bit minutes i)
-    → AreRemaining (minute_matches (sets_in m)) (((start + bit) * 60 + first) / 60) start more
-minutes_later m found start minutes bit first more later lowest second cleared others =
-    let low = below_end (is_bit m.seconds) 60 first m.last_second second.2 in
-    let same : ((start + bit) * 60 + first) / 60 ≡ start + bit = omega arith in
-    rw same (left_behind _ (found / 60) start minutes bit more later lowest cleared others)
-
--- Taking all remaining matches of a minute at once.
-
--- if no bits are left after the match found last, there is no later match in its minute
-pub none_left : (m : Masks) (found from left local : ℕ) → AreRemaining (matches (sets_in m)) found from left → left ≡ 0 → local ≡ found → NoneLeftInMinute (matches (sets_in m)) local
-none_left m found from left local h nothing same = grind (arith, is_bit-none)
-
--- A word without bits stands for the rest of a minute in which no match follows `local`, with `local` itself as the last
--- match.
-pub rest_none : (passes : ℕ → Bool) (local bits : ℕ) → AreRemaining passes local (local + 1) bits → bits ≡ 0 → passes local ≡ true
-    → IsRestOfMinute passes local bits local × NoneLeftInMinute passes local
-rest_none passes local bits h nothing holds = (grind (arith, is_bit-none), grind (arith, is_bit-none))
-
--- In this module, `bits` stands for the matches after `local` in its minute, and `top` is the highest set bit.
-module _ (passes : ℕ → Bool) (local bits top : ℕ) (h : AreRemaining passes local (local + 1) bits) (set : is_bit bits top ≡ true) (small : bits < 2 ^ (top + 1)) where
-  same_minute : (local + 1 + top) / 60 ≡ local / 60
-  same_minute = h.unit top set
-
-  bit_is : (t : ℕ) → local < t → t / 60 ≡ local / 60 → passes t ≡ is_bit bits (t - (local + 1))
-  bit_is t later same = h.passing t later same
-
-  -- the local second that the highest bit stands for is the last match of the minute
-  pub rest_some : IsRestOfMinute passes local bits (local + 1 + top)
-  rest_some =
-      let same = same_minute in
-      record {
-        begun = omega arith;
-        minute = same;
-        is_match = bit_passes passes local (local + 1) bits top h set;
-        within = λ i one. (let below = below_end (is_bit bits) (top + 1) i (λ j high. is_bit-above bits (top + 1) j small high) one in omega arith);
-        matching = λ t later early. bit_is t later (omega arith);
-      }
-
-  pub rest_whole : NoneLeftInMinute passes (local + 1 + top)
-  rest_whole = λ t later below.
-      let same = same_minute in
-      bit_is t (omega arith) (omega arith) ∙ is_bit-above bits (top + 1) (t - (local + 1)) small (omega arith)
-
-  pub rest_counted : count_from passes (local + 1) (local + 1 + top - local) ≡ count_ones bits
-  rest_counted =
-      let same = same_minute in
-      let length : local + 1 + top - local ≡ top + 1 = omega arith in
-      rw length
-      (count_from-ones passes (local + 1) (top + 1) bits small
-      (λ i below. (let place : local + 1 + i - (local + 1) ≡ i = omega arith in bit_is (local + 1 + i) (omega arith) (omega arith) ∙ ap (is_bit bits) place)))
+-- some result is the first of `n` numbers that passes, or none of them passes
+first_of : (passes : ℕ → Bool) (from n : ℕ) → (answer : Option ℕ) × IsFirstPassing passes from (from + n) answer
+first_of passes from zero = (None, λ t low high. absurd (omega arith))
+first_of passes from (suc n) = elim (cases_Bool (passes from)) [
+  | inl here ↦ (Some from, (omega arith, omega arith, here, λ t low high. absurd (omega arith)))
+  | inr fails ↦
+      let rest = first_of passes (suc from) n in
+      let ends : suc from + n ≡ from + suc n = omega arith in
+      (rest.0, first_then passes from (suc from) (from + suc n) rest.0 (λ t low high. (let same : t ≡ from = omega arith in ap passes same ∙ fails)) (omega arith) (rw ends at rest.1))
+]
 
 -- a search that finds a match on the day on which it starts examines one month
 one_by : (sets : Sets) (t last months : ℕ) (answer : Option ℕ) → matches sets last ≡ true → t < last → t / 86_400 ≡ last / 86_400
@@ -277,19 +204,26 @@ one_by sets t last months (Some next) holds later day first is =
     let examined = examined_today sets t (next % 86_400) (omega arith) here (omega arith) (omega arith) in
     is ∙ rw place at examined
 
--- If a search after the match `local` examines one month, and `last` is a later match on the same day, then each search
--- after a match from `local` up to but not including `last` examines one month.
+-- if `last` is a match later on the day of the match `local`, each search after a match from `local` up to but not
+-- including `last` examines one month
 pub most_of_day : (sets : Sets) (local last before : ℕ) → matches sets local ≡ true → matches sets last ≡ true → local < last → last / 86_400 ≡ local / 86_400
-    → IsExamined sets (local + 1) 1 → IsMostAfter sets local last before (max before 1)
-most_of_day sets local last before begins ends later day examined = record {
-  not_below = omega arith;
-  all = λ months one.
-      let low = one.low in
-      let high = one.high in
-      let few = one_by sets one.local last months one.examined.answer ends high (omega arith) one.examined.first one.examined.examined in
-      omega arith;
-  one = elim (max_is before 1) [
-    | inl same ↦ inl same.0
-    | inr more ↦ inr (record { local = local; low = omega arith; high = later; is_match = begins; examined = subst (IsExamined sets (local + 1)) (sym more.0) examined })
-  ];
-}
+    → IsMostAfter sets local last before (max before 1)
+most_of_day sets local last before begins ends later day =
+    let inside = match_inside sets local begins in
+    let length : local + 1 + (seconds_in_all - (local + 1)) ≡ seconds_in_all = omega arith in
+    let found = first_of (matches sets) (local + 1) (seconds_in_all - (local + 1)) in
+    let first = rw length at found.1 in
+    let examined : IsExamined sets (local + 1) 1
+    = record { answer = found.0; first = first; examined = sym (one_by sets local last _ found.0 ends later (sym day) first refl) } in
+    record {
+      not_below = omega arith;
+      all = λ months one.
+          let low = one.low in
+          let high = one.high in
+          let few = one_by sets one.local last months one.examined.answer ends high (omega arith) one.examined.first one.examined.examined in
+          omega arith;
+      one = elim (max_is before 1) [
+        | inl same ↦ inl same.0
+        | inr more ↦ inr (record { local = local; low = omega arith; high = later; is_match = begins; examined = subst (IsExamined sets (local + 1)) (sym more.0) examined })
+      ];
+    }

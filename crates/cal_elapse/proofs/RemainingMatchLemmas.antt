@@ -1,6 +1,6 @@
--- Converting several matches at once: all remaining matches of a minute, or of the later minutes of an hour, after one
--- of its matches has been converted.
-use Rattle.std.proofs.Common.{◌≡◌, ◌⊎◌, ◌↔◌, ◌+◌, ◌-◌, ◌*◌, ◌/◌, ◌<◌, ◌≤◌, ◌∙◌, Bool, true, false, not, ℕ, IsSomeAnd, List, MatchOption, None, Option, Some, ℤ, pos, ◌+ℤ◌, ◌-ℤ◌, ◌≤ℤ◌, ◌<ℤ◌, FitsSigned, arith, is_some, ap, inl, inr, of_z, refl, subst, sym, to_z, unsigned_abs, w64, slice_get}
+-- Converting several matches at once: those that follow a converted match in its minute, or in the later minutes of its
+-- hour.
+use Rattle.std.proofs.Common.{◌≡◌, ◌⊎◌, ◌↔◌, ◌+◌, ◌-◌, ◌*◌, ◌<◌, ◌≤◌, ◌∙◌, Bool, true, false, not, ℕ, IsSomeAnd, List, MatchOption, None, Option, Some, ℤ, pos, ◌+ℤ◌, ◌-ℤ◌, ◌≤ℤ◌, ◌<ℤ◌, FitsSigned, arith, is_some, ap, inl, inr, of_z, refl, subst, sym, to_z, unsigned_abs, w64, slice_get}
 use Rattle.std.proofs.lemmas.Bool.{both_ways}
 use Rattle.std.proofs.lemmas.Int.{ints, to_z-of_z}
 use Rattle.jiff.proofs.SpanFacts.{signed_arith}
@@ -14,29 +14,21 @@ use Rattle.cal_zone.proofs.PlaceLemmas.{within}
 use Rattle.cal_civil.specs.rules.LocalSecond.{seconds_in_all, seconds_in_all-is, IsLocalSecond}
 use Rattle.cal_zone.specs.computed.LocalOffsetRange.{AreAtOffset}
 use Rattle.cal_zone.specs.rules.Instant.{IsInstant}
-use Rattle.cal_elapse.specs.computed.Bits.{is_bit}
-use Rattle.cal_elapse.specs.computed.Ring.{IsInMinutes, IsNear, IsOneOf}
+use Rattle.cal_elapse.specs.computed.Ring.{IsInMinutes, IsNear}
 use Rattle.cal_elapse.specs.rules.Search.{count_from}
 use Rattle.cal_elapse.specs.rules.Elapses.{Timed}
-use Rattle.cal_elapse.specs.computed.RemainingMatches.{IsRestOfHour, IsRestOfMinute}
+use Rattle.cal_elapse.specs.computed.RemainingMatches.{AreNext}
 use Rattle.cal_elapse.specs.computed.Masks.{sets_in}
 use Rattle.cal_elapse.specs.rules.MostMonths.{IsMost, IsMostAfter}
 use Rattle.cal_elapse.specs.computed.Window.{AreConvertible, IsMatchAhead, IsPlacedTo, Windowed, start_of, timed_by, timed_of}
 use Rattle.cal_elapse.specs.declared.masks.Masks.{Masks}
 use Rattle.cal_elapse.specs.declared.search.searcher.Searcher.{Searcher}
 use Rattle.cal_elapse.specs.declared.window.Window.{Window}
-use Rattle.cal_civil.proofs.LocalLemmas.{local_inside, local_inside-pos}
+use Rattle.cal_civil.proofs.LocalLemmas.{local_inside-pos}
 use Rattle.cal_elapse.proofs.CountLemmas.{count_from-part}
 use Rattle.cal_elapse.proofs.MinuteLemmas.{match_inside}
 use Rattle.cal_elapse.proofs.MostMonthsLemmas.{most_more}
 use Rattle.cal_elapse.proofs.WindowLemmas.{IsPlacedFrom, timed_by-near, windowed_more}
-
--- the last second of a local second's minute is a local second too, and so is the last second of its hour
-pub minute_end : (local : ℕ) → local < seconds_in_all → local / 60 * 60 + 59 < seconds_in_all
-minute_end local inside = let count = seconds_in_all-is in omega arith
-
-pub hour_end : (local : ℕ) → local < seconds_in_all → local / 3_600 * 3_600 + 3_599 < seconds_in_all
-hour_end local inside = let count = seconds_in_all-is in omega arith
 
 -- a UTC offset is at most 93,599 seconds in either direction
 pub offset_near : (tz : TimeZone) (from to offset : ℤ) → AreAtOffset tz from to offset → IsLocalSecond from → from ≤ℤ to
@@ -62,141 +54,100 @@ pub some_least : (least first : Option ℤ) (b : Bool) → least ≡ first → i
 some_least None first b same test fails = absurd (both_ways false refl (test ∙ ap not fails))
 some_least (Some x) first b same test fails = (x, sym same)
 
--- The matches after `local` up to `last` can be converted together, because all matches up to `end` can (`AreConvertible`).
--- Their instants are exactly the numbers of which `new` holds.
-pub record AreNew (v : Window) (local last end : ℕ) (offset : ℤ) (new : ℤ → Type 0) : Type 0 where
-  pub convertible : AreConvertible v (pos local) (pos end) offset
+-- The matches after `local` up to `last` can be converted together (`AreConvertible`). Their instants are exactly the
+-- numbers of which `new` holds.
+pub record AreNew (v : Window) (local last : ℕ) (offset : ℤ) (new : ℤ → Type 0) : Type 0 where
+  pub convertible : AreConvertible v (pos local) (pos last) offset
   pub begun : local ≤ last
-  pub up : last ≤ end
-  pub inside : end < seconds_in_all
+  pub inside : last < seconds_in_all
   pub placed : (i : ℤ) → new i → IsPlacedFrom (timed_of v) (local + 1) (last + 1) i
   pub all : (i : ℤ) → IsPlacedFrom (timed_of v) (local + 1) (last + 1) i → new i
 
--- from `local` to `end`, the place of each local second `t` is `t` minus the offset
-place_there : (v : Window) (local t end : ℕ) (offset : ℤ) → AreConvertible v (pos local) (pos end) offset → local ≤ t → t ≤ end → end < seconds_in_all
+-- from `local` to `last`, the place of each local second `t` is `t` minus the offset
+place_there : (v : Window) (local t last : ℕ) (offset : ℤ) → AreConvertible v (pos local) (pos last) offset → local ≤ t → t ≤ last → last < seconds_in_all
     → (timed_of v).place t ≡ Some (pos t -ℤ offset)
 unfolding timed_by
-place_there v local t end offset c low high inside =
+place_there v local t last offset c low high inside =
     let count = seconds_in_all-is in
     c.constant (pos t) (omega (arith, ints), omega (arith, ints)) (omega (arith, ints)) (omega (arith, ints))
 
-pub new_offset : (v : Window) (local last end : ℕ) (offset : ℤ) (new : ℤ → Type 0) → AreNew v local last end offset new → (offset ≤ℤ pos 93_599) × (pos 0 ≤ℤ (offset +ℤ pos 93_599))
-new_offset v local last end offset new b =
+pub new_offset : (v : Window) (local last : ℕ) (offset : ℤ) (new : ℤ → Type 0) → AreNew v local last offset new → (offset ≤ℤ pos 93_599) × (pos 0 ≤ℤ (offset +ℤ pos 93_599))
+new_offset v local last offset new b =
     let count = seconds_in_all-is in
     let inside = b.inside in
     let begun = b.begun in
-    let up = b.up in
-    offset_near _ (pos local) (pos end) offset b.convertible.constant (omega (arith, ints), omega (arith, ints)) (omega (arith, ints))
+    offset_near _ (pos local) (pos last) offset b.convertible.constant (omega (arith, ints), omega (arith, ints)) (omega (arith, ints))
 
 -- `b` seconds after the instant of the local second `a` is the instant of `a` + `b`
 later_place : (a b : ℕ) (offset i : ℤ) → ((pos a -ℤ offset) +ℤ pos b) ≡ i → (pos (a + b) -ℤ offset) ≡ i
 later_place a b offset i is = omega (arith, signed_arith)
 
-place_later : (a b t : ℕ) (offset i : ℤ) → t ≡ a + b → (pos t -ℤ offset) ≡ i → ((pos a -ℤ offset) +ℤ pos b) ≡ i
+place_later : (a b t : ℕ) (offset i : ℤ) → pos a +ℤ pos b ≡ pos t → (pos t -ℤ offset) ≡ i → ((pos a -ℤ offset) +ℤ pos b) ≡ i
 place_later a b t offset i there is = omega (arith, signed_arith)
-
--- the remaining matches of a minute
-pub minute_new : (v : Window) (local bits last : ℕ) (offset : ℤ) → IsPlacedTo v (pos local) → AreConvertible v (pos local) (pos (local / 60 * 60 + 59)) offset
-    → IsRestOfMinute (matches (sets_in v.searcher.masks)) local bits last → AreNew v local last (local / 60 * 60 + 59) offset (IsOneOf (pos (local + 1) -ℤ offset) bits)
-unfolding timed_by
-minute_new v local bits last offset h c rest =
-    let inside = minute_end local (local_inside (pos local) h.found.0) in
-    let minute = rest.minute in
-    record {
-      convertible = c;
-      begun = rest.begun;
-      up = omega arith;
-      inside = inside;
-      placed = λ i one.
-          let t : ℕ = local + 1 + one.bit in
-          let high : t ≤ last = rest.within one.bit one.set in
-          let same : t - (local + 1) ≡ one.bit = omega arith in
-          record {
-            local = t;
-            from = omega arith;
-            below = omega arith;
-            is_match = rest.matching t (omega arith) high ∙ (ap (is_bit bits) same ∙ one.set);
-            placed = place_there v local t (local / 60 * 60 + 59) offset c (omega arith) (omega arith) inside ∙ ap Some (later_place (local + 1) one.bit offset i one.is);
-          };
-      all = λ i p.
-          let there : Some (pos p.local -ℤ offset) ≡ Some i = sym (place_there v local p.local (local / 60 * 60 + 59) offset c (omega (arith, p.from)) (omega (arith, p.below)) inside) ∙ p.placed in
-          let same : (pos p.local -ℤ offset) ≡ i = cc in
-          record {
-            bit = p.local - (local + 1);
-            set = sym (rest.matching p.local (omega (arith, p.from)) (omega (arith, p.below))) ∙ p.is_match;
-            is = place_later (local + 1) (p.local - (local + 1)) p.local offset i (omega (arith, p.from)) same;
-          };
-    }
 
 at_of : (a b : ℕ) → pos a +ℤ pos b ≡ pos (a + b)
 at_of a b = omega (arith, ints)
 
-of_at : (a b t : ℕ) → pos a +ℤ pos b ≡ pos t → t ≡ a + b
-of_at a b t is = omega (arith, ints)
-
--- the matches in the later minutes of an hour
-pub hour_new : (v : Window) (local start minutes seconds last : ℕ) (offset : ℤ) → IsPlacedTo v (pos local) → AreConvertible v (pos local) (pos (local / 3_600 * 3_600 + 3_599)) offset
-    → IsRestOfHour (matches (sets_in v.searcher.masks)) local start minutes seconds last
-    → AreNew v local last (local / 3_600 * 3_600 + 3_599) offset (IsInMinutes (pos start -ℤ offset) minutes seconds)
+-- the instants of the matches that follow `local` are as many minutes and seconds after the instant of `start` as these
+-- matches are after `start`
+pub next_new : (v : Window) (local start minutes seconds last : ℕ) (offset : ℤ) → AreConvertible v (pos local) (pos last) offset
+    → AreNext (matches (sets_in v.searcher.masks)) local start minutes seconds last → AreNew v local last offset (IsInMinutes (pos start -ℤ offset) minutes seconds)
 unfolding timed_by
-hour_new v local start minutes seconds last offset h c rest =
-    let inside = hour_end local (local_inside (pos local) h.found.0) in
-    let hour = rest.hour in
-    let begin = rest.start_is in
+next_new v local start minutes seconds last offset c next =
+    let inside = match_inside (sets_in v.searcher.masks) last next.is_match in
+    let later = next.later in
+    let some = next.some in
     record {
       convertible = c;
-      begun = rest.begun;
-      up = omega arith;
+      begun = omega arith;
       inside = inside;
       placed = λ i one.
           let behind : ℕ = one.minute * 60 + one.second in
-          let t : ℕ = start + behind in
-          let found = rest.found t (record { minute = one.minute; second = one.second; minute_set = one.minute_set; second_set = one.second_set; is = at_of start behind }) in
+          let found = next.found (start + behind) (record { minute = one.minute; second = one.second; minute_set = one.minute_set; second_set = one.second_set; is = at_of start behind }) in
           let high = found.0 in
           record {
-            local = t;
+            local = start + behind;
             from = omega arith;
             below = omega arith;
             is_match = found.1;
-            placed = place_there v local t (local / 3_600 * 3_600 + 3_599) offset c (omega arith) (omega arith) inside ∙ ap Some (later_place start behind offset i one.is);
+            placed = place_there v local (start + behind) last offset c (omega arith) high inside ∙ ap Some (later_place start behind offset i one.is);
           };
       all = λ i p.
-          let there : Some (pos p.local -ℤ offset) ≡ Some i = sym (place_there v local p.local (local / 3_600 * 3_600 + 3_599) offset c (omega (arith, p.from)) (omega (arith, p.below)) inside) ∙ p.placed in
+          let there : Some (pos p.local -ℤ offset) ≡ Some i = sym (place_there v local p.local last offset c (omega (arith, p.from)) (omega (arith, p.below)) inside) ∙ p.placed in
           let same : (pos p.local -ℤ offset) ≡ i = cc in
-          let one = rest.all p.local (omega (arith, p.from)) (omega (arith, p.below)) p.is_match in
+          let one = next.all p.local (omega (arith, p.from)) (omega (arith, p.below)) p.is_match in
           record {
             minute = one.minute;
             second = one.second;
             minute_set = one.minute_set;
             second_set = one.second_set;
-            is = place_later start (one.minute * 60 + one.second) p.local offset i (of_at start (one.minute * 60 + one.second) p.local one.is) same;
+            is = place_later start (one.minute * 60 + one.second) p.local offset i one.is same;
           };
     }
 
-near_both : (local end t s : ℕ) (member i : ℤ) → s < local + 1 → local + 1 ≤ t → t ≤ end → pos end ≤ℤ (member +ℤ pos 93_599) → member ≤ℤ (pos s +ℤ pos 93_599)
+near_both : (local last t s : ℕ) (member i : ℤ) → s < local + 1 → local + 1 ≤ t → t ≤ last → pos last ≤ℤ (member +ℤ pos 93_599) → member ≤ℤ (pos s +ℤ pos 93_599)
     → (pos t ≤ℤ (i +ℤ pos 93_599)) × (i ≤ℤ (pos t +ℤ pos 93_599)) → IsNear member i
-near_both local end t s member i early late up far old near = (omega (arith, ints, near), omega (arith, ints, near))
+near_both local last t s member i early late up far old near = (omega (arith, ints, near), omega (arith, ints, near))
 
-reaches : (end t : ℕ) (least i : ℤ) → t ≤ end → pos end ≤ℤ (least +ℤ pos 93_599) → least ≤ℤ i → pos t ≤ℤ (i +ℤ pos 93_599)
-reaches end t least i up near le = omega (arith, ints)
+reaches : (last t : ℕ) (least i : ℤ) → t ≤ last → pos last ≤ℤ (least +ℤ pos 93_599) → least ≤ℤ i → pos t ≤ℤ (i +ℤ pos 93_599)
+reaches last t least i up near le = omega (arith, ints)
 
 -- In this module, `least` is the smallest pending instant.
-module _ (v : Window) (local last end : ℕ) (offset least : ℤ) (new : ℤ → Type 0) (h : IsPlacedTo v (pos local)) (b : AreNew v local last end offset new)
+module _ (v : Window) (local last : ℕ) (offset least : ℤ) (new : ℤ → Type 0) (h : IsPlacedTo v (pos local)) (b : AreNew v local last offset new)
     (least_is : slice_get v.pending 0 ≡ Some least)
   where
     least_has : Has v.pending least
     least_has = subst (λ (ys : List ℤ). Has ys least) (sym (list-first v.pending least least_is)) (inl refl)
 
     pub least_low : least ≤ℤ (pos local -ℤ offset)
-    least_low = subst (λ (o : Option ℤ). MatchOption o ((pos end -ℤ offset) ≤ℤ v.last) (λ x. x ≤ℤ (pos local -ℤ offset))) least_is b.convertible.begun
+    least_low = subst (λ (o : Option ℤ). MatchOption o ((pos last -ℤ offset) ≤ℤ v.last) (λ x. x ≤ℤ (pos local -ℤ offset))) least_is b.convertible.begun
 
     new_above : (i : ℤ) → new i → (least <ℤ i) × (v.last <ℤ i)
     new_above i one =
         let p = b.placed i one in
-        let up = b.up in
         let inside = b.inside in
         let from = p.from in
-        let there : Some (pos p.local -ℤ offset) ≡ Some i = sym (place_there v local p.local end offset b.convertible (omega arith) (omega (arith, p.below)) inside) ∙ p.placed in
+        let there : Some (pos p.local -ℤ offset) ≡ Some i = sym (place_there v local p.local last offset b.convertible (omega arith) (omega (arith, p.below)) inside) ∙ p.placed in
         let same : (pos p.local -ℤ offset) ≡ i = cc in
         let low = least_low in
         let above = ((h.windowed.members least).0 least_has).0 in
@@ -209,7 +160,6 @@ module _ (v : Window) (local last end : ℕ) (offset least : ℤ) (new : ℤ →
         let near = (timed_by-near v.searcher.masks v.place_cache p.local i p.placed).1 in
         let below = p.below in
         let count = seconds_in_all-is in
-        let up = b.up in
         let inside = b.inside in
         let low = h.low in
         let base = h.above in
@@ -221,8 +171,7 @@ module _ (v : Window) (local last end : ℕ) (offset least : ℤ) (new : ℤ →
         let near = timed_by-near v.searcher.masks v.place_cache p.local i p.placed in
         let q = ((h.windowed.members member).0 m).1 in
         let old = timed_by-near v.searcher.masks v.place_cache q.local member q.placed in
-        let up = b.up in
-        near_both local end p.local q.local member i q.below p.from (omega (arith, p.below)) (b.convertible.near member m) old.1 near
+        near_both local last p.local q.local member i q.below p.from (omega (arith, p.below)) (b.convertible.near member m) old.1 near
 
     pub new_begun : (start : ℤ) → (pos local -ℤ offset) <ℤ start → IsSomeAnd (slice_get v.pending 0) (λ x. x <ℤ start)
     new_begun start later = let low = least_low in subst (λ (o : Option ℤ). IsSomeAnd o (λ x. x <ℤ start)) (sym least_is) (omega (arith, signed_arith))
@@ -235,7 +184,7 @@ passed_by t end last offset i at up early above = grind (arith, signed_arith)
 
 -- In this module, `v` is the window before the search for the matches up to `last`, and `searcher` is the searcher after
 -- it has found them.
-module _ (v : Window) (local : ℕ) (searcher : Searcher) (last end : ℕ) (offset : ℤ) (new : ℤ → Type 0) (h : IsPlacedTo v (pos local)) (b : AreNew v local last end offset new)
+module _ (v : Window) (local : ℕ) (searcher : Searcher) (last : ℕ) (offset : ℤ) (new : ℤ → Type 0) (h : IsPlacedTo v (pos local)) (b : AreNew v local last offset new)
     (masks : searcher.masks ≡ v.searcher.masks)
     (more : searcher.searches ≡ v.searcher.searches + count_from (matches (sets_in v.searcher.masks)) (local + 1) (last - local))
     (most : IsMostAfter (sets_in v.searcher.masks) local last v.searcher.most_months searcher.most_months)
@@ -270,13 +219,12 @@ module _ (v : Window) (local : ℕ) (searcher : Searcher) (last end : ℕ) (offs
     pub rest_passed : slice_get v.pending 0 ≡ None → IsPlacedTo (record v { searcher = searcher }) (pos last)
     rest_passed none =
         let begun = b.begun in
-        let up = b.up in
-        let early : (pos end -ℤ offset) ≤ℤ v.last = subst (λ (o : Option ℤ). MatchOption o ((pos end -ℤ offset) ≤ℤ v.last) (λ x. x ≤ℤ (pos local -ℤ offset))) none b.convertible.begun in
+        let early : (pos last -ℤ offset) ≤ℤ v.last = subst (λ (o : Option ℤ). MatchOption o ((pos last -ℤ offset) ≤ℤ v.last) (λ x. x ≤ℤ (pos local -ℤ offset))) none b.convertible.begun in
         let not_above = λ (i : ℤ) (above : v.last <ℤ i) (p : IsPlacedFrom (timed_of v) (local + 1) (last + 1) i).
         let below = p.below in
         let from = p.from in
-        let at = sym (place_there v local p.local end offset b.convertible (omega arith) (omega arith) b.inside) ∙ p.placed in
-        passed_by p.local end v.last offset i at (omega arith) early above in
+        let at = sym (place_there v local p.local last offset b.convertible (omega arith) (omega arith) b.inside) ∙ p.placed in
+        passed_by p.local last v.last offset i at (omega arith) early above in
         rest_placed v.pending
         (windowed_more (timed_of v) (start_of v.base) (local + 1) (last + 1) v.last v.pending v.pending (omega arith) h.windowed h.windowed.rises
         (λ i. (λ m. inl m, λ o. elim o [ inl m ↦ m | inr p ↦ absurd (not_above i p.0 p.1) ]))
@@ -287,8 +235,7 @@ module _ (v : Window) (local : ℕ) (searcher : Searcher) (last end : ℕ) (offs
         → ((i : ℤ) → Has pending i ↔ (Has v.pending i ⊎ new i)) → IsPlacedTo (record v { searcher = searcher; pending = pending }) (pos last)
     rest_put least pending least_is rises members =
         let begun = b.begun in
-        let up = b.up in
-        let above = new_above v local last end offset least new h b least_is in
+        let above = new_above v local last offset least new h b least_is in
         rest_placed pending
         (windowed_more (timed_of v) (start_of v.base) (local + 1) (last + 1) v.last v.pending pending (omega arith) h.windowed rises
         (λ i. (
@@ -296,8 +243,8 @@ module _ (v : Window) (local : ℕ) (searcher : Searcher) (last end : ℕ) (offs
           λ o. (members i).1 (elim o [ inl old ↦ inl old | inr p ↦ inr (b.all i p.1) ]),
         ))
         (λ i m t below. elim ((members i).0 m) [
-          | inl old ↦ reaches end t i i (omega arith) (b.convertible.near i old) (omega (arith, ints))
+          | inl old ↦ reaches last t i i (omega arith) (b.convertible.near i old) (omega (arith, ints))
           | inr one ↦
               (let later = (above i one).0 in
-              reaches end t least i (omega arith) (b.convertible.near least (least_has v local last end offset least new h b least_is)) (omega (arith, ints)))
+              reaches last t least i (omega arith) (b.convertible.near least (least_has v local last offset least new h b least_is)) (omega (arith, ints)))
         ]))

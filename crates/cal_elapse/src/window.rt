@@ -106,9 +106,9 @@ impl<'z> Window<'z> {
         self.ahead = ahead;
     }
 
-    /// Converts matches that follow `local` together, if `several` is true: those in its minute, and then those in its
-    /// hour, as far as `convert_minute` and `convert_hour` do. `local` is a match that has already been converted.
-    /// Returns the last match that has been converted, which can be `local`.
+    /// If `several` is true, converts matches that follow `local` together: those in its minute, and then those in its hour,
+    /// as far as `convert_next` does. `local` is a match that has already been converted. Returns the last match that has
+    /// been converted, which can be `local`.
     fn convert_following(&mut self, local: i64, several: bool) -> i64
         requires { IsPlacedTo self.old local }
         ensures placed { IsPlacedTo self.new result }
@@ -121,15 +121,15 @@ impl<'z> Window<'z> {
         if !several {
             return local;
         }
-        let placed = self.convert_minute(local);
-        self.convert_hour(placed)
+        let placed = self.convert_next(local);
+        self.convert_next(placed)
     }
 
-    /// Searches for all remaining matches in the minute of `local` and converts them together, if they are known and can
-    /// be converted together. `local` is a match that has already been converted. Returns the last match that has been
-    /// converted, which can be `local`.
+    /// Converts the matches that follow `local` in its minute or, if there are none, in its hour, if they can be converted
+    /// together. `local` is a match that has already been converted. Returns the last match that has been converted, which
+    /// can be `local`.
     #[tactic(auto, using(cal_civil::proofs::LocalLemmas::local_arith, crate::proofs::ReadyLemmas::few_searches, crate::proofs::ReadyLemmas::placed_is_match))]
-    fn convert_minute(&mut self, local: i64) -> i64
+    fn convert_next(&mut self, local: i64) -> i64
         requires { IsPlacedTo self.old local }
         ensures placed { IsPlacedTo self.new result }
         ensures on { local ≤ℤ result }
@@ -138,47 +138,24 @@ impl<'z> Window<'z> {
         ensures base { self.new.base ≡ self.old.base }
         ensures last { self.new.last ≡ self.old.last }
     {
-        if !self.searcher.has_more_in_minute(local) {
-            return local;
-        }
-        let Some(offset) = self.offset_to(local, minute_end(local)) else {
+        let Some(next) = self.searcher.next_matches(local) else {
             return local;
         };
-        let rest = self.searcher.search_minute(local);
+        let Some(offset) = self.offset_to(local, next.last) else {
+            return local;
+        };
+        self.searcher.count(local, &next);
         // If nothing is pending, none of these matches resolves to an instant after the one returned last.
         if self.pending.least().is_none() {
-            return rest.last;
+            return next.last;
         }
-        self.pending.put_bits(local + 1 - offset, rest.bits);
-        rest.last
-    }
-
-    /// Searches for all matches in the later minutes of the hour of `local` and converts them together, if they are known
-    /// and can be converted together. Does nothing if matches are left in the minute of `local`. `local` is a match that
-    /// has already been converted. Returns the last match that has been converted, which can be `local`.
-    #[tactic(auto, using(cal_civil::proofs::LocalLemmas::local_arith, crate::proofs::ReadyLemmas::few_searches, crate::proofs::ReadyLemmas::placed_is_match))]
-    fn convert_hour(&mut self, local: i64) -> i64
-        requires { IsPlacedTo self.old local }
-        ensures placed { IsPlacedTo self.new result }
-        ensures on { local ≤ℤ result }
-        ensures masks { self.new.searcher.masks ≡ self.old.searcher.masks }
-        ensures timed { timed_of self.new ≡ timed_of self.old }
-        ensures base { self.new.base ≡ self.old.base }
-        ensures last { self.new.last ≡ self.old.last }
-    {
-        if !self.searcher.has_more_in_hour(local) {
-            return local;
-        }
-        let Some(offset) = self.offset_to(local, hour_end(local)) else {
-            return local;
-        };
-        let rest = self.searcher.search_hour(local);
-        if self.pending.least().is_none() {
-            return rest.last;
-        }
-        let start = i64::from(rest.minute) * 60 - offset;
-        put_minutes(&mut self.pending, start, rest.minutes, rest.seconds);
-        rest.last
+        put_minutes(
+            &mut self.pending,
+            next.start - offset,
+            next.minutes,
+            next.seconds,
+        );
+        next.last
     }
 
     /// Returns the UTC offset from `local` to `end`, if all matches after `local` up to `end` can be converted together
@@ -255,22 +232,6 @@ fn start_of(base: Instant) -> i64
     ensures inside { result ≤ℤ pos seconds_in_all }
 {
     (base.secs() - MAX_OFFSET).max(0)
-}
-
-/// Returns the last local second of the minute of `local`.
-fn minute_end(local: i64) -> i64
-    requires { IsLocalSecond local }
-    ensures { result ≡ pos (unsigned_abs local / 60 * 60 + 59) }
-{
-    local / 60 * 60 + 59
-}
-
-/// Returns the last local second of the hour of `local`.
-fn hour_end(local: i64) -> i64
-    requires { IsLocalSecond local }
-    ensures { result ≡ pos (unsigned_abs local / 3_600 * 3_600 + 3_599) }
-{
-    local / 3_600 * 3_600 + 3_599
 }
 
 /// Returns whether the match `local` could resolve to an instant at or before `least`, the smallest pending instant,
