@@ -1,6 +1,6 @@
 -- Taking several matches at once: those that follow a match in its minute, or in the later minutes of its hour.
-use Rattle.std.proofs.Common.{◌≡◌, ◌∙◌, ℕ, zero, suc, ◌+◌, ◌-◌, ◌*◌, ◌/◌, ◌%◌, ◌^◌, ◌<◌, ◌≤◌, ◌&&◌, Bool, true, cond, count_ones, ap, arith, inl, inr, pos, refl, sym, ◌+ℤ◌}
-use Rattle.std.proofs.lemmas.Bool.{and_from, and_parts, cases_Bool, cases_lt}
+use Rattle.std.proofs.Common.{◌≡◌, ◌∙◌, ℕ, zero, suc, ◌+◌, ◌-◌, ◌*◌, ◌/◌, ◌%◌, ◌^◌, ◌<◌, ◌≤◌, ◌&&◌, Bool, true, Some, cond, count_ones, ap, arith, inl, inr, pos, refl, sym, ◌+ℤ◌}
+use Rattle.std.proofs.lemmas.Bool.{and_from, and_parts, cases_Bool, cases_lt, false_from_ne_true}
 use Rattle.std.proofs.lemmas.Int.{ints}
 use Rattle.cal_civil.specs.rules.LocalSecond.{seconds_in_all-is}
 use Rattle.cal_spec.specs.rules.Match.{matches}
@@ -8,11 +8,12 @@ use Rattle.cal_elapse.specs.computed.Bits.{is_bit}
 use Rattle.cal_elapse.specs.computed.Masks.{sets_in}
 use Rattle.cal_elapse.specs.computed.RemainingMatches.{AreNext, AreRemaining, minute_matches}
 use Rattle.cal_elapse.specs.computed.Ring.{IsInMinutes}
-use Rattle.cal_elapse.specs.rules.Search.{NonePasses, count_from}
+use Rattle.cal_elapse.specs.rules.ExaminedMonths.{IsSearch}
+use Rattle.cal_elapse.specs.rules.Search.{IsFirstPassing, NonePasses, count_from}
 use Rattle.cal_elapse.specs.declared.masks.Masks.{Masks}
 use Rattle.cal_elapse.proofs.BitLemmas.{is_bit-above}
 use Rattle.cal_elapse.proofs.CountLemmas.{count_from-begun, count_from-both, count_from-next, count_from-none, count_from-nothing, count_from-one, count_from-ones}
-use Rattle.cal_elapse.proofs.MinuteLemmas.{match_inside, minutes_of_all, none_left}
+use Rattle.cal_elapse.proofs.MinuteLemmas.{match_inside, minutes_of_all, none_left, search_on}
 use Rattle.cal_bytes.proofs.General.{below_end}
 
 -- `minute` and `second` are the highest set bits of `minutes` and `seconds`, and `last` is the local second that is
@@ -183,3 +184,25 @@ module _ (passes : ℕ → Bool) (local start minutes seconds minute second last
         all = all_by;
         counted = all_counted;
       }
+
+-- a search after `local` finds the first of the next matches, which is at the lowest set bits, and examines one month
+pub search_next : (m : Masks) (local start minutes seconds last minute second : ℕ) → AreNext (matches (sets_in m)) local start minutes seconds last → IsFirstPassing (is_bit minutes) 0 64 (Some minute)
+    → IsFirstPassing (is_bit seconds) 0 64 (Some second) → IsSearch (sets_in m) (local + 1) (record { local = Some (pos (start + (minute * 60 + second))); months = 1 })
+search_next m local start minutes seconds last minute second next minute_first second_first =
+    let passes = matches (sets_in m) in
+    let t : ℕ = start + (minute * 60 + second) in
+    let found = next.found t (record { minute = minute; second = second; minute_set = minute_first.2; second_set = second_first.2; is = of_at start (minute * 60 + second) t refl }) in
+    let early = found.0 in
+    let later = next.later in
+    let hour = next.hour in
+    search_on m local t (omega arith) (
+      omega arith,
+      match_inside (sets_in m) t found.1,
+      found.1,
+      λ u above below. false_from_ne_true _ (λ holds.
+          let one = next.all u (omega arith) (omega arith) holds in
+          let place = at_of start (one.minute * 60 + one.second) u one.is in
+          let no_minute : one.minute < minute → ⊥ = λ low. (let clear = minute_first.3 one.minute (omega arith) low in let set = one.minute_set in cc) in
+          let no_second : one.second < second → ⊥ = λ low. (let clear = second_first.3 one.second (omega arith) low in let set = one.second_set in cc) in
+          omega arith),
+    )

@@ -13,7 +13,7 @@ use Rattle.cal_elapse.specs.rules.Months.{day_in, minute_in}
 use Rattle.cal_elapse.specs.rules.Search.{IsFirstPassing}
 use Rattle.cal_elapse.specs.declared.masks.Masks.{Masks}
 use Rattle.cal_elapse.proofs.BitLemmas.{is_bit-none, is_bit-shifted}
-use Rattle.cal_elapse.proofs.CarryLemmas.{Splits, first_later, first_then, split_at}
+use Rattle.cal_elapse.proofs.CarryLemmas.{Splits, first_then, split_at}
 use Rattle.cal_elapse.proofs.FoundLemmas.{first_local}
 use Rattle.cal_elapse.proofs.MostMonthsLemmas.{max_is}
 use Rattle.cal_elapse.proofs.ExaminedMonthLemmas.{examined_today}
@@ -87,11 +87,6 @@ left_after passes high mask limit found s last within holds = record {
 bit_passes : (passes : ℕ → Bool) (found left bit : ℕ) → AreRemaining passes found left → is_bit left bit ≡ true → passes (found + 1 + bit) ≡ true
 bit_passes passes found left bit h set = grind arith
 
--- the lowest set bit of `left` stands for the first number after `found` that passes
-next_in_minute : (passes : ℕ → Bool) (found left bit end : ℕ) → AreRemaining passes found left → IsFirstPassing (is_bit left) 0 64 (Some bit) → found + 1 + bit < end
-    → IsFirstPassing passes (found + 1) end (Some (found + 1 + bit))
-next_in_minute passes found left bit end h lowest inside = grind (arith, bit_passes)
-
 -- The remaining bits of a minute.
 
 pub seconds_after : (m : Masks) (local : ℕ) → matches (sets_in m) local ≡ true → AreRemaining (matches (sets_in m)) local (m.seconds / 2 ^ (local % 60 + 1))
@@ -99,11 +94,8 @@ seconds_after m local holds =
     let count = seconds_in_all-is in
     left_after _ _ m.seconds 120_968_640 local (minutes_of_all m) m.last_second (omega (arith, match_inside (sets_in m) local holds)) holds
 
-pub left_inside : (m : Masks) (found left bit : ℕ) → AreRemaining (matches (sets_in m)) found left → is_bit left bit ≡ true → found + 1 + bit < seconds_in_all
-left_inside m found left bit h set = match_inside (sets_in m) (found + 1 + bit) (bit_passes _ found left bit h set)
-
 -- a search after a match examines one month if it finds a match later on the same day
-search_on : (m : Masks) (found next : ℕ) → next / 86_400 ≡ found / 86_400 → IsFirstPassing (matches (sets_in m)) (found + 1) seconds_in_all (Some next)
+pub search_on : (m : Masks) (found next : ℕ) → next / 86_400 ≡ found / 86_400 → IsFirstPassing (matches (sets_in m)) (found + 1) seconds_in_all (Some next)
     → IsSearch (sets_in m) (found + 1) (record { local = Some (pos next); months = 1 })
 search_on m found next day first =
     let count = seconds_in_all-is in
@@ -118,12 +110,6 @@ search_on m found next day first =
       counted = sym (rw parts at examined);
       few = omega arith;
     }
-
-pub search_minute : (m : Masks) (found left bit : ℕ) → AreRemaining (matches (sets_in m)) found left → IsFirstPassing (is_bit left) 0 64 (Some bit)
-    → IsSearch (sets_in m) (found + 1) (record { local = Some (pos (found + 1 + bit)); months = 1 })
-search_minute m found left bit h lowest =
-    let same = h.unit bit lowest.2 in
-    search_on m found (found + 1 + bit) (omega arith) (next_in_minute _ found left bit seconds_in_all h lowest (left_inside m found left bit h lowest.2))
 
 -- The remaining bits of an hour.
 
@@ -143,39 +129,9 @@ minutes_after m local holds =
     let count = seconds_in_all-is in
     left_after _ _ m.minutes 2_016_144 (local / 60) (hours_split m) m.last_minute (omega (arith, match_inside (sets_in m) local holds)) (minute_of_match m local holds)
 
-pub minutes_inside : (m : Masks) (found minutes bit : ℕ) → AreRemaining (minute_matches (sets_in m)) (found / 60) minutes → is_bit minutes bit ≡ true → found / 60 + 1 + bit < 120_968_640
-minutes_inside m found minutes bit h set = minute_inside (sets_in m) (found / 60 + 1 + bit) (bit_passes _ (found / 60) minutes bit h set)
-
 -- if no bits of the minute of `found` remain, no number in this minute after `found` passes
 pub none_left : (passes : ℕ → Bool) (found t : ℕ) → AreRemaining passes found 0 → found < t → t / 60 ≡ found / 60 → passes t ≡ false
 none_left passes found t h later same = h.passing t later same ∙ is_bit-none (t - (found + 1))
-
--- If no match is left in the minute of `found`, the lowest set bit of `minutes` stands for the minute of the next
--- match, which is at the first matching second of that minute.
-next_in_hour : (m : Masks) (found minutes bit first : ℕ) → AreRemaining (matches (sets_in m)) found 0 → AreRemaining (minute_matches (sets_in m)) (found / 60) minutes
-    → IsFirstPassing (is_bit minutes) 0 64 (Some bit) → IsFirstPassing (is_bit m.seconds) 0 64 (Some first)
-    → IsFirstPassing (matches (sets_in m)) (found + 1) seconds_in_all (Some ((found / 60 + 1 + bit) * 60 + first))
-next_in_hour m found minutes bit first h later lowest second =
-    let count = seconds_in_all-is in
-    let passes = matches (sets_in m) in
-    let low = below_end (is_bit m.seconds) 60 first m.last_second second.2 in
-    let inside = minutes_inside m found minutes bit later lowest.2 in
-    let minute = next_in_minute _ (found / 60) minutes bit 120_968_640 later lowest inside in
-    let all : 120_968_640 * 60 ≡ seconds_in_all = omega arith in
-    rw (← all)
-    (first_then passes (found + 1) ((found / 60 + 1) * 60) (120_968_640 * 60) (Some ((found / 60 + 1 + bit) * 60 + first))
-    (λ t above below. none_left passes found t h (omega arith) (omega arith)) (omega arith)
-    (first_later (minutes_of_all m) (found / 60 + 1) 120_968_640 (found / 60 + 1 + bit) 64 first inside low minute second))
-
--- if no match is left in the minute of `found`, and its hour has a later minute with matches, a search finds the first
--- match of the first such minute, and examines one month
-pub search_later : (m : Masks) (found minutes bit first : ℕ) → AreRemaining (matches (sets_in m)) found 0 → AreRemaining (minute_matches (sets_in m)) (found / 60) minutes
-    → IsFirstPassing (is_bit minutes) 0 64 (Some bit) → IsFirstPassing (is_bit m.seconds) 0 64 (Some first)
-    → IsSearch (sets_in m) (found + 1) (record { local = Some (pos ((found / 60 + 1 + bit) * 60 + first)); months = 1 })
-search_later m found minutes bit first h later lowest second =
-    let low = below_end (is_bit m.seconds) 60 first m.last_second second.2 in
-    let same = later.unit bit lowest.2 in
-    search_on m found ((found / 60 + 1 + bit) * 60 + first) (omega arith) (next_in_hour m found minutes bit first h later lowest second)
 
 -- Counting the searches that find several matches of a day.
 

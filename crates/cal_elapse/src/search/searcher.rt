@@ -39,6 +39,8 @@ pub struct NextMatches {
     /// The last of these matches.
     pub last: i64,
     ghost start_low: { pos 0 ≤ℤ start },
+    ghost some_minute: { 0 < minutes },
+    ghost some_second: { 0 < seconds },
     ghost last_in: { IsLocalSecond last },
 }
 
@@ -114,6 +116,7 @@ impl Searcher {
 
     /// Returns the later matches in the minute of `local`, which must itself match. If there are none, returns the matches
     /// in the later minutes of its hour, or `None` if there are none either.
+    #[inline(always)]
     #[tactic(auto, using(cal_civil::proofs::LocalLemmas::local_arith))]
     pub fn next_matches(&self, local: i64) -> Option<NextMatches>
         requires inside { IsLocalSecond local }
@@ -184,8 +187,8 @@ impl Searcher {
         self.masks.minutes >> (minute_of(local) % 60 + 1)
     }
 
-    /// Finds the next match after `local`, which must itself match. A match in the same minute or hour is in the same month,
-    /// so one month counts as examined then.
+    /// Finds the next match after `local`, which must itself match. If it is in the hour of `local`, one month counts as
+    /// examined: that of `local`.
     #[inline(always)]
     #[tactic(auto, using(cal_civil::proofs::LocalLemmas::local_arith))]
     fn find_after(&self, local: i64) -> Found
@@ -193,22 +196,14 @@ impl Searcher {
         requires is_match { matches (sets_in self.now.masks) (unsigned_abs local) ≡ true }
         ensures { IsSearch (sets_in self.now.masks) (unsigned_abs local + 1) result }
     {
-        let seconds = self.rest_of_minute(local);
-        if seconds != 0 {
-            return Found {
-                local: Some(local + 1 + i64::from(lowest_bit(seconds))),
-                months: 1,
-            };
+        let Some(next) = self.next_matches(local) else {
+            return next_after(&self.masks, local);
+        };
+        let first = lowest_bit(next.minutes) * 60 + lowest_bit(next.seconds);
+        Found {
+            local: Some(next.start + i64::from(first)),
+            months: 1,
         }
-        let minutes = self.rest_of_hour(local);
-        if minutes != 0 {
-            let minute = minute_of(local) + 1 + lowest_bit(minutes);
-            return Found {
-                local: Some(local_in(minute, lowest_bit(self.masks.seconds))),
-                months: 1,
-            };
-        }
-        next_after(&self.masks, local)
     }
 }
 

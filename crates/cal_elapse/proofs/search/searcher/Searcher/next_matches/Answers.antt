@@ -1,4 +1,4 @@
-use Rattle.std.proofs.Common.{◌≡◌, ◌+◌, ◌*◌, ◌/◌, ◌+ℤ◌, ◌*ℤ◌, arith, of_z, pos, rules, to_z, unsigned_abs, w64}
+use Rattle.std.proofs.Common.{◌≡◌, ◌+◌, ◌*◌, ◌/◌, ◌+ℤ◌, ◌*ℤ◌, arith, of_z, pos, to_z, unsigned_abs, w64}
 use Rattle.std.proofs.lemmas.Int.{to_z-of_z}
 use Rattle.cal_civil.proofs.LocalLemmas.{local_arith, local_inside-pos}
 use Rattle.cal_spec.specs.rules.Match.{matches}
@@ -24,10 +24,10 @@ last_is : (c : After-from) → to_z w64 (of_z w64 (to_z w64 (of_z w64 (to_z w64 
     ≡ pos (unsigned_abs c.args.local + 1 + c.highest_bit.result)
 last_is c = let inside = c.requires.inside in grind (arith, local_arith)
 
-pub invariant_of-result : goal.invariant_of-result
-invariant_of-result c =
-    let at = (goal.at.invariant_of-result c).After-from in
-    rw (last_is at, start_is at) (record { start_low = search rules; last_in = local_inside-pos _ (match_inside _ _ (here at).is_match) })
+pub invariant_of-result-clause-last_in : goal.invariant_of-result-clause-last_in
+invariant_of-result-clause-last_in c =
+    let at = (goal.at.invariant_of-result-clause-last_in c).After-from in
+    rw (last_is at) (local_inside-pos _ (match_inside _ _ (here at).is_match))
 
 pub returns-then-seconds-ne0 : goal.returns-then-seconds-ne0
 returns-then-seconds-ne0 c = let at = (goal.at.returns-then-seconds-ne0 c).After-from in rw (last_is at, start_is at) (here at)
@@ -51,10 +51,10 @@ first_is c = let minute = minute_is c in let inside = c.requires.inside in grind
 end_is : (c : After-local_in) → to_z w64 (of_z w64 c.local_in.result) ≡ pos ((unsigned_abs c.args.local / 60 + 1 + c.highest_bit-2.result) * 60 + c.highest_bit-3.result)
 end_is c = let minute = minute_is c in grind (arith, local_arith)
 
-pub invariant_of-result-2 : goal.invariant_of-result-2
-invariant_of-result-2 c =
-    let at = (goal.at.invariant_of-result-2 c).After-local_in in
-    rw (end_is at, first_is at) (record { start_low = search rules; last_in = local_inside-pos _ (match_inside _ _ (there at).is_match) })
+pub invariant_of-result-2-clause-last_in : goal.invariant_of-result-2-clause-last_in
+invariant_of-result-2-clause-last_in c =
+    let at = (goal.at.invariant_of-result-2-clause-last_in c).After-local_in in
+    rw (end_is at) (local_inside-pos _ (match_inside _ _ (there at).is_match))
 
 pub returns : goal.returns
 returns c = let at = (goal.at.returns c).After-local_in in rw (end_is at, first_is at) (there at)
