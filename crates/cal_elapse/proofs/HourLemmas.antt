@@ -195,7 +195,7 @@ search_next m local start minutes seconds last minute second next minute_first s
     let early = found.0 in
     let later = next.later in
     let hour = next.hour in
-    search_on m local t (omega arith) (
+    search_on (sets_in m) local t (omega arith) (
       omega arith,
       match_inside (sets_in m) t found.1,
       found.1,

@@ -84,9 +84,6 @@ left_after passes high mask limit found s last within holds = record {
       by_low passes high (is_bit mask) limit found t s within holds same ∙ rw place (sym (is_bit-shifted mask (found % 60 + 1) (t - (found + 1))));
 }
 
-bit_passes : (passes : ℕ → Bool) (found left bit : ℕ) → AreRemaining passes found left → is_bit left bit ≡ true → passes (found + 1 + bit) ≡ true
-bit_passes passes found left bit h set = grind arith
-
 -- The remaining bits of a minute.
 
 pub seconds_after : (m : Masks) (local : ℕ) → matches (sets_in m) local ≡ true → AreRemaining (matches (sets_in m)) local (m.seconds / 2 ^ (local % 60 + 1))
@@ -94,28 +91,7 @@ seconds_after m local holds =
     let count = seconds_in_all-is in
     left_after _ _ m.seconds 120_968_640 local (minutes_of_all m) m.last_second (omega (arith, match_inside (sets_in m) local holds)) holds
 
--- a search after a match examines one month if it finds a match later on the same day
-pub search_on : (m : Masks) (found next : ℕ) → next / 86_400 ≡ found / 86_400 → IsFirstPassing (matches (sets_in m)) (found + 1) seconds_in_all (Some next)
-    → IsSearch (sets_in m) (found + 1) (record { local = Some (pos next); months = 1 })
-search_on m found next day first =
-    let count = seconds_in_all-is in
-    let sets = sets_in m in
-    let later = first.0 in
-    let within = first.1 in
-    let parts : found / 86_400 * 86_400 + next % 86_400 ≡ next = omega arith in
-    let here : day_in sets (found / 86_400) ≡ true = subst (λ (d : ℕ). day_in sets d ≡ true) day (day_of_match sets next first.2).0 in
-    let examined = examined_today sets found (next % 86_400) (omega arith) here (omega arith) (omega arith) in
-    record {
-      first = first_local (matches sets) (found + 1) next first;
-      counted = sym (rw parts at examined);
-      few = omega arith;
-    }
-
 -- The remaining bits of an hour.
-
-minute_inside : (sets : Sets) (minute : ℕ) → minute_matches sets minute ≡ true → minute < 120_968_640
-unfolding minute_matches
-minute_inside sets minute holds = ltb-true minute 120_968_640 (and_parts _ _ holds).0
 
 -- if a local second matches, its minute passes the test `minute_matches`
 minute_of_match : (m : Masks) (local : ℕ) → matches (sets_in m) local ≡ true → minute_matches (sets_in m) (local / 60) ≡ true
@@ -159,6 +135,15 @@ one_by sets t last months (Some next) holds later day first is =
     let here : day_in sets (t / 86_400) ≡ true = subst (λ (d : ℕ). day_in sets d ≡ true) (sym day) (day_of_match sets last holds).0 in
     let examined = examined_today sets t (next % 86_400) (omega arith) here (omega arith) (omega arith) in
     is ∙ rw place at examined
+
+-- a search that finds a match later on the day on which it starts examines one month
+pub search_on : (sets : Sets) (t next : ℕ) → next / 86_400 ≡ t / 86_400 → IsFirstPassing (matches sets) (t + 1) seconds_in_all (Some next)
+    → IsSearch sets (t + 1) (record { local = Some (pos next); months = 1 })
+search_on sets t next day first = record {
+  first = first_local (matches sets) (t + 1) next first;
+  counted = sym (one_by sets t next _ (Some next) first.2 (omega (arith, first.0)) (sym day) first refl);
+  few = omega arith;
+}
 
 -- if `last` is a match later on the day of the match `local`, each search after a match from `local` up to but not
 -- including `last` examines one month

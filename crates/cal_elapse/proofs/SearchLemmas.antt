@@ -7,8 +7,6 @@ use Rattle.cal_civil.specs.rules.LocalSecond.{civil_date, seconds_in_all, second
 use Rattle.cal_spec.specs.rules.Match.{Sets, date_in, time_in, matches}
 use Rattle.cal_elapse.proofs.CarryLemmas.{Splits, first_here, first_later, first_then, first_within, none_by_high, none_by_low, none_later, split_at}
 use Rattle.cal_elapse.proofs.FoundLemmas.{first_local}
-use Rattle.cal_elapse.proofs.ExaminedMonthLemmas.{examined_today}
-use Rattle.cal_elapse.specs.rules.ExaminedMonths.{IsSearch}
 use Rattle.cal_elapse.specs.rules.Months.{day_in}
 use Rattle.cal_elapse.specs.computed.SearchSteps.{day_to_start, second_on}
 use Rattle.cal_elapse.specs.rules.Search.{IsFirstLocal, IsFirstPassing, NonePasses}
@@ -103,18 +101,3 @@ later_today sets t second below holds found =
     let both = sym (split_at (locals_split sets) (t / 86_400) t day refl) ∙ holds in
     first_within (matches sets) (t + 1) ((t / 86_400 + 1) * 86_400) seconds_in_all (t / 86_400 * 86_400 + second) (omega arith)
     (first_here (locals_split sets) (t / 86_400) (t % 86_400 + 1) (t + 1) 86_400 second (omega arith) day (and_parts _ _ both).0 found.1 found)
-
--- if `t` is a match, and `second` is the first matching time of day after the time of `t`, then a search after `t`
--- finds the match at `second` on the same day, and examines one month
-pub search_today : (sets : Sets) (t second : ℕ) (found : ℤ) → t < seconds_in_all → matches sets t ≡ true → IsFirstPassing (time_in sets) (t % 86_400 + 1) 86_400 (Some second)
-    → found ≡ pos (t / 86_400 * 86_400 + second) → IsSearch sets (t + 1) (record { local = Some found; months = 1 })
-search_today sets t second found below holds time same =
-    let count = seconds_in_all-is in
-    let day : t / 86_400 < 84_006 = omega arith in
-    let both = sym (split_at (locals_split sets) (t / 86_400) t day refl) ∙ holds in
-    let small = time.1 in
-    record {
-      first = rw same (first_local (matches sets) (t + 1) (t / 86_400 * 86_400 + second) (later_today sets t second below holds time));
-      counted = rw same (sym (examined_today sets t second day (and_parts _ _ both).0 time.0 small));
-      few = omega arith;
-    }
