@@ -95,8 +95,8 @@ one_bit b (suc zero) low is =
     rw is (omega (arith, ones_le_self 1))
 one_bit b (suc (suc x)) low is = absurd (omega arith)
 
--- if bit `i` of `word` says whether the number `a` + `i` passes, and all set bits are below bit `n`, then as many of the
--- `n` numbers from `a` on pass as `word` has set bits
+-- if bit `i` of `word` says whether the number `a` + `i` passes, and all set bits are below bit `n`, then as many of
+-- the `n` numbers from `a` on pass as `word` has set bits
 pub count_from-ones : (passes : ℕ → Bool) (a n word : ℕ) → word < 2 ^ n → ((i : ℕ) → i < n → passes (a + i) ≡ is_bit word i) → count_from passes a n ≡ count_ones word
 unfolding count_from is_bit
 count_from-ones passes a zero word small bits = let none : word ≡ 0 = omega arith in omega (arith, ones_le_self word)

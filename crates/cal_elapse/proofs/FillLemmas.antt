@@ -224,12 +224,14 @@ filled_answer old new least second bits start members all round fits view is i =
 
 -- Adding the instants of several minutes, one minute after another.
 
--- `i` is in one of the minutes for which `minutes` has a bit, and `left` doesn't have the bit of that minute
+-- `i` is one of the instants to add (`IsInMinutes`), and its minute has been added: the bit of this minute isn't set in
+-- `left`
 pub record IsPut (start : ℤ) (minutes left seconds : ℕ) (i : ℤ) : Type 0 where
   pub one : IsInMinutes start minutes seconds i
   pub taken : is_bit left one.minute ≡ false
 
--- the bits of `left` are among those of `minutes`, and `now` consists of `old` and of the instants in the other minutes
+-- The set bits of `left` stand for the minutes that have yet to be added, and are set in `minutes` too. `now` consists
+-- of `old` and the instants of the minutes that have been added. The smallest element is that of `old`.
 pub record ArePut (old now : List ℤ) (start : ℤ) (minutes left seconds : ℕ) : Type 0 where
   pub kept : (a : ℕ) → is_bit left a ≡ true → is_bit minutes a ≡ true
   pub first : slice_get now 0 ≡ slice_get old 0
@@ -260,7 +262,8 @@ sum_minute start at a b s i at_is same is = omega (arith, ints)
 near_minutes : (start : ℤ) (x y : ℕ) (i j : ℤ) → x < 3_904 → y < 3_904 → (start +ℤ pos x) ≡ i → (start +ℤ pos y) ≡ j → IsNear i j
 near_minutes start x y i j low high is_i is_j = (omega (arith, ints), omega (arith, ints))
 
--- In this module, the instants of the minute of bit `a` are added next. The instant at which this minute begins is `at`.
+-- In this module, the instants of the minute of bit `a` are added next. The instant at which this minute begins is
+-- `at`.
 module _ (old now : List ℤ) (start at : ℤ) (minutes left seconds a : ℕ) (h : ArePut old now start minutes left seconds) (set : is_bit left a ≡ true)
     (at_is : at ≡ (start +ℤ pos (a * 60)))
   where

@@ -16,9 +16,10 @@ use Rattle.cal_elapse.proofs.CountLemmas.{count_from-begun, count_from-both, cou
 use Rattle.cal_elapse.proofs.MinuteLemmas.{match_inside, minutes_of_all, none_left, search_on}
 use Rattle.cal_bytes.proofs.General.{below_end}
 
--- `minute` and `second` are the highest set bits of `minutes` and `seconds`, and `last` is the local second that is
--- `minute` minutes and `second` seconds after `start`. A local second from `start` up to `last` passes if and only if the
--- bits of its minute and of its second, counted from `start`, are set.
+-- No local second between `local` and `start` passes. `minute` and `second` are the highest set bits of `minutes` and
+-- `seconds`, and `last` is `minute` minutes and `second` seconds after `start`, in the hour of `local`. Up to `last`,
+-- the local second that is a minutes and s seconds after `start`, where s is below 60, passes if and only if bit a of
+-- `minutes` and bit s of `seconds` are set.
 pub record AreInHour (passes : ℕ → Bool) (local start minutes seconds minute second last : ℕ) : Type 0 where
   pub later : local < start
   pub none : NonePasses passes (local + 1) start
@@ -35,7 +36,7 @@ first_set : is_bit 1 0 ≡ true
 unfolding is_bit
 first_set = refl
 
--- the later matches in the minute of `local`
+-- the later matches in the minute of `local`: `bits` has one bit for each of them, and `top` is the highest set bit
 pub in_minute : (passes : ℕ → Bool) (local bits top : ℕ) → AreRemaining passes local bits → is_bit bits top ≡ true → bits < 2 ^ (top + 1)
     → AreInHour passes local (local + 1) 1 bits 0 top (local + 1 + top)
 in_minute passes local bits top h set above =
@@ -57,7 +58,8 @@ in_minute passes local bits top h set above =
           ap passes place ∙ (h.passing (local + 1 + s) (omega arith) (omega arith) ∙ (ap (is_bit bits) bit ∙ rw (minute, first_set) refl));
     }
 
--- the matches in the later minutes of the hour of `local`, if none is left in its minute
+-- the matches in the later minutes of the hour of `local`, if none is left in its minute: `minutes` has one bit for
+-- each of these minutes, and `minute` is the highest set bit
 pub in_hour : (m : Masks) (local minutes minute second : ℕ) → matches (sets_in m) local ≡ true → AreRemaining (matches (sets_in m)) local 0
     → AreRemaining (minute_matches (sets_in m)) (local / 60) minutes → is_bit minutes minute ≡ true → minutes < 2 ^ (minute + 1)
     → is_bit m.seconds second ≡ true → m.seconds < 2 ^ (second + 1)
@@ -121,7 +123,8 @@ module _ (passes : ℕ → Bool) (local start minutes seconds minute second last
       let both = and_parts _ _ (sym (h.bits_say a s (omega arith) (omega arith)) ∙ (sym (ap passes place) ∙ holds)) in
       record { minute = a; second = s; minute_set = both.0; second_set = both.1; is = of_at start (a * 60 + s) t (omega arith) }
 
-  -- a minute with matches before that of `last` has as many as `seconds` has set bits
+  -- a minute before that of `last` has as many matches as `seconds` has set bits if its own bit is set, and otherwise
+  -- none
   minute_counted : (a : ℕ) → a < minute → count_from passes (start + a * 60) 60 ≡ cond (is_bit minutes a) 1 0 * count_ones seconds
   minute_counted a early =
       let small = h.small in
@@ -185,7 +188,8 @@ module _ (passes : ℕ → Bool) (local start minutes seconds minute second last
         counted = all_counted;
       }
 
--- a search after `local` finds the first of the next matches, which is at the lowest set bits, and examines one month
+-- a search after `local` finds the first of the matches that follow, for which the lowest set bits stand, and examines
+-- one month
 pub search_next : (m : Masks) (local start minutes seconds last minute second : ℕ) → AreNext (matches (sets_in m)) local start minutes seconds last → IsFirstPassing (is_bit minutes) 0 64 (Some minute)
     → IsFirstPassing (is_bit seconds) 0 64 (Some second) → IsSearch (sets_in m) (local + 1) (record { local = Some (pos (start + (minute * 60 + second))); months = 1 })
 search_next m local start minutes seconds last minute second next minute_first second_first =

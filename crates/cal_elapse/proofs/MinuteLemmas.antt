@@ -1,5 +1,5 @@
--- The searches after a match that find the next match in its minute or in its hour. The later matches in its minute are
--- the bits of a word, and so are the later minutes with matches in its hour.
+-- The later matches in the minute of a match, and the later minutes with matches in its hour, as the bits of a word;
+-- and how many months a search for one of these matches examines.
 use Rattle.std.proofs.Common.{◌≡◌, ◌∙◌, ℕ, zero, suc, ◌+◌, ◌-◌, ◌*◌, ◌/◌, ◌%◌, ◌^◌, ◌<◌, ◌≤◌, Bool, true, false, ◌&&◌, Option, None, Some, pos, ap, inl, inr, sym, subst, refl, arith, ltb-true, max, nat_lt}
 use Rattle.std.proofs.lemmas.Bool.{and_parts, cases_Bool, cases_lt, lt-ltb}
 use Rattle.cal_civil.specs.rules.LocalSecond.{seconds_in_all, seconds_in_all-is}
@@ -109,9 +109,9 @@ minutes_after m local holds =
 pub none_left : (passes : ℕ → Bool) (found t : ℕ) → AreRemaining passes found 0 → found < t → t / 60 ≡ found / 60 → passes t ≡ false
 none_left passes found t h later same = h.passing t later same ∙ is_bit-none (t - (found + 1))
 
--- Counting the searches that find several matches of a day.
+-- How many months a search examines if it finds a match on the day on which it starts.
 
--- some result is the first of `n` numbers that passes, or none of them passes
+-- the first of the `n` numbers from `from` on that passes, or `None` if none of them passes
 first_of : (passes : ℕ → Bool) (from n : ℕ) → (answer : Option ℕ) × IsFirstPassing passes from (from + n) answer
 first_of passes from zero = (None, λ t low high. absurd (omega arith))
 first_of passes from (suc n) = elim (cases_Bool (passes from)) [
@@ -122,7 +122,7 @@ first_of passes from (suc n) = elim (cases_Bool (passes from)) [
       (rest.0, first_then passes from (suc from) (from + suc n) rest.0 (λ t low high. (let same : t ≡ from = omega arith in ap passes same ∙ fails)) (omega arith) (rw ends at rest.1))
 ]
 
--- a search that finds a match on the day on which it starts examines one month
+-- if `last` is a match later on the day of `t`, a search after `t` examines one month
 one_by : (sets : Sets) (t last months : ℕ) (answer : Option ℕ) → matches sets last ≡ true → t < last → t / 86_400 ≡ last / 86_400
     → IsFirstPassing (matches sets) (t + 1) seconds_in_all answer → months ≡ examined_months sets (t + 1) answer → months ≡ 1
 one_by sets t last months None holds later day none is = absurd (let no = none last (omega arith) (match_inside sets last holds) in cc)
@@ -136,7 +136,7 @@ one_by sets t last months (Some next) holds later day first is =
     let examined = examined_today sets t (next % 86_400) (omega arith) here (omega arith) (omega arith) in
     is ∙ rw place at examined
 
--- a search that finds a match later on the day on which it starts examines one month
+-- a search after `t` that finds the match `next` on the same day examines one month
 pub search_on : (sets : Sets) (t next : ℕ) → next / 86_400 ≡ t / 86_400 → IsFirstPassing (matches sets) (t + 1) seconds_in_all (Some next)
     → IsSearch sets (t + 1) (record { local = Some (pos next); months = 1 })
 search_on sets t next day first = record {

@@ -45,7 +45,8 @@ placed_at v local h = subst (IsPlacedTo v) (sym (pos_unsigned_abs local _ h.foun
 pub placed_last : (v : Window) (last : ℤ) → IsLocalSecond last → FitsSigned w64 last → IsPlacedTo v (pos (unsigned_abs last)) → IsPlacedTo v (to_z w64 (of_z w64 last))
 placed_last v last inside fits h = subst (IsPlacedTo v) (pos_unsigned_abs last _ inside.0 refl ∙ sym (to_z-of_z w64 last fits)) h
 
--- what `is_none` says of the smallest pending instant
+-- nothing is pending if `is_none` returned true for the smallest pending instant, and otherwise something is
+-- (`some_least`)
 pub no_least : (least first : Option ℤ) (b : Bool) → least ≡ first → is_some least ≡ not b → b ≡ true → first ≡ None
 no_least None first b same test holds = sym same
 no_least (Some x) first b same test holds = absurd (both_ways true (test ∙ ap not holds) refl)
@@ -88,8 +89,8 @@ place_later a b t offset i there is = omega (arith, signed_arith)
 at_of : (a b : ℕ) → pos a +ℤ pos b ≡ pos (a + b)
 at_of a b = omega (arith, ints)
 
--- the instants of the matches that follow `local` are as many minutes and seconds after the instant of `start` as these
--- matches are after `start`
+-- each of the matches that follow `local` is as many minutes and seconds after `start` as its instant is after the
+-- instant of `start`
 pub next_new : (v : Window) (local start minutes seconds last : ℕ) (offset : ℤ) → AreConvertible v (pos local) (pos last) offset
     → AreNext (matches (sets_in v.searcher.masks)) local start minutes seconds last → AreNew v local last offset (IsInMinutes (pos start -ℤ offset) minutes seconds)
 unfolding timed_by
@@ -182,8 +183,8 @@ no_later xs none i m = subst (λ (ys : List ℤ). Has ys i) (list-no_first xs no
 passed_by : (t end : ℕ) (last offset i : ℤ) → Some (pos t -ℤ offset) ≡ Some i → t ≤ end → (pos end -ℤ offset) ≤ℤ last → last <ℤ i → ⊥
 passed_by t end last offset i at up early above = grind (arith, signed_arith)
 
--- In this module, `v` is the window before the search for the matches up to `last`, and `searcher` is the searcher after
--- it has found them.
+-- In this module, `v` is the window before the searches for the matches up to `last` are counted, and `searcher` is the
+-- searcher after that.
 module _ (v : Window) (local : ℕ) (searcher : Searcher) (last : ℕ) (offset : ℤ) (new : ℤ → Type 0) (h : IsPlacedTo v (pos local)) (b : AreNew v local last offset new)
     (masks : searcher.masks ≡ v.searcher.masks)
     (more : searcher.searches ≡ v.searcher.searches + count_from (matches (sets_in v.searcher.masks)) (local + 1) (last - local))

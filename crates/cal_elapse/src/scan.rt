@@ -40,8 +40,8 @@ fn zeros_in_front(cells: &[u64]) -> usize
     cells.len() / LANES * LANES
 }
 
-/// Like `zeros_in_front`, but the groups are `FEW_LANES` words, and the first one begins at the index `from`. All words
-/// before `from` must be 0, and count too.
+/// Like `zeros_in_front`, but each group is `FEW_LANES` words, and the first one begins at the index `from`. All words
+/// before `from` must be 0; the result includes them.
 fn more_zeros(cells: &[u64], from: usize) -> usize
     requires inside { from ≤ length cells.now }
     requires zeros { (k : ℕ) → k < from → is_set (slice_index_or cells.now k 0) ≡ false }

@@ -106,9 +106,9 @@ impl<'z> Window<'z> {
         self.ahead = ahead;
     }
 
-    /// If `several` is true, converts matches that follow `local` together: those in its minute, and then those in its hour,
-    /// as far as `convert_next` does. `local` is a match that has already been converted. Returns the last match that has
-    /// been converted, which can be `local`.
+    /// If `several` is true, converts the matches that follow `local` in its minute and then those that follow in its
+    /// hour, as far as `convert_next` can convert them together. `local` is a match that has already been converted.
+    /// Returns the last match that has been converted, which can be `local`.
     fn convert_following(&mut self, local: i64, several: bool) -> i64
         requires { IsPlacedTo self.old local }
         ensures placed { IsPlacedTo self.new result }
@@ -125,9 +125,9 @@ impl<'z> Window<'z> {
         self.convert_next(placed)
     }
 
-    /// Converts the matches that follow `local` in its minute or, if there are none, in its hour, if they can be converted
-    /// together. `local` is a match that has already been converted. Returns the last match that has been converted, which
-    /// can be `local`.
+    /// Converts the matches that follow `local` in its minute, or if there are none, those in the later minutes of its
+    /// hour. Does nothing unless they can be converted together (`offset_to`). `local` is a match that has already been
+    /// converted. Returns the last match that has been converted, which can be `local`.
     #[tactic(auto, using(cal_civil::proofs::LocalLemmas::local_arith, crate::proofs::ReadyLemmas::few_searches, crate::proofs::ReadyLemmas::placed_is_match))]
     fn convert_next(&mut self, local: i64) -> i64
         requires { IsPlacedTo self.old local }
@@ -273,9 +273,9 @@ fn put_if_after(pending: &mut Pending, instant: i64, last: i64)
 }
 
 /// Adds the instants that are m minutes and s seconds after `start` to the pending instants, for each set bit m of
-/// `minutes` and each set bit s of `seconds`. `pending` must not be empty, and `start` must be after the smallest pending
-/// instant, and at most 1 second after the last of all instants. All new instants must differ from each pending instant
-/// by at most 187,199 seconds.
+/// `minutes` and each set bit s of `seconds`. `pending` must not be empty, and `start` must be after the smallest
+/// pending instant, and at most 1 second after the last of all instants. All new instants must differ from each pending
+/// instant by at most 187,199 seconds.
 fn put_minutes(pending: &mut Pending, start: i64, minutes: u64, seconds: u64)
     requires rises { IsStrictlySortedBy int_cmp pending.old }
     requires begun { IsSomeAnd (slice_get pending.old 0) (λ least. least <ℤ start) }

@@ -18,9 +18,10 @@ pub record AreRemaining (passes : ℕ → Bool) (found left : ℕ) : Type 0 wher
   pub unit : (i : ℕ) → is_bit left i ≡ true → (found + 1 + i) / 60 ≡ found / 60
   pub passing : (t : ℕ) → found < t → t / 60 ≡ found / 60 → passes t ≡ is_bit left (t - (found + 1))
 
--- The local seconds that are m minutes and s seconds after `start`, where m is the index of a set bit of `minutes` and s
--- of `seconds`, are exactly those after `local` up to `last` that pass, and there is one for each m and s. `last` is one
--- of them, and is in the hour of `local`.
+-- The local seconds that are m minutes and s seconds after `start`, where m is the index of a set bit of `minutes` and
+-- s of `seconds`, are exactly those after `local` up to `last` that pass. There are as many of them as there are pairs
+-- of m and s, so no two pairs stand for the same local second. `start` is after `local`. The local second `last`
+-- passes, and is in the hour of `local`.
 pub record AreNext (passes : ℕ → Bool) (local start minutes seconds last : ℕ) : Type 0 where
   pub later : local < start
   pub some : start ≤ last

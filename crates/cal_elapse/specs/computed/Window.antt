@@ -92,9 +92,9 @@ pub record IsPlacedTo (w : Window) (local : ℤ) : Type 0 where
   pub examined : IsMost (sets_in w.searcher.masks) (start_of w.base) (unsigned_abs local) w.searcher.most_months
 
 -- The matches after the match `local` up to `end` can be converted together, with the UTC offset `offset`. The zone has
--- this offset from `local` to `end`, and `end` is at most `max_offset` seconds after each pending instant. If nothing is
--- pending, `end` doesn't resolve to an instant after the one returned last. Otherwise the smallest pending instant isn't
--- after the instant of `local`.
+-- this offset from `local` to `end`, and `end` is at most `max_offset` seconds after each pending instant. If nothing
+-- is pending, `end` doesn't resolve to an instant after the one returned last. Otherwise the smallest pending instant
+-- isn't after the instant of `local`.
 pub record AreConvertible (w : Window) (local end offset : ℤ) : Type 0 where
   pub constant : AreAtOffset (zone_of w.place_cache) local end offset
   pub near : (i : ℤ) → Has w.pending i → end ≤ℤ (i +ℤ pos max_offset)

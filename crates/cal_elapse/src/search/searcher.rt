@@ -1,6 +1,6 @@
 //! The searcher, which finds an expression's matches one after another and counts its searches. The module `window`
-//! uses it. Unless the next match is in the same hour, the searcher calls `next_local` or `next_after` of the module
-//! `search`.
+//! uses it. The searcher itself finds the matches that follow a match in the same hour. For all other searches, it
+//! calls `next_local` or `next_after` of the module `search`.
 
 ghost use Rattle.std.specs.Prelude.{◌%◌, ◌≡◌, ◌+◌, ◌-◌, ◌*◌, ◌/◌, ◌<◌, ◌≤◌, ◌≤ℤ◌, pos, true, false, max, IfSome, unsigned_abs};
 ghost use Rattle.cal_civil.specs.rules.LocalSecond.{IsLocalSecond, seconds_in_all};
@@ -29,8 +29,9 @@ pub enum SearchStart {
     After(i64),
 }
 
-/// Matches that follow a given match, in its minute or in the later minutes of its hour: the local seconds that are m
-/// minutes and s seconds after `start`, for each set bit m of `minutes` and each set bit s of `seconds`.
+/// The matches that follow a given match in its minute, or in the later minutes of its hour; there is at least one.
+/// They are the local seconds that are m minutes and s seconds after `start`, for each set bit m of `minutes` and each
+/// set bit s of `seconds`.
 #[derive(Drop)]
 pub struct NextMatches {
     pub start: i64,
@@ -69,7 +70,7 @@ impl Searcher {
         }
     }
 
-    /// Returns how many searches were made: one for each call of `search`, and those that `count` counted.
+    /// Returns how many searches have been made: one for each call of `search`, and those that `count` has added.
     pub fn searches(&self) -> u64
         ensures { result ≡ self.now.searches }
     {
@@ -114,8 +115,8 @@ impl Searcher {
         match_test::is_match(&self.masks, local)
     }
 
-    /// Returns the later matches in the minute of `local`, which must itself match. If there are none, returns the matches
-    /// in the later minutes of its hour, or `None` if there are none either.
+    /// Returns the later matches in the minute of `local`, which must itself match. If there are none, returns the
+    /// matches in the later minutes of its hour, or `None` if there are none either.
     #[inline(always)]
     #[tactic(auto, using(cal_civil::proofs::LocalLemmas::local_arith))]
     pub fn next_matches(&self, local: i64) -> Option<NextMatches>
@@ -148,8 +149,8 @@ impl Searcher {
         })
     }
 
-    /// Counts a search for each of the matches `next`, which follow the match `local`. Each of these searches examines one
-    /// month, because all these matches are in the month of `local`.
+    /// Counts one search for each of the matches `next`, which follow the match `local`, as if `search` had found one
+    /// after another. Each of these searches examines one month, because all these matches are in the month of `local`.
     pub fn count(&mut self, local: i64, next: &NextMatches)
         requires start { CanStart (matches (sets_in self.old.masks)) (SearchStart.After local) }
         requires next { AreNext (matches (sets_in self.old.masks)) (unsigned_abs local)
@@ -176,8 +177,8 @@ impl Searcher {
         self.masks.seconds >> (second_of_minute(local) + 1)
     }
 
-    /// Returns the minutes with matches after the minute of `local` in the same hour. Bit i of the result stands for the
-    /// minute that comes i + 1 minutes after that of `local`, which must itself match.
+    /// Returns the minutes with matches after the minute of `local` in the same hour. Bit i of the result stands for
+    /// the minute that comes i + 1 minutes after that of `local`, which must itself match.
     #[tactic(auto, using(cal_civil::proofs::LocalLemmas::local_arith))]
     fn rest_of_hour(&self, local: i64) -> u64
         requires inside { IsLocalSecond local }
@@ -187,8 +188,8 @@ impl Searcher {
         self.masks.minutes >> (minute_of(local) % 60 + 1)
     }
 
-    /// Finds the next match after `local`, which must itself match. If it is in the hour of `local`, one month counts as
-    /// examined: that of `local`.
+    /// Finds the first match after `local`, which must itself match. If the result is in the same hour, one month
+    /// counts as examined: the month of `local`.
     #[inline(always)]
     #[tactic(auto, using(cal_civil::proofs::LocalLemmas::local_arith))]
     fn find_after(&self, local: i64) -> Found

@@ -20,7 +20,7 @@ batch c =
     (rw (to_z-of_z w64 _ c.ranges.local, to_z-of_z w64 c.in-Some.next.last (search rules), local, last) at c.in-Some-offset_to.ensures)
     (rw (to_z-of_z w64 _ c.ranges.local) at c.in-Some.ensures)
 
--- these matches are in the years 1970 to 2199
+-- `start` is before the end of the local seconds, because it isn't after the last of these matches
 start_inside : (c : After-is_none) → unsigned_abs c.in-Some.next.start < seconds_in_all
 start_inside c =
     let next : AreNext _ (unsigned_abs c.args.local) _ _ _ _ = rw (to_z-of_z w64 _ c.ranges.local) at c.in-Some.ensures in
