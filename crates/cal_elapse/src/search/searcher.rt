@@ -2,7 +2,7 @@
 //! uses it. The searcher itself finds the matches that follow a match in the same hour. For all other searches, it
 //! calls `next_local` or `next_after` of the module `search`.
 
-ghost use Rattle.std.specs.Prelude.{◌%◌, ◌≡◌, ◌+◌, ◌-◌, ◌*◌, ◌/◌, ◌<◌, ◌≤◌, ◌≤ℤ◌, pos, true, false, max, IfSome, unsigned_abs};
+ghost use Rattle.std.specs.Prelude.{◌%◌, ◌≡◌, ◌+◌, ◌-◌, ◌*◌, ◌/◌, ◌<◌, ◌≤◌, ◌≤ℤ◌, pos, true, max, IfSome, unsigned_abs};
 ghost use Rattle.cal_civil.specs.rules.LocalSecond.{IsLocalSecond, seconds_in_all};
 ghost use Rattle.cal_elapse.specs.rules.Search.{count_from};
 ghost use Rattle.cal_elapse.specs.computed.RemainingMatches.{AreNext, AreRemaining, minute_matches};
