@@ -1,0 +1,4 @@
+mod PlaceRows
+pub mod KeepLemmas
+pub mod PlaceLemmas
+pub mod RecorderLemmas

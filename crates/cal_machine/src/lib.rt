@@ -1,0 +1,17 @@
+//! What a machine has: its folders, files and links, and the variables of the environment.
+#![tactic(auto)]
+
+mod copies;
+mod follow;
+mod keep;
+mod prefix;
+mod raw;
+mod recorder;
+mod steps;
+mod tree;
+
+pub use follow::{Content, Last, Place, find_place, look_at, names_at, read_at};
+pub use prefix::after_prefix;
+pub use raw::Raw;
+pub use recorder::Recorder;
+pub use tree::{Entry, FILE_BYTES, Names, Tree, TreeFault, Unreadable};

@@ -1,0 +1,115 @@
+//! Access to a machine: its folders, files and links, and the variables of the environment.
+
+ghost use Rattle.std.specs.Prelude.{◌≡◌, ℕ, option_map, string_bytes};
+ghost use Rattle.cal_machine.specs.rules.Machine.{Machine, Tells, bytes_of, shown_entry, shown_listing};
+ghost use Rattle.cal_machine.specs.declared.tree.TreeFault.TheVariants.{NoMemory};
+
+use std::alloc::{AllocError, AllocFailed, Global};
+
+/// The maximum number of bytes that are read of a file. It is one more than a file of a unit or a zone can have, so
+/// whether a file is too large can be seen from the bytes that were read.
+pub const FILE_BYTES: usize = 1_048_577;
+
+/// Why something can't be read. This is a fact about the machine, and asking again gives the same error.
+#[derive(Clone, Copy, PartialEq, Eq, Debug)]
+pub enum Unreadable {
+    /// Reading fails, for example because it isn't permitted.
+    Failed,
+    /// The target of a link, or the value of a variable, is not UTF-8.
+    NotUtf8,
+}
+
+/// Why a method of a [`Tree`] failed.
+#[derive(Clone, Copy, PartialEq, Eq, Debug)]
+pub enum TreeFault {
+    /// The folder, path, file or variable can't be read, for this reason.
+    Unreadable(Unreadable),
+    /// Out of memory. This says nothing about the machine.
+    NoMemory,
+}
+
+impl From<AllocError> for TreeFault {
+    ghost from_gives = { λ _ fault. fault ≡ NoMemory };
+
+    fn from(_refused: AllocError) -> TreeFault {
+        TreeFault::NoMemory
+    }
+}
+
+impl<T: Drop> From<AllocFailed<T>> for TreeFault {
+    ghost from_gives = { λ _ fault. fault ≡ NoMemory };
+
+    fn from(_refused: AllocFailed<T>) -> TreeFault {
+        TreeFault::NoMemory
+    }
+}
+
+/// What is at a path.
+#[derive(Debug, Drop)]
+pub enum Entry {
+    /// Nothing.
+    Missing,
+    /// A file of 0 bytes.
+    Empty,
+    /// Any other file.
+    File,
+    /// Anything that isn't a file, a folder or a link, such as a device, a FIFO or a socket. It is never opened.
+    Device,
+    /// A folder.
+    Folder,
+    /// A symbolic link with this target.
+    Link(String),
+}
+
+/// The names in a folder.
+#[derive(Debug, Drop)]
+pub struct Names {
+    /// The names, in any order.
+    pub names: Vec<String>,
+    /// How many further entries have names that are not UTF-8.
+    pub unnamed: usize,
+}
+
+/// Access to the folders, files and links of a machine, and to the variables of the environment.
+///
+/// Paths that are passed to the methods must lead through no links: each folder on the way has to be a folder itself. A
+/// path is absolute and plain, as `/usr/lib`, where the root is the empty path; or it starts with `./`, and is relative
+/// to the folder in which the program runs. [`crate::find_place`] finds such paths.
+///
+/// The machine may change while it is read, but what the methods return never contradicts itself: after any calls there
+/// is a machine, fixed in time, that agrees with everything that they have returned (`some_machine`). `shows` is true of
+/// such machines, and each further call can only rule out some of them (`grows`).
+///
+/// Errors are facts of the machine, too: if a method fails with [`TreeFault::Unreadable`], each machine that is shown
+/// has this error there. Only [`TreeFault::NoMemory`] says nothing about the machine.
+pub trait Tree {
+    /// Whether all that the methods have returned so far agrees with this description of a machine.
+    ghost shows: { Self → Machine → Type 0 };
+
+    /// Returns what is at a path. A link isn't followed.
+    fn look(&mut self, alloc: Global, path: &str) -> Result<Entry, TreeFault>
+        ensures known { (machine : Machine) → shows self.new machine
+            → Tells shown_entry result (machine.entry path.now) }
+        ensures grows { (machine : Machine) → shows self.new machine → shows self.old machine };
+
+    /// Returns the names in a folder. A folder that doesn't exist has none.
+    fn names(&mut self, alloc: Global, folder: &str) -> Result<Names, TreeFault>
+        ensures known { (machine : Machine) → shows self.new machine
+            → Tells shown_listing result (machine.names folder.now) }
+        ensures grows { (machine : Machine) → shows self.new machine → shows self.old machine };
+
+    /// Returns the bytes of a file, at most the first [`FILE_BYTES`] of them.
+    fn read(&mut self, alloc: Global, file: &str) -> Result<Vec<u8>, TreeFault>
+        ensures known { (machine : Machine) → shows self.new machine
+            → Tells bytes_of result (machine.file file.now) }
+        ensures grows { (machine : Machine) → shows self.new machine → shows self.old machine };
+
+    /// Returns the value of a variable, or `None` if it isn't set.
+    fn variable(&mut self, alloc: Global, name: &str) -> Result<Option<String>, TreeFault>
+        ensures known { (machine : Machine) → shows self.new machine
+            → Tells (option_map string_bytes) result (machine.variable name.now) }
+        ensures grows { (machine : Machine) → shows self.new machine → shows self.old machine };
+
+    /// Whatever the methods have returned, there is a machine that agrees with it.
+    ghost some_machine: { (tree : Self) → (machine : Machine) × shows tree machine };
+}

@@ -1,0 +1,15 @@
+-- A step of following aliases.
+use Rattle.std.proofs.Common.{◌≡◌, ℕ, suc, List, Option, Some, ap, refl}
+use Rattle.cal_unit_index.specs.rules.Destinations.{Destination}
+use Rattle.cal_unit_index.specs.rules.Destinations.Destination.{AliasOf}
+use Rattle.cal_unit_index.specs.rules.Units.{follow, following, from_destination, looked_up, max_aliases}
+
+-- if `other` is the stem by which `stem` is looked up, and it has this destination
+pub follow_on : (lookup : List ℕ → Option Destination) (count n : ℕ) (stem other : List ℕ) (found : Option Destination)
+    → count ≡ suc n → other ≡ looked_up lookup stem → found ≡ lookup other
+    → from_destination (follow lookup n) other found ≡ follow lookup count stem
+follow_on lookup count n stem other found more is there = rw (more, there, is) refl
+
+pub follow_first : (lookup : List ℕ → Option Destination) (stem other : List ℕ) → Some (AliasOf other) ≡ lookup stem
+    → follow lookup max_aliases other ≡ following lookup stem
+follow_first lookup stem other there = ap (λ found. from_destination (follow lookup max_aliases) stem found) there

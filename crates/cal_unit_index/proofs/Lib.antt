@@ -1,0 +1,8 @@
+mod DropInRows
+mod UnitRows
+pub mod DropInLemmas
+pub mod FolderLemmas
+pub mod FollowLemmas
+pub mod IndexLemmas
+pub mod SearchFolderLemmas
+pub mod UnitNameLemmas

@@ -1,0 +1,14 @@
+use Rattle.std.proofs.Common.{◌∙◌, map, string_bytes}
+use Rattle.cal_unit_index.specs.rules.Names.{aliases_named}
+use Rattle.cal_unit_index.proofs.IndexLemmas.{each_folder}
+use Rattle.cal_unit_index.proofs.index.UnitIndex.read.Goals as goal
+
+pub returns-clause-known : goal.returns-clause-known
+returns-clause-known g c machine shows =
+    let told = c.in_ok-index.ensures.known machine shows in
+    record {
+      folders = told.folders;
+      destinations = told.destinations;
+      aliases = c.in_ok-index-2.ensures ∙ each_folder machine (map string_bytes c.args.path.now) c.in_ok-index.index aliases_named told.folders told.destinations;
+      unreadable = told.unreadable;
+    }

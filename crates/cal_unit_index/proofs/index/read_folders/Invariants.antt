@@ -1,0 +1,11 @@
+use Rattle.std.proofs.Common.{map, take, string_bytes}
+use Rattle.cal_machine.specs.rules.Machine.{Machine}
+use Rattle.cal_unit_index.specs.rules.Index.{IsIndexUpTo}
+use Rattle.cal_unit_index.proofs.index.read_folders.Given as goal
+
+-- the index has what the folders before the loop's index say
+abbrev pub invariant-loop-folder : goal.invariant-loop-folder
+invariant-loop-folder g l =
+    ((machine : Machine) → g.T.Tree.shows l.tree machine
+    → IsIndexUpTo machine (map string_bytes l.path) (map string_bytes (take l.folder-index l.path)) l.index)
+    × ((machine : Machine) → g.T.Tree.shows l.tree machine → g.T.Tree.shows l.fn.tree machine)

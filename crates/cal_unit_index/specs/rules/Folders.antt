@@ -1,0 +1,110 @@
+-- The drop-in folders of a unit: systemd.unit(5), Description. All lists of this file go from the least important
+-- folder to the most important one.
+use Rattle.std.specs.Prelude.{ℕ, zero, suc, ◌+◌, ◌==◌, nat_eq, nat_lt, Bool, true, false, ◌&&◌, if◌then◌else◌, List, [], ◌∷◌, ◌++◌, Option, None, Some, Result, Ok, Err, drop, length, map, take, slice_index, codes}
+use Rattle.std.specs.List.{flat_map, starts_with}
+use Rattle.std.specs.Option.{option_to_list}
+use Rattle.cal_machine.specs.rules.Machine.{Entry, Machine}
+use Rattle.cal_machine.specs.rules.Machine.Entry.{Missing, Empty, File, Device, Folder, Link}
+use Rattle.cal_machine.specs.rules.Places.{entry_at, place_of}
+use Rattle.cal_machine.specs.rules.Seen.{seen}
+use Rattle.cal_machine.specs.declared.follow.Last.TheVariants.{Followed}
+use Rattle.cal_machine.specs.declared.tree.Unreadable.{Unreadable}
+use Rattle.cal_unit_index.specs.rules.Destinations.{is_among, listed}
+use Rattle.cal_unit_index.specs.rules.UnitName.{stem_base, template_of}
+
+-- ## Whose drop-ins apply
+
+-- whether the byte of `base` at index `i` is a dash, but neither the first byte nor the last
+abbrev pub is_dash_within : List ℕ → ℕ → Bool
+is_dash_within base i = nat_lt 0 i && (nat_lt (i + 1) (length base) && (slice_index base i == 45))
+
+-- the prefixes of `base` that end with a dash and have at most `n` bytes, the shortest first, except `base` itself and
+-- a dash alone
+unfoldable pub prefixes_within : List ℕ → ℕ → List (List ℕ)
+prefixes_within base zero = []
+prefixes_within base (suc n) = prefixes_within base n ++ (if is_dash_within base n then take (n + 1) base ∷ [] else [])
+
+-- all prefixes of the part of a stem before its first `@`, or of the whole stem if it has no `@`
+abbrev pub prefixes_of : List ℕ → List (List ℕ)
+prefixes_of stem = prefixes_within (stem_base stem) (length (stem_base stem))
+
+-- the stems of the template and of the instance that begin with `prefix`, where `stem` is the stem of an instance
+abbrev pub with_prefix : List ℕ → List ℕ → List (List ℕ)
+with_prefix stem prefix = (prefix ++ codes "@") ∷ (prefix ++ drop (length (stem_base stem)) stem) ∷ []
+
+abbrev pub prefix_instances : List ℕ → Option (List ℕ) → List (List ℕ)
+prefix_instances stem None = []
+prefix_instances stem (Some template) = flat_map (with_prefix stem) (prefixes_of stem)
+
+-- The stems whose drop-in folders apply to the unit with this stem. For an instance, each prefix that ends with a dash
+-- stands first as a template and as an instance, the shortest first. Then come these prefixes alone, the stem of the
+-- template, and the stem itself. A unit that isn't an instance has only the prefixes alone and its stem.
+unfoldable pub folder_stems : List ℕ → List (List ℕ)
+folder_stems stem =
+    prefix_instances stem (template_of stem) ++ (prefixes_of stem ++ (option_to_list (template_of stem) ++ stem ∷ []))
+
+-- the name of the drop-in folders for this stem
+abbrev pub folder_name : List ℕ → List ℕ
+folder_name stem = stem ++ codes ".timer.d"
+
+-- the name of the drop-in folders for all timers
+abbrev pub type_folder : List ℕ
+type_folder = codes "timer.d"
+
+-- ## Which of them are read
+
+abbrev pub path_in : List ℕ → List ℕ → List ℕ
+path_in folder name = folder ++ codes "/" ++ name
+
+-- systemd's managers run in the root folder and look up a relative target there
+abbrev pub from_root : List ℕ → List ℕ
+from_root target = if starts_with nat_eq target (codes "/") then target else codes "/" ++ target
+
+-- what is at the end of a path, where links are followed
+abbrev pub end_at : Machine → List ℕ → Result Entry Unreadable
+end_at machine path = seen (λ place. place.entry) (place_of machine Followed path)
+
+-- whether there is a folder, or something that can't be read
+abbrev pub can_be_folder : Result Entry Unreadable → Bool
+can_be_folder (Ok Missing) = false
+can_be_folder (Ok Empty) = false
+can_be_folder (Ok File) = false
+can_be_folder (Ok Device) = false
+can_be_folder (Ok Folder) = true
+can_be_folder (Ok (Link target)) = false
+can_be_folder (Err why) = true
+
+-- whether a drop-in folder is read, given what is at its path. Of links to folders, systemd follows only those whose
+-- target is absolute, or would lead to a folder from the root folder, too.
+abbrev pub is_followed : Machine → Result Entry Unreadable → Bool
+is_followed machine (Ok Missing) = false
+is_followed machine (Ok Empty) = false
+is_followed machine (Ok File) = false
+is_followed machine (Ok Device) = false
+is_followed machine (Ok Folder) = true
+is_followed machine (Ok (Link target)) = can_be_folder (end_at machine (from_root target))
+is_followed machine (Err why) = true
+
+-- whether the drop-in folder with this name is read in a folder of the search path. A drop-in folder that can't be read
+-- counts, so that this is reported.
+abbrev pub is_drop_in_folder : Machine → List ℕ → List ℕ → Bool
+is_drop_in_folder machine root name = is_among (listed machine root) name && is_followed machine (entry_at machine (path_in root name))
+
+-- the path of the drop-in folder with this name in a folder of the search path, if it is read
+abbrev pub folder_below : Machine → List ℕ → List ℕ → List (List ℕ)
+folder_below machine root name = if is_drop_in_folder machine root name then path_in root name ∷ [] else []
+
+-- the paths of the drop-in folders with these names in a folder of the search path
+abbrev pub folders_below : Machine → List (List ℕ) → List ℕ → List (List ℕ)
+folders_below machine names root = flat_map (folder_below machine root) names
+
+-- the drop-in folders that apply to a unit with this stem: first all folders below the least important root, then all
+-- folders below the next one, and so on
+abbrev pub stem_folders : Machine → List (List ℕ) → List ℕ → List (List ℕ)
+stem_folders machine roots stem = flat_map (folders_below machine (map folder_name (folder_stems stem))) roots
+
+-- the drop-in folders of a unit with these stems, the last of which is its own: first the folders that apply to all
+-- timers, and then the folders for each stem
+abbrev pub folders : Machine → List (List ℕ) → List (List ℕ) → List (List ℕ)
+folders machine roots stems =
+    flat_map (folders_below machine (type_folder ∷ [])) roots ++ flat_map (stem_folders machine roots) stems

@@ -1,0 +1,96 @@
+-- The names of units: systemd.unit(5), Description. A stem is a unit's name without its suffix `.timer`. `lookup` is the
+-- destination of each stem, None if a stem has none.
+use Rattle.std.specs.Prelude.{ℕ, Bool, false, not, List, [], ◌∷◌, ◌++◌, Option, None, Some, filter, if◌then◌else◌, string_bytes}
+use Rattle.std.specs.List.{filter_map, flat_map}
+use Rattle.std.specs.Str.{bytes_eq}
+use Rattle.cal_machine.specs.rules.Machine.{Machine}
+use Rattle.cal_unit_index.specs.declared.aliases.Alias as aliases
+use Rattle.cal_unit_index.specs.rules.Destinations.{Destination, destination_in, listed, sorted_once, stems_of}
+use Rattle.cal_unit_index.specs.rules.Destinations.Destination.{FileAt, AliasOf}
+use Rattle.cal_unit_index.specs.rules.UnitName.{instance_of, is_template}
+use Rattle.cal_unit_index.specs.rules.Units.{End, Unit, following, unit_on}
+use Rattle.cal_unit_index.specs.rules.Units.End.{Nowhere, AtFile, Endless}
+use Rattle.cal_unit_index.specs.rules.Units.Unit.{Unfound, TemplateOnly, TooManyAliases, FoundAt}
+
+-- ## Aliases
+
+-- an alias, and the stem under which its unit's file is found, which can be a template's
+pub record Alias : Type 0 where
+  pub stem : List ℕ
+  pub unit : List ℕ
+
+abbrev pub alias_at_file : List ℕ → End → Option Alias
+alias_at_file stem Nowhere = None
+alias_at_file stem (AtFile path file) = Some (record { stem = stem; unit = file })
+alias_at_file stem Endless = None
+
+abbrev pub alias_if_linked : (List ℕ → Option Destination) → List ℕ → Option Destination → Option Alias
+alias_if_linked lookup stem None = None
+alias_if_linked lookup stem (Some (FileAt path)) = None
+alias_if_linked lookup stem (Some (AliasOf other)) = alias_at_file stem (following lookup stem)
+
+-- the alias with this stem; None if the stem isn't an alias, or if following it doesn't lead to a file
+abbrev pub alias_with : (List ℕ → Option Destination) → List ℕ → Option Alias
+alias_with lookup stem = alias_if_linked lookup stem (lookup stem)
+
+abbrev pub aliases_named : (List ℕ → Option Destination) → List (List ℕ) → List Alias
+aliases_named lookup names = filter_map (alias_with lookup) (stems_of names)
+
+-- All aliases of a machine, in the order of the search path's folders, and by name in each. If several folders have the
+-- name of an alias, it is there several times. systemd leaves out an alias whose unit is masked; it isn't left out here.
+abbrev pub aliases_in : Machine → List (List ℕ) → List Alias
+aliases_in machine path = flat_map (λ folder. aliases_named (destination_in machine path) (listed machine folder)) path
+
+-- ## The names of a unit
+
+-- whether following from a stem leads to a file, but not to that of the stem `file`
+abbrev pub is_elsewhere : List ℕ → End → Bool
+is_elsewhere file Nowhere = false
+is_elsewhere file (AtFile path other) = not (bytes_eq other file)
+is_elsewhere file Endless = false
+
+abbrev pub unless_elsewhere : (List ℕ → Option Destination) → List ℕ → List ℕ → Option (List ℕ)
+unless_elsewhere lookup file name = if is_elsewhere file (following lookup name) then None else Some name
+
+-- The name that an alias of the unit's file gives to a unit. A template gives its name with the unit's instance, unless
+-- that name leads to another file. The name of an instance counts only for the same instance.
+abbrev pub name_given : (List ℕ → Option Destination) → List ℕ → List ℕ → List ℕ → Option (List ℕ)
+name_given lookup file own alias =
+    if is_template alias
+    then unless_elsewhere lookup file (alias ++ instance_of own)
+    else if bytes_eq (instance_of alias) (instance_of own)
+    then Some alias
+    else None
+
+-- the name that an alias gives to the unit with the stem `own`, whose file is found under the stem `file`
+abbrev pub name_by : (List ℕ → Option Destination) → List ℕ → List ℕ → Alias → Option (List ℕ)
+name_by lookup file own alias =
+    if bytes_eq alias.unit file then name_given lookup file own alias.stem else None
+
+-- the names besides the unit's own: those that aliases give, and the one that was asked for
+abbrev pub more_names : (List ℕ → Option Destination) → List Alias → List ℕ → List ℕ → List ℕ → List (List ℕ)
+more_names lookup aliases file own asked = sorted_once (filter_map (name_by lookup file own) aliases ++ asked ∷ [])
+
+-- the stems of all names of a unit: its own, and then the others, sorted by their bytes, each once
+abbrev pub names_with : (List ℕ → Option Destination) → List Alias → List ℕ → List ℕ → List ℕ → List (List ℕ)
+names_with lookup aliases file own asked =
+    own ∷ filter (λ name. not (bytes_eq name own)) (more_names lookup aliases file own asked)
+
+-- the stems of all names of the unit that was asked for by `asked`, if it was found with these two stems
+abbrev pub names_on : Machine → List (List ℕ) → List ℕ → List ℕ → List ℕ → List (List ℕ)
+names_on machine path file own asked = names_with (destination_in machine path) (aliases_in machine path) file own asked
+
+abbrev pub names_of_unit : Machine → List (List ℕ) → List ℕ → Unit → List (List ℕ)
+names_of_unit machine path asked Unfound = []
+names_of_unit machine path asked TemplateOnly = []
+names_of_unit machine path asked TooManyAliases = []
+names_of_unit machine path asked (FoundAt file own_file own) = names_on machine path own_file own asked
+
+-- the stems of all names of the unit that is found for a stem; none if no unit is found
+abbrev pub names_for : Machine → List (List ℕ) → List ℕ → List (List ℕ)
+names_for machine path asked = names_of_unit machine path asked (unit_on machine path asked)
+
+-- ## What a call returned
+
+abbrev pub shown_alias : aliases.Alias → Alias
+shown_alias alias = record { stem = string_bytes alias.stem; unit = string_bytes alias.unit }

@@ -1,0 +1,26 @@
+//! Which files make up a timer unit on a machine (systemd.unit(5)), and what they contain.
+#![tactic(auto)]
+
+mod aliases;
+mod destinations;
+mod drop_in_files;
+pub mod drop_in_laws;
+mod drop_ins;
+mod fault;
+mod files;
+mod folders;
+mod follow;
+mod index;
+mod name_sets;
+mod names;
+mod read_folder;
+mod unit;
+mod unit_name;
+
+pub use drop_ins::{DropIns, find_drop_ins};
+pub use fault::{Reason, UnitFault};
+pub use files::{DropInTexts, FileRead, UnitText, read_drop_ins, read_file};
+pub use index::{SearchFolder, UnitIndex};
+pub use names::names_of;
+pub use unit::{Unit, UnitFile, find_unit};
+pub use unit_name::{UnitKind, unit_kind_of, unit_stem};

@@ -1,0 +1,157 @@
+//! Names of timer units (systemd.unit(5), Description).
+
+ghost use Rattle.std.specs.Prelude.{◌≡◌, option_map};
+ghost use Rattle.std.specs.List.{list_all};
+ghost use Rattle.cal_unit_index.specs.rules.UnitName.{file_stem, instance_of, is_name_byte, is_stem, is_template, may_be_linked, may_lead, stem_base, template_of, unit_kind_of, unit_stem, without_suffix};
+
+/// The suffix of a timer's name.
+const SUFFIX: &str = ".timer";
+
+/// The maximum length of a unit's name with its suffix, in bytes.
+const MAX_NAME: usize = 255;
+
+/// What a unit's name stands for.
+#[derive(Clone, Copy, PartialEq, Eq, Debug)]
+pub enum UnitKind {
+    /// A unit of its own, such as `backup.timer`.
+    Plain,
+    /// A template, such as `backup@.timer`. It isn't a unit: it has to be instantiated.
+    Template,
+    /// An instance of a template, such as `backup@home.timer`.
+    Instance,
+}
+
+/// Returns the stem of the timer unit that `name` stands for: the name without the suffix `.timer`. A name without this
+/// suffix is itself the stem of a timer.
+///
+/// Returns `None` if the name isn't valid: the stem is empty, begins with `@`, or has a byte that is neither a letter
+/// nor a digit nor one of `:-_.\@`, or the stem with the suffix has more than 255 bytes.
+#[tactic(auto, unfolding(crate::specs::rules::UnitName::unit_stem))]
+pub fn unit_stem(name: &str) -> Option<&str>
+    ensures { option_map (λ stem. stem.now) result ≡ unit_stem name.now }
+{
+    let stem = without_suffix(name);
+    if is_stem(stem) { Some(stem) } else { None }
+}
+
+/// Returns the stem of a timer from the name of its file. Returns `None` if the name doesn't end in `.timer` or isn't a
+/// valid name.
+#[tactic(auto, unfolding(crate::specs::rules::UnitName::file_stem))]
+pub(crate) fn file_stem(name: &str) -> Option<&str>
+    ensures { option_map (λ stem. stem.now) result ≡ file_stem name.now }
+{
+    if !name.as_bytes().ends_with(b".timer") {
+        return None;
+    }
+    unit_stem(name)
+}
+
+/// Returns what the name of a unit with this stem stands for.
+#[tactic(auto, unfolding(crate::specs::rules::UnitName::unit_kind_of))]
+pub fn unit_kind_of(stem: &str) -> UnitKind
+    ensures { result ≡ unit_kind_of stem.now }
+{
+    let base = stem_base(stem);
+    if base.len() == stem.len() {
+        return UnitKind::Plain;
+    }
+    if base.len() + 1 == stem.len() {
+        return UnitKind::Template;
+    }
+    UnitKind::Instance
+}
+
+pub(crate) fn is_template(stem: &str) -> bool
+    ensures { result ≡ is_template stem.now }
+{
+    matches!(unit_kind_of(stem), UnitKind::Template)
+}
+
+/// Returns whether a link with the stem `stem` can be an alias of the timer with the stem `other`: not of itself, only
+/// of the same kind of name, and an instance only of the same instance or of a template.
+#[tactic(auto, unfolding(crate::specs::rules::UnitName::may_lead))]
+pub(crate) fn may_lead(stem: &str, other: &str) -> bool
+    ensures { result ≡ may_lead stem.now other.now }
+{
+    let is_same = instance_of(stem) == instance_of(other);
+    other != stem && may_be_linked(unit_kind_of(stem), unit_kind_of(other), is_same)
+}
+
+/// Returns whether a link whose name is of the first kind can be an alias of a name of the second kind. `is_same` says
+/// whether both have the same instance.
+fn may_be_linked(kind: UnitKind, other: UnitKind, is_same: bool) -> bool
+    ensures { result ≡ may_be_linked kind other is_same }
+{
+    match (kind, other) {
+        (UnitKind::Plain, UnitKind::Plain)
+        | (UnitKind::Template | UnitKind::Instance, UnitKind::Template) => true,
+        (UnitKind::Instance, UnitKind::Instance) => is_same,
+        _ => false,
+    }
+}
+
+/// Returns the instance in a stem: the part after its first `@`. Only the stem of an instance has one; for all others,
+/// it is empty.
+#[tactic(auto, unfolding(crate::specs::rules::UnitName::instance_of))]
+pub(crate) fn instance_of(stem: &str) -> &str
+    ensures { result.now ≡ instance_of stem.now }
+{
+    match stem.split_once('@') {
+        Some((_, instance)) => instance,
+        None => "",
+    }
+}
+
+/// Returns the stem of an instance's template, such as `backup@` for `backup@home`. Returns `None` if the stem isn't
+/// that of an instance.
+#[tactic(auto, unfolding(crate::specs::rules::UnitName::template_of))]
+pub(crate) fn template_of(stem: &str) -> Option<&str>
+    ensures { option_map (λ template. template.now) result ≡ template_of stem.now }
+{
+    let base = stem_base(stem);
+    if base.len() + 1 < stem.len() {
+        return Some(&stem[..base.len() + 1]);
+    }
+    None
+}
+
+/// Returns the part of a stem before its first `@`, or the whole stem if it has no `@`.
+pub(crate) fn stem_base(stem: &str) -> &str
+    ensures { result.now ≡ stem_base stem.now }
+{
+    match stem.split_once('@') {
+        Some((base, _)) => base,
+        None => stem,
+    }
+}
+
+#[tactic(auto, unfolding(crate::specs::rules::UnitName::without_suffix))]
+fn without_suffix(name: &str) -> &str
+    ensures { result.now ≡ without_suffix name.now }
+{
+    match name.strip_suffix(SUFFIX) {
+        Some(stem) => stem,
+        None => name,
+    }
+}
+
+#[tactic(auto, unfolding(crate::specs::rules::UnitName::is_stem))]
+fn is_stem(stem: &str) -> bool
+    ensures { result ≡ is_stem stem.now }
+{
+    stem.len() <= MAX_NAME - SUFFIX.len()
+        && !stem_base(stem).is_empty()
+        && has_valid_bytes(stem.as_bytes())
+}
+
+fn has_valid_bytes(stem: &[u8]) -> bool
+    ensures { result ≡ list_all is_name_byte stem.now }
+{
+    stem.iter().all(|byte| is_name_byte(*byte))
+}
+
+fn is_name_byte(byte: u8) -> bool
+    ensures { result ≡ is_name_byte byte }
+{
+    byte.is_ascii_alphanumeric() || b":-_.\\@".contains(&byte)
+}

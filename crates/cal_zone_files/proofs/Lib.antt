@@ -1,0 +1,2 @@
+mod ZoneLemmas
+mod ZoneRows

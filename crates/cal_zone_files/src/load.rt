@@ -1,0 +1,147 @@
+//! Loading the zones that expressions name.
+
+ghost use Rattle.std.specs.Prelude.{◌≡◌, ◌||◌, ℕ, List, IfErr, IfOk, OnOk, false, is_some, map, string_bytes};
+ghost use Rattle.std.specs.List.{list_any};
+ghost use Rattle.std.specs.Str.{bytes_eq};
+ghost use Rattle.cal_civil.specs.rules.ZoneName.{is_utc_name};
+ghost use Rattle.cal_machine.specs.rules.Machine.{Machine};
+ghost use Rattle.cal_machine.specs.rules.Places.{content_at};
+ghost use Rattle.cal_zone.specs.rules.ZoneFile.{IsFileFault, IsFileZone};
+ghost use Rattle.cal_zone.specs.rules.ZoneTable.{zone_named};
+ghost use Rattle.cal_zone_files.specs.rules.ZoneFiles.{HasZonesOf, IsFirstError, IsLoadError, IsZoneAdded, IsZoneOn, bytes_in, rejection, shown_file, zone_path};
+
+use crate::fault::{FileReason, ZonesFault};
+use cal_machine::{Content, Tree, TreeFault, read_at};
+use cal_zone::{LoadFault, Rules, ZoneFault, ZoneName, ZoneTable};
+use std::alloc::{AllocError, Global};
+
+/// Returns a table with UTC and with the zones of these names, each loaded from its file `/usr/share/zoneinfo/NAME`
+/// (RFC 8536). The name `UTC`, ignoring case, needs no file, and a name may be repeated.
+///
+/// Fails with [`ZonesFault::At`] and the path of the first file that can't be used: with [`FileReason::NotFound`] if
+/// nothing is there, with [`FileReason::Load`] and [`LoadFault::ReadFailed`] if a folder is there or if the path can't be
+/// followed or read, or else with [`FileReason::Load`] and the error of [`Rules::file`]; a device counts as an empty file.
+/// So an invalid name fails with `NotFound`, unless there is something at its path. Fails with [`ZonesFault::NoMemory`]
+/// if allocation fails.
+pub fn load_zones<T: Tree>(
+    alloc: Global,
+    tree: &mut T,
+    names: &[String],
+) -> Result<ZoneTable, ZonesFault>
+    ensures names { IfOk result (λ table. (name : List ℕ) → is_some (zone_named table name)
+        ≡ (is_utc_name name || list_any (bytes_eq name) (map string_bytes names.now))) }
+    ensures zones { IfOk result (λ table. (machine : Machine) → T.shows tree.new machine → HasZonesOf machine table) }
+    ensures fault { IfErr result (λ fault. (machine : Machine) → T.shows tree.new machine
+        → IsFirstError machine (map string_bytes names.now) fault) }
+    ensures grows { (machine : Machine) → T.shows tree.new machine → T.shows tree.old machine }
+{
+    let mut table = ZoneTable::new(alloc);
+    for name in names {
+        if let Err(fault) = load_name(alloc, tree, &mut table, name.as_str()) {
+            return Err(fault);
+        }
+    }
+    Ok(table)
+}
+
+/// Loads the zone of this name into the table, unless the table already has it.
+fn load_name<T: Tree>(
+    alloc: Global,
+    tree: &mut T,
+    table: &mut ZoneTable,
+    name: &str,
+) -> Result<(), ZonesFault>
+    ensures names { OnOk result ((other : List ℕ) → is_some (zone_named table.new other)
+        ≡ (is_some (zone_named table.old other) || bytes_eq other name.now)) }
+    ensures zones { OnOk result ((machine : Machine) → T.shows tree.new machine
+        → HasZonesOf machine table.old → HasZonesOf machine table.new) }
+    ensures fault { IfErr result (λ fault. (machine : Machine) → T.shows tree.new machine
+        → IsLoadError machine name.now fault) }
+    ensures grows { (machine : Machine) → T.shows tree.new machine → T.shows tree.old machine }
+{
+    if table.find(name).is_some() {
+        return Ok(());
+    }
+    add_zone(alloc, tree, table, name)
+}
+
+/// Loads the zone of this name into the table. The caller has checked that the table doesn't have the zone yet.
+fn add_zone<T: Tree>(
+    alloc: Global,
+    tree: &mut T,
+    table: &mut ZoneTable,
+    name: &str,
+) -> Result<(), ZonesFault>
+    requires { is_some (zone_named table.old name.now) ≡ false }
+    ensures added { OnOk result (IsZoneAdded table.old table.new name.now
+        (λ zone. (machine : Machine) → T.shows tree.new machine → IsZoneOn machine name.now zone)) }
+    ensures fault { IfErr result (λ fault. (machine : Machine) → T.shows tree.new machine
+        → IsLoadError machine name.now fault) }
+    ensures grows { (machine : Machine) → T.shows tree.new machine → T.shows tree.old machine }
+{
+    let path = zone_path(alloc, name)?;
+    let bytes = match zone_file(alloc, tree, path.as_str())? {
+        Ok(bytes) => bytes,
+        Err(reason) => return Err(ZonesFault::At(path, reason)),
+    };
+    match add_file(alloc, table, name, bytes.as_slice()) {
+        Ok(()) => Ok(()),
+        Err(fault) => Err(rejection(path, fault)),
+    }
+}
+
+/// Returns the error for the zone file at this path, which was rejected with `fault`.
+fn rejection(path: String, fault: ZoneFault) -> ZonesFault
+    ensures { result ≡ rejection path fault }
+{
+    match fault {
+        ZoneFault::NoMemory => ZonesFault::NoMemory,
+        ZoneFault::BadName
+        | ZoneFault::BadRule
+        | ZoneFault::BadFile
+        | ZoneFault::TooLarge
+        | ZoneFault::NameTaken => ZonesFault::At(path, FileReason::Load(LoadFault::Zone(fault))),
+    }
+}
+
+/// Returns the bytes of a zone file, or why it can't be read. An empty file and a device have no bytes.
+fn zone_file<T: Tree>(
+    alloc: Global,
+    tree: &mut T,
+    path: &str,
+) -> Result<Result<Vec<u8>, FileReason>, AllocError>
+    ensures known { IfOk result (λ file. (machine : Machine) → T.shows tree.new machine
+        → bytes_in (content_at machine path.now) ≡ shown_file file) }
+    ensures grows { (machine : Machine) → T.shows tree.new machine → T.shows tree.old machine }
+{
+    match read_at(alloc, tree, path) {
+        Ok(Content::Text(bytes)) => Ok(Ok(bytes)),
+        Ok(Content::Blank) => Ok(Ok(Vec::new(alloc))),
+        Ok(Content::Nothing) => Ok(Err(FileReason::NotFound)),
+        Ok(Content::Folder) => Ok(Err(FileReason::Load(LoadFault::ReadFailed))),
+        Err(TreeFault::Unreadable(_)) => Ok(Err(FileReason::Load(LoadFault::ReadFailed))),
+        Err(TreeFault::NoMemory) => Err(AllocError),
+    }
+}
+
+/// Adds the zone whose file has these bytes to the table, which doesn't have a zone of this name yet.
+fn add_file(alloc: Global, table: &mut ZoneTable, name: &str, bytes: &[u8]) -> Result<(), ZoneFault>
+    requires { is_some (zone_named table.old name.now) ≡ false }
+    ensures added { OnOk result (IsZoneAdded table.old table.new name.now (IsFileZone name.now bytes.now)) }
+    ensures fault { IfErr result (IsFileFault name.now bytes.now) }
+{
+    let Some(name) = ZoneName::new(name) else {
+        return Err(ZoneFault::BadName);
+    };
+    let rules = Rules::named_file(alloc, name, bytes)?;
+    match table.add_named(name, rules) {
+        Ok(()) => Ok(()),
+        Err((_, fault)) => Err(fault),
+    }
+}
+
+fn zone_path(alloc: Global, name: &str) -> Result<String, AllocError>
+    ensures { IfOk result (λ path. string_bytes path ≡ zone_path name.now) }
+{
+    format!(in alloc; "/usr/share/zoneinfo/{name}")
+}
