@@ -3,11 +3,13 @@
 
     tests/units.py [COMMAND..]
 
-In each of 300 random trees of units and drop-ins, every file that isn't empty has a line that systemd-analyze rejects,
+In each of 400 random trees of units and drop-ins, every file that isn't empty has a line that systemd-analyze rejects,
 so that `systemd-analyze verify` names the files in the order in which it reads them. COMMAND, to which the folder of
 the tree and the name of a unit are added, has to print the same paths, one on each line. It gets the tree's folders in
-SYSTEMD_UNIT_PATH, as absolute paths that start at the tree's root. A unit may have an alias; the drop-ins of both names are read. Without COMMAND,
-the rules of systemd.unit(5), as this script states them, are compared with systemd.
+SYSTEMD_UNIT_PATH, as absolute paths that start at the tree's root. A unit may have an alias, which may be a template's
+or an instance's, and is asked for by either name. It may be masked, in every form of a mask, and more important folders
+may have things under its name that are skipped, such as a link to another type of unit. A folder of drop-ins may be a
+link. Without COMMAND, the rules of systemd 252, as this script states them, are compared with systemd.
 
 The last line is 'N passed, M failed', one for each tree, and the status is 1 if one failed. If systemd-analyze isn't
 installed, the script says so, and ', 1 skipped' follows."""
@@ -20,13 +22,15 @@ import subprocess
 import sys
 import tempfile
 
-TREES = 300
+TREES = 400
 # The folders of units below a tree, the most important first.
 FOLDERS = ["etc", "run", "usr/local/lib", "usr/lib"]
 UNITS = ["foo", "foo-bar", "foo--bar", "foo-bar-baz", "-x", "--x", "-a-b", "foo-", "foo@i", "foo-bar@x-y", "foo-bar@x@y", "a-b-@i"]
 OTHERS = ["foo-bar@x-", "foo-bar@x", "bar", "foo-b", "-", "@i", "foo@j"]
 ALIAS = "also-known"
 NAMES = ["10.conf", "9.conf", "B.conf", "a.conf", "a-b.conf", "a_b.conf", "é.conf", ".hidden.conf", "README", "x.conf~", ".conf"]
+# Masks: targets of links, or None for an empty file. The tree has empty files at the places of the devices.
+MASKS = ["/dev/null", "{up}/dev/null", "/dev/./null", "/dev/../dev//null", "/dev/zero", "{root}/opt/link", "{root}/opt/empty", "empty.timer", None]
 KINDS = ["file"] * 6 + ["empty", "null", "dangling", "folder", "link"]
 REFUSED = "[Timer]\nNoSuchKey=1\n"
 READ = re.compile(r"^(/.*):2: Unknown key 'NoSuchKey'", re.M)
@@ -42,6 +46,9 @@ class Tree:
         for folder in self.folders:
             os.makedirs(folder)
         os.symlink("usr/lib", f"{self.root}/lib")
+        for path in ["dev/null", "dev/zero", "opt/empty", f"{FOLDERS[-1]}/systemd/system/empty.timer"]:
+            self.add(f"{self.root}/{path}", "empty")
+        os.symlink("/dev/null", f"{self.root}/opt/link")
 
     def add(self, path, kind):
         os.makedirs(os.path.dirname(path), exist_ok=True)
@@ -77,17 +84,86 @@ def template(stem):
 
 def stems_with_folders(stem):
     """Returns the stems whose folders of drop-ins apply to a unit, the most important first."""
-    return [stem, *([template(stem)] if template(stem) else []), *prefixes(stem)]
+    if not template(stem):
+        return [stem, *prefixes(stem)]
+    of_instance = [f"{prefix}@{end}" for prefix in prefixes(stem) for end in [instance(stem), ""]]
+    return [stem, template(stem), *prefixes(stem), *of_instance]
 
 
-def unit_file(tree, stem):
-    """Returns the unit's own file: the first of its name, or else of its template's name."""
-    for name in [stem, template(stem)]:
-        for folder in tree.folders:
-            path = f"{folder}/{name}.timer"
-            if name and os.path.lexists(path):
-                return path
-    return None
+def instance(stem):
+    return stem.partition("@")[2]
+
+
+def kind(stem):
+    """Returns whether a stem is that of a plain unit, a template or an instance."""
+    return "plain" if "@" not in stem else "instance" if instance(stem) else "template"
+
+
+def may_lead(stem, name):
+    """Returns whether a link with this stem can be an alias of the name in the search path to which it leads."""
+    other = name.removesuffix(".timer")
+    if other in (name, "", stem):
+        return False
+    if kind(stem) == "instance" and kind(other) == "template":
+        return True
+    return kind(stem) == kind(other) and instance(stem) == instance(other)
+
+
+def destination(tree, stem):
+    """Returns the first path of a file with this stem, or the stem of which it is an alias. What can be neither is
+    skipped."""
+    for folder in tree.folders:
+        path = f"{folder}/{stem}.timer"
+        if os.path.islink(path):
+            place = in_real_folder(os.path.join(folder, os.readlink(path)))
+            if not any(place.startswith(f"{searched}/") for searched in tree.folders):
+                return path, None
+            name = os.path.basename(place)
+            if may_lead(stem, name):
+                return None, name.removesuffix(".timer")
+        elif os.path.isfile(path):
+            return path, None
+    return None, None
+
+
+def in_real_folder(path):
+    return os.path.join(os.path.realpath(os.path.dirname(path)), os.path.basename(path))
+
+
+def following(tree, stem):
+    """Follows aliases from a stem. Returns the path of a file and the stem under which it was found."""
+    for step in range(8):
+        path, other = destination(tree, stem)
+        if not path and not other and step and template(stem):
+            stem = template(stem)
+            path, other = destination(tree, stem)
+        if path or not other:
+            return path, stem
+        stem = other
+    return None, stem
+
+
+def unit_of(tree, stem):
+    """Returns the path of a unit's own file, the stem under which it was found, and the stem of the unit."""
+    path, file = following(tree, stem)
+    if not path and template(stem):
+        path, file = following(tree, template(stem))
+    return path, file, file + instance(stem) if kind(file) == "template" else file
+
+
+def names_of(tree, file, own, asked):
+    """Returns the stems of a unit: its own first, then those of its aliases."""
+    names = {asked}
+    for folder in tree.folders:
+        for stem in [name.removesuffix(".timer") for name in os.listdir(folder) if name.endswith(".timer")]:
+            if destination(tree, stem)[1] and following(tree, stem)[1] == file:
+                if kind(stem) == "template":
+                    path, other = following(tree, stem + instance(own))
+                    if not path or other == file:
+                        names.add(stem + instance(own))
+                elif instance(stem) == instance(own):
+                    names.add(stem)
+    return [own, *sorted(names - {own}, key=os.fsencode)]
 
 
 def folders_of_drop_ins(tree, stems):
@@ -100,31 +176,32 @@ def folders_of_drop_ins(tree, stems):
         yield f"{folder}/timer.d"
 
 
+def is_followed(tree, folder):
+    """Returns whether a folder of drop-ins is read. The target of a relative link has to be right from the folder in which
+    systemd-analyze runs, too."""
+    return os.path.isdir(folder) and (not os.path.islink(folder) or os.path.isdir(os.path.join(tree.root, os.readlink(folder))))
+
+
 def files_by_the_rules(tree, stem):
     """Returns the files of a unit in the order in which they are read."""
-    own = unit_file(tree, stem)
-    if own and os.path.islink(own):
-        stem = os.path.basename(os.readlink(own))[: -len(".timer")]
-        own = unit_file(tree, stem)
-    aliases = [ALIAS] if alias_of(tree) == stem else []
+    path, file, own = unit_of(tree, stem)
+    if not path or not os.path.isfile(path) or os.path.getsize(path) == 0:
+        return []
     chosen = {}
-    for folder in folders_of_drop_ins(tree, [stem, *aliases]):
-        for name in os.listdir(folder) if os.path.isdir(folder) else []:
+    for folder in folders_of_drop_ins(tree, names_of(tree, file, own, stem)):
+        for name in os.listdir(folder) if is_followed(tree, folder) else []:
             if name.endswith(".conf") and not name.startswith("."):
                 chosen.setdefault(name, f"{folder}/{name}")
-    return [own, *(chosen[name] for name in sorted(chosen, key=os.fsencode))]
-
-
-def alias_of(tree):
-    """Returns the stem of the unit that the alias stands for."""
-    path = unit_file(tree, ALIAS)
-    return os.path.basename(os.readlink(path))[: -len(".timer")] if path and os.path.islink(path) else None
+    return [path, *(chosen[name] for name in sorted(chosen, key=os.fsencode))]
 
 
 def files_by_systemd(tree, stem):
     environment = {**os.environ, "SYSTEMD_UNIT_PATH": ":".join(tree.folders)}
     verify = ["systemd-analyze", "verify", "--", f"{stem}.timer"]
     run = subprocess.run(verify, env=environment, cwd=tree.root, capture_output=True, text=True)
+    if " is masked." in run.stderr:
+        # systemd reads the drop-ins of a masked unit, but they have no effect.
+        return []
     return list(dict.fromkeys(READ.findall(run.stderr)))
 
 
@@ -138,33 +215,90 @@ def plant(tree, chance):
     """Makes a random unit with drop-ins, and returns a name of it."""
     stem = chance.choice(UNITS)
     has_instance = "@" in stem
-    for name in [stem, template(stem)] if has_instance else [stem]:
+    alias, target = alias_for(chance, stem) if chance.random() < 0.4 else (None, stem)
+    # Where an alias leads to the template, the instance has no file of its own: calendar-timers differs from systemd there.
+    # See docs/DECISIONS.md.
+    for name in [target] if not has_instance or target != stem else [stem, template(stem)]:
         for folder in chance.sample(tree.folders, chance.choice([0, 1, 2] if has_instance and name == stem else [1, 2])):
             tree.add(f"{folder}/{name}.timer", "file")
     stems = [*stems_with_folders(stem), *chance.sample(OTHERS, 2)]
-    is_known_otherwise = not has_instance and chance.random() < 0.3
-    if is_known_otherwise:
-        add_alias(tree, chance, unit_file(tree, stem))
-        stems += [ALIAS, *prefixes(ALIAS)]
+    names = [stem]
+    if alias:
+        add_alias(tree, chance, alias, target)
+        names.append(f"{ALIAS}@{instance(stem)}" if has_instance else ALIAS)
+        stems += stems_with_folders(names[1])
+    asked = chance.choice(names)
+    for add in [mask, add_skipped]:
+        if chance.random() < 0.3:
+            add_in_front(tree, chance, chance.choice([target, *names[1:]]), add)
     # Few folders and few names, so that many drop-ins hide each other.
     roots, names = chance.sample(tree.folders, 2), chance.sample(NAMES, 4)
     folders = [f"{root}/{name}.timer.d" for root in roots for name in stems] + [f"{root}/timer.d" for root in roots]
     for folder in chance.sample(folders, min(len(folders), chance.randint(1, 8))):
-        for name in chance.sample(names, chance.randint(0, 4)):
-            tree.add(f"{folder}/{name}", chance.choice(KINDS))
-    return ALIAS if is_known_otherwise and chance.random() < 0.5 else stem
+        if chance.random() < 0.15:
+            link_folder(tree, chance, folder)
+        if os.path.isdir(folder) or not os.path.islink(folder):
+            for name in chance.sample(names, chance.randint(0, 4)):
+                tree.add(f"{folder}/{name}", chance.choice(KINDS))
+    return asked
 
 
-def add_alias(tree, chance, file):
+def alias_for(chance, stem):
+    """Returns the stem of an alias, and the stem to which it leads."""
+    if "@" not in stem:
+        return ALIAS, stem
+    own, of_template = f"{ALIAS}@{instance(stem)}", f"{ALIAS}@"
+    return chance.choice([(own, stem), (own, template(stem)), (of_template, template(stem))])
+
+
+def add_alias(tree, chance, alias, stem):
     """Links the alias to a unit's file: by its name in the same folder, or by a relative path, perhaps through `/lib`."""
-    own = os.path.dirname(file)
+    own = destination(tree, stem)[0]
+    own = os.path.dirname(own) if own else tree.folders[-1]
     folder = chance.choice([own, *tree.folders])
-    target = os.path.basename(file)
+    target = f"{stem}.timer"
     if folder != own or chance.random() < 0.5:
-        target = os.path.relpath(file, folder)
+        target = os.path.relpath(f"{own}/{target}", folder)
         if chance.random() < 0.5:
             target = target.replace("usr/lib/", "lib/")
-    os.symlink(target, f"{folder}/{ALIAS}.timer")
+    os.symlink(target, f"{folder}/{alias}.timer")
+
+
+def add_in_front(tree, chance, stem, add):
+    """Adds something under a unit's name in a folder that doesn't have the name yet."""
+    free = [folder for folder in tree.folders if not os.path.lexists(f"{folder}/{stem}.timer")]
+    if free:
+        add(tree, chance, chance.choice(free), stem)
+
+
+def mask(tree, chance, folder, stem):
+    target = chance.choice(MASKS)
+    if target is None or (target == "empty.timer" and "@" in stem):
+        tree.add(f"{folder}/{stem}.timer", "empty")
+    else:
+        os.symlink(target.format(up=os.path.relpath("/", folder), root=os.path.relpath(tree.root, folder)), f"{folder}/{stem}.timer")
+
+
+def add_skipped(tree, chance, folder, stem):
+    """Adds what can't be a unit: a folder, or a link that can't be an alias."""
+    targets = [None, f"{stem}.timer", "foo.service", "foo", ".timer"]
+    targets += [f"{name}.timer" for name in ["foo", "foo@", "foo@other"] if not may_lead(stem, f"{name}.timer")]
+    target = chance.choice(targets)
+    if target is None:
+        os.mkdir(f"{folder}/{stem}.timer")
+    else:
+        os.symlink(target, f"{folder}/{stem}.timer")
+
+
+def link_folder(tree, chance, folder):
+    """Makes a folder of drop-ins a link: absolute, or relative and right from the folder that has it, from the root of the
+    tree, or from both."""
+    target = f"store/{os.path.basename(folder)}"
+    beside, below_root = f"{os.path.dirname(folder)}/{target}", f"{tree.root}/{target}"
+    for place in chance.choice([[beside], [below_root], [beside, below_root]]):
+        os.makedirs(place, exist_ok=True)
+    if not os.path.lexists(folder):
+        os.symlink(target, folder)
 
 
 def main(command):
@@ -179,7 +313,7 @@ def main(command):
             stem = plant(tree, random.Random(number))
             wanted = files_by_systemd(tree, stem)
             found = files_by_command(command, tree, stem) if command else files_by_the_rules(tree, stem)
-            found = [path for path in found if path in tree.named]
+            found = [in_real_folder(path) for path in found if path in tree.named]
             if found != wanted:
                 failed += 1
                 print(f"tree {number}, {stem}.timer: {found}, but systemd reads {wanted}")

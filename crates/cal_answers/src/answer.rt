@@ -1,27 +1,30 @@
 //! The answer to a question: the texts for standard output and standard error, and the exit status.
 
 ghost use Rattle.std.specs.Prelude.{◌≤◌, IfOk};
-ghost use Rattle.cal_units.specs.rules.Machine.{Machine};
+ghost use Rattle.std.specs.Option.{option_or};
+ghost use Rattle.cal_answers.specs.rules.Present.{IsPresent};
+ghost use Rattle.cal_machine.specs.rules.Machine.{Machine};
 
-use crate::aliases::{aliases_for, with_folder_faults};
 use crate::between::between;
 use crate::compare::same;
+use crate::index::{index_for, with_unreadable};
 use crate::lint::lint;
 use crate::local_clock::LocalClock;
 use crate::search_path::search_path;
 use crate::timers::{list, next, show};
 use cal_load::TargetFault;
-use cal_machine_zones::ZonesFault;
+use cal_machine::{Entry, Tree, TreeFault};
 use cal_plan::PlanFault;
 use cal_tasks::Clocked;
 use cal_timers_command::{Question, Verb};
 use cal_timers_text::{Style, fault_text, zones_text};
-use cal_units::{Alias, Entry, Tree, TreeFault};
+use cal_unit_index::UnitIndex;
 use cal_zone::Instant;
+use cal_zone_files::ZonesFault;
 use std::alloc::{AllocError, Global};
 
-/// The exit status if a timer can't be loaded, a folder of the search path can't be read, `lint` finds an error, or two
-/// timers differ.
+/// The exit status if a timer can't be loaded, a file or folder can't be read, `lint` finds an error, or two timers
+/// differ.
 pub(crate) const INVALID: u8 = 1;
 
 /// The exit status if the question can't be answered at all, for example because the local zone isn't known.
@@ -37,9 +40,9 @@ pub struct Answer {
     pub out: String,
     /// The error lines, for standard error.
     pub err: String,
-    /// The exit status: 0 for success; 1 if a timer can't be loaded, a folder of the search path can't be read, `lint`
-    /// finds an error, or two timers differ; 2 if the question can't be answered at all, for example because the local
-    /// zone isn't known.
+    /// The exit status: 0 for success; 1 if a timer can't be loaded, a file or folder can't be read, `lint` finds an
+    /// error, or two timers differ; 2 if the question can't be answered at all, for example because the local zone isn't
+    /// known.
     pub status: u8,
 }
 
@@ -47,10 +50,8 @@ pub struct Answer {
 #[derive(Clone, Copy)]
 pub(crate) struct Asked<'a> {
     pub targets: &'a [&'a str],
-    /// The search path of units, the most important folder first.
-    pub path: &'a [String],
-    /// The aliases of units.
-    pub aliases: &'a [Alias],
+    /// The index of the search path of units, or of no folder if no unit is needed.
+    pub index: &'a UnitIndex,
     pub at: Clocked<'a>,
     /// The number of elapses to show.
     pub count: u32,
@@ -95,12 +96,17 @@ pub fn answer_question<T: Tree>(
 
 /// Returns the present: `given`, or else the time of `clock`. Returns `None` if there is neither, or if the time is not
 /// an [`Instant`].
-fn present(given: Option<i64>, clock: Option<i64>) -> Option<Instant> {
+fn present(given: Option<i64>, clock: Option<i64>) -> Option<Instant>
+    ensures { IsPresent (option_or given clock) result }
+{
     Instant::new(given.or(clock)?)
 }
 
 /// Returns whether the root of the tree is a folder. Returns `true` without a check if `root`, the root that the
 /// question names, is empty.
+///
+/// Elsewhere, the root is the empty path, and counts as a folder without a check. Here it is `/`: if the root that the
+/// question names is a link, the slash makes the system follow this link.
 fn has_root<T: Tree>(alloc: Global, tree: &mut T, root: &str) -> Result<bool, AllocError>
     ensures grows { (machine : Machine) → T.shows tree.new machine → T.shows tree.old machine }
 {
@@ -110,7 +116,7 @@ fn has_root<T: Tree>(alloc: Global, tree: &mut T, root: &str) -> Result<bool, Al
     match tree.look(alloc, "/") {
         Ok(entry) => Ok(matches!(entry, Entry::Folder)),
         Err(TreeFault::NoMemory) => Err(AllocError),
-        Err(_) => Ok(false),
+        Err(TreeFault::Unreadable(_)) => Ok(false),
     }
 }
 
@@ -148,7 +154,7 @@ fn answer_at<T: Tree>(
         .iter()
         .map(|target| target.as_str())
         .collect(alloc)?;
-    let found = aliases_for(
+    let index = index_for(
         alloc,
         tree,
         question.verb,
@@ -157,22 +163,14 @@ fn answer_at<T: Tree>(
     )?;
     let asked = Asked {
         targets: targets.as_slice(),
-        path: path.as_slice(),
-        aliases: found.aliases.as_slice(),
+        index: &index,
         at,
         count: question.count.unwrap_or(DEFAULT_COUNT),
         is_json: question.is_json,
         style,
     };
     let answer = answer_verb(alloc, tree, question.verb, asked)?;
-    let answer = with_folder_faults(
-        alloc,
-        question.verb,
-        targets.as_slice(),
-        path.as_slice(),
-        found.faults.as_slice(),
-        answer,
-    )?;
+    let answer = with_unreadable(alloc, index.unreadable(), answer)?;
     Ok(answer)
 }
 

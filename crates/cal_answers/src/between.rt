@@ -1,15 +1,15 @@
 //! The verb `between`: all elapses of several timers in a range of time.
 
 ghost use Rattle.std.specs.Prelude.{◌≤◌, IfOk};
-ghost use Rattle.cal_units.specs.rules.Machine.{Machine};
+ghost use Rattle.cal_machine.specs.rules.Machine.{Machine};
 
 use crate::answer::{Answer, Asked, fault_lines, status_of, stopped};
 use cal_load::{Loaded, load_timers};
+use cal_machine::Tree;
 use cal_plan::PlanFault;
 use cal_tasks::{WhenFault, elapses_between, read_when};
 use cal_timers_json::between_json;
 use cal_timers_text::between_text;
-use cal_units::Tree;
 use cal_zone::Instant;
 use std::alloc::Global;
 
@@ -38,7 +38,7 @@ pub(crate) fn between<T: Tree>(
     if before.secs() < from.secs() {
         return stopped(alloc, "TO is before FROM");
     }
-    let loaded = load_timers(alloc, tree, asked.path, asked.aliases, targets)?;
+    let loaded = load_timers(alloc, tree, asked.index, targets)?;
     range_of(alloc, asked, &loaded, from, before)
 }
 

@@ -1,15 +1,15 @@
 //! The verb `same`: whether two timers elapse at the same instants.
 
 ghost use Rattle.std.specs.Prelude.{◌≤◌, IfOk};
-ghost use Rattle.cal_units.specs.rules.Machine.{Machine};
+ghost use Rattle.cal_machine.specs.rules.Machine.{Machine};
 
-use crate::answer::{Answer, Asked, INVALID, fault_lines, push_masked, stopped};
+use crate::answer::{Answer, Asked, INVALID, fault_lines, push_fault_line, push_masked, stopped};
 use cal_load::{Loaded, LoadedTimer, TargetReason, load_expressions, load_timers};
+use cal_machine::Tree;
 use cal_plan::PlanFault;
 use cal_tasks::difference_of;
 use cal_timers_json::same_json;
 use cal_timers_text::same_text;
-use cal_units::Tree;
 use std::alloc::{AllocError, Global};
 
 /// Compares the two timers that the targets name. Each target is a unit, a file or an expression.
@@ -27,7 +27,10 @@ pub(crate) fn same<T: Tree>(
     let first = load_one(alloc, tree, asked, one)?;
     let second = load_one(alloc, tree, asked, other)?;
     match (first.timers.first(), second.timers.first()) {
-        (Some(these), Some(those)) => compared(alloc, asked, these, those),
+        (Some(these), Some(those)) => {
+            let err = lines_of_both(alloc, &first, &second)?;
+            compared(alloc, asked, these, those, err)
+        }
         _ => unloaded(alloc, &first, &second),
     }
 }
@@ -42,7 +45,7 @@ fn load_one<T: Tree>(
 ) -> Result<Loaded, AllocError>
     ensures grows { (machine : Machine) → T.shows tree.new machine → T.shows tree.old machine }
 {
-    let loaded = load_timers(alloc, tree, asked.path, asked.aliases, &[target])?;
+    let loaded = load_timers(alloc, tree, asked.index, &[target])?;
     match loaded.faults.first() {
         Some(fault) if matches!(fault.reason, TargetReason::NotFound) => {
             let expression = load_expressions(alloc, tree, &[target])?;
@@ -56,11 +59,13 @@ fn load_one<T: Tree>(
     }
 }
 
+/// Returns the answer for two timers that were loaded. `err` has the error lines about their drop-ins.
 fn compared(
     alloc: Global,
     asked: Asked<'_>,
     one: &LoadedTimer,
     other: &LoadedTimer,
+    err: String,
 ) -> Result<Answer, PlanFault>
     ensures { IfOk result (λ answer. answer.status ≤ 2) }
 {
@@ -72,11 +77,12 @@ fn compared(
         same_text(alloc, asked.at.local, first, second, difference)?
     };
     let is_same = difference.only_one.is_none() && difference.only_other.is_none();
-    Ok(Answer {
-        out,
-        err: String::new(alloc),
-        status: if is_same { 0 } else { INVALID },
-    })
+    let status = if is_same && err.is_empty() {
+        0
+    } else {
+        INVALID
+    };
+    Ok(Answer { out, err, status })
 }
 
 /// Returns the answer if at least one of two timers couldn't be loaded: the error lines, and a line for each masked
@@ -84,9 +90,7 @@ fn compared(
 fn unloaded(alloc: Global, first: &Loaded, second: &Loaded) -> Result<Answer, PlanFault>
     ensures { IfOk result (λ answer. answer.status ≤ 2) }
 {
-    let mut err = fault_lines(alloc, first.faults.as_slice())?;
-    let others = fault_lines(alloc, second.faults.as_slice())?;
-    err.push_str(others.as_str())?;
+    let mut err = lines_of_both(alloc, first, second)?;
     push_masked(&mut err, first.masked.as_slice())?;
     push_masked(&mut err, second.masked.as_slice())?;
     Ok(Answer {
@@ -94,4 +98,20 @@ fn unloaded(alloc: Global, first: &Loaded, second: &Loaded) -> Result<Answer, Pl
         err,
         status: INVALID,
     })
+}
+
+/// Returns the error lines about two timers. An error about something that both timers have, for example a folder of
+/// drop-ins, has only one line.
+fn lines_of_both(alloc: Global, first: &Loaded, second: &Loaded) -> Result<String, AllocError> {
+    let mut lines = fault_lines(alloc, first.faults.as_slice())?;
+    for fault in &second.faults {
+        let is_known = first
+            .faults
+            .iter()
+            .any(|other| other.target == fault.target);
+        if !is_known {
+            push_fault_line(alloc, &mut lines, fault)?;
+        }
+    }
+    Ok(lines)
 }

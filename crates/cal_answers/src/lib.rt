@@ -2,10 +2,10 @@
 //! status.
 #![tactic(auto)]
 
-mod aliases;
 mod answer;
 mod between;
 mod compare;
+mod index;
 mod lint;
 mod local_clock;
 mod search_path;

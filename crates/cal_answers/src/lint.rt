@@ -1,17 +1,17 @@
 //! The verb `lint`: all problems of the files of timers.
 
 ghost use Rattle.std.specs.Prelude.{◌≤◌, IfOk};
-ghost use Rattle.cal_units.specs.rules.Machine.{Machine};
+ghost use Rattle.cal_machine.specs.rules.Machine.{Machine};
 
 use crate::answer::{Answer, Asked, INVALID, fault_lines, push_fault_line};
 use cal_lint::{Finding, ProblemKind, findings};
 use cal_load::{Loaded, LoadedTimer, TargetFault, TargetReason, load_files, load_timers};
+use cal_machine::Tree;
 use cal_plan::PlanFault;
 use cal_read::TimerFault;
 use cal_tasks::{IdleLine, idle_lines};
 use cal_timers_json::{LintRow, lint_json};
 use cal_timers_text::{Style, finding_text, idle_text, idle_words, message_of};
-use cal_units::Tree;
 use std::alloc::{AllocError, Global};
 
 /// The maximum size of the text of a file, in bytes. A file has at most 1,048,576 bytes, and each byte that isn't UTF-8
@@ -74,7 +74,7 @@ fn add_files<T: Tree>(
 ) -> Result<Vec<TargetFault>, AllocError>
     ensures grows { (machine : Machine) → T.shows tree.new machine → T.shows tree.old machine }
 {
-    let loaded = load_files(alloc, tree, asked.path, asked.aliases, asked.targets)?;
+    let loaded = load_files(alloc, tree, asked.index, asked.targets)?;
     for file in &loaded.files {
         // systemd accepts comments that aren't UTF-8, so such bytes are replaced instead of being an error.
         let text = String::from_utf8_lossy(alloc, file.bytes.as_slice())?;
@@ -143,7 +143,7 @@ fn load_whole_timers<T: Tree>(
             faults: Vec::new(alloc),
         });
     }
-    load_timers(alloc, tree, asked.path, asked.aliases, timers.as_slice())
+    load_timers(alloc, tree, asked.index, timers.as_slice())
 }
 
 /// Adds a warning about each expression that never elapses, and about each exception that suppresses nothing.

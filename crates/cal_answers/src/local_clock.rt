@@ -1,11 +1,15 @@
 //! The local zone of the machine, with the rules or the zone table that its [`Zone`] borrows.
 
-ghost use Rattle.cal_units.specs.rules.Machine.{Machine};
+ghost use Rattle.std.specs.Prelude.{◌≡◌, ◌∷◌, [], IfOk, map, option_map, string_bytes};
+ghost use Rattle.cal_machine.specs.rules.Machine.{Machine};
+ghost use Rattle.cal_zone_files.specs.rules.MachineLocalZone.{ByRule, OfName, machine_local_zone};
+ghost use Rattle.cal_zone.specs.rules.Zone.{zone_of};
+ghost use Rattle.cal_answers.specs.rules.LocalClock.{IsLocalZone, clock_zone};
 
-use cal_machine_zones::{MachineLocalZone, Origin, ZonesFault, find_local_zone, load_zones};
-use cal_units::Tree;
+use cal_machine::Tree;
 use cal_zone::{Rules, Zone, ZoneFault, ZoneTable};
-use std::alloc::Global;
+use cal_zone_files::{MachineLocalZone, Origin, ZonesFault, find_local_zone, load_zones};
+use std::alloc::{AllocError, Global};
 
 /// The local zone of the machine, with the data that its [`Zone`] borrows.
 #[derive(Drop)]
@@ -29,6 +33,8 @@ impl LocalClock {
         tree: &mut T,
         option: Option<&str>,
     ) -> Result<LocalClock, ZonesFault>
+        ensures zone { IfOk result (λ clock. (machine : Machine) → T.shows tree.new machine
+            → IsLocalZone machine (machine_local_zone machine (option_map (λ text. text.now) option.entry)) (clock_zone clock)) }
         ensures grows { (machine : Machine) → T.shows tree.new machine → T.shows tree.old machine }
     {
         match find_local_zone(alloc, tree, option) {
@@ -41,7 +47,9 @@ impl LocalClock {
     }
 
     /// Returns the zone, or `None` if the zone has a name that isn't in its table.
-    pub(crate) fn zone(&self) -> Option<Zone<'_>> {
+    pub(crate) fn zone(&self) -> Option<Zone<'_>>
+        ensures { option_map zone_of result ≡ clock_zone self.now }
+    {
         match self {
             LocalClock::Fixed(zone) => Some(*zone),
             LocalClock::Ruled(rules) => Some(Zone::rules(rules)),
@@ -50,7 +58,9 @@ impl LocalClock {
     }
 }
 
-fn ruled(alloc: Global, rule: &str) -> Result<LocalClock, ZonesFault> {
+fn ruled(alloc: Global, rule: &str) -> Result<LocalClock, ZonesFault>
+    ensures { IfOk result (λ clock. (machine : Machine) → IsLocalZone machine (ByRule rule.now) (clock_zone clock)) }
+{
     match Rules::posix(alloc, rule) {
         Ok(rules) => Ok(LocalClock::Ruled(rules)),
         Err(ZoneFault::NoMemory) => Err(ZonesFault::NoMemory),
@@ -59,9 +69,19 @@ fn ruled(alloc: Global, rule: &str) -> Result<LocalClock, ZonesFault> {
 }
 
 fn named<T: Tree>(alloc: Global, tree: &mut T, name: String) -> Result<LocalClock, ZonesFault>
+    ensures zone { IfOk result (λ clock. (machine : Machine) → T.shows tree.new machine
+        → IsLocalZone machine (OfName (string_bytes name)) (clock_zone clock)) }
     ensures grows { (machine : Machine) → T.shows tree.new machine → T.shows tree.old machine }
 {
-    let names = vec![in alloc; name.clone()?]?;
+    let names = only(alloc, name.as_str())?;
     let table = load_zones(alloc, tree, names.as_slice())?;
     Ok(LocalClock::Named(name, table))
+}
+
+fn only(alloc: Global, name: &str) -> Result<Vec<String>, AllocError>
+    ensures { IfOk result (λ names. map string_bytes names.items ≡ name.now ∷ []) }
+{
+    let mut names = Vec::new(alloc);
+    names.push(String::from_str(alloc, name)?)?;
+    Ok(names)
 }

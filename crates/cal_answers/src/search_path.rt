@@ -1,9 +1,10 @@
 //! The search path for a question, which depends on variables of the environment. A variable that isn't UTF-8 or can't be
 //! read counts as one that isn't set.
 
-ghost use Rattle.cal_units.specs.rules.Machine.{Machine};
+ghost use Rattle.cal_machine.specs.rules.Machine.{Machine};
 
-use cal_units::{Tree, TreeFault, UserVariables, given_path, system_path, user_path};
+use cal_machine::{Tree, TreeFault};
+use cal_unit_index::{UserVariables, given_path, system_path, user_path};
 use std::alloc::{AllocError, Global};
 
 /// Returns the search path of a user's manager if `is_user` is `true`, and otherwise that of the system's manager.
@@ -58,6 +59,6 @@ fn variable<T: Tree>(alloc: Global, tree: &mut T, name: &str) -> Result<Option<S
     match tree.variable(alloc, name) {
         Ok(value) => Ok(value),
         Err(TreeFault::NoMemory) => Err(AllocError),
-        Err(_) => Ok(None),
+        Err(TreeFault::Unreadable(_)) => Ok(None),
     }
 }

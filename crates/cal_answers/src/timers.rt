@@ -1,15 +1,15 @@
 //! The verbs that show the next elapses: `list`, `show` and `next`.
 
 ghost use Rattle.std.specs.Prelude.{◌≤◌, IfOk};
-ghost use Rattle.cal_units.specs.rules.Machine.{Machine};
+ghost use Rattle.cal_machine.specs.rules.Machine.{Machine};
 
 use crate::answer::{Answer, Asked, fault_lines, push_masked, status_of};
 use cal_load::{Loaded, LoadedTimer, load_expressions, load_timers};
+use cal_machine::Tree;
 use cal_plan::PlanFault;
 use cal_tasks::{ClockNote, clock_notes, first_elapses, next_of_timers};
 use cal_timers_json::{ShownTimer, list_json, show_json};
 use cal_timers_text::{list_text, show_text};
-use cal_units::Tree;
 use cal_zone::Instant;
 use std::alloc::{AllocError, Global};
 
@@ -29,7 +29,7 @@ pub(crate) fn list<T: Tree>(
     ensures status { IfOk result (λ answer. answer.status ≤ 2) }
     ensures grows { (machine : Machine) → T.shows tree.new machine → T.shows tree.old machine }
 {
-    let loaded = load_timers(alloc, tree, asked.path, asked.aliases, asked.targets)?;
+    let loaded = load_timers(alloc, tree, asked.index, asked.targets)?;
     let next = next_of_timers(alloc, asked.at, loaded.timers.as_slice())?;
     let out = if asked.is_json {
         list_json(alloc, asked.at, &loaded, &next)?
@@ -48,7 +48,7 @@ pub(crate) fn show<T: Tree>(
     ensures status { IfOk result (λ answer. answer.status ≤ 2) }
     ensures grows { (machine : Machine) → T.shows tree.new machine → T.shows tree.old machine }
 {
-    let loaded = load_timers(alloc, tree, asked.path, asked.aliases, asked.targets)?;
+    let loaded = load_timers(alloc, tree, asked.index, asked.targets)?;
     show_loaded(alloc, asked, &loaded)
 }
 

@@ -7,8 +7,8 @@ use Rattle.std.proofs.lemmas.List.Elements.{All-push}
 use Rattle.cal_read.specs.rules.TimerTexts.{assignments_at, assignments_of}
 use Rattle.cal_read.specs.declared.texts.NumberedText.{NumberedText}
 use Rattle.cal_timer.specs.rules.Assignments.{Assignment}
-use Rattle.cal_units.specs.rules.Files.{shown_unit_text}
-use Rattle.cal_units.specs.declared.files.UnitText.{UnitText}
+use Rattle.cal_unit_index.specs.rules.Files.{shown_unit_text}
+use Rattle.cal_unit_index.specs.declared.files.UnitText.{UnitText}
 use Rattle.cal_load.specs.rules.Loaded.{assignments_from, bytes_in}
 
 -- the assignments in the files from index `i` on are those in the file with index `i`, whose text is `text`, followed

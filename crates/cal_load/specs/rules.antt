@@ -1,5 +1,7 @@
 -- What the manuals and this project's own rules say. The laws and the contracts of this crate cite these definitions.
+pub mod AllUnits
 pub mod Expressions
 pub mod Loaded
 pub mod LoadedTarget
 pub mod Position
+pub mod TextFaults

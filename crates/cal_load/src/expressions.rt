@@ -2,7 +2,7 @@
 
 ghost use Rattle.std.specs.Prelude.{◌≡◌, ◌∷◌, ◌++◌, [], ℕ, List, All, IfOk, OnOk, map};
 ghost use Rattle.cal_timer.specs.rules.TimerView.{shown};
-ghost use Rattle.cal_units.specs.rules.Machine.{Machine};
+ghost use Rattle.cal_machine.specs.rules.Machine.{Machine};
 ghost use Rattle.cal_load.specs.rules.Expressions.{AreOf, IsMadeOf, IsTimerOf};
 
 use crate::calendar::Calendar;
@@ -10,11 +10,11 @@ use crate::fault::{TargetLoadFault, push_fault};
 use crate::loaded::{Loaded, LoadedTimer};
 use crate::target_fault::TargetReason;
 use crate::zones::{first_with_zone, load_named_zones};
-use cal_machine_zones::{FileReason, ZonesFault};
+use cal_machine::Tree;
 use cal_spec::{SpecFault, read_expr};
 use cal_timer::TimerLine;
-use cal_units::Tree;
 use cal_zone::ZoneTable;
+use cal_zone_files::{FileReason, ZonesFault};
 use std::alloc::{AllocError, Global};
 
 /// Returns the timer that has these calendar expressions and no exceptions (systemd.time(7), Calendar Events). If an

@@ -1,7 +1,12 @@
 //! The errors of one target.
 
+ghost use Rattle.std.specs.Prelude.{◌≡◌, OnOk};
+ghost use Rattle.cal_load.specs.declared.fault.TargetLoadFault.TheVariants.{NoMemory};
+ghost use Rattle.cal_load.specs.rules.AllUnits.{HasFault, IsNotUtf8Fault, IsPathFault, Keeps};
+
 use crate::target_fault::{TargetFault, TargetReason};
-use cal_units::{Reason, TreeFault, UnitFault};
+use cal_machine::TreeFault;
+use cal_unit_index::{Reason, UnitFault};
 use std::alloc::{AllocError, AllocFailed, Global};
 
 /// Why a target can't be loaded.
@@ -14,31 +19,26 @@ pub(crate) enum TargetLoadFault {
 }
 
 impl From<AllocError> for TargetLoadFault {
+    ghost from_gives = { λ _ fault. fault ≡ NoMemory };
+
     fn from(_refused: AllocError) -> TargetLoadFault {
         TargetLoadFault::NoMemory
     }
 }
 
 impl<T: Drop> From<AllocFailed<T>> for TargetLoadFault {
+    ghost from_gives = { λ _ fault. fault ≡ NoMemory };
+
     fn from(_refused: AllocFailed<T>) -> TargetLoadFault {
         TargetLoadFault::NoMemory
     }
 }
 
-impl From<UnitFault> for TargetLoadFault {
-    fn from(fault: UnitFault) -> TargetLoadFault {
-        match fault {
-            UnitFault::At(path, reason) => TargetLoadFault::Target(TargetReason::Path(
-                path, reason,
-            )),
-            UnitFault::NoMemory => TargetLoadFault::NoMemory,
-        }
-    }
-}
-
 impl TargetLoadFault {
     /// Returns the error that a path can't be used, for this reason.
-    pub(crate) fn at(alloc: Global, path: &str, reason: Reason) -> TargetLoadFault {
+    pub(crate) fn at(alloc: Global, path: &str, reason: Reason) -> TargetLoadFault
+        ensures { IsPathFault path.now reason result }
+    {
         match String::from_str(alloc, path) {
             Ok(path) => TargetLoadFault::Target(TargetReason::Path(path, reason)),
             Err(_) => TargetLoadFault::NoMemory,
@@ -46,18 +46,21 @@ impl TargetLoadFault {
     }
 
     /// Returns the error for a file that is not UTF-8.
-    pub(crate) fn not_utf8(alloc: Global, path: &str) -> TargetLoadFault {
+    pub(crate) fn not_utf8(alloc: Global, path: &str) -> TargetLoadFault
+        ensures { IsNotUtf8Fault path.now result }
+    {
         match String::from_str(alloc, path) {
             Ok(path) => TargetLoadFault::Target(TargetReason::NotUtf8(path)),
             Err(_) => TargetLoadFault::NoMemory,
         }
     }
 
-    /// Converts the error that a method of a `Tree` returned for this path.
+    /// Converts the error with which reading at this path failed.
     pub(crate) fn of_tree(alloc: Global, path: &str, fault: TreeFault) -> TargetLoadFault {
         match fault {
-            TreeFault::ReadFailed => TargetLoadFault::at(alloc, path, Reason::ReadFailed),
-            TreeFault::NotUtf8 => TargetLoadFault::at(alloc, path, Reason::NotUtf8),
+            TreeFault::Unreadable(why) => {
+                TargetLoadFault::at(alloc, path, Reason::Unreadable(why))
+            }
             TreeFault::NoMemory => TargetLoadFault::NoMemory,
         }
     }
@@ -70,7 +73,10 @@ pub(crate) fn push_fault(
     faults: &mut Vec<TargetFault>,
     target: &str,
     fault: TargetLoadFault,
-) -> Result<(), AllocError> {
+) -> Result<(), AllocError>
+    ensures reported { OnOk result (HasFault faults.new.items target.now fault) }
+    ensures kept { OnOk result (Keeps faults.old.items faults.new.items) }
+{
     match fault {
         TargetLoadFault::Target(reason) => {
             let target = String::from_str(alloc, target)?;
@@ -79,4 +85,33 @@ pub(crate) fn push_fault(
         }
         TargetLoadFault::NoMemory => Err(AllocError),
     }
+}
+
+/// Adds what was lost of units, such as a drop-in that can't be read, to `faults`. Each path is added once.
+pub(crate) fn push_lost(
+    faults: &mut Vec<TargetFault>,
+    lost: Vec<UnitFault>,
+) -> Result<(), AllocError>
+    ensures kept { OnOk result (Keeps faults.old.items faults.new.items) }
+{
+    for fault in lost {
+        push_once(faults, fault)?;
+    }
+    Ok(())
+}
+
+fn push_once(faults: &mut Vec<TargetFault>, fault: UnitFault) -> Result<(), AllocError>
+    ensures kept { OnOk result (Keeps faults.old.items faults.new.items) }
+{
+    if !is_known(faults.as_slice(), fault.path.as_str()) {
+        faults.push(TargetFault {
+            target: fault.path.clone()?,
+            reason: TargetReason::Path(fault.path, fault.reason),
+        })?;
+    }
+    Ok(())
+}
+
+fn is_known(faults: &[TargetFault], path: &str) -> bool {
+    faults.iter().any(|fault| fault.target.as_str() == path)
 }

@@ -1,15 +1,17 @@
 //! Reading the files that a user names, each once.
 
-ghost use Rattle.std.specs.Prelude.{◌≡◌, ◌++◌, [], All, IfOk, OnOk};
-ghost use Rattle.cal_units.specs.rules.Machine.{Machine};
-ghost use Rattle.cal_units.specs.rules.Files.{IsStoredOn};
+ghost use Rattle.std.specs.Prelude.{◌≡◌, [], All, IfOk, OnOk};
+ghost use Rattle.cal_machine.specs.rules.Machine.{Machine};
+ghost use Rattle.cal_load.specs.rules.Loaded.{IsStoredOn};
 
-use crate::fault::{TargetLoadFault, push_fault};
-use crate::names::{Wanted, files_in, names_in_path};
-use crate::paths::{PathKind, is_path, kind_at, path_in, without_slashes};
+use crate::fault::{TargetLoadFault, push_fault, push_lost};
+use crate::names::{Wanted, files_in, units_in};
+use crate::paths::{is_folder, is_path, path_in, without_slashes};
 use crate::target_fault::{TargetFault, TargetReason};
-use cal_units::{
-    Alias, Tree, Unit, UnitFile, UnitText, find_unit, find_unit_drop_ins, read_files, unit_stem,
+use cal_machine::Tree;
+use cal_unit_index::{
+    DropIns, FileRead, Reason, Unit, UnitFault, UnitFile, UnitIndex, UnitText, find_drop_ins,
+    find_unit, names_of, read_file, unit_stem,
 };
 use std::alloc::{AllocError, Global};
 use std::collections::BTreeSet;
@@ -24,18 +26,16 @@ pub struct LoadedFiles {
 }
 
 /// Reads the files that the targets stand for, in their order, each once. Without a target, these are the files of all
-/// timers in the folders of the search path.
+/// timers in the search path.
 ///
-/// `path` is the search path, the most important folder first, and `aliases` are the aliases of the units in it. A
-/// target is a path or the name of a timer, as for [`crate::load_timers`]. A timer stands for its file and its
-/// drop-ins, a folder for all its files with the suffix `.timer` or `.conf`, and any other file for itself. A masked
-/// unit has no files. What can't be read is in [`LoadedFiles::faults`], and all other files are still read. Fails only
-/// if allocation fails.
+/// `index` is the index of the search path. A target is a path or the name of a timer, as for [`crate::load_timers`]. A
+/// timer stands for its file and its drop-ins, a folder for all its files with the suffix `.timer` or `.conf`, and any
+/// other file for itself. A masked unit has no files. What can't be read is in [`LoadedFiles::faults`], and all other
+/// files are still read. Fails only if allocation fails.
 pub fn load_files<T: Tree>(
     alloc: Global,
     tree: &mut T,
-    path: &[String],
-    aliases: &[Alias],
+    index: &UnitIndex,
     targets: &[&str],
 ) -> Result<LoadedFiles, AllocError>
     ensures known { IfOk result (λ loaded. (machine : Machine) → T.shows tree.new machine
@@ -43,29 +43,41 @@ pub fn load_files<T: Tree>(
     ensures grows { (machine : Machine) → T.shows tree.new machine → T.shows tree.old machine }
 {
     if targets.is_empty() {
-        return all_files(alloc, tree, path, aliases);
+        return all_files(alloc, tree, index);
     }
     let mut reading = Reading::new(alloc);
     for target in targets {
-        reading.take_target(alloc, tree, path, aliases, target)?;
+        reading.take_target(alloc, tree, index, target)?;
     }
     Ok(reading.loaded)
 }
 
-/// Reads the files of all timers in the folders of the search path.
+/// Reads the files of all timers in the search path.
 fn all_files<T: Tree>(
     alloc: Global,
     tree: &mut T,
-    path: &[String],
-    aliases: &[Alias],
+    index: &UnitIndex,
 ) -> Result<LoadedFiles, AllocError>
     ensures known { IfOk result (λ loaded. (machine : Machine) → T.shows tree.new machine
         → All (IsStoredOn machine) loaded.files.items) }
     ensures grows { (machine : Machine) → T.shows tree.new machine → T.shows tree.old machine }
 {
     let mut reading = Reading::new(alloc);
-    reading.take_all(alloc, tree, path, aliases)?;
+    for stem in units_in(alloc, index)? {
+        reading.take_listed(alloc, tree, index, stem.as_str())?;
+    }
     Ok(reading.loaded)
+}
+
+/// What became of the file at a path.
+#[derive(Clone, Copy, PartialEq, Eq, Debug)]
+enum Taken {
+    /// It was read, now or before.
+    Read,
+    /// It is a mask.
+    Masked,
+    /// It can't be used, for this reason.
+    Unusable(Reason),
 }
 
 /// The files that were read so far, and all paths that were tried.
@@ -88,211 +100,236 @@ impl Reading {
         }
     }
 
-    /// Reads the files of all timers in the folders of the search path. Skips names in these folders that no unit has,
-    /// such as the name of a folder.
-    fn take_all<T: Tree>(
+    /// Reads the files of the unit with this stem. Skips it if its file is a link to nothing.
+    fn take_listed<T: Tree>(
         &mut self,
         alloc: Global,
         tree: &mut T,
-        path: &[String],
-        aliases: &[Alias],
+        index: &UnitIndex,
+        stem: &str,
     ) -> Result<(), AllocError>
         ensures known { OnOk result ((machine : Machine) → T.shows tree.new machine
             → All (IsStoredOn machine) self.old.loaded.files.items → All (IsStoredOn machine) self.new.loaded.files.items) }
         ensures grows { (machine : Machine) → T.shows tree.new machine → T.shows tree.old machine }
     {
-        let names = names_in_path(alloc, tree, path, &mut self.loaded.faults)?;
-        for name in names {
-            self.take_listed(alloc, tree, path, aliases, name.as_str())?;
+        let Unit::Found(file) = find_unit(alloc, index, stem)? else {
+            return Ok(());
+        };
+        match self.take_unit(alloc, tree, index, stem, &file)? {
+            Some(Reason::Missing) | None => Ok(()),
+            Some(reason) => {
+                let name = format!(in alloc; "{stem}.timer")?;
+                self.push_unusable(alloc, name.as_str(), file.path.as_str(), reason)
+            }
         }
-        Ok(())
     }
 
-    fn take_listed<T: Tree>(
+    /// Reads the files of a target.
+    fn take_target<T: Tree>(
         &mut self,
         alloc: Global,
         tree: &mut T,
-        path: &[String],
-        aliases: &[Alias],
+        index: &UnitIndex,
+        target: &str,
+    ) -> Result<(), AllocError>
+        ensures known { OnOk result ((machine : Machine) → T.shows tree.new machine
+            → All (IsStoredOn machine) self.old.loaded.files.items → All (IsStoredOn machine) self.new.loaded.files.items) }
+        ensures grows { (machine : Machine) → T.shows tree.new machine → T.shows tree.old machine }
+    {
+        if !is_path(target) {
+            return self.take_named(alloc, tree, index, target);
+        }
+        let path = without_slashes(target);
+        if is_folder(alloc, tree, path)? {
+            return self.take_folder(alloc, tree, path);
+        }
+        self.take_path(alloc, tree, path)
+    }
+
+    /// Reads the files of the unit with this name.
+    fn take_named<T: Tree>(
+        &mut self,
+        alloc: Global,
+        tree: &mut T,
+        index: &UnitIndex,
         name: &str,
     ) -> Result<(), AllocError>
         ensures known { OnOk result ((machine : Machine) → T.shows tree.new machine
             → All (IsStoredOn machine) self.old.loaded.files.items → All (IsStoredOn machine) self.new.loaded.files.items) }
         ensures grows { (machine : Machine) → T.shows tree.new machine → T.shows tree.old machine }
     {
-        match find_unit_file(alloc, tree, path, name) {
-            Err(TargetLoadFault::Target(TargetReason::NotFound)) => Ok(()),
-            found => self.take_unit(alloc, tree, path, aliases, name, found),
+        let Some(stem) = unit_stem(name) else {
+            return self.push_reason(alloc, name, TargetReason::NotFound);
+        };
+        match find_unit(alloc, index, stem)? {
+            Unit::NotFound => self.push_reason(alloc, name, TargetReason::NotFound),
+            Unit::Template => self.push_reason(alloc, name, TargetReason::Template),
+            Unit::Endless => self.push_reason(alloc, name, TargetReason::TooManyAliases),
+            Unit::Found(file) => match self.take_unit(alloc, tree, index, stem, &file)? {
+                Some(reason) => self.push_unusable(alloc, name, file.path.as_str(), reason),
+                None => Ok(()),
+            },
         }
     }
 
-    fn take_target<T: Tree>(
-        &mut self,
-        alloc: Global,
-        tree: &mut T,
-        path: &[String],
-        aliases: &[Alias],
-        target: &str,
-    ) -> Result<(), AllocError>
-        ensures known { OnOk result ((machine : Machine) → T.shows tree.new machine
-            → All (IsStoredOn machine) self.old.loaded.files.items → All (IsStoredOn machine) self.new.loaded.files.items) }
-        ensures grows { (machine : Machine) → T.shows tree.new machine → T.shows tree.old machine }
-    {
-        if is_path(target) {
-            let target = without_slashes(target);
-            let paths = paths_at(alloc, tree, target);
-            return self.take_paths(alloc, tree, target, paths);
-        }
-        let found = find_unit_file(alloc, tree, path, target);
-        self.take_unit(alloc, tree, path, aliases, target, found)
-    }
-
-    /// Reads the file of a unit and its drop-ins. A masked unit has no files.
+    /// Reads the file of a unit, and then its drop-ins unless the file is a mask. Returns why the file can't be used, if it
+    /// can't.
     fn take_unit<T: Tree>(
         &mut self,
         alloc: Global,
         tree: &mut T,
-        path: &[String],
-        aliases: &[Alias],
-        target: &str,
-        found: Result<Option<UnitFile>, TargetLoadFault>,
+        index: &UnitIndex,
+        asked: &str,
+        file: &UnitFile,
+    ) -> Result<Option<Reason>, AllocError>
+        ensures known { OnOk result ((machine : Machine) → T.shows tree.new machine
+            → All (IsStoredOn machine) self.old.loaded.files.items → All (IsStoredOn machine) self.new.loaded.files.items) }
+        ensures grows { (machine : Machine) → T.shows tree.new machine → T.shows tree.old machine }
+    {
+        match self.take(alloc, tree, file.path.as_str())? {
+            Taken::Read => self.take_drop_ins(alloc, tree, index, asked, file)?,
+            Taken::Masked => {}
+            Taken::Unusable(reason) => return Ok(Some(reason)),
+        }
+        Ok(None)
+    }
+
+    /// Reads the drop-ins of a unit.
+    fn take_drop_ins<T: Tree>(
+        &mut self,
+        alloc: Global,
+        tree: &mut T,
+        index: &UnitIndex,
+        asked: &str,
+        file: &UnitFile,
     ) -> Result<(), AllocError>
         ensures known { OnOk result ((machine : Machine) → T.shows tree.new machine
             → All (IsStoredOn machine) self.old.loaded.files.items → All (IsStoredOn machine) self.new.loaded.files.items) }
         ensures grows { (machine : Machine) → T.shows tree.new machine → T.shows tree.old machine }
     {
-        match found {
-            Ok(Some(file)) => {
-                let drop_ins = drop_ins_of(alloc, tree, path, aliases, &file);
-                self.take_path(alloc, tree, target, file.path)?;
-                self.take_paths(alloc, tree, target, drop_ins)
-            }
-            Ok(None) => Ok(()),
-            Err(fault) => push_fault(alloc, &mut self.loaded.faults, target, fault),
+        let names = names_of(alloc, index, file, asked)?;
+        let DropIns { paths, unread } = find_drop_ins(alloc, tree, index, names.as_slice())?;
+        push_lost(&mut self.loaded.faults, unread)?;
+        for path in paths {
+            self.take_drop_in(alloc, tree, path)?;
         }
+        Ok(())
     }
 
-    /// Reads the files at these paths.
-    fn take_paths<T: Tree>(
+    /// Reads the drop-in at a path. A folder or a link to nothing is read as nothing, as in systemd.
+    fn take_drop_in<T: Tree>(
         &mut self,
         alloc: Global,
         tree: &mut T,
-        target: &str,
-        paths: Result<Vec<String>, TargetLoadFault>,
-    ) -> Result<(), AllocError>
-        ensures known { OnOk result ((machine : Machine) → T.shows tree.new machine
-            → All (IsStoredOn machine) self.old.loaded.files.items → All (IsStoredOn machine) self.new.loaded.files.items) }
-        ensures grows { (machine : Machine) → T.shows tree.new machine → T.shows tree.old machine }
-    {
-        match paths {
-            Ok(paths) => {
-                for path in paths {
-                    self.take_path(alloc, tree, target, path)?;
-                }
-                Ok(())
-            }
-            Err(fault) => push_fault(alloc, &mut self.loaded.faults, target, fault),
-        }
-    }
-
-    /// Reads the file at a path, unless that has been tried before.
-    fn take_path<T: Tree>(
-        &mut self,
-        alloc: Global,
-        tree: &mut T,
-        target: &str,
         path: String,
     ) -> Result<(), AllocError>
         ensures known { OnOk result ((machine : Machine) → T.shows tree.new machine
             → All (IsStoredOn machine) self.old.loaded.files.items → All (IsStoredOn machine) self.new.loaded.files.items) }
         ensures grows { (machine : Machine) → T.shows tree.new machine → T.shows tree.old machine }
     {
-        if self.seen.contains(path.as_str()) {
-            return Ok(());
-        }
-        let found = read_files(alloc, tree, path.as_str(), &[]);
-        self.seen.insert(path)?;
-        match found {
-            Ok(files) => append_files(&mut self.loaded.files, files),
-            Err(fault) => {
-                push_fault(
-                    alloc,
-                    &mut self.loaded.faults,
-                    target,
-                    TargetLoadFault::from(fault),
-                )
+        match self.take(alloc, tree, path.as_str())? {
+            Taken::Read | Taken::Masked | Taken::Unusable(Reason::Missing | Reason::IsFolder) => Ok(
+                (),
+            ),
+            Taken::Unusable(reason) => {
+                let lost = vec![in alloc; UnitFault { path, reason }]?;
+                push_lost(&mut self.loaded.faults, lost)
             }
         }
     }
-}
 
-fn append_files(all: &mut Vec<UnitText>, files: Vec<UnitText>) -> Result<(), AllocError>
-    ensures { OnOk result (all.new.items ≡ all.old.items ++ files.items) }
-{
-    for file in files {
-        all.push(file)?;
+    /// Reads the files in a folder.
+    fn take_folder<T: Tree>(
+        &mut self,
+        alloc: Global,
+        tree: &mut T,
+        folder: &str,
+    ) -> Result<(), AllocError>
+        ensures known { OnOk result ((machine : Machine) → T.shows tree.new machine
+            → All (IsStoredOn machine) self.old.loaded.files.items → All (IsStoredOn machine) self.new.loaded.files.items) }
+        ensures grows { (machine : Machine) → T.shows tree.new machine → T.shows tree.old machine }
+    {
+        let names = match files_in(alloc, tree, folder, Wanted::Texts) {
+            Ok(names) => names,
+            Err(fault) => return push_fault(alloc, &mut self.loaded.faults, folder, fault),
+        };
+        for name in names {
+            let path = path_in(alloc, folder, name.as_str())?;
+            self.take_path(alloc, tree, path.as_str())?;
+        }
+        Ok(())
     }
-    Ok(())
-}
 
-/// Returns the paths of the files that a path stands for.
-fn paths_at<T: Tree>(
-    alloc: Global,
-    tree: &mut T,
-    target: &str,
-) -> Result<Vec<String>, TargetLoadFault>
-    ensures grows { (machine : Machine) → T.shows tree.new machine → T.shows tree.old machine }
-{
-    match kind_at(alloc, tree, target)? {
-        PathKind::Folder => folder_paths(alloc, tree, target),
-        PathKind::File | PathKind::Masked => Ok(vec![in alloc; String::from_str(alloc, target)?]?),
+    /// Reads the file at a path.
+    fn take_path<T: Tree>(
+        &mut self,
+        alloc: Global,
+        tree: &mut T,
+        path: &str,
+    ) -> Result<(), AllocError>
+        ensures known { OnOk result ((machine : Machine) → T.shows tree.new machine
+            → All (IsStoredOn machine) self.old.loaded.files.items → All (IsStoredOn machine) self.new.loaded.files.items) }
+        ensures grows { (machine : Machine) → T.shows tree.new machine → T.shows tree.old machine }
+    {
+        match self.take(alloc, tree, path)? {
+            Taken::Read | Taken::Masked => Ok(()),
+            Taken::Unusable(reason) => self.push_unusable(alloc, path, path, reason),
+        }
     }
-}
 
-fn folder_paths<T: Tree>(
-    alloc: Global,
-    tree: &mut T,
-    folder: &str,
-) -> Result<Vec<String>, TargetLoadFault>
-    ensures grows { (machine : Machine) → T.shows tree.new machine → T.shows tree.old machine }
-{
-    let mut paths = Vec::new(alloc);
-    for name in files_in(alloc, tree, folder, Wanted::Texts)? {
-        paths.push(path_in(alloc, folder, name.as_str())?)?;
+    /// Reads the file at a path, unless that has been tried before.
+    fn take<T: Tree>(
+        &mut self,
+        alloc: Global,
+        tree: &mut T,
+        path: &str,
+    ) -> Result<Taken, AllocError>
+        ensures known { OnOk result ((machine : Machine) → T.shows tree.new machine
+            → All (IsStoredOn machine) self.old.loaded.files.items → All (IsStoredOn machine) self.new.loaded.files.items) }
+        ensures grows { (machine : Machine) → T.shows tree.new machine → T.shows tree.old machine }
+    {
+        if self.seen.contains(path) {
+            return Ok(Taken::Read);
+        }
+        let found = read_file(alloc, tree, path)?;
+        self.seen.insert(String::from_str(alloc, path)?)?;
+        match found {
+            FileRead::Mask => Ok(Taken::Masked),
+            FileRead::Unusable(reason) => Ok(Taken::Unusable(reason)),
+            FileRead::Text(bytes) => {
+                let path = String::from_str(alloc, path)?;
+                self.loaded.files.push(UnitText { path, bytes })?;
+                Ok(Taken::Read)
+            }
+        }
     }
-    Ok(paths)
-}
 
-/// Returns the paths of a unit's drop-ins that are read, in order.
-fn drop_ins_of<T: Tree>(
-    alloc: Global,
-    tree: &mut T,
-    path: &[String],
-    aliases: &[Alias],
-    file: &UnitFile,
-) -> Result<Vec<String>, TargetLoadFault>
-    ensures grows { (machine : Machine) → T.shows tree.new machine → T.shows tree.old machine }
-{
-    let found = find_unit_drop_ins(alloc, tree, path, aliases, file)?;
-    Ok(found.paths)
-}
+    /// Adds the error that a target can't be read because the file at `path` can't be used.
+    fn push_unusable(
+        &mut self,
+        alloc: Global,
+        target: &str,
+        path: &str,
+        reason: Reason,
+    ) -> Result<(), AllocError>
+        ensures { self.new.loaded.files.items ≡ self.old.loaded.files.items }
+    {
+        let reason = match reason {
+            Reason::Missing => TargetReason::NotFound,
+            reason => TargetReason::Path(String::from_str(alloc, path)?, reason),
+        };
+        self.push_reason(alloc, target, reason)
+    }
 
-/// Finds the file of the unit with this name. Returns `None` if the unit is masked.
-fn find_unit_file<T: Tree>(
-    alloc: Global,
-    tree: &mut T,
-    path: &[String],
-    name: &str,
-) -> Result<Option<UnitFile>, TargetLoadFault>
-    ensures grows { (machine : Machine) → T.shows tree.new machine → T.shows tree.old machine }
-{
-    let Some(stem) = unit_stem(name) else {
-        return Err(TargetLoadFault::Target(TargetReason::NotFound));
-    };
-    match find_unit(alloc, tree, path, stem)? {
-        Unit::NotFound => Err(TargetLoadFault::Target(TargetReason::NotFound)),
-        Unit::Template => Err(TargetLoadFault::Target(TargetReason::Template)),
-        Unit::Masked(_) => Ok(None),
-        Unit::Found(file) => Ok(Some(file)),
+    fn push_reason(
+        &mut self,
+        alloc: Global,
+        target: &str,
+        reason: TargetReason,
+    ) -> Result<(), AllocError>
+        ensures { self.new.loaded.files.items ≡ self.old.loaded.files.items }
+    {
+        let fault = TargetLoadFault::Target(reason);
+        push_fault(alloc, &mut self.loaded.faults, target, fault)
     }
 }

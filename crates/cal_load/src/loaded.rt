@@ -3,14 +3,14 @@
 ghost use Rattle.std.specs.Prelude.{◌≡◌, ◌+◌, ◌++◌, [], IfSome, OnOk, map, slice_get};
 ghost use Rattle.cal_timer.specs.rules.TimerView.{shown};
 ghost use Rattle.cal_load.specs.rules.Loaded.{exceptions_in, expressions_in};
-ghost use Rattle.cal_load.specs.rules.LoadedTarget.{timers_in};
+ghost use Rattle.cal_load.specs.rules.AllUnits.{IsPushed};
 ghost use Rattle.cal_load.specs.rules.Position.{IsLastUntil, IsPosition};
 
 use crate::calendar::Calendar;
 use crate::fault::{TargetLoadFault, push_fault};
 use crate::target_fault::TargetFault;
 use cal_timer::TimerLine;
-use cal_units::UnitText;
+use cal_unit_index::UnitText;
 use cal_zone::ZoneTable;
 use std::alloc::{AllocError, Global};
 
@@ -120,7 +120,8 @@ pub(crate) enum LoadedTarget {
 
 impl Loaded {
     pub(crate) fn new(alloc: Global) -> Loaded
-        ensures { result.timers.items ≡ [] }
+        ensures timers { result.timers.items ≡ [] }
+        ensures masked { result.masked.items ≡ [] }
     {
         Loaded {
             timers: Vec::new(alloc),
@@ -136,7 +137,7 @@ impl Loaded {
         name: &str,
         found: Result<LoadedTarget, TargetLoadFault>,
     ) -> Result<(), AllocError>
-        ensures { OnOk result (self.new.timers.items ≡ self.old.timers.items ++ timers_in found) }
+        ensures { OnOk result (IsPushed name.now found self.old self.new) }
     {
         match found {
             Ok(LoadedTarget::Timer(timer)) => self.timers.push(timer)?,

@@ -1,47 +1,56 @@
-//! The names of timers in folders.
+//! The names of timers, in a search path or in a folder.
 
-ghost use Rattle.cal_units.specs.rules.Machine.{Machine};
+ghost use Rattle.std.specs.Prelude.{◌≡◌, ℕ, List, IfOk, OnOk, map, string_bytes};
+ghost use Rattle.std.specs.BTreeSet.{insert_key};
+ghost use Rattle.std.specs.Cmp.Lexicographic.{slice_cmp};
+ghost use Rattle.std.specs.Option.{option_to_list};
+ghost use Rattle.std.specs.Ordering.{nat_cmp};
+ghost use Rattle.cal_unit_index.specs.rules.Destinations.{with_texts};
+ghost use Rattle.cal_unit_index.specs.rules.Index.{IsIndexOf};
+ghost use Rattle.cal_load.specs.rules.AllUnits.{main_stem, units_on};
+ghost use Rattle.cal_machine.specs.rules.Machine.{Machine};
 
-use crate::fault::{TargetLoadFault, push_fault};
-use crate::target_fault::TargetFault;
-use cal_units::{Names, Tree, UnitKind, unit_kind_of, unit_stem};
+use crate::fault::TargetLoadFault;
+use cal_machine::{Names, Tree, names_at};
+use cal_unit_index::{Unit, UnitIndex, UnitKind, find_unit, unit_kind_of, unit_stem};
 use std::alloc::{AllocError, Global};
 use std::collections::BTreeSet;
 
-/// Returns those names in the folders of the search path that can be the names of timers' files, sorted by their bytes.
-/// Templates are left out, and so are hidden files and names that no unit can have. Names of folders are not left out.
-///
-/// A folder that can't be listed is added to `faults`, and the others are still listed.
-pub(crate) fn names_in_path<T: Tree>(
-    alloc: Global,
-    tree: &mut T,
-    path: &[String],
-    faults: &mut Vec<TargetFault>,
-) -> Result<BTreeSet<String>, AllocError>
-    ensures grows { (machine : Machine) → T.shows tree.new machine → T.shows tree.old machine }
+/// Returns the stems of the units in a search path, sorted by their bytes. A unit that has aliases is there once, with
+/// its own stem. Templates are left out, and so are names under which no file is found.
+pub(crate) fn units_in(alloc: Global, index: &UnitIndex) -> Result<BTreeSet<String>, AllocError>
+    ensures known { IfOk result (λ found. (machine : Machine) (path : List (List ℕ)) → IsIndexOf machine path index.now
+        → map string_bytes found.keys ≡ units_on machine path) }
 {
     let mut found = BTreeSet::new(alloc);
-    for folder in path {
-        if let Err(fault) = push_units(alloc, tree, folder.as_str(), &mut found) {
-            push_fault(alloc, faults, folder.as_str(), fault)?;
-        }
+    for stem in index.unit_names(alloc)? {
+        add_own(alloc, &mut found, index, stem.as_str())?;
     }
     Ok(found)
 }
 
-fn push_units<T: Tree>(
+/// Adds the own stem of the unit that is found for `stem`, if there is one.
+fn add_own(
     alloc: Global,
-    tree: &mut T,
-    folder: &str,
     found: &mut BTreeSet<String>,
-) -> Result<(), TargetLoadFault>
-    ensures grows { (machine : Machine) → T.shows tree.new machine → T.shows tree.old machine }
+    index: &UnitIndex,
+    stem: &str,
+) -> Result<(), AllocError>
+    ensures known { OnOk result ((machine : Machine) (path : List (List ℕ)) → IsIndexOf machine path index.now
+        → map string_bytes found.new.keys
+        ≡ with_texts (map string_bytes found.old.keys) (option_to_list (main_stem machine path stem.now))) }
 {
-    for name in names_in(alloc, tree, folder)? {
-        if is_unit_file(name.as_str()) {
-            found.insert(name)?;
-        }
+    if let Unit::Found(file) = find_unit(alloc, index, stem)? {
+        add_stem(found, file.stem)?;
     }
+    Ok(())
+}
+
+fn add_stem(found: &mut BTreeSet<String>, stem: String) -> Result<(), AllocError>
+    ensures { OnOk result (map string_bytes found.new.keys
+        ≡ insert_key (slice_cmp nat_cmp) (map string_bytes found.old.keys) (string_bytes stem)) }
+{
+    found.insert(stem)?;
     Ok(())
 }
 
@@ -88,7 +97,7 @@ fn names_in<T: Tree>(
 ) -> Result<Vec<String>, TargetLoadFault>
     ensures grows { (machine : Machine) → T.shows tree.new machine → T.shows tree.old machine }
 {
-    match tree.names(alloc, folder) {
+    match names_at(alloc, tree, folder) {
         Ok(Names { names, unnamed: _ }) => Ok(names),
         Err(fault) => Err(TargetLoadFault::of_tree(alloc, folder, fault)),
     }
@@ -97,12 +106,6 @@ fn names_in<T: Tree>(
 fn is_visible(name: &str, suffix: &[u8]) -> bool {
     let name = name.as_bytes();
     name.ends_with(suffix) && !name.starts_with(b".")
-}
-
-/// Returns whether `name` can be the name of a timer's file: it ends with `.timer`, doesn't begin with a dot, is a
-/// valid name for a unit, and isn't the name of a template.
-fn is_unit_file(name: &str) -> bool {
-    is_visible(name, b".timer") && unit_stem(name).is_some() && !is_template_file(name)
 }
 
 fn is_template_file(name: &str) -> bool {

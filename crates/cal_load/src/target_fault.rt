@@ -1,9 +1,9 @@
 //! Why a timer can't be loaded.
 
-use cal_machine_zones::FileReason;
 use cal_spec::SpecFault;
 use cal_timer::TimerFault;
-use cal_units::Reason;
+use cal_unit_index::Reason;
+use cal_zone_files::FileReason;
 
 /// Why a timer or a file can't be loaded.
 #[derive(Debug, Drop)]
@@ -12,8 +12,9 @@ pub enum TargetReason {
     NotFound,
     /// The name is that of a template, which isn't a unit.
     Template,
-    /// The file, folder or link at this path can't be used, for this reason. With [`Reason::TooManyLinks`], the text is
-    /// not a path but the stem of a unit, its name without `.timer`.
+    /// More than 7 links lead from unit to unit.
+    TooManyAliases,
+    /// The file, folder or link at this path can't be used, for this reason.
     Path(String, Reason),
     /// The file at this path is not UTF-8.
     NotUtf8(String),
@@ -35,8 +36,8 @@ pub enum TargetReason {
 #[derive(Debug, Drop)]
 pub struct TargetFault {
     /// The unit or expression as it was given, or the path without slashes at its end. If a folder was given, this can
-    /// also be the path of a file in it. If all timers were asked for, it is the name of a unit's file. For a folder of
-    /// the search path that can't be listed, it is the path of this folder.
+    /// also be the path of a file in it. If all timers were asked for, it is the name of a unit. For a drop-in or a
+    /// folder of drop-ins that can't be read, it is the path of this drop-in or folder; the timer is loaded without it.
     pub target: String,
     pub reason: TargetReason,
 }

@@ -1,14 +1,17 @@
 //! The texts of a unit's files, with line numbers that continue from file to file.
 
-ghost use Rattle.std.specs.Prelude.{◌≡◌, ◌+◌, ◌<◌, ◌^◌, All, IfOk, length, map};
+ghost use Rattle.std.specs.Prelude.{◌≡◌, ◌+◌, ◌<◌, ◌^◌, List, All, IfOk, length, map};
+ghost use Rattle.std.specs.List.{Contains};
+ghost use Rattle.std.specs.Result.{IfErr};
 ghost use Rattle.std.specs.Str.Lines.{lines};
 ghost use Rattle.cal_read.specs.rules.TimerTexts.{assignments_of};
-ghost use Rattle.cal_units.specs.rules.Files.{shown_unit_text};
+ghost use Rattle.cal_unit_index.specs.rules.Files.{UnitText as FileText, shown_unit_text};
 ghost use Rattle.cal_load.specs.rules.Loaded.{assignments_of_files};
+ghost use Rattle.cal_load.specs.rules.TextFaults.{IsNumberFault};
 
 use crate::fault::TargetLoadFault;
 use cal_read::NumberedText;
-use cal_units::{Reason, UnitText};
+use cal_unit_index::{Reason, UnitText};
 use std::alloc::{AllocError, Global};
 
 /// Returns the texts of the files. The first line of the first file has the number 1, and the first line of any other
@@ -22,6 +25,7 @@ pub(crate) fn numbered_texts(
 ) -> Result<Vec<NumberedText<'_>>, TargetLoadFault>
     ensures numbered { IfOk result (λ texts. All (λ text. text.first + length text.text.now < 2 ^ 32) texts.items) }
     ensures read { IfOk result (λ list. assignments_of list.items ≡ assignments_of_files (map shown_unit_text files.now)) }
+    ensures fault { IfErr result (IsNumberFault (map shown_unit_text files.now)) }
 {
     let mut texts = Vec::new(alloc);
     let mut first = 1;
@@ -42,6 +46,7 @@ fn numbered_text(
     ensures numbered { IfOk result (λ text. text.first + length text.text.now < 2 ^ 32) }
     ensures number { IfOk result (λ text. text.first ≡ first) }
     ensures text { IfOk result (λ text. text.text.now ≡ file.now.bytes.items) }
+    ensures fault { IfErr result (λ fault. (files : List FileText) → Contains files (shown_unit_text file.now) → IsNumberFault files fault) }
 {
     let Ok(text) = str::from_utf8(file.bytes.as_slice()) else {
         return Err(TargetLoadFault::not_utf8(alloc, file.path.as_str()));
@@ -54,7 +59,8 @@ fn numbered_text(
 
 /// Returns the number of the line after the text of a file.
 fn next_line(alloc: Global, file: &UnitText, text: NumberedText<'_>) -> Result<u32, TargetLoadFault>
-    ensures { IfOk result (λ next. next ≡ text.entry.first + length (lines text.entry.text.now)) }
+    ensures next { IfOk result (λ next. next ≡ text.entry.first + length (lines text.entry.text.now)) }
+    ensures fault { IfErr result (λ fault. (files : List FileText) → Contains files (shown_unit_text file.now) → IsNumberFault files fault) }
 {
     match u32::try_from(line_count(text.text)) {
         Ok(count) => match text.first.checked_add(count) {

@@ -1,25 +1,26 @@
 //! The timers that a user names.
 
-ghost use Rattle.std.specs.Prelude.{ℕ, List, All, IfOk, OnOk, map, string_bytes};
-ghost use Rattle.cal_units.specs.rules.Aliases.{Alias as Known, shown_alias};
-ghost use Rattle.cal_units.specs.rules.Machine.{Machine};
+ghost use Rattle.std.specs.Prelude.{◌≡◌, ℕ, List, [], All, IfOk, OnOk};
+ghost use Rattle.cal_machine.specs.rules.Machine.{Machine};
+ghost use Rattle.cal_unit_index.specs.rules.Index.{IsIndexOf};
+ghost use Rattle.cal_load.specs.rules.AllUnits.{HasAllUnits, IsPushed, IsStep, is_absent};
 ghost use Rattle.cal_load.specs.rules.Loaded.{IsTimerOn};
-ghost use Rattle.cal_load.specs.rules.LoadedTarget.{IsLoadedFile, IsLoadedTarget};
+ghost use Rattle.cal_load.specs.rules.LoadedTarget.{IsLoadedTarget};
 
-use crate::fault::{TargetLoadFault, push_fault};
+use crate::fault::{TargetLoadFault, push_fault, push_lost};
 use crate::loaded::{Loaded, LoadedTarget};
-use crate::names::{Wanted, files_in, names_in_path};
-use crate::paths::{PathKind, is_path, kind_at, path_in, without_slashes};
+use crate::names::{Wanted, files_in, units_in};
+use crate::paths::{is_folder, is_path, path_in, without_slashes};
 use crate::target_fault::TargetReason;
 use crate::unit::{read_timer_file, read_unit};
-use cal_units::{Alias, Tree, unit_stem};
+use cal_machine::Tree;
+use cal_unit_index::{UnitFault, UnitIndex, unit_stem};
 use std::alloc::{AllocError, Global};
 
-/// Loads the timers that the targets stand for, in their order. Without a target, these are all timers in the folders
-/// of the search path, sorted by name.
+/// Loads the timers that the targets stand for, in their order. Without a target, these are all timers in the search
+/// path, each once, sorted by name.
 ///
-/// `path` is the search path, the most important folder first. `aliases` are the aliases of the units in its folders,
-/// as [`cal_units::find_aliases`] finds them. Neither has an effect if all targets are paths. A target is
+/// `index` is the index of the search path. It has no effect if all targets are paths. A target is
 ///
 /// - a path, if it has a `/` or is `.` or `..`: a folder stands for all its files with the suffix `.timer`, by name,
 ///   and any other file for itself, without drop-ins;
@@ -32,103 +33,116 @@ use std::alloc::{AllocError, Global};
 pub fn load_timers<T: Tree>(
     alloc: Global,
     tree: &mut T,
-    path: &[String],
-    aliases: &[Alias],
+    index: &UnitIndex,
     targets: &[&str],
 ) -> Result<Loaded, AllocError>
-    ensures known { IfOk result (λ loaded. (machine : Machine) → T.shows tree.new machine
-        → All (IsTimerOn machine (map string_bytes path.now) (map shown_alias aliases.now)) loaded.timers.items) }
+    ensures known { IfOk result (λ loaded. (machine : Machine) (path : List (List ℕ)) → T.shows tree.new machine
+        → IsIndexOf machine path index.now → All (IsTimerOn machine path) loaded.timers.items) }
+    ensures whole { targets.now ≡ [] → IfOk result (HasAllUnits (λ machine path. T.shows tree.new machine × IsIndexOf machine path index.now)) }
     ensures grows { (machine : Machine) → T.shows tree.new machine → T.shows tree.old machine }
 {
     if targets.is_empty() {
-        return load_all(alloc, tree, path, aliases);
+        return load_all(alloc, tree, index);
     }
     let mut loaded = Loaded::new(alloc);
     for target in targets {
-        load_target(alloc, tree, path, aliases, target, &mut loaded)?;
+        load_target(alloc, tree, index, target, &mut loaded)?;
     }
     Ok(loaded)
 }
 
-/// Loads all timers in the folders of the search path.
-fn load_all<T: Tree>(
-    alloc: Global,
-    tree: &mut T,
-    path: &[String],
-    aliases: &[Alias],
-) -> Result<Loaded, AllocError>
-    ensures known { IfOk result (λ loaded. (machine : Machine) → T.shows tree.new machine
-        → All (IsTimerOn machine (map string_bytes path.now) (map shown_alias aliases.now)) loaded.timers.items) }
+/// Loads all timers in the search path.
+fn load_all<T: Tree>(alloc: Global, tree: &mut T, index: &UnitIndex) -> Result<Loaded, AllocError>
+    ensures whole { IfOk result (HasAllUnits (λ machine path. T.shows tree.new machine × IsIndexOf machine path index.now)) }
+    ensures known { IfOk result (λ loaded. (machine : Machine) (path : List (List ℕ)) → T.shows tree.new machine
+        → IsIndexOf machine path index.now → All (IsTimerOn machine path) loaded.timers.items) }
     ensures grows { (machine : Machine) → T.shows tree.new machine → T.shows tree.old machine }
 {
     let mut loaded = Loaded::new(alloc);
-    let names = names_in_path(alloc, tree, path, &mut loaded.faults)?;
-    for name in names {
-        load_listed(alloc, tree, path, aliases, name.as_str(), &mut loaded)?;
+    for stem in units_in(alloc, index)? {
+        load_listed(alloc, tree, index, stem.as_str(), &mut loaded)?;
     }
     Ok(loaded)
 }
 
-/// Loads the timer whose file has this name in a folder of the search path. Loads nothing if no unit has this name, for
-/// example because it is the name of a folder.
+/// Loads the unit with this stem. Loads nothing if its file is a link to nothing.
 fn load_listed<T: Tree>(
     alloc: Global,
     tree: &mut T,
-    path: &[String],
-    aliases: &[Alias],
-    name: &str,
+    index: &UnitIndex,
+    stem: &str,
     loaded: &mut Loaded,
 ) -> Result<(), AllocError>
-    ensures known { OnOk result ((machine : Machine) → T.shows tree.new machine
-        → All (IsTimerOn machine (map string_bytes path.now) (map shown_alias aliases.now)) loaded.old.timers.items
-        → All (IsTimerOn machine (map string_bytes path.now) (map shown_alias aliases.now)) loaded.new.timers.items) }
+    ensures step { OnOk result (IsStep (λ machine path. T.shows tree.new machine × IsIndexOf machine path index.now)
+        stem.now loaded.old loaded.new) }
+    ensures known { OnOk result ((machine : Machine) (path : List (List ℕ)) → T.shows tree.new machine
+        → IsIndexOf machine path index.now → All (IsTimerOn machine path) loaded.old.timers.items
+        → All (IsTimerOn machine path) loaded.new.timers.items) }
     ensures grows { (machine : Machine) → T.shows tree.new machine → T.shows tree.old machine }
 {
-    let found = read_named(alloc, tree, path, aliases, name);
+    let mut lost = Vec::new(alloc);
+    let found = read_unit(alloc, tree, index, stem, &mut lost);
     if is_absent(&found) {
         return Ok(());
     }
-    loaded.push(alloc, name, found)
+    let name = format!(in alloc; "{stem}.timer")?;
+    push_found(alloc, loaded, name.as_str(), found, lost)
 }
 
-fn is_absent(found: &Result<LoadedTarget, TargetLoadFault>) -> bool {
+/// Appends what was found for a target, and what was lost of it.
+fn push_found(
+    alloc: Global,
+    loaded: &mut Loaded,
+    target: &str,
+    found: Result<LoadedTarget, TargetLoadFault>,
+    lost: Vec<UnitFault>,
+) -> Result<(), AllocError>
+    ensures { OnOk result (IsPushed target.now found loaded.old loaded.new) }
+{
+    loaded.push(alloc, target, found)?;
+    push_lost(&mut loaded.faults, lost)
+}
+
+fn is_absent(found: &Result<LoadedTarget, TargetLoadFault>) -> bool
+    ensures { result ≡ is_absent found.now }
+{
     matches!(found, Err(TargetLoadFault::Target(TargetReason::NotFound)))
 }
 
 fn load_target<T: Tree>(
     alloc: Global,
     tree: &mut T,
-    path: &[String],
-    aliases: &[Alias],
+    index: &UnitIndex,
     target: &str,
     loaded: &mut Loaded,
 ) -> Result<(), AllocError>
-    ensures known { OnOk result ((machine : Machine) → T.shows tree.new machine
-        → All (IsTimerOn machine (map string_bytes path.now) (map shown_alias aliases.now)) loaded.old.timers.items
-        → All (IsTimerOn machine (map string_bytes path.now) (map shown_alias aliases.now)) loaded.new.timers.items) }
+    ensures known { OnOk result ((machine : Machine) (path : List (List ℕ)) → T.shows tree.new machine
+        → IsIndexOf machine path index.now → All (IsTimerOn machine path) loaded.old.timers.items
+        → All (IsTimerOn machine path) loaded.new.timers.items) }
     ensures grows { (machine : Machine) → T.shows tree.new machine → T.shows tree.old machine }
 {
     if is_path(target) {
         return load_path(alloc, tree, without_slashes(target), loaded);
     }
-    let found = read_named(alloc, tree, path, aliases, target);
-    loaded.push(alloc, target, found)
+    let mut lost = Vec::new(alloc);
+    let found = read_named(alloc, tree, index, target, &mut lost);
+    push_found(alloc, loaded, target, found, lost)
 }
 
 /// Reads the timer with this name, which may have the suffix `.timer`.
 fn read_named<T: Tree>(
     alloc: Global,
     tree: &mut T,
-    path: &[String],
-    aliases: &[Alias],
+    index: &UnitIndex,
     name: &str,
+    lost: &mut Vec<UnitFault>,
 ) -> Result<LoadedTarget, TargetLoadFault>
-    ensures known { IfOk result (λ found. (machine : Machine) → T.shows tree.new machine
-        → IsLoadedTarget machine (map string_bytes path.now) (map shown_alias aliases.now) found) }
+    ensures known { IfOk result (λ found. (machine : Machine) (path : List (List ℕ)) → T.shows tree.new machine
+        → IsIndexOf machine path index.now → IsLoadedTarget machine path found) }
     ensures grows { (machine : Machine) → T.shows tree.new machine → T.shows tree.old machine }
 {
     match unit_stem(name) {
-        Some(stem) => read_unit(alloc, tree, path, aliases, stem),
+        Some(stem) => read_unit(alloc, tree, index, stem, lost),
         None => Err(TargetLoadFault::Target(TargetReason::NotFound)),
     }
 }
@@ -140,16 +154,29 @@ fn load_path<T: Tree>(
     target: &str,
     loaded: &mut Loaded,
 ) -> Result<(), AllocError>
-    ensures known { OnOk result ((machine : Machine) (path : List (List ℕ)) (aliases : List Known) → T.shows tree.new machine
-        → All (IsTimerOn machine path aliases) loaded.old.timers.items
-        → All (IsTimerOn machine path aliases) loaded.new.timers.items) }
+    ensures known { OnOk result ((machine : Machine) (path : List (List ℕ)) → T.shows tree.new machine
+        → All (IsTimerOn machine path) loaded.old.timers.items → All (IsTimerOn machine path) loaded.new.timers.items) }
     ensures grows { (machine : Machine) → T.shows tree.new machine → T.shows tree.old machine }
 {
-    match kind_at(alloc, tree, target) {
-        Ok(PathKind::Folder) => load_folder(alloc, tree, target, loaded),
-        Ok(kind) => loaded.push(alloc, target, read_kind(alloc, tree, target, kind)),
-        Err(fault) => push_fault(alloc, &mut loaded.faults, target, fault),
+    if is_folder(alloc, tree, target)? {
+        return load_folder(alloc, tree, target, loaded);
     }
+    load_file(alloc, tree, target, loaded)
+}
+
+/// Loads the timer in a file.
+fn load_file<T: Tree>(
+    alloc: Global,
+    tree: &mut T,
+    path: &str,
+    loaded: &mut Loaded,
+) -> Result<(), AllocError>
+    ensures known { OnOk result ((machine : Machine) (path : List (List ℕ)) → T.shows tree.new machine
+        → All (IsTimerOn machine path) loaded.old.timers.items → All (IsTimerOn machine path) loaded.new.timers.items) }
+    ensures grows { (machine : Machine) → T.shows tree.new machine → T.shows tree.old machine }
+{
+    let found = read_timer_file(alloc, tree, path);
+    loaded.push(alloc, path, found)
 }
 
 fn load_folder<T: Tree>(
@@ -158,9 +185,8 @@ fn load_folder<T: Tree>(
     folder: &str,
     loaded: &mut Loaded,
 ) -> Result<(), AllocError>
-    ensures known { OnOk result ((machine : Machine) (path : List (List ℕ)) (aliases : List Known) → T.shows tree.new machine
-        → All (IsTimerOn machine path aliases) loaded.old.timers.items
-        → All (IsTimerOn machine path aliases) loaded.new.timers.items) }
+    ensures known { OnOk result ((machine : Machine) (path : List (List ℕ)) → T.shows tree.new machine
+        → All (IsTimerOn machine path) loaded.old.timers.items → All (IsTimerOn machine path) loaded.new.timers.items) }
     ensures grows { (machine : Machine) → T.shows tree.new machine → T.shows tree.old machine }
 {
     let names = match files_in(alloc, tree, folder, Wanted::Timers) {
@@ -169,38 +195,7 @@ fn load_folder<T: Tree>(
     };
     for name in names {
         let file = path_in(alloc, folder, name.as_str())?;
-        let found = read_path(alloc, tree, file.as_str());
-        loaded.push(alloc, file.as_str(), found)?;
+        load_file(alloc, tree, file.as_str(), loaded)?;
     }
     Ok(())
-}
-
-/// Reads the timer in the file at a path.
-fn read_path<T: Tree>(
-    alloc: Global,
-    tree: &mut T,
-    path: &str,
-) -> Result<LoadedTarget, TargetLoadFault>
-    ensures known { IfOk result (λ found. (machine : Machine) → T.shows tree.new machine → IsLoadedFile machine found) }
-    ensures grows { (machine : Machine) → T.shows tree.new machine → T.shows tree.old machine }
-{
-    let kind = kind_at(alloc, tree, path)?;
-    read_kind(alloc, tree, path, kind)
-}
-
-fn read_kind<T: Tree>(
-    alloc: Global,
-    tree: &mut T,
-    path: &str,
-    kind: PathKind,
-) -> Result<LoadedTarget, TargetLoadFault>
-    ensures known { IfOk result (λ found. (machine : Machine) → T.shows tree.new machine → IsLoadedFile machine found) }
-    ensures grows { (machine : Machine) → T.shows tree.new machine → T.shows tree.old machine }
-{
-    match kind {
-        PathKind::Masked => Ok(LoadedTarget::Masked),
-        PathKind::File | PathKind::Folder => Ok(LoadedTarget::Timer(read_timer_file(
-            alloc, tree, path,
-        )?)),
-    }
 }

@@ -1,13 +1,21 @@
 //! Reading a timer from its files.
 
-ghost use Rattle.std.specs.Prelude.{◌≡◌, ◌+◌, ◌<◌, ◌^◌, ◌∷◌, ◌++◌, All, IfOk, codes, length, map, string_bytes};
-ghost use Rattle.cal_units.specs.rules.DropIns.{drop_ins};
+ghost use Rattle.std.specs.Prelude.{◌≡◌, ◌≢◌, Err, ◌+◌, ◌<◌, ◌^◌, ◌∷◌, ◌++◌, ℕ, List, All, IfOk, OnOk, length, map, string_bytes};
+ghost use Rattle.cal_machine.specs.rules.Machine.{Machine};
 ghost use Rattle.cal_read.specs.rules.TimerTexts.{assignments_of};
-ghost use Rattle.cal_units.specs.rules.Aliases.{shown_alias, unit_stems};
-ghost use Rattle.cal_units.specs.rules.Files.{files_at, shown_unit_text};
-ghost use Rattle.cal_units.specs.rules.Machine.{Machine, disk_of};
-ghost use Rattle.cal_load.specs.rules.Loaded.{IsCalendarBy, IsCalendarOf, IsFileOn, IsTimerReadFrom};
-ghost use Rattle.cal_load.specs.rules.LoadedTarget.{IsLoadedUnit};
+ghost use Rattle.std.specs.Result.{IfErr};
+ghost use Rattle.cal_unit_index.specs.rules.DropIns.{drop_ins};
+ghost use Rattle.cal_spec.specs.computed.Expr.{expr_in};
+ghost use Rattle.cal_timer.specs.rules.Assignments.{Assignment};
+ghost use Rattle.cal_timer.specs.rules.TimerEntries.{lists_of};
+ghost use Rattle.cal_unit_index.specs.rules.Files.{UnitText as FileText, file_at, shown_unit_text, texts_at};
+ghost use Rattle.cal_unit_index.specs.rules.Index.{IsIndexOf};
+ghost use Rattle.cal_unit_index.specs.rules.Names.{names_on};
+ghost use Rattle.cal_unit_index.specs.rules.Units.{unit_on};
+ghost use Rattle.cal_load.specs.rules.TextFaults.{IsAssignmentFault, IsLineReason, IsTextFault, IsZoneReason, IsZonesFault, at_line};
+ghost use Rattle.cal_load.specs.rules.AllUnits.{IsFileFault, IsTimerFileFault, IsUnitFault, IsUnusableFault};
+ghost use Rattle.cal_load.specs.rules.Loaded.{IsCalendarBy, IsCalendarOf, IsTimerReadFrom, unit_texts};
+ghost use Rattle.cal_load.specs.rules.LoadedTarget.{IsFoundTarget, IsLoadedFile, IsLoadedUnit, IsOwnFile};
 
 use crate::calendar::Calendar;
 use crate::fault::TargetLoadFault;
@@ -16,9 +24,13 @@ use crate::notes::{can_start, notes_of, shown_notes};
 use crate::target_fault::TargetReason;
 use crate::texts::{first_lines, numbered_texts};
 use crate::zones::{first_with_zone, load_named_zones};
-use cal_machine_zones::{FileReason, ZonesFault};
+use cal_machine::Tree;
 use cal_read::{FileFault, NumberedText, TimerFault, read_texts};
-use cal_units::{Alias, Tree, Unit, UnitFile, UnitText, find_unit, find_unit_drop_ins, read_files};
+use cal_unit_index::{
+    DropInTexts, DropIns, FileRead, Reason, Unit, UnitFault, UnitFile, UnitIndex, UnitText,
+    find_drop_ins, find_unit, names_of, read_drop_ins, read_file,
+};
+use cal_zone_files::{FileReason, ZonesFault};
 use std::alloc::{AllocError, Global};
 
 /// What the files of a timer say.
@@ -29,49 +41,133 @@ struct ParsedFiles {
     notes: Vec<String>,
 }
 
-/// Reads the timer with this stem in the search path, with its drop-ins.
+/// Reads the unit that is found for this stem, with its drop-ins. Adds the drop-ins and their folders that can't be read
+/// to `lost`.
 pub(crate) fn read_unit<T: Tree>(
     alloc: Global,
     tree: &mut T,
-    path: &[String],
-    aliases: &[Alias],
-    stem: &str,
+    index: &UnitIndex,
+    asked: &str,
+    lost: &mut Vec<UnitFault>,
 ) -> Result<LoadedTarget, TargetLoadFault>
-    ensures known { IfOk result (λ found. (machine : Machine) → T.shows tree.new machine
-        → IsLoadedUnit machine (map string_bytes path.now) (map shown_alias aliases.now) stem.now found) }
+    ensures known { IfOk result (λ found. (machine : Machine) (path : List (List ℕ)) → T.shows tree.new machine
+        → IsIndexOf machine path index.now → IsLoadedUnit machine path asked.now found) }
+    ensures fault { IfErr result (λ fault. (machine : Machine) (path : List (List ℕ)) → T.shows tree.new machine
+        → IsIndexOf machine path index.now → IsUnitFault machine path asked.now (unit_on machine path asked.now) fault) }
     ensures grows { (machine : Machine) → T.shows tree.new machine → T.shows tree.old machine }
 {
-    let file = match find_unit(alloc, tree, path, stem)? {
-        Unit::NotFound => return Err(TargetLoadFault::Target(TargetReason::NotFound)),
-        Unit::Template => return Err(TargetLoadFault::Target(TargetReason::Template)),
-        Unit::Masked(_) => return Ok(LoadedTarget::Masked),
-        Unit::Found(file) => file,
+    match find_unit(alloc, index, asked)? {
+        Unit::NotFound => Err(TargetLoadFault::Target(TargetReason::NotFound)),
+        Unit::Template => Err(TargetLoadFault::Target(TargetReason::Template)),
+        Unit::Endless => Err(TargetLoadFault::Target(TargetReason::TooManyAliases)),
+        Unit::Found(file) => read_found(alloc, tree, index, asked, file, lost),
+    }
+}
+
+/// Reads the unit with this file.
+fn read_found<T: Tree>(
+    alloc: Global,
+    tree: &mut T,
+    index: &UnitIndex,
+    asked: &str,
+    file: UnitFile,
+    lost: &mut Vec<UnitFault>,
+) -> Result<LoadedTarget, TargetLoadFault>
+    ensures known { IfOk result (λ found. (machine : Machine) (path : List (List ℕ)) → T.shows tree.new machine
+        → IsIndexOf machine path index.now → IsFoundTarget machine path (string_bytes file.path) (string_bytes file.file)
+        (string_bytes file.stem) asked.now found) }
+    ensures fault { IfErr result (λ fault. (machine : Machine) (path : List (List ℕ)) → T.shows tree.new machine
+        → IsIndexOf machine path index.now → IsFileFault machine (file_at machine (string_bytes file.path)) (string_bytes file.path)
+        (unit_texts machine path (string_bytes file.path) (string_bytes file.file) (string_bytes file.stem) asked.now) fault) }
+    ensures grows { (machine : Machine) → T.shows tree.new machine → T.shows tree.old machine }
+{
+    let Some(own) = read_own(alloc, tree, file.path.as_str())? else {
+        return Ok(LoadedTarget::Masked);
     };
-    let files = unit_files(alloc, tree, path, aliases, &file)?;
+    let drop_ins = drop_in_texts(alloc, tree, index, asked, &file, lost)?;
+    let files = with_drop_ins(alloc, own, drop_ins)?;
+    let stem = file.stem.as_str();
     let name = format!(in alloc; "{stem}.timer")?;
     Ok(LoadedTarget::Timer(timer_from_files(alloc, tree, name, files)?))
 }
 
-/// Reads the file of a unit and its drop-ins. Fails with [`TargetReason::NotFound`] if its own file is a link to
-/// nothing.
-fn unit_files<T: Tree>(
+/// Reads the file at a path. Returns `None` if it masks a unit: if it is empty or a device. Fails with
+/// [`TargetReason::NotFound`] if nothing is there.
+fn read_own<T: Tree>(
     alloc: Global,
     tree: &mut T,
-    path: &[String],
-    aliases: &[Alias],
-    file: &UnitFile,
-) -> Result<Vec<UnitText>, TargetLoadFault>
-    ensures known { IfOk result (λ files. (machine : Machine) → T.shows tree.new machine
-        → map shown_unit_text files.items ≡ files_at machine (string_bytes file.now.path
-        ∷ drop_ins (disk_of machine) (map string_bytes path.now) (unit_stems (map shown_alias aliases.now) file.now))) }
+    path: &str,
+) -> Result<Option<UnitText>, TargetLoadFault>
+    ensures known { IfOk result (λ own. (machine : Machine) → T.shows tree.new machine → IsOwnFile machine path.now own) }
+    ensures fault { IfErr result (λ fault. (machine : Machine) (files : List FileText) → T.shows tree.new machine
+        → IsFileFault machine (file_at machine path.now) path.now files fault) }
     ensures grows { (machine : Machine) → T.shows tree.new machine → T.shows tree.old machine }
 {
-    let found = find_unit_drop_ins(alloc, tree, path, aliases, file)?;
-    let files = read_files(alloc, tree, file.path.as_str(), found.paths.as_slice())?;
-    match files.first() {
-        Some(first) if first.path == file.path => Ok(files),
-        _ => Err(TargetLoadFault::Target(TargetReason::NotFound)),
+    match read_file(alloc, tree, path)? {
+        FileRead::Mask => Ok(None),
+        FileRead::Unusable(reason) => Err(own_fault(alloc, path, reason)),
+        FileRead::Text(bytes) => {
+            let path = String::from_str(alloc, path)?;
+            Ok(Some(UnitText { path, bytes }))
+        }
     }
+}
+
+/// Returns the error for a target whose own file can't be used.
+fn own_fault(alloc: Global, path: &str, reason: Reason) -> TargetLoadFault
+    ensures { IsUnusableFault reason path.now result }
+{
+    match reason {
+        Reason::Missing => TargetLoadFault::Target(TargetReason::NotFound),
+        Reason::Unreadable(why) => TargetLoadFault::at(alloc, path, Reason::Unreadable(why)),
+        Reason::IsFolder => TargetLoadFault::at(alloc, path, Reason::IsFolder),
+        Reason::TooLarge => TargetLoadFault::at(alloc, path, Reason::TooLarge),
+    }
+}
+
+/// Reads the drop-ins of a unit. Adds those that can't be read to `lost`, and so each of their folders.
+fn drop_in_texts<T: Tree>(
+    alloc: Global,
+    tree: &mut T,
+    index: &UnitIndex,
+    asked: &str,
+    file: &UnitFile,
+    lost: &mut Vec<UnitFault>,
+) -> Result<Vec<UnitText>, AllocError>
+    ensures known { IfOk result (λ texts. (machine : Machine) (path : List (List ℕ)) → T.shows tree.new machine
+        → IsIndexOf machine path index.now → map shown_unit_text texts.items
+        ≡ texts_at machine (drop_ins machine path
+        (names_on machine path (string_bytes file.now.file) (string_bytes file.now.stem) asked.now))) }
+    ensures grows { (machine : Machine) → T.shows tree.new machine → T.shows tree.old machine }
+{
+    let names = names_of(alloc, index, file, asked)?;
+    let DropIns { paths, unread } = find_drop_ins(alloc, tree, index, names.as_slice())?;
+    let DropInTexts { texts, faults } = read_drop_ins(alloc, tree, paths.as_slice())?;
+    append(lost, unread)?;
+    append(lost, faults)?;
+    Ok(texts)
+}
+
+fn append<X: Drop>(all: &mut Vec<X>, more: Vec<X>) -> Result<(), AllocError>
+    ensures { OnOk result (all.new.items ≡ all.old.items ++ more.items) }
+{
+    for item in more {
+        all.push(item)?;
+    }
+    Ok(())
+}
+
+/// Returns the unit's own file, and then its drop-ins.
+fn with_drop_ins(
+    alloc: Global,
+    own: UnitText,
+    drop_ins: Vec<UnitText>,
+) -> Result<Vec<UnitText>, AllocError>
+    ensures { IfOk result (λ files. files.items ≡ own ∷ drop_ins.items) }
+{
+    let mut files = vec![in alloc; own]?;
+    append(&mut files, drop_ins)?;
+    Ok(files)
 }
 
 /// Reads the timer in the file at a path, without drop-ins.
@@ -79,13 +175,18 @@ pub(crate) fn read_timer_file<T: Tree>(
     alloc: Global,
     tree: &mut T,
     path: &str,
-) -> Result<LoadedTimer, TargetLoadFault>
-    ensures known { IfOk result (λ timer. (machine : Machine) → T.shows tree.new machine → IsFileOn machine timer) }
+) -> Result<LoadedTarget, TargetLoadFault>
+    ensures known { IfOk result (λ found. (machine : Machine) → T.shows tree.new machine → IsLoadedFile machine found) }
+    ensures fault { IfErr result (λ fault. (machine : Machine) → T.shows tree.new machine
+        → IsTimerFileFault machine path.now fault) }
     ensures grows { (machine : Machine) → T.shows tree.new machine → T.shows tree.old machine }
 {
-    let files = read_files(alloc, tree, path, &[])?;
+    let Some(own) = read_own(alloc, tree, path)? else {
+        return Ok(LoadedTarget::Masked);
+    };
     let name = String::from_str(alloc, path)?;
-    timer_from_files(alloc, tree, name, files)
+    let files = vec![in alloc; own]?;
+    Ok(LoadedTarget::Timer(timer_from_files(alloc, tree, name, files)?))
 }
 
 /// Returns the timer that these files make up.
@@ -98,6 +199,8 @@ fn timer_from_files<T: Tree>(
     ensures name { IfOk result (λ timer. timer.name ≡ name) }
     ensures read { IfOk result (λ timer. (machine : Machine) → T.shows tree.new machine
         → IsTimerReadFrom machine (map shown_unit_text files.items) timer) }
+    ensures fault { IfErr result (λ fault. (machine : Machine) → T.shows tree.new machine
+        → IsTextFault machine (map shown_unit_text files.items) fault) }
     ensures grows { (machine : Machine) → T.shows tree.new machine → T.shows tree.old machine }
 {
     let parsed = parse_files(alloc, files.as_slice())?;
@@ -122,7 +225,8 @@ fn timer_from_files<T: Tree>(
 }
 
 fn parse_files(alloc: Global, files: &[UnitText]) -> Result<ParsedFiles, TargetLoadFault>
-    ensures { IfOk result (λ parsed. IsCalendarOf (map shown_unit_text files.now) parsed.calendar) }
+    ensures calendar { IfOk result (λ parsed. IsCalendarOf (map shown_unit_text files.now) parsed.calendar) }
+    ensures fault { IfErr result (λ fault. (machine : Machine) → IsTextFault machine (map shown_unit_text files.now) fault) }
 {
     let texts = numbered_texts(alloc, files)?;
     let notes = notes_of(alloc, texts.as_slice())?;
@@ -143,7 +247,8 @@ fn read_timer_calendar(
     starts: bool,
 ) -> Result<Calendar, TargetLoadFault>
     requires { All (λ text. text.first + length text.text.now < 2 ^ 32) texts.now }
-    ensures { IfOk result (λ calendar. IsCalendarBy (assignments_of texts.now) calendar) }
+    ensures calendar { IfOk result (λ calendar. IsCalendarBy (assignments_of texts.now) calendar) }
+    ensures fault { IfErr result (IsAssignmentFault (assignments_of texts.now)) }
 {
     match read_texts(alloc, texts) {
         Ok(timer) => Ok(Calendar::Timer(timer)),
@@ -163,7 +268,11 @@ fn text_fault(
     files: &[UnitText],
     texts: &[NumberedText<'_>],
     found: FileFault,
-) -> TargetLoadFault {
+) -> TargetLoadFault
+    ensures { (assignments : List Assignment)
+        → (found.fault ≢ TimerFault.NoMemory → lists_of expr_in assignments ≡ Err found.fault)
+        → IsAssignmentFault assignments result }
+{
     match found.fault {
         TimerFault::NoMemory => TargetLoadFault::NoMemory,
         TimerFault::NothingToDo => TargetLoadFault::Target(TargetReason::NothingToDo),
@@ -182,7 +291,9 @@ fn line_fault(
     texts: &[NumberedText<'_>],
     index: Option<usize>,
     fault: TimerFault,
-) -> Result<TargetReason, AllocError> {
+) -> Result<TargetReason, AllocError>
+    ensures { IfOk result (IsLineReason fault) }
+{
     let index = index.unwrap_or(0);
     let first = texts.get(index).map_or(1, |text| text.first);
     let path = files.get(index).map_or("", |file| file.path.as_str());
@@ -197,7 +308,9 @@ fn line_fault(
 
 /// Replaces the line number in an error about an invalid line, or about too many expressions, by `line`. Returns any
 /// other error unchanged.
-fn with_line_number(fault: TimerFault, line: u32) -> TimerFault {
+fn with_line_number(fault: TimerFault, line: u32) -> TimerFault
+    ensures { result ≡ at_line fault line }
+{
     match fault {
         TimerFault::BadLine(_, reason) => TimerFault::BadLine(line, reason),
         TimerFault::TooMany(_) => TimerFault::TooMany(line),
@@ -211,7 +324,9 @@ fn zone_fault(
     files: &[UnitText],
     parsed: &ParsedFiles,
     fault: ZonesFault,
-) -> TargetLoadFault {
+) -> TargetLoadFault
+    ensures { IsZonesFault fault result }
+{
     match fault {
         ZonesFault::At(zone, reason) => match unread_zone(alloc, files, parsed, zone, reason) {
             Ok(reason) => TargetLoadFault::Target(reason),
@@ -229,7 +344,9 @@ fn unread_zone(
     parsed: &ParsedFiles,
     zone: String,
     reason: FileReason,
-) -> Result<TargetReason, AllocError> {
+) -> Result<TargetReason, AllocError>
+    ensures { IfOk result (IsZoneReason (string_bytes zone) reason) }
+{
     let calendar = &parsed.calendar;
     let line = first_with_zone(calendar.lines(), zone.as_str()).or(first_with_zone(
         calendar.exceptions(),

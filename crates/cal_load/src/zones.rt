@@ -2,15 +2,17 @@
 
 ghost use Rattle.std.specs.Prelude.{◌≡◌, ◌++◌, IfOk, OnOk, map, option_copied, string_bytes};
 ghost use Rattle.std.specs.Option.{option_to_list};
-ghost use Rattle.cal_machine_zones.specs.rules.ZoneFiles.{HasZonesOf};
+ghost use Rattle.std.specs.Result.{IfErr};
+ghost use Rattle.cal_zone_files.specs.rules.ZoneFiles.{HasZonesOf};
 ghost use Rattle.cal_timer.specs.rules.TimerView.{shown};
-ghost use Rattle.cal_units.specs.rules.Machine.{Machine};
+ghost use Rattle.cal_machine.specs.rules.Machine.{Machine};
 ghost use Rattle.cal_load.specs.rules.Loaded.{HasNames, zone_names_in};
+ghost use Rattle.cal_load.specs.rules.TextFaults.{IsZonesError};
 
-use cal_machine_zones::{ZonesFault, load_zones};
+use cal_machine::Tree;
 use cal_timer::TimerLine;
-use cal_units::Tree;
 use cal_zone::ZoneTable;
+use cal_zone_files::{ZonesFault, load_zones};
 use std::alloc::{AllocError, Global};
 
 /// The folder of the zone files, from which [`load_zones`] reads them.
@@ -26,6 +28,8 @@ pub(crate) fn load_named_zones<T: Tree>(
     ensures names { IfOk result (λ table.
         HasNames table (zone_names_in (map shown lines.now) ++ zone_names_in (map shown exceptions.now))) }
     ensures zones { IfOk result (λ table. (machine : Machine) → T.shows tree.new machine → HasZonesOf machine table) }
+    ensures fault { IfErr result (λ fault. (machine : Machine) → T.shows tree.new machine → IsZonesError machine
+        (zone_names_in (map shown lines.now) ++ zone_names_in (map shown exceptions.now)) fault) }
     ensures grows { (machine : Machine) → T.shows tree.new machine → T.shows tree.old machine }
 {
     let mut names = Vec::new(alloc);

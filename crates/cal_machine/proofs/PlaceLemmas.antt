@@ -66,13 +66,13 @@ pub walk_step : (machine : Machine) (last : Last) (count less : ℕ) (folder : L
 unfolding walk
 walk_step machine last count less folder parts part rest more some = rw (more, some) refl
 
--- ## What a call told
+-- ## What a call returned
 
 -- an error tells of another answer what it tells of this one, if that has the same errors
 pub tells_err : {X Y A B : Type 0} (view : X → Y) (seen : A → B) (fault : faults.TreeFault) (answer : Result Y Unreadable) (other : Result B Unreadable)
     → Tells view (Err fault) answer → ((why : Unreadable) → answer ≡ Err why → other ≡ Err why) → Tells seen (Err fault) other
-tells_err view seen (faults.TheVariants.Unreadable why) answer other told same = same why told
-tells_err view seen faults.TheVariants.NoMemory answer other told same = tt
+tells_err view seen (faults.TheVariants.Unreadable why) answer other said same = same why said
+tells_err view seen faults.TheVariants.NoMemory answer other said same = tt
 
 -- ## The walk after a step to the first part, which is `text`
 
@@ -87,4 +87,4 @@ module _ (machine : Machine) (last : Last) (count : ℕ) (folder : List ℕ) (pa
   -- an error in the step ends the walk
   pub walk_err : (fault : faults.TreeFault) → Tells shown_step (Err fault) (step machine last folder text rest)
       → Tells shown_place (Err fault) (walk machine last count folder parts)
-  walk_err fault = λ told. tells_err shown_step shown_place fault (step machine last folder text rest) (walk machine last count folder parts) told (λ why. walk_on (Err why))
+  walk_err fault = λ said. tells_err shown_step shown_place fault (step machine last folder text rest) (walk machine last count folder parts) said (λ why. walk_on (Err why))

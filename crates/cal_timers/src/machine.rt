@@ -1,8 +1,7 @@
 //! The real system: its folders, files and links, and the variables of the environment. Nothing is proved about what
-//! they contain. They can change while the program runs, so the program reads them through a [`cal_units::Recorder`].
+//! they contain. They can change while the program runs, so the program reads them through a [`cal_machine::Recorder`].
 
-use crate::below_root;
-use cal_units::{Entry, FILE_BYTES, Names, Raw, TreeFault, system_path};
+use cal_machine::{Entry, FILE_BYTES, Names, Raw, TreeFault, Unreadable};
 use std::alloc::{AllocError, Global};
 use std::fs::DirEntry;
 use std::io::{Error, ErrorKind, Read};
@@ -15,11 +14,8 @@ use std::{env, fs, io};
 pub struct Machine<'a, R> {
     /// The runtime, through which everything is read.
     pub rt: &'a R,
-    /// The root folder, to which absolute paths and absolute targets of links are relative. Empty for the system's own
-    /// root.
+    /// The root folder, to which absolute paths are relative. Empty for the system's own root.
     pub root: &'a str,
-    /// Folders below the root whose paths lead through no links.
-    pub plain: &'a [String],
 }
 
 impl<'a, R: Clock> Machine<'a, R> {
@@ -33,54 +29,42 @@ impl<'a, R: Clock> Machine<'a, R> {
 }
 
 impl<'a, R: Files + Env + AllocGlobal + Clone + Drop> Machine<'a, R> {
-    /// Returns the path on the system to which `path` leads.
-    fn followed(&self, alloc: Global, path: &str) -> Result<String, TreeFault> {
-        if self.root.is_empty() {
-            return Ok(String::from_str(alloc, path)?);
-        }
-        below_root::followed(self.rt, alloc, self.root, self.plain, path)
-    }
-
-    /// Returns the folders of the system's search path whose paths lead through no links, for [`Machine::plain`]. Most
-    /// files are looked for there. Returns an empty list if the root is the system's own.
-    pub fn plain_folders(&self, alloc: Global) -> Result<Vec<String>, AllocError> {
-        let mut plain = Vec::new(alloc);
-        if self.root.is_empty() {
-            return Ok(plain);
-        }
-        for folder in system_path(alloc)? {
-            if self.is_plain(alloc, folder.as_str())? {
-                plain.push(folder)?;
-            }
-        }
-        Ok(plain)
-    }
-
-    fn is_plain(&self, alloc: Global, folder: &str) -> Result<bool, AllocError> {
-        match self.followed(alloc, folder) {
-            Ok(path) => Ok(path.as_str().strip_prefix(self.root) == Some(folder)),
-            Err(TreeFault::NoMemory) => Err(AllocError),
-            Err(_) => Ok(false),
-        }
-    }
-
-    /// Returns the path on the system that stands for `path`. Links to folders on the way are followed, but not a link
-    /// at `path` itself.
-    fn path_of(&self, alloc: Global, path: &str) -> Result<String, TreeFault> {
-        match path.rsplit_once('/') {
-            Some((folder, name)) if !self.root.is_empty() => {
-                let folder = format!(in alloc; "{folder}/")?;
-                let folder = self.followed(alloc, folder.as_str())?;
-                Ok(format!(in alloc; "{folder}/{name}")?)
-            }
-            _ => Ok(String::from_str(alloc, path)?),
+    /// Returns the path on the system that stands for `path`. An absolute path lies below the root folder, and the
+    /// empty path is that of the root folder itself. A relative path is that of the system.
+    fn path_of(&self, alloc: Global, path: &str) -> Result<String, AllocError> {
+        let root = self.root;
+        match path {
+            "" if root.is_empty() => String::from_str(alloc, "/"),
+            _ if path.is_empty() || path.starts_with('/') => format!(in alloc; "{root}{path}"),
+            _ => String::from_str(alloc, path),
         }
     }
 }
 
 impl<'a, R: Files + Env + AllocGlobal + Clone + Drop> Raw for Machine<'a, R> {
+    fn look(&self, alloc: Global, path: &str) -> Result<Entry, TreeFault> {
+        let whole = self.path_of(alloc, path)?;
+        let metadata = match fs::symlink_metadata(self.rt, whole.as_str()) {
+            Ok(metadata) => metadata,
+            Err(error) if is_missing(&error) => return Ok(assumed_at(path)),
+            Err(error) => return Err(tree_fault_of(&error)),
+        };
+        if metadata.is_symlink() {
+            return look_at_link(self.rt, alloc, whole.as_str());
+        }
+        Ok(if metadata.is_dir() {
+            Entry::Folder
+        } else if !metadata.is_file() {
+            Entry::Device
+        } else if metadata.len() == 0 {
+            Entry::Empty
+        } else {
+            Entry::File
+        })
+    }
+
     fn names(&self, alloc: Global, folder: &str) -> Result<Names, TreeFault> {
-        let path = self.followed(alloc, folder)?;
+        let path = self.path_of(alloc, folder)?;
         let mut found = Names {
             names: Vec::new(alloc),
             unnamed: 0,
@@ -96,40 +80,15 @@ impl<'a, R: Files + Env + AllocGlobal + Clone + Drop> Raw for Machine<'a, R> {
         Ok(found)
     }
 
-    fn look(&self, alloc: Global, path: &str) -> Result<Entry, TreeFault> {
-        let path = self.path_of(alloc, path)?;
-        let metadata = match fs::symlink_metadata(self.rt, path.as_str()) {
-            Ok(metadata) => metadata,
-            Err(error) if is_missing(&error) => return Ok(Entry::Missing),
-            Err(error) => return Err(tree_fault_of(&error)),
-        };
-        if metadata.is_symlink() {
-            return look_at_link(self.rt, alloc, path.as_str());
-        }
-        if metadata.is_dir() {
-            return Ok(Entry::Folder);
-        }
-        Ok(if metadata.len() == 0 {
-            Entry::Empty
-        } else {
-            Entry::File
-        })
-    }
-
-    fn leads_to(&self, alloc: Global, link: &str, target: &str) -> Result<String, TreeFault> {
-        below_root::leads_to(self.rt, alloc, self.root, self.plain, link, target)
-    }
-
-    fn read(&self, alloc: Global, path: &str) -> Result<Option<Vec<u8>>, TreeFault> {
-        let path = self.followed(alloc, path)?;
+    fn read(&self, alloc: Global, file: &str) -> Result<Vec<u8>, TreeFault> {
+        let path = self.path_of(alloc, file)?;
         let file = match fs::open(self.rt, path.as_str()) {
             Ok(file) => file,
-            Err(error) if is_missing(&error) => return Ok(None),
             Err(error) => return Err(tree_fault_of(&error)),
         };
         let mut bytes = Vec::new(alloc);
         match file.take(FILE_BYTES as u64).read_to_end(&mut bytes) {
-            Ok(_) => Ok(Some(bytes)),
+            Ok(_) => Ok(bytes),
             Err(error) => Err(tree_fault_of(&error)),
         }
     }
@@ -138,7 +97,7 @@ impl<'a, R: Files + Env + AllocGlobal + Clone + Drop> Raw for Machine<'a, R> {
         match env::var(self.rt, name) {
             Ok(value) => Ok(Some(value)),
             Err(env::VarError::NotPresent) => Ok(None),
-            Err(env::VarError::NotUnicode) => Err(TreeFault::NotUtf8),
+            Err(env::VarError::NotUnicode) => Err(TreeFault::Unreadable(Unreadable::NotUtf8)),
             Err(env::VarError::OutOfMemory) => Err(TreeFault::NoMemory),
         }
     }
@@ -162,6 +121,16 @@ fn push_entry<R: Files + Drop>(
     Ok(())
 }
 
+/// Returns what counts as being at a path at which there is nothing. A link to `/dev/null` masks a unit also below a
+/// root folder that has no devices, such as that of an image, so `/dev` and `/dev/null` are never missing.
+fn assumed_at(path: &str) -> Entry {
+    match path {
+        "/dev" => Entry::Folder,
+        "/dev/null" => Entry::Device,
+        _ => Entry::Missing,
+    }
+}
+
 fn look_at_link<R: Files + AllocGlobal>(
     rt: &R,
     alloc: Global,
@@ -169,11 +138,18 @@ fn look_at_link<R: Files + AllocGlobal>(
 ) -> Result<Entry, TreeFault> {
     match fs::read_link(rt, path) {
         Ok(link) => match link.as_path().to_str() {
+            Some(target) if is_open_file(target) => Ok(Entry::File),
             Some(target) => Ok(Entry::Link(String::from_str(alloc, target)?)),
-            None => Err(TreeFault::NotUtf8),
+            None => Err(TreeFault::Unreadable(Unreadable::NotUtf8)),
         },
         Err(error) => Err(tree_fault_of(&error)),
     }
+}
+
+/// Returns whether the target of a link in `/proc/self/fd` is no path but stands for an open pipe or socket, as in
+/// `pipe:[42]` (proc(5)). Reading the link itself reads from there, so that `lint /dev/stdin` can read a pipe.
+fn is_open_file(target: &str) -> bool {
+    !target.contains('/') && target.contains(":[") && target.ends_with(']')
 }
 
 fn is_missing(error: &Error) -> bool {
@@ -183,6 +159,6 @@ fn is_missing(error: &Error) -> bool {
 fn tree_fault_of(error: &Error) -> TreeFault {
     match error.kind() {
         ErrorKind::OutOfMemory => TreeFault::NoMemory,
-        _ => TreeFault::ReadFailed,
+        _ => TreeFault::Unreadable(Unreadable::Failed),
     }
 }

@@ -2,15 +2,14 @@
 //! systemd.time(7)).
 #![tactic(auto)]
 
-mod below_root;
 pub mod machine;
 
 use crate::machine::Machine;
 use cal_answers::{Answer, answer_question};
+use cal_machine::Recorder;
 use cal_plan::PlanFault;
 use cal_timers_command::{CommandFault, Question};
 use cal_timers_text::Style;
-use cal_units::Recorder;
 use std::io::{ErrorKind, IsTerminal};
 use std::process::ExitCode;
 use std::rt::Env;
@@ -62,19 +61,9 @@ fn given_arguments<R: Env + AllocGlobal>(rt: &R) -> io::Result<Vec<String>> {
 /// Answers a question about this machine, or about the part of it below the root that the question names, and prints
 /// the answer.
 fn answer_and_print(rt: &HostRuntime, question: &Question) -> ExitCode {
-    let root = question.root.as_str();
-    let bare = Machine {
-        rt,
-        root,
-        plain: &[],
-    };
-    let Ok(plain) = bare.plain_folders(rt.alloc()) else {
-        return end(rt, "", OUT_OF_MEMORY, FAILED);
-    };
     let machine = Machine {
         rt,
-        root,
-        plain: plain.as_slice(),
+        root: question.root.as_str(),
     };
     let clock = machine.clock();
     let mut tree = Recorder::new(rt.alloc(), machine);

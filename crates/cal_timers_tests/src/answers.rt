@@ -4,9 +4,9 @@
 use crate::memory::{Item, Memory};
 use cal_answers::{Answer, answer_question};
 use cal_library_tests::shared::{ensure, zone_file};
+use cal_machine::Recorder;
 use cal_timers_command::Question;
 use cal_timers_text::Style;
-use cal_units::Recorder;
 use std::alloc::Global;
 use std::test::Fail;
 
@@ -49,7 +49,6 @@ static ANSWERS: [(&str, &str); 13] = [
         "list",
         "\x1b[1mNEXT                            LEFT  UNIT     NOTES\x1b[0m
 Mon 2024-01-01 12:00:00 +01:00  11h   a.timer  RandomizedDelaySec=1h
-Mon 2024-01-01 12:00:00 +01:00  11h   b.timer  RandomizedDelaySec=1h
 ",
     ),
     (
@@ -75,7 +74,7 @@ Mon 2024-01-01 02:00:00 +01:00  1h    notes.timer
     ),
     (
         "show|b|-n|2",
-        "\x1b[1mb.timer\x1b[0m
+        "\x1b[1ma.timer\x1b[0m
   File:      /etc/systemd/system/a.timer
              /etc/systemd/system/a.timer.d/x.conf
              /run/systemd/system/b.timer.d/y.conf
@@ -232,41 +231,51 @@ fn answers(rt: HostRuntime) -> Result<(), Fail> {
 /// besides a file that names a zone.
 type Row = (&'static str, Item<'static>, &'static str, &'static str);
 
-static UNREADABLE: [Row; 10] = [
+static UNREADABLE: [Row; 13] = [
+    // A drop-in, or a folder of drop-ins, is missing from its unit, and nothing else is.
     (
         "/etc/systemd/system/a.timer.d",
-        Item::Locked,
+        Item::Closed,
         "show|a",
-        "/etc/systemd/system/a.timer.d: cannot be read\n",
+        "\x1b[1ma.timer\x1b[0m
+  File:      /usr/lib/systemd/system/a.timer
+             /run/systemd/system/b.timer.d/y.conf
+  Also:      OnBootSec=1min
+             OnStartupSec=1min
+/etc/systemd/system/a.timer.d: cannot be read
+",
     ),
     (
         "/etc/systemd/system/a.timer.d/x.conf",
         Item::Locked,
-        "show|a",
-        "/etc/systemd/system/a.timer.d/x.conf: cannot be read\n",
-    ),
-    (
-        "/etc/systemd/system/a.timer.d/x.conf",
-        Item::Gone,
-        "show|a",
-        "/etc/systemd/system/a.timer.d/x.conf: no such file\n",
+        "show|b",
+        "\x1b[1ma.timer\x1b[0m
+  File:      /usr/lib/systemd/system/a.timer
+             /run/systemd/system/b.timer.d/y.conf
+  Also:      OnBootSec=1min
+             OnStartupSec=1min
+/etc/systemd/system/a.timer.d/x.conf: cannot be read
+",
     ),
     (
         "/etc/systemd/system/a.timer.d/x.conf",
         Item::Unnamed,
-        "show|a",
-        "/etc/systemd/system/a.timer.d/x.conf: a link to a path that is not UTF-8\n",
+        "same|a|/t/boot.timer",
+        "same
+/etc/systemd/system/a.timer.d/x.conf: a link to a path that is not UTF-8
+",
     ),
     (
         "/etc/systemd/system/timer.d/x.conf",
-        Item::Gone,
-        "lint|a",
-        "/etc/systemd/system/timer.d/x.conf: no such file\n",
+        Item::Locked,
+        "lint|a|b",
+        "/etc/systemd/system/timer.d/x.conf: cannot be read\n",
     ),
-    // The unit is found in another folder, and so are its alias and the drop-in of this alias.
+    // What can't be read of the search path has one line, whatever the question is. The unit is found in another folder,
+    // and so are its alias and the drop-in of this alias.
     (
         "/etc/systemd/system",
-        Item::Locked,
+        Item::Closed,
         "show|a",
         "\x1b[1ma.timer\x1b[0m
   File:      /usr/lib/systemd/system/a.timer
@@ -275,6 +284,37 @@ static UNREADABLE: [Row; 10] = [
              OnStartupSec=1min
 /etc/systemd/system: cannot be read
 ",
+    ),
+    (
+        "/etc/systemd/system",
+        Item::Closed,
+        "list",
+        "\x1b[1mNEXT  LEFT  UNIT     NOTES\x1b[0m
+-     -     a.timer  OnBootSec=1min  OnStartupSec=1min
+/etc/systemd/system: cannot be read
+",
+    ),
+    (
+        "/etc/systemd/system/a.timer",
+        Item::Hidden,
+        "list|b",
+        "\x1b[1mNEXT  LEFT  UNIT     NOTES\x1b[0m
+-     -     a.timer  OnBootSec=1min  OnStartupSec=1min
+/etc/systemd/system/a.timer: cannot be read
+",
+    ),
+    (
+        "/etc/systemd/system/b.timer",
+        Item::Unnamed,
+        "lint",
+        "/etc/systemd/system/b.timer: a link to a path that is not UTF-8\n",
+    ),
+    // The unit's own file.
+    (
+        "/etc/systemd/system/a.timer",
+        Item::Locked,
+        "show|a",
+        "/etc/systemd/system/a.timer: cannot be read\n",
     ),
     (
         "/t/locked.timer",
@@ -296,7 +336,7 @@ static UNREADABLE: [Row; 10] = [
     ),
     (
         "/etc/localtime",
-        Item::Locked,
+        Item::Hidden,
         "next|12:00",
         "calendar-timers: /etc/localtime: cannot be read\n",
     ),
@@ -321,6 +361,7 @@ fn expect_unreadable(alloc: Global, row: Row) -> Result<(), Fail> {
             "/t/zone.timer",
             Item::File(b"[Timer]\nOnCalendar=12:00 X\n"),
         ),
+        ("/t/boot.timer", Item::File(b"[Timer]\nOnBootSec=1min\n")),
         (path, item),
     ];
     expect(alloc, &items, line, expected)

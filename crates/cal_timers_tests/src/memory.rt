@@ -1,24 +1,26 @@
 //! A machine in memory.
 
-use cal_units::{Entry, Names, Raw, TreeFault};
-use std::alloc::Global;
+use cal_machine::{Entry, Names, Raw, TreeFault, Unreadable};
+use std::alloc::{AllocError, Global};
 
 /// What is at a path.
 #[derive(Clone, Copy, Debug)]
 pub enum Item<'a> {
     /// A file with these bytes.
     File(&'a [u8]),
-    /// A symbolic link with this target, which has to be an absolute path.
+    /// A symbolic link with this target.
     Link(&'a str),
     /// A symbolic link with a target that isn't UTF-8.
     Unnamed,
-    /// A name that is listed in a folder, although nothing is at its path, as if the file had been removed since.
-    Gone,
-    /// A file or folder that can't be listed or read. Looking at its path fails too.
+    /// A folder that can't be listed.
+    Closed,
+    /// A file that can't be read.
     Locked,
+    /// Something that can't be looked at.
+    Hidden,
 }
 
-/// A machine with these items, each at its path.
+/// A machine with these items, each at its path, and with the folders above them.
 #[derive(Clone, Copy, Debug)]
 pub struct Memory<'a> {
     pub items: &'a [(&'a str, Item<'a>)],
@@ -33,43 +35,61 @@ impl<'a> Memory<'a> {
         }
         None
     }
-}
 
-impl<'a> Raw for Memory<'a> {
-    fn names(&self, alloc: Global, folder: &str) -> Result<Names, TreeFault> {
-        if let Some(Item::Locked) = self.at(folder) {
-            return Err(TreeFault::ReadFailed);
-        }
-        let mut names = Vec::new(alloc);
+    /// Returns the names in a folder, each once.
+    fn names_in(&self, alloc: Global, folder: &str) -> Result<Vec<String>, AllocError> {
+        let mut names: Vec<String> = Vec::new(alloc);
         for (path, _) in self.items {
-            if let Some((place, name)) = path.rsplit_once('/') {
-                if place == folder {
+            if let Some(name) = name_below(folder, path) {
+                if !names.iter().any(|known| known.as_str() == name) {
                     names.push(String::from_str(alloc, name)?)?;
                 }
             }
         }
-        Ok(Names { names, unnamed: 0 })
+        Ok(names)
     }
 
+    fn is_folder(&self, path: &str) -> bool {
+        self.items
+            .iter()
+            .any(|(below, _)| name_below(path, below).is_some())
+    }
+}
+
+/// Returns the name that the path has in the folder, or `None` if the path isn't below the folder.
+fn name_below<'p>(folder: &str, path: &'p str) -> Option<&'p str> {
+    let names = path.strip_prefix(folder)?.strip_prefix('/')?;
+    names.split('/').next()
+}
+
+impl<'a> Raw for Memory<'a> {
     fn look(&self, alloc: Global, path: &str) -> Result<Entry, TreeFault> {
         match self.at(path) {
-            None | Some(Item::Gone) => Ok(Entry::Missing),
-            Some(Item::File(_)) => Ok(Entry::File),
+            None if self.is_folder(path) => Ok(Entry::Folder),
+            None => Ok(Entry::Missing),
+            Some(Item::File(b"")) => Ok(Entry::Empty),
+            Some(Item::File(_) | Item::Locked) => Ok(Entry::File),
+            Some(Item::Closed) => Ok(Entry::Folder),
             Some(Item::Link(target)) => Ok(Entry::Link(String::from_str(alloc, target)?)),
-            Some(Item::Unnamed) => Err(TreeFault::NotUtf8),
-            Some(Item::Locked) => Err(TreeFault::ReadFailed),
+            Some(Item::Unnamed) => Err(TreeFault::Unreadable(Unreadable::NotUtf8)),
+            Some(Item::Hidden) => Err(TreeFault::Unreadable(Unreadable::Failed)),
         }
     }
 
-    fn leads_to(&self, alloc: Global, _link: &str, target: &str) -> Result<String, TreeFault> {
-        Ok(String::from_str(alloc, target)?)
+    fn names(&self, alloc: Global, folder: &str) -> Result<Names, TreeFault> {
+        if let Some(Item::Closed) = self.at(folder) {
+            return Err(TreeFault::Unreadable(Unreadable::Failed));
+        }
+        Ok(Names {
+            names: self.names_in(alloc, folder)?,
+            unnamed: 0,
+        })
     }
 
-    fn read(&self, alloc: Global, path: &str) -> Result<Option<Vec<u8>>, TreeFault> {
-        match self.at(path) {
-            Some(Item::File(bytes)) => Ok(Some(Vec::from_slice(alloc, bytes)?)),
-            Some(Item::Locked) => Err(TreeFault::ReadFailed),
-            _ => Ok(None),
+    fn read(&self, alloc: Global, file: &str) -> Result<Vec<u8>, TreeFault> {
+        match self.at(file) {
+            Some(Item::File(bytes)) => Ok(Vec::from_slice(alloc, bytes)?),
+            _ => Err(TreeFault::Unreadable(Unreadable::Failed)),
         }
     }
 

@@ -2,20 +2,23 @@
 
 use crate::cells::push_printable;
 use cal_load::{TargetFault, TargetReason};
-use cal_machine_zones::{FileReason, Origin, ZonesFault};
+use cal_machine::Unreadable;
 use cal_timer::TimerFault;
-use cal_units::Reason;
+use cal_unit_index::Reason;
+use cal_zone_files::{FileReason, Origin, ZonesFault};
 use std::alloc::{AllocError, Global};
 
 /// Returns the error line about a timer that can't be loaded, without a line feed. The line begins with what is at
-/// fault, and ends with the message. What is at fault is the target as it was given, a path, a line of a file, or, if
-/// too many links lead from unit to unit, the stem of a unit.
+/// fault, and ends with the message. What is at fault is the target as it was given, a path, or a line of a file.
 pub fn fault_text(alloc: Global, fault: &TargetFault) -> Result<String, AllocError> {
     let mut out = String::new(alloc);
     let target = fault.target.as_str();
     match &fault.reason {
         TargetReason::NotFound => push_fault(&mut out, target, not_found_words(target)),
         TargetReason::Template => push_fault(&mut out, target, "a template needs an instance"),
+        TargetReason::TooManyAliases => {
+            push_fault(&mut out, target, "more than 7 links from unit to unit")
+        }
         TargetReason::Path(path, reason) => push_fault(
             &mut out,
             path.as_str(),
@@ -80,13 +83,11 @@ fn not_found_words(target: &str) -> &'static str {
 /// Returns the message about a path of a unit that can't be used for this reason.
 fn reason_words(reason: Reason) -> &'static str {
     match reason {
-        Reason::ReadFailed => "cannot be read",
-        Reason::NotUtf8 => "a link to a path that is not UTF-8",
+        Reason::Unreadable(Unreadable::Failed) => "cannot be read",
+        Reason::Unreadable(Unreadable::NotUtf8) => "a link to a path that is not UTF-8",
         Reason::IsFolder => "is a folder",
-        Reason::Vanished => "no such file",
+        Reason::Missing => "no such file",
         Reason::TooLarge => "larger than 1048576 bytes",
-        Reason::TooMany => "more than 10000 drop-ins",
-        Reason::TooManyLinks => "more than 8 links from unit to unit",
     }
 }
 

@@ -6,7 +6,7 @@ use crate::times::{instant_width, normal_text, push_instant, push_left};
 use cal_load::{Calendar, LoadedTimer};
 use cal_tasks::{ClockChange, ClockNote, Clocked};
 use cal_timer::TimerLine;
-use cal_units::UnitText;
+use cal_unit_index::UnitText;
 use cal_zone::{Civil, Instant, InstantFormatter, Zone, civil};
 use std::alloc::{AllocError, Global};
 

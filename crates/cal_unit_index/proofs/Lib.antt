@@ -1,8 +1,10 @@
 mod DropInRows
+mod SearchPathRows
 mod UnitRows
 pub mod DropInLemmas
 pub mod FolderLemmas
 pub mod FollowLemmas
 pub mod IndexLemmas
 pub mod SearchFolderLemmas
+pub mod SearchPathLemmas
 pub mod UnitNameLemmas

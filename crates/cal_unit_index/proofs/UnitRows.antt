@@ -14,7 +14,7 @@ use Rattle.cal_unit_index.specs.rules.Destinations.{destination_in}
 use Rattle.cal_unit_index.specs.rules.Destinations.Destination.{FileAt}
 use Rattle.cal_unit_index.specs.rules.Index.{unit_stems_in, unreadable_fault, unreadable_in}
 use Rattle.cal_unit_index.specs.rules.Names.{names_for}
-use Rattle.cal_unit_index.specs.rules.UnitName.{file_stem, instance_of, is_stem, template_of, unit_kind_of, unit_stem, without_suffix}
+use Rattle.cal_unit_index.specs.rules.UnitName.{file_stem, instance_of, is_stem, listed_stem, template_of, unit_kind_of, unit_stem, without_suffix}
 use Rattle.cal_unit_index.specs.rules.Units.{unit_on}
 use Rattle.cal_unit_index.specs.rules.Units.Unit.{Unfound, TemplateOnly, TooManyAliases, FoundAt}
 
@@ -52,28 +52,28 @@ plain =
     ((codes "b.timer", Link (codes "/lib/a.timer")) ∷ (codes "c.timer", Link (codes "b.timer")) ∷ (codes "r.timer", Link (codes "../lib/a.timer"))
     ∷ (codes "l.timer", Link (codes "/opt/a.service")) ∷ (codes "m.timer", Link (codes "/dev/null")) ∷ (codes "n.timer", Link (codes "none.timer"))
     ∷ (codes "a.timer", Folder) ∷ (codes "b.service", File) ∷ [])
-    ((codes "a.timer", File) ∷ (codes "e.timer", Empty) ∷ (codes "d.timer", Device) ∷ [])
+    ((codes "a.timer", File) ∷ (codes "e.timer", Empty) ∷ (codes "d.timer", Device) ∷ (codes ".h.timer", File) ∷ [])
 
 -- The folder `/etc/a.timer` isn't a file of `a`. `b`, `c` and `r` are aliases of `a`, one of them through the folder
 -- above. `l` is linked to a file outside the search path, whose name doesn't matter, and so is `m`. `n` is an alias of a
--- unit that doesn't exist.
-plain_units : map (unit_on plain path) (codes "a" ∷ codes "b" ∷ codes "c" ∷ codes "r" ∷ codes "l" ∷ codes "m" ∷ codes "n" ∷ codes "e" ∷ codes "d" ∷ codes "x" ∷ [])
+-- unit that doesn't exist. `.h` is hidden.
+plain_units : map (unit_on plain path) (codes "a" ∷ codes "b" ∷ codes "c" ∷ codes "r" ∷ codes "l" ∷ codes "m" ∷ codes "n" ∷ codes "e" ∷ codes "d" ∷ codes "x" ∷ codes ".h" ∷ [])
     ≡ FoundAt (codes "/lib/a.timer") (codes "a") (codes "a") ∷ FoundAt (codes "/lib/a.timer") (codes "a") (codes "a")
     ∷ FoundAt (codes "/lib/a.timer") (codes "a") (codes "a") ∷ FoundAt (codes "/lib/a.timer") (codes "a") (codes "a")
     ∷ FoundAt (codes "/etc/l.timer") (codes "l") (codes "l") ∷ FoundAt (codes "/etc/m.timer") (codes "m") (codes "m")
-    ∷ Unfound ∷ FoundAt (codes "/lib/e.timer") (codes "e") (codes "e") ∷ Unfound ∷ Unfound ∷ []
-unfolding walk after_prefix template_of file_stem unit_stem without_suffix is_stem unit_kind_of instance_of
+    ∷ Unfound ∷ FoundAt (codes "/lib/e.timer") (codes "e") (codes "e") ∷ Unfound ∷ Unfound ∷ Unfound ∷ []
+unfolding walk after_prefix template_of listed_stem file_stem unit_stem without_suffix is_stem unit_kind_of instance_of
 plain_units = refl
 
 -- the unit `a` has the same names, whichever of them is asked for
 plain_names : map (names_for plain path) (codes "a" ∷ codes "c" ∷ codes "l" ∷ codes "n" ∷ [])
     ≡ (codes "a" ∷ codes "b" ∷ codes "c" ∷ codes "r" ∷ []) ∷ (codes "a" ∷ codes "b" ∷ codes "c" ∷ codes "r" ∷ []) ∷ (codes "l" ∷ []) ∷ [] ∷ []
-unfolding walk after_prefix template_of file_stem unit_stem without_suffix is_stem unit_kind_of instance_of
+unfolding walk after_prefix template_of listed_stem file_stem unit_stem without_suffix is_stem unit_kind_of instance_of
 plain_names = refl
 
 all_stems : unit_stems_in plain path
     ≡ codes "a" ∷ codes "b" ∷ codes "c" ∷ codes "e" ∷ codes "l" ∷ codes "m" ∷ codes "n" ∷ codes "r" ∷ []
-unfolding walk after_prefix template_of file_stem unit_stem without_suffix is_stem unit_kind_of instance_of
+unfolding walk after_prefix template_of listed_stem file_stem unit_stem without_suffix is_stem unit_kind_of instance_of
 all_stems = refl
 
 -- ## Links that can't be aliases
@@ -93,7 +93,7 @@ rejected_links : map (destination_in rejected path) (codes "a" ∷ codes "s" ∷
     ≡ Some (FileAt (codes "/lib/a.timer")) ∷ Some (FileAt (codes "/lib/s.timer")) ∷ Some (FileAt (codes "/lib/p.timer")) ∷ Some (FileAt (codes "/lib/i.timer"))
     ∷ Some (FileAt (codes "/lib/t@.timer")) ∷ Some (FileAt (codes "/lib/u@.timer")) ∷ Some (FileAt (codes "/lib/t@x.timer")) ∷ Some (FileAt (codes "/lib/t@y.timer"))
     ∷ Some (FileAt (codes "/lib/v.timer")) ∷ []
-unfolding walk after_prefix template_of file_stem unit_stem without_suffix is_stem unit_kind_of instance_of
+unfolding walk after_prefix template_of listed_stem file_stem unit_stem without_suffix is_stem unit_kind_of instance_of
 rejected_links = refl
 
 -- ## Templates
@@ -111,7 +111,7 @@ instances : map (unit_on templates path) (codes "foo@" ∷ codes "foo@x" ∷ cod
     ≡ TemplateOnly ∷ FoundAt (codes "/lib/foo@.timer") (codes "foo@") (codes "foo@x") ∷ FoundAt (codes "/lib/foo@.timer") (codes "foo@") (codes "foo@x")
     ∷ FoundAt (codes "/lib/foo@.timer") (codes "foo@") (codes "foo@x") ∷ FoundAt (codes "/lib/foo@.timer") (codes "foo@") (codes "foo@y")
     ∷ FoundAt (codes "/lib/foo@w.timer") (codes "foo@w") (codes "foo@w") ∷ FoundAt (codes "/etc/bar@z.timer") (codes "bar@z") (codes "bar@z") ∷ Unfound ∷ []
-unfolding walk after_prefix template_of file_stem unit_stem without_suffix is_stem unit_kind_of instance_of
+unfolding walk after_prefix template_of listed_stem file_stem unit_stem without_suffix is_stem unit_kind_of instance_of
 instances = refl
 
 -- An instance has the same names, whichever is asked for. `al@x` and `el@y` are names of one instance each. `bar@w` is no
@@ -119,7 +119,7 @@ instances = refl
 instance_names : map (names_for templates path) (codes "bar@x" ∷ codes "foo@x" ∷ codes "el@y" ∷ codes "foo@w" ∷ codes "foo@z" ∷ codes "bar@z" ∷ [])
     ≡ (codes "foo@x" ∷ codes "al@x" ∷ codes "bar@x" ∷ []) ∷ (codes "foo@x" ∷ codes "al@x" ∷ codes "bar@x" ∷ [])
     ∷ (codes "foo@y" ∷ codes "bar@y" ∷ codes "el@y" ∷ []) ∷ (codes "foo@w" ∷ []) ∷ (codes "foo@z" ∷ []) ∷ (codes "bar@z" ∷ []) ∷ []
-unfolding walk after_prefix template_of file_stem unit_stem without_suffix is_stem unit_kind_of instance_of
+unfolding walk after_prefix template_of listed_stem file_stem unit_stem without_suffix is_stem unit_kind_of instance_of
 instance_names = refl
 
 -- ## Many links
@@ -133,7 +133,7 @@ chain =
 
 -- from `b`, 7 links lead to a file, but from `a` there are 8
 links : map (unit_on chain path) (codes "b" ∷ codes "a" ∷ []) ≡ FoundAt (codes "/lib/i.timer") (codes "i") (codes "i") ∷ TooManyAliases ∷ []
-unfolding walk after_prefix template_of file_stem unit_stem without_suffix is_stem unit_kind_of instance_of
+unfolding walk after_prefix template_of listed_stem file_stem unit_stem without_suffix is_stem unit_kind_of instance_of
 links = refl
 
 -- ## What can't be read
@@ -150,10 +150,10 @@ unreadable =
     }
 
 faults : unreadable_in unreadable path ≡ unreadable_fault (codes "/etc") Failed ∷ unreadable_fault (codes "/lib/b.timer") Failed ∷ []
-unfolding walk after_prefix template_of file_stem unit_stem without_suffix is_stem unit_kind_of instance_of
+unfolding walk after_prefix template_of listed_stem file_stem unit_stem without_suffix is_stem unit_kind_of instance_of
 faults = refl
 
 -- what can be read is still found
 others : map (unit_on unreadable path) (codes "a" ∷ codes "b" ∷ []) ≡ FoundAt (codes "/lib/a.timer") (codes "a") (codes "a") ∷ Unfound ∷ []
-unfolding walk after_prefix template_of file_stem unit_stem without_suffix is_stem unit_kind_of instance_of
+unfolding walk after_prefix template_of listed_stem file_stem unit_stem without_suffix is_stem unit_kind_of instance_of
 others = refl

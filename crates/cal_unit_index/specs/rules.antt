@@ -6,5 +6,6 @@ pub mod Folders
 pub mod Index
 pub mod Names
 pub mod SearchFolders
+pub mod SearchPath
 pub mod UnitName
 pub mod Units

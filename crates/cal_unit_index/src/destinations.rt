@@ -4,9 +4,9 @@
 ghost use Rattle.std.specs.Prelude.{◌≡◌, IfOk, map, option_map, string_bytes};
 ghost use Rattle.std.specs.List.{list_any};
 ghost use Rattle.cal_machine.specs.rules.Machine.{Machine, Tells, shown_entry};
-ghost use Rattle.cal_machine.specs.rules.Places.{parts_of};
 ghost use Rattle.cal_unit_index.specs.rules.Destinations.{alias_of, destination_at_path, destination_of_entry, destination_of_link, is_below, last_part, shown_destination, target_path, unit_path};
 
+use crate::paths::parts_of;
 use crate::unit_name::{file_stem, may_lead};
 use cal_machine::{Entry, Last, Tree, TreeFault, after_prefix, find_place, look_at};
 use std::alloc::{AllocError, Global};
@@ -128,12 +128,6 @@ fn last_part(alloc: Global, path: &str) -> Result<&str, AllocError>
         Some(part) => Ok(*part),
         None => Ok(""),
     }
-}
-
-fn parts_of(alloc: Global, path: &str) -> Result<Vec<&str>, AllocError>
-    ensures { IfOk result (λ parts. map (λ part. part.now) parts.items ≡ parts_of path.now) }
-{
-    path.split('/').collect(alloc)
 }
 
 /// Returns the path to which a link's target leads, if the link is in this folder.

@@ -13,7 +13,9 @@ mod follow;
 mod index;
 mod name_sets;
 mod names;
+mod paths;
 mod read_folder;
+mod search_path;
 mod unit;
 mod unit_name;
 
@@ -22,5 +24,6 @@ pub use fault::{Reason, UnitFault};
 pub use files::{DropInTexts, FileRead, UnitText, read_drop_ins, read_file};
 pub use index::{SearchFolder, UnitIndex};
 pub use names::names_of;
+pub use search_path::{UserVariables, given_path, system_path, user_path};
 pub use unit::{Unit, UnitFile, find_unit};
 pub use unit_name::{UnitKind, unit_kind_of, unit_stem};

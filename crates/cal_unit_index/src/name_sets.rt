@@ -6,9 +6,9 @@ ghost use Rattle.std.specs.Cmp.Lexicographic.{slice_cmp};
 ghost use Rattle.std.specs.Option.{option_to_list};
 ghost use Rattle.std.specs.Ordering.{nat_cmp};
 ghost use Rattle.cal_unit_index.specs.rules.Destinations.{is_among, sorted_once, stems_of};
-ghost use Rattle.cal_unit_index.specs.rules.UnitName.{file_stem};
+ghost use Rattle.cal_unit_index.specs.rules.UnitName.{listed_stem};
 
-use crate::unit_name::file_stem;
+use crate::unit_name::listed_stem;
 use std::alloc::{AllocError, Global};
 use std::collections::BTreeSet;
 
@@ -51,9 +51,9 @@ pub(crate) fn timer_stems(alloc: Global, names: &BTreeSet<String>) -> Result<Vec
 
 fn push_stem<'n>(stems: &mut Vec<&'n str>, name: &'n str) -> Result<(), AllocError>
     ensures { OnOk result (map (λ stem. stem.now) stems.new.items
-        ≡ map (λ stem. stem.now) stems.old.items ++ option_to_list (file_stem name.now)) }
+        ≡ map (λ stem. stem.now) stems.old.items ++ option_to_list (listed_stem name.now)) }
 {
-    if let Some(stem) = file_stem(name) {
+    if let Some(stem) = listed_stem(name) {
         stems.push(stem)?;
     }
     Ok(())

@@ -2,7 +2,7 @@
 
 ghost use Rattle.std.specs.Prelude.{◌≡◌, option_map};
 ghost use Rattle.std.specs.List.{list_all};
-ghost use Rattle.cal_unit_index.specs.rules.UnitName.{file_stem, instance_of, is_name_byte, is_stem, is_template, may_be_linked, may_lead, stem_base, template_of, unit_kind_of, unit_stem, without_suffix};
+ghost use Rattle.cal_unit_index.specs.rules.UnitName.{file_stem, instance_of, is_name_byte, is_stem, is_template, listed_stem, may_be_linked, may_lead, stem_base, template_of, unit_kind_of, unit_stem, without_suffix};
 
 /// The suffix of a timer's name.
 const SUFFIX: &str = ".timer";
@@ -44,6 +44,17 @@ pub(crate) fn file_stem(name: &str) -> Option<&str>
         return None;
     }
     unit_stem(name)
+}
+
+/// Returns the stem of the timer whose file a name in a folder of the search path can be. Hidden files are left out.
+#[tactic(auto, unfolding(crate::specs::rules::UnitName::listed_stem))]
+pub(crate) fn listed_stem(name: &str) -> Option<&str>
+    ensures { option_map (λ stem. stem.now) result ≡ listed_stem name.now }
+{
+    if name.as_bytes().starts_with(b".") {
+        return None;
+    }
+    file_stem(name)
 }
 
 /// Returns what the name of a unit with this stem stands for.

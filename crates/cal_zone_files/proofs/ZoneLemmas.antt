@@ -24,7 +24,7 @@ use Rattle.cal_zone.specs.rules.AddedZones.{is_taken}
 use Rattle.cal_zone.specs.rules.ZoneTable.{ZoneMap, zone_named}
 use Rattle.cal_zone.proofs.ZoneMapLemmas.{zone_named-here, zone_named-elsewhere}
 use Rattle.cal_zone_files.specs.rules.ZoneFiles.{HasZonesOf, IsFirstError, IsLoadError, IsReasonOn, IsZoneAdded, IsZoneOn, rejection, zone_file, zone_path}
-use Rattle.cal_zone_files.specs.rules.MachineLocalZone.{IsTold, MachineLocalZone, unread_fault}
+use Rattle.cal_zone_files.specs.rules.MachineLocalZone.{IsResultOf, MachineLocalZone, unread_fault}
 use Rattle.cal_zone_files.specs.rules.MachineLocalZone.MachineLocalZone.{UnreadIn}
 use Rattle.cal_zone_files.specs.declared.fault.FileReason.{FileReason}
 use Rattle.cal_zone_files.specs.declared.fault.Origin.{Origin}
@@ -81,9 +81,9 @@ rejection_on machine name bytes path zones.NameTaken same read rejected = absurd
 -- if an origin can't be read, that is what the local zone is
 pub unread_is : {X Y : Type 0} (view : X → Y) (zone_of : Result Y Unreadable → MachineLocalZone) (origin : Origin)
     → ((why : Unreadable) → zone_of (Err why) ≡ UnreadIn origin) → (fault : trees.TreeFault) (answer : Result Y Unreadable)
-    → Tells view (Err fault) answer → IsTold (zone_of answer) (Err (unread_fault origin fault))
-unread_is view zone_of origin unread (trees.TheVariants.Unreadable why) answer told = ap zone_of told ∙ unread why
-unread_is view zone_of origin unread trees.TheVariants.NoMemory answer told = tt
+    → Tells view (Err fault) answer → IsResultOf (zone_of answer) (Err (unread_fault origin fault))
+unread_is view zone_of origin unread (trees.TheVariants.Unreadable why) answer known = ap zone_of known ∙ unread why
+unread_is view zone_of origin unread trees.TheVariants.NoMemory answer known = tt
 
 or_true : (b : Bool) → (b || true) ≡ true
 or_true true = refl

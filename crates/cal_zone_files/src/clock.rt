@@ -3,10 +3,10 @@
 ghost use Rattle.std.specs.Prelude.{◌≡◌, IfOk, option_map};
 ghost use Rattle.cal_machine.specs.rules.Machine.{Machine};
 ghost use Rattle.cal_machine.specs.rules.Places.{entry_at};
-ghost use Rattle.cal_zone_files.specs.rules.MachineLocalZone.{HasOffset, HasZoneOffset, IsTold, entry_zone, localtime, machine_local_zone, machine_zone, shown_told, unread_fault};
+ghost use Rattle.cal_zone_files.specs.rules.MachineLocalZone.{HasOffset, HasZoneOffset, IsResultOf, entry_zone, localtime, machine_local_zone, machine_zone, shown_zone_text, unread_fault};
 
 use crate::fault::{Origin, ZonesFault};
-use crate::texts::{LOCALTIME, ToldZone, argument_zone, link_zone, variable_zone};
+use crate::texts::{LOCALTIME, ZoneText, argument_zone, link_zone, variable_zone};
 use cal_machine::{Tree, TreeFault, look_at};
 use std::alloc::Global;
 
@@ -45,7 +45,7 @@ pub fn find_local_zone<T: Tree>(
     argument: Option<&str>,
 ) -> Result<MachineLocalZone, ZonesFault>
     ensures zone { (machine : Machine) → T.shows tree.new machine
-        → IsTold (machine_local_zone machine (option_map (λ text. text.now) argument.entry)) result }
+        → IsResultOf (machine_local_zone machine (option_map (λ text. text.now) argument.entry)) result }
     ensures offset { IfOk result HasZoneOffset }
     ensures grows { (machine : Machine) → T.shows tree.new machine → T.shows tree.old machine }
 {
@@ -56,7 +56,7 @@ pub fn find_local_zone<T: Tree>(
 }
 
 fn find_machine_zone<T: Tree>(alloc: Global, tree: &mut T) -> Result<MachineLocalZone, ZonesFault>
-    ensures zone { (machine : Machine) → T.shows tree.new machine → IsTold (machine_zone machine) result }
+    ensures zone { (machine : Machine) → T.shows tree.new machine → IsResultOf (machine_zone machine) result }
     ensures offset { IfOk result HasZoneOffset }
     ensures grows { (machine : Machine) → T.shows tree.new machine → T.shows tree.old machine }
 {
@@ -68,14 +68,14 @@ fn find_machine_zone<T: Tree>(alloc: Global, tree: &mut T) -> Result<MachineLoca
         return find_link_zone(alloc, tree);
     };
     match variable_zone(alloc, text.as_str()) {
-        Some(told) => to_owned(alloc, told),
+        Some(zone) => to_owned(alloc, zone),
         None => find_link_zone(alloc, tree),
     }
 }
 
 fn find_link_zone<T: Tree>(alloc: Global, tree: &mut T) -> Result<MachineLocalZone, ZonesFault>
     ensures zone { (machine : Machine) → T.shows tree.new machine
-        → IsTold (entry_zone (entry_at machine localtime)) result }
+        → IsResultOf (entry_zone (entry_at machine localtime)) result }
     ensures offset { IfOk result HasZoneOffset }
     ensures grows { (machine : Machine) → T.shows tree.new machine → T.shows tree.old machine }
 {
@@ -94,21 +94,21 @@ fn unread(origin: Origin, fault: TreeFault) -> ZonesFault
     }
 }
 
-/// Converts `told` to a [`MachineLocalZone`] with copies of the texts in `told`. Fails with [`ZonesFault::Unclear`] for
-/// [`ToldZone::Unclear`].
-fn to_owned(alloc: Global, told: ToldZone<'_>) -> Result<MachineLocalZone, ZonesFault>
-    requires { HasOffset told }
-    ensures zone { IsTold (shown_told told.entry) result }
+/// Converts `zone` to a [`MachineLocalZone`] with copies of the texts in `zone`. Fails with [`ZonesFault::Unclear`] for
+/// [`ZoneText::Unclear`].
+fn to_owned(alloc: Global, zone: ZoneText<'_>) -> Result<MachineLocalZone, ZonesFault>
+    requires { HasOffset zone }
+    ensures zone { IsResultOf (shown_zone_text zone.entry) result }
     ensures offset { IfOk result HasZoneOffset }
 {
-    match told {
-        ToldZone::Utc => Ok(MachineLocalZone::Utc),
-        ToldZone::Offset(seconds) => Ok(MachineLocalZone::Offset(seconds)),
-        ToldZone::Rule(rule) => Ok(MachineLocalZone::Rule(String::from_str(alloc, rule)?)),
-        ToldZone::Named(name) => Ok(MachineLocalZone::Named(String::from_str(
+    match zone {
+        ZoneText::Utc => Ok(MachineLocalZone::Utc),
+        ZoneText::Offset(seconds) => Ok(MachineLocalZone::Offset(seconds)),
+        ZoneText::Rule(rule) => Ok(MachineLocalZone::Rule(String::from_str(alloc, rule)?)),
+        ZoneText::Named(name) => Ok(MachineLocalZone::Named(String::from_str(
             alloc,
             name.as_str(),
         )?)),
-        ToldZone::Unclear(origin) => Err(ZonesFault::Unclear(origin)),
+        ZoneText::Unclear(origin) => Err(ZonesFault::Unclear(origin)),
     }
 }

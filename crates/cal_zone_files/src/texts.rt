@@ -4,7 +4,7 @@ ghost use Rattle.std.specs.Prelude.{◌≡◌, IfSome, is_some, option_map};
 ghost use Rattle.jiff.specs.Words.{read_whole};
 ghost use Rattle.cal_machine.specs.rules.Machine.{shown_entry};
 ghost use Rattle.cal_machine.specs.rules.Prefix.{after_prefix};
-ghost use Rattle.cal_zone_files.specs.rules.MachineLocalZone.{HasOffset, argument_zone, file_zone, link_name, link_zone, name_or_offset, name_zone, offset_zone, shown_told, target_zone, variable_zone, without_folder};
+ghost use Rattle.cal_zone_files.specs.rules.MachineLocalZone.{HasOffset, argument_zone, file_zone, link_name, link_zone, name_or_offset, name_zone, offset_zone, shown_zone_text, target_zone, variable_zone, without_folder};
 
 use crate::fault::Origin;
 use cal_civil::{is_utc_name, read_offset};
@@ -17,7 +17,7 @@ pub(crate) const LOCALTIME: &str = "/etc/localtime";
 
 /// What an origin says about the local zone. Rules and names are parts of the origin's text.
 #[derive(Clone, Copy, Debug)]
-pub(crate) enum ToldZone<'t> {
+pub(crate) enum ZoneText<'t> {
     Utc,
     /// A UTC offset in seconds.
     Offset(i32),
@@ -30,51 +30,51 @@ pub(crate) enum ToldZone<'t> {
 }
 
 /// Returns the zone that an option's value names: `UTC`, ignoring case; `posix:` and a POSIX rule, which isn't checked;
-/// a name; or `+hh:mm` or `-hh:mm`. Returns [`ToldZone::Unclear`] for any other value.
-pub(crate) fn argument_zone(text: &str) -> ToldZone<'_>
-    ensures zone { shown_told result ≡ argument_zone text.now }
+/// a name; or `+hh:mm` or `-hh:mm`. Returns [`ZoneText::Unclear`] for any other value.
+pub(crate) fn argument_zone(text: &str) -> ZoneText<'_>
+    ensures zone { shown_zone_text result ≡ argument_zone text.now }
     ensures offset { HasOffset result }
 {
     if is_utc_name(text) {
-        return ToldZone::Utc;
+        return ZoneText::Utc;
     }
     match after_prefix("posix:", text) {
-        Some(rule) => ToldZone::Rule(rule),
+        Some(rule) => ZoneText::Rule(rule),
         None => name_or_offset(text),
     }
 }
 
-fn name_or_offset(text: &str) -> ToldZone<'_>
-    ensures zone { shown_told result ≡ name_or_offset text.now }
+fn name_or_offset(text: &str) -> ZoneText<'_>
+    ensures zone { shown_zone_text result ≡ name_or_offset text.now }
     ensures offset { HasOffset result }
 {
     match ZoneName::new(text) {
-        Some(name) => ToldZone::Named(name),
+        Some(name) => ZoneText::Named(name),
         None => offset_zone(text),
     }
 }
 
-fn offset_zone(text: &str) -> ToldZone<'_>
-    ensures zone { shown_told result ≡ offset_zone text.now }
+fn offset_zone(text: &str) -> ZoneText<'_>
+    ensures zone { shown_zone_text result ≡ offset_zone text.now }
     ensures offset { HasOffset result }
 {
     match read_offset(text.as_bytes()) {
-        Some(seconds) => ToldZone::Offset(seconds),
-        None => ToldZone::Unclear(Origin::Argument),
+        Some(seconds) => ZoneText::Offset(seconds),
+        None => ZoneText::Unclear(Origin::Argument),
     }
 }
 
 /// Returns the zone that the value of `TZ` names (tzset(3)). Returns `None` if the value is `/etc/localtime` or
 /// `:/etc/localtime`, because then the link at this path says which zone is the local zone.
-pub(crate) fn variable_zone(alloc: Global, text: &str) -> Option<ToldZone<'_>>
-    ensures zone { option_map shown_told result ≡ variable_zone text.now }
+pub(crate) fn variable_zone(alloc: Global, text: &str) -> Option<ZoneText<'_>>
+    ensures zone { option_map shown_zone_text result ≡ variable_zone text.now }
     ensures offset { IfSome result HasOffset }
 {
     if let Some(file) = after_prefix(":", text) {
         return file_zone(file);
     }
     if is_rule(alloc, text) {
-        return Some(ToldZone::Rule(text));
+        return Some(ZoneText::Rule(text));
     }
     file_zone(text)
 }
@@ -85,15 +85,15 @@ fn is_rule(alloc: Global, text: &str) -> bool
     Rules::posix(alloc, text).is_ok()
 }
 
-fn file_zone(file: &str) -> Option<ToldZone<'_>>
-    ensures zone { option_map shown_told result ≡ file_zone file.now }
+fn file_zone(file: &str) -> Option<ZoneText<'_>>
+    ensures zone { option_map shown_zone_text result ≡ file_zone file.now }
     ensures offset { IfSome result HasOffset }
 {
     if file == LOCALTIME {
         return None;
     }
     if file.is_empty() {
-        return Some(ToldZone::Utc);
+        return Some(ZoneText::Utc);
     }
     Some(name_zone(Origin::Variable, without_folder(file)))
 }
@@ -109,39 +109,39 @@ fn without_folder(file: &str) -> &str
     }
 }
 
-fn name_zone(origin: Origin, name: &str) -> ToldZone<'_>
-    ensures zone { shown_told result ≡ name_zone origin name.now }
+fn name_zone(origin: Origin, name: &str) -> ZoneText<'_>
+    ensures zone { shown_zone_text result ≡ name_zone origin name.now }
     ensures offset { HasOffset result }
 {
     if is_utc_name(name) {
-        return ToldZone::Utc;
+        return ZoneText::Utc;
     }
     match ZoneName::new(name) {
-        Some(name) => ToldZone::Named(name),
-        None => ToldZone::Unclear(origin),
+        Some(name) => ZoneText::Named(name),
+        None => ZoneText::Unclear(origin),
     }
 }
 
 /// Returns the zone for what is at `/etc/localtime` (localtime(5)): UTC if nothing is there, or the zone to whose file
-/// a link leads. Returns [`ToldZone::Unclear`] for anything else.
-pub(crate) fn link_zone(entry: &Entry) -> ToldZone<'_>
-    ensures zone { shown_told result ≡ link_zone (shown_entry entry.now) }
+/// a link leads. Returns [`ZoneText::Unclear`] for anything else.
+pub(crate) fn link_zone(entry: &Entry) -> ZoneText<'_>
+    ensures zone { shown_zone_text result ≡ link_zone (shown_entry entry.now) }
     ensures offset { HasOffset result }
 {
     match entry {
-        Entry::Missing => ToldZone::Utc,
+        Entry::Missing => ZoneText::Utc,
         Entry::Link(target) => target_zone(target.as_str()),
-        _ => ToldZone::Unclear(Origin::Link),
+        _ => ZoneText::Unclear(Origin::Link),
     }
 }
 
-fn target_zone(target: &str) -> ToldZone<'_>
-    ensures zone { shown_told result ≡ target_zone target.now }
+fn target_zone(target: &str) -> ZoneText<'_>
+    ensures zone { shown_zone_text result ≡ target_zone target.now }
     ensures offset { HasOffset result }
 {
     match link_name(target) {
         Some(name) => name_zone(Origin::Link, name),
-        None => ToldZone::Unclear(Origin::Link),
+        None => ZoneText::Unclear(Origin::Link),
     }
 }
 

@@ -3,7 +3,7 @@ use Rattle.std.specs.Prelude.{◌≡◌, ℕ, List, [], All, Ok, map}
 use Rattle.cal_spec.specs.computed.Expr.{expr_in}
 use Rattle.cal_spec.specs.rules.Fields.{Fields}
 use Rattle.cal_timer.specs.rules.TimerEntries.{TimerLine}
-use Rattle.cal_units.specs.rules.Machine.{Machine}
+use Rattle.cal_machine.specs.rules.Machine.{Machine}
 use Rattle.cal_zone.specs.rules.ZoneTable.{ZoneMap}
 use Rattle.cal_load.specs.rules.Loaded.{HasZones, exceptions_in, expressions_in}
 use Rattle.cal_load.specs.declared.loaded.LoadedTimer.{LoadedTimer}

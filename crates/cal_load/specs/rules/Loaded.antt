@@ -5,9 +5,9 @@ use Rattle.std.specs.Option.{option_to_list}
 use Rattle.std.specs.Str.{bytes_eq}
 use Rattle.std.specs.Str.Lines.{lines}
 use Rattle.cal_civil.specs.rules.ZoneName.{is_utc_name}
-use Rattle.cal_units.specs.rules.DropIns.{drop_ins}
+use Rattle.cal_unit_index.specs.rules.DropIns.{drop_ins}
 use Rattle.cal_timer.specs.rules.Lines.{logical_lines}
-use Rattle.cal_machine_zones.specs.rules.ZoneFiles.{HasZonesOf}
+use Rattle.cal_zone_files.specs.rules.ZoneFiles.{HasZonesOf}
 use Rattle.cal_spec.specs.computed.Expr.{expr_in}
 use Rattle.cal_spec.specs.rules.ZoneSuffix.{name_in}
 use Rattle.cal_spec.specs.rules.Fields.{Fields}
@@ -16,27 +16,40 @@ use Rattle.cal_timer.specs.rules.TimerText.{without_mark}
 use Rattle.cal_timer.specs.rules.TimerEntries.{TimerLine, lists_of}
 use Rattle.cal_timer.specs.rules.TimerView.{shown}
 use Rattle.cal_timer.specs.declared.fault.TimerFault.TheVariants.{NothingToDo}
-use Rattle.cal_units.specs.rules.Aliases.{Alias, stems_of}
-use Rattle.cal_units.specs.rules.Files.{UnitText, file_at, files_at, shown_unit_text}
-use Rattle.cal_units.specs.rules.Machine.{Machine, disk_of}
-use Rattle.cal_units.specs.rules.Units.{Unit, unit_on}
-use Rattle.cal_units.specs.rules.Units.Unit.{Unfound, TemplateOnly, MaskedBy, FoundAt, Endless}
+use Rattle.cal_machine.specs.rules.Machine.{Machine}
+use Rattle.cal_unit_index.specs.declared.files.UnitText as texts
+use Rattle.cal_unit_index.specs.rules.Files.{UnitText, file_at, shown_unit_text, text_at, texts_at}
+use Rattle.cal_unit_index.specs.rules.Files.FileRead.{Text}
+use Rattle.cal_unit_index.specs.rules.Names.{names_on}
+use Rattle.cal_unit_index.specs.rules.Units.{Unit, unit_on}
+use Rattle.cal_unit_index.specs.rules.Units.Unit.{Unfound, TemplateOnly, TooManyAliases, FoundAt}
 use Rattle.cal_zone.specs.rules.ZoneTable.{ZoneMap, zone_named}
 use Rattle.cal_load.specs.declared.calendar.Calendar as calendars
 use Rattle.cal_load.specs.declared.loaded.LoadedTimer.{LoadedTimer}
 
--- the paths of a unit's files: its own file, and then its drop-ins, in the order in which they are read
-abbrev pub unit_file_paths : Machine → List (List ℕ) → List Alias → Unit → List (List ℕ)
-unit_file_paths machine path aliases Unfound = []
-unit_file_paths machine path aliases TemplateOnly = []
-unit_file_paths machine path aliases (MaskedBy file) = []
-unit_file_paths machine path aliases (FoundAt file followed own) =
-    file ∷ drop_ins (disk_of machine) path (stems_of aliases followed own)
-unit_file_paths machine path aliases Endless = []
+-- The files of the unit whose own file is at the path `file`: this file, and then its drop-ins, in the order in which
+-- they are read. `own_file` and `own` are the stems under which the file was found and of the unit, and `asked` is the
+-- one by which the unit was asked for.
+abbrev pub unit_texts : Machine → List (List ℕ) → List ℕ → List ℕ → List ℕ → List ℕ → List UnitText
+unit_texts machine path file own_file own asked =
+    text_at machine file ++ texts_at machine (drop_ins machine path (names_on machine path own_file own asked))
 
--- the files of the unit with this stem; `aliases` are the aliases on the machine
-abbrev pub unit_files : Machine → List (List ℕ) → List Alias → List ℕ → List UnitText
-unit_files machine path aliases stem = files_at machine (unit_file_paths machine path aliases (unit_on machine path stem))
+abbrev pub texts_of_unit : Machine → List (List ℕ) → List ℕ → Unit → List UnitText
+texts_of_unit machine path asked Unfound = []
+texts_of_unit machine path asked TemplateOnly = []
+texts_of_unit machine path asked TooManyAliases = []
+texts_of_unit machine path asked (FoundAt file own_file own) = unit_texts machine path file own_file own asked
+
+-- the files of the unit that is found for a stem
+abbrev pub unit_files : Machine → List (List ℕ) → List ℕ → List UnitText
+unit_files machine path asked = texts_of_unit machine path asked (unit_on machine path asked)
+
+-- the name of a unit: its own, also if it was asked for by that of an alias
+abbrev pub name_of_unit : Unit → List ℕ
+name_of_unit Unfound = []
+name_of_unit TemplateOnly = []
+name_of_unit TooManyAliases = []
+name_of_unit (FoundAt file own_file own) = own ++ codes ".timer"
 
 -- The assignments in the sections `Timer` of files. The first line of the first file has the number `first`, and the
 -- numbers continue from file to file.
@@ -90,15 +103,20 @@ pub record IsTimerReadFrom (machine : Machine) (files : List UnitText) (timer : 
   pub has_calendar : IsCalendarOf files timer.calendar
   pub has_zones : HasZones machine timer.calendar timer.zones
 
--- the timer has the name of the unit with this stem, and was read from the unit's own file and its drop-ins
-abbrev pub IsUnitOn : Machine → List (List ℕ) → List Alias → List ℕ → LoadedTimer → Type 0
-IsUnitOn machine path aliases stem timer =
-    (string_bytes timer.name ≡ stem ++ codes ".timer") × IsTimerReadFrom machine (unit_files machine path aliases stem) timer
+-- the timer is the unit that is found for this stem: it has the unit's name, and was read from its file and its drop-ins
+abbrev pub IsUnitOn : Machine → List (List ℕ) → List ℕ → LoadedTimer → Type 0
+IsUnitOn machine path asked timer =
+    (string_bytes timer.name ≡ name_of_unit (unit_on machine path asked))
+    × IsTimerReadFrom machine (unit_files machine path asked) timer
 
 -- the timer was read from a single file, and its name is the path of this file
 abbrev pub IsFileOn : Machine → LoadedTimer → Type 0
-IsFileOn machine timer = IsTimerReadFrom machine (file_at machine (string_bytes timer.name)) timer
+IsFileOn machine timer = IsTimerReadFrom machine (text_at machine (string_bytes timer.name)) timer
 
 -- the timer is a unit of the machine (`IsUnitOn`) or a single file (`IsFileOn`)
-abbrev pub IsTimerOn : Machine → List (List ℕ) → List Alias → LoadedTimer → Type 0
-IsTimerOn machine path aliases timer = ((stem : List ℕ) × IsUnitOn machine path aliases stem timer) ⊎ IsFileOn machine timer
+abbrev pub IsTimerOn : Machine → List (List ℕ) → LoadedTimer → Type 0
+IsTimerOn machine path timer = ((asked : List ℕ) × IsUnitOn machine path asked timer) ⊎ IsFileOn machine timer
+
+-- the machine has this file: these bytes at this path
+abbrev pub IsStoredOn : Machine → texts.UnitText → Type 0
+IsStoredOn machine file = file_at machine (string_bytes file.path) ≡ Text file.bytes.items

@@ -1,6 +1,6 @@
 -- Lines of several files, with numbers that continue from file to file.
 use Rattle.std.specs.Prelude.{◌≡◌, ◌+◌, ◌<◌, ◌≤◌, ℕ, List, Some, length, slice_get, slice_index, string_bytes}
-use Rattle.cal_units.specs.declared.files.UnitText.{UnitText}
+use Rattle.cal_unit_index.specs.declared.files.UnitText.{UnitText}
 
 -- `index` is the index of the last element of `numbers` that is at most `number`
 abbrev pub IsLastUntil : List ℕ → ℕ → ℕ → Type 0

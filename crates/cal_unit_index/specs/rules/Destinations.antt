@@ -15,7 +15,7 @@ use Rattle.cal_machine.specs.rules.Places.{entry_at, names_at, parts_of, place_o
 use Rattle.cal_machine.specs.rules.Prefix.{after_prefix}
 use Rattle.cal_machine.specs.rules.Seen.{seen}
 use Rattle.cal_unit_index.specs.declared.destinations.Destination as destinations
-use Rattle.cal_unit_index.specs.rules.UnitName.{file_stem, may_lead}
+use Rattle.cal_unit_index.specs.rules.UnitName.{file_stem, listed_stem, may_lead}
 
 -- ## The names in a folder
 
@@ -37,7 +37,7 @@ listed machine folder = names_if_read (names_at machine folder)
 
 -- the stems of the timers whose files these names can be
 abbrev pub stems_of : List (List ℕ) → List (List ℕ)
-stems_of names = filter_map file_stem names
+stems_of names = filter_map listed_stem names
 
 abbrev pub is_among : List (List ℕ) → List ℕ → Bool
 is_among texts text = list_any (bytes_eq text) texts

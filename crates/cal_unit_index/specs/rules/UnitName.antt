@@ -1,6 +1,6 @@
 -- Names of timer units: systemd.unit(5), Description. The stem of a name is the name without its suffix `.timer`.
 use Rattle.std.specs.Prelude.{ℕ, ◌+◌, ◌-◌, ◌==◌, nat_eq, nat_lt, nat_le, Bool, true, false, not, ◌&&◌, ◌||◌, if◌then◌else◌, List, Option, None, Some, codes, drop, length, take}
-use Rattle.std.specs.List.{before_first, ends_with, list_all, list_any}
+use Rattle.std.specs.List.{before_first, ends_with, list_all, list_any, starts_with}
 use Rattle.std.specs.Str.{bytes_eq}
 use Rattle.cal_unit_index.specs.declared.unit_name.UnitKind.{UnitKind}
 use Rattle.cal_unit_index.specs.declared.unit_name.UnitKind.TheVariants.{Plain, Template, Instance}
@@ -53,6 +53,10 @@ unit_stem name = if is_stem (without_suffix name) then Some (without_suffix name
 -- the stem of a timer from the name of its file, or None if this isn't a valid name of a timer's file
 unfoldable pub file_stem : List ℕ → Option (List ℕ)
 file_stem name = if ends_with nat_eq name suffix then unit_stem name else None
+
+-- the stem of the timer whose file a name in a folder of the search path can be; hidden files are left out
+unfoldable pub listed_stem : List ℕ → Option (List ℕ)
+listed_stem name = if starts_with nat_eq name (codes ".") then None else file_stem name
 
 -- ## Templates and instances
 

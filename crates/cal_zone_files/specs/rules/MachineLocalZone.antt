@@ -20,7 +20,7 @@ use Rattle.cal_zone_files.specs.declared.fault.Origin.{Origin}
 use Rattle.cal_zone_files.specs.declared.fault.Origin.TheVariants as origins
 use Rattle.cal_zone_files.specs.declared.fault.ZonesFault.{ZonesFault}
 use Rattle.cal_zone_files.specs.declared.fault.ZonesFault.TheVariants as faults
-use Rattle.cal_zone_files.specs.declared.texts.ToldZone as tolds
+use Rattle.cal_zone_files.specs.declared.texts.ZoneText as zone_texts
 
 -- A local zone: UTC, an offset in seconds east of UTC, a POSIX rule, or the name of a zone. Or the origin (the option,
 -- the variable or the link) doesn't say which zone is the local zone, or can't be read.
@@ -121,12 +121,12 @@ abbrev pub machine_local_zone : Machine → Option (List ℕ) → MachineLocalZo
 machine_local_zone machine None = machine_zone machine
 machine_local_zone machine (Some text) = argument_zone text
 
-abbrev pub shown_told : tolds.ToldZone → MachineLocalZone
-shown_told tolds.TheVariants.Utc = InUtc
-shown_told (tolds.TheVariants.Offset seconds) = Ahead seconds
-shown_told (tolds.TheVariants.Rule rule) = ByRule rule.now
-shown_told (tolds.TheVariants.Named name) = OfName name.text.now
-shown_told (tolds.TheVariants.Unclear origin) = UnclearIn origin
+abbrev pub shown_zone_text : zone_texts.ZoneText → MachineLocalZone
+shown_zone_text zone_texts.TheVariants.Utc = InUtc
+shown_zone_text (zone_texts.TheVariants.Offset seconds) = Ahead seconds
+shown_zone_text (zone_texts.TheVariants.Rule rule) = ByRule rule.now
+shown_zone_text (zone_texts.TheVariants.Named name) = OfName name.text.now
+shown_zone_text (zone_texts.TheVariants.Unclear origin) = UnclearIn origin
 
 abbrev pub shown_zone : zones.MachineLocalZone → MachineLocalZone
 shown_zone zones.TheVariants.Utc = InUtc
@@ -135,12 +135,12 @@ shown_zone (zones.TheVariants.Rule rule) = ByRule (string_bytes rule)
 shown_zone (zones.TheVariants.Named name) = OfName (string_bytes name)
 
 -- if the zone is given as an offset, the library `jiff` accepts this offset
-abbrev pub HasOffset : tolds.ToldZone → Type 0
-HasOffset tolds.TheVariants.Utc = ⊤
-HasOffset (tolds.TheVariants.Offset seconds) = IsOffsetSeconds seconds
-HasOffset (tolds.TheVariants.Rule rule) = ⊤
-HasOffset (tolds.TheVariants.Named name) = ⊤
-HasOffset (tolds.TheVariants.Unclear origin) = ⊤
+abbrev pub HasOffset : zone_texts.ZoneText → Type 0
+HasOffset zone_texts.TheVariants.Utc = ⊤
+HasOffset (zone_texts.TheVariants.Offset seconds) = IsOffsetSeconds seconds
+HasOffset (zone_texts.TheVariants.Rule rule) = ⊤
+HasOffset (zone_texts.TheVariants.Named name) = ⊤
+HasOffset (zone_texts.TheVariants.Unclear origin) = ⊤
 
 abbrev pub HasZoneOffset : zones.MachineLocalZone → Type 0
 HasZoneOffset zones.TheVariants.Utc = ⊤
@@ -149,12 +149,12 @@ HasZoneOffset (zones.TheVariants.Rule rule) = ⊤
 HasZoneOffset (zones.TheVariants.Named name) = ⊤
 
 -- Whether `zone` is the result: found, or the error that it is. Nothing is known of `zone` if memory ran out.
-abbrev pub IsTold : MachineLocalZone → Result zones.MachineLocalZone ZonesFault → Type 0
-IsTold zone (Ok found) = shown_zone found ≡ zone
-IsTold zone (Err (faults.Unclear origin)) = zone ≡ UnclearIn origin
-IsTold zone (Err (faults.Unread origin)) = zone ≡ UnreadIn origin
-IsTold zone (Err (faults.At path reason)) = ⊥
-IsTold zone (Err faults.NoMemory) = ⊤
+abbrev pub IsResultOf : MachineLocalZone → Result zones.MachineLocalZone ZonesFault → Type 0
+IsResultOf zone (Ok found) = shown_zone found ≡ zone
+IsResultOf zone (Err (faults.Unclear origin)) = zone ≡ UnclearIn origin
+IsResultOf zone (Err (faults.Unread origin)) = zone ≡ UnreadIn origin
+IsResultOf zone (Err (faults.At path reason)) = ⊥
+IsResultOf zone (Err faults.NoMemory) = ⊤
 
 -- the error that is reported if a `Tree` returns this error when this origin is read
 abbrev pub unread_fault : Origin → trees.TreeFault → ZonesFault

@@ -1,6 +1,6 @@
 use Rattle.std.proofs.Common.{All}
-use Rattle.cal_units.specs.rules.Machine.{Machine}
-use Rattle.cal_units.specs.rules.Files.{IsStoredOn}
+use Rattle.cal_machine.specs.rules.Machine.{Machine}
+use Rattle.cal_load.specs.rules.Loaded.{IsStoredOn}
 use Rattle.cal_load.proofs.files.load_files.Given as goal
 
 abbrev pub invariant-loop-target : goal.invariant-loop-target

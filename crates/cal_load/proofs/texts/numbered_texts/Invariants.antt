@@ -1,6 +1,6 @@
 use Rattle.std.proofs.Common.{◌≡◌, ◌+◌, ◌<◌, ◌^◌, ◌++◌, All, drop, length, map}
 use Rattle.cal_read.specs.rules.TimerTexts.{assignments_of}
-use Rattle.cal_units.specs.rules.Files.{shown_unit_text}
+use Rattle.cal_unit_index.specs.rules.Files.{shown_unit_text}
 use Rattle.cal_load.specs.rules.Loaded.{assignments_from, assignments_of_files, bytes_in}
 use Rattle.cal_load.proofs.texts.numbered_texts.Given as goal
 

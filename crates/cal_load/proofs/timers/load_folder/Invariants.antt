@@ -1,11 +1,10 @@
 use Rattle.std.proofs.Common.{ℕ, List, All}
-use Rattle.cal_units.specs.rules.Aliases.{Alias}
-use Rattle.cal_units.specs.rules.Machine.{Machine}
+use Rattle.cal_machine.specs.rules.Machine.{Machine}
 use Rattle.cal_load.specs.rules.Loaded.{IsTimerOn}
 use Rattle.cal_load.proofs.timers.load_folder.Given as goal
 
 abbrev pub invariant-loop-name : goal.invariant-loop-name
 invariant-loop-name g l =
-    ((machine : Machine) (path : List (List ℕ)) (aliases : List Alias) → g.T.Tree.shows l.tree machine
-    → All (IsTimerOn machine path aliases) l.fn.loaded.timers.items → All (IsTimerOn machine path aliases) l.loaded.timers.items)
+    ((machine : Machine) (path : List (List ℕ)) → g.T.Tree.shows l.tree machine
+    → All (IsTimerOn machine path) l.fn.loaded.timers.items → All (IsTimerOn machine path) l.loaded.timers.items)
     × ((machine : Machine) → g.T.Tree.shows l.tree machine → g.T.Tree.shows l.fn.tree machine)

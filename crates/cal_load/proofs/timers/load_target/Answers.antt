@@ -1,15 +1,13 @@
-use Rattle.std.proofs.Common.{map, string_bytes}
-use Rattle.std.proofs.lemmas.Result.{on_ok_weaker}
-use Rattle.cal_units.specs.rules.Aliases.{shown_alias}
+use Rattle.std.proofs.lemmas.Result.{IfOk-weaker, on_ok_weaker}
 use Rattle.cal_load.proofs.TimerLemmas.{timers_more}
 use Rattle.cal_load.proofs.timers.load_target.Goals as goal
 
 pub returns-clause-known : goal.returns-clause-known
 returns-clause-known g c =
-    on_ok_weaker c.push.result (λ pushed machine shows held.
-    timers_more (λ machine. g.T.Tree.shows c.read_named-found.new.tree machine) (map string_bytes c.args.path.now) (map shown_alias c.args.aliases.now) c.read_named-found.result c.args.loaded.now.timers.items c.push.new.self.timers.items
-    c.read_named-found.ensures.known pushed machine shows held) c.push.ensures
+    on_ok_weaker c.push_found.result (λ pushed machine path shows is held.
+    timers_more machine path c.read_named-found.result c.args.loaded.now.timers.items c.push_found.new.loaded.timers.items
+    (IfOk-weaker c.read_named-found.result _ _ (λ found known. known machine path shows is) c.read_named-found.ensures.known) pushed.timers held) c.push_found.ensures
 
 pub returns-then-is_path-clause-known : goal.returns-then-is_path-clause-known
 returns-then-is_path-clause-known g c =
-    on_ok_weaker c.load_path.result (λ loaded machine shows held. loaded machine (map string_bytes c.args.path.now) (map shown_alias c.args.aliases.now) shows held) c.load_path.ensures.known
+    on_ok_weaker c.load_path.result (λ known machine path shows is held. known machine path shows held) c.load_path.ensures.known

@@ -1,10 +1,11 @@
-use Rattle.std.proofs.Common.{All, map, string_bytes}
-use Rattle.cal_units.specs.rules.Aliases.{shown_alias}
-use Rattle.cal_units.specs.rules.Machine.{Machine}
+use Rattle.std.proofs.Common.{ℕ, List, All}
+use Rattle.cal_machine.specs.rules.Machine.{Machine}
+use Rattle.cal_unit_index.specs.rules.Index.{IsIndexOf}
 use Rattle.cal_load.specs.rules.Loaded.{IsTimerOn}
 use Rattle.cal_load.proofs.timers.load_timers.Given as goal
 
 abbrev pub invariant-loop-target : goal.invariant-loop-target
 invariant-loop-target g l =
-    ((machine : Machine) → g.T.Tree.shows l.tree machine → All (IsTimerOn machine (map string_bytes l.path) (map shown_alias l.aliases)) l.loaded.timers.items)
+    ((machine : Machine) (path : List (List ℕ)) → g.T.Tree.shows l.tree machine → IsIndexOf machine path l.index
+    → All (IsTimerOn machine path) l.loaded.timers.items)
     × ((machine : Machine) → g.T.Tree.shows l.tree machine → g.T.Tree.shows l.fn.tree machine)

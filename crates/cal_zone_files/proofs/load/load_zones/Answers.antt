@@ -9,6 +9,6 @@ loop-name-init g c = search (rules, empty_has, empty_has_none)
 pub returns-in-Err-clause-fault : goal.returns-in-Err-clause-fault
 returns-in-Err-clause-fault g c machine shows =
     let next = items_next string_bytes c.args.names.now c.loop-name.name-index c.name-item.result _ (omega arith) c.name-item.is refl in
-    let told = c.loop-name.invariant in
+    let known = c.loop-name.invariant in
     let error = rw c.as_str.ensures.value at c.in-Err.ensures.fault machine shows in
-    error_at machine c.args.names.now c.loop-name.name-index _ _ _ _ next error told.0 (told.1 machine (c.load_name.ensures.grows machine shows))
+    error_at machine c.args.names.now c.loop-name.name-index _ _ _ _ next error known.0 (known.1 machine (c.load_name.ensures.grows machine shows))

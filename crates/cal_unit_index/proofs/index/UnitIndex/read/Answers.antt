@@ -5,10 +5,10 @@ use Rattle.cal_unit_index.proofs.index.UnitIndex.read.Goals as goal
 
 pub returns-clause-known : goal.returns-clause-known
 returns-clause-known g c machine shows =
-    let told = c.in_ok-index.ensures.known machine shows in
+    let known = c.in_ok-index.ensures.known machine shows in
     record {
-      folders = told.folders;
-      destinations = told.destinations;
-      aliases = c.in_ok-index-2.ensures ∙ each_folder machine (map string_bytes c.args.path.now) c.in_ok-index.index aliases_named told.folders told.destinations;
-      unreadable = told.unreadable;
+      folders = known.folders;
+      destinations = known.destinations;
+      aliases = c.in_ok-index-2.ensures ∙ each_folder machine (map string_bytes c.args.path.now) c.in_ok-index.index aliases_named known.folders known.destinations;
+      unreadable = known.unreadable;
     }

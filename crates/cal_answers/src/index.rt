@@ -1,0 +1,90 @@
+//! The index of the search path, which is needed if a question is about units, and the errors that are found while it
+//! is read.
+
+ghost use Rattle.std.specs.Prelude.{◌≤◌, IfOk, max};
+ghost use Rattle.cal_machine.specs.rules.Machine.{Machine};
+
+use crate::answer::{Answer, INVALID, fault_lines};
+use cal_load::{TargetFault, TargetReason, is_path};
+use cal_machine::Tree;
+use cal_plan::PlanFault;
+use cal_timers_command::Verb;
+use cal_unit_index::{UnitFault, UnitIndex};
+use std::alloc::{AllocError, Global};
+
+/// Reads the index of the search path. If the question can't be about units, returns an index of no folder at all, so
+/// that no folder is listed.
+pub(crate) fn index_for<T: Tree>(
+    alloc: Global,
+    tree: &mut T,
+    verb: Verb,
+    path: &[String],
+    targets: &[&str],
+) -> Result<UnitIndex, AllocError>
+    ensures grows { (machine : Machine) → T.shows tree.new machine → T.shows tree.old machine }
+{
+    if has_units(verb, targets) {
+        UnitIndex::read(alloc, tree, path)
+    } else {
+        UnitIndex::read(alloc, tree, &[])
+    }
+}
+
+/// Returns whether a question can be about units: it names no timers, and so is about all units, or it names a timer
+/// that isn't given as a path. `next` is never about units, since its targets are expressions.
+fn has_units(verb: Verb, targets: &[&str]) -> bool {
+    match verb {
+        Verb::Next => false,
+        _ => {
+            let timers = timers_of(verb, targets);
+            timers.is_empty() || timers.iter().any(|target| !is_path(target))
+        }
+    }
+}
+
+/// Returns the targets that are timers. The first two targets of `between` are instants.
+fn timers_of<'t>(verb: Verb, targets: &'t [&'t str]) -> &'t [&'t str] {
+    match verb {
+        Verb::Between => targets.get(2..).unwrap_or(&[]),
+        _ => targets,
+    }
+}
+
+/// Adds to an answer the error lines about what can't be read of the search path. No other error line of an answer is
+/// about these paths, unless such a path is a target as well.
+pub(crate) fn with_unreadable(
+    alloc: Global,
+    unreadable: &[UnitFault],
+    answer: Answer,
+) -> Result<Answer, PlanFault>
+    ensures { IfOk result (λ changed. changed.status ≤ max answer.status 1) }
+{
+    if unreadable.is_empty() {
+        return Ok(answer);
+    }
+    let Answer {
+        out,
+        mut err,
+        status,
+    } = answer;
+    let faults = target_faults(alloc, unreadable)?;
+    let lines = fault_lines(alloc, faults.as_slice())?;
+    err.push_str(lines.as_str())?;
+    Ok(Answer {
+        out,
+        err,
+        status: status.max(INVALID),
+    })
+}
+
+/// Converts errors about paths to the form in which targets that can't be loaded are reported.
+fn target_faults(alloc: Global, unreadable: &[UnitFault]) -> Result<Vec<TargetFault>, AllocError> {
+    let mut faults = Vec::new(alloc);
+    for fault in unreadable {
+        faults.push(TargetFault {
+            target: fault.path.clone()?,
+            reason: TargetReason::Path(fault.path.clone()?, fault.reason),
+        })?;
+    }
+    Ok(faults)
+}

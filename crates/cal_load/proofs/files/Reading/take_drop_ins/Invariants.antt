@@ -1,0 +1,10 @@
+use Rattle.std.proofs.Common.{All}
+use Rattle.cal_machine.specs.rules.Machine.{Machine}
+use Rattle.cal_load.specs.rules.Loaded.{IsStoredOn}
+use Rattle.cal_load.proofs.files.Reading.take_drop_ins.Given as goal
+
+abbrev pub invariant-loop-path : goal.invariant-loop-path
+invariant-loop-path g l =
+    ((machine : Machine) → g.T.Tree.shows l.tree machine
+    → All (IsStoredOn machine) l.fn.self.loaded.files.items → All (IsStoredOn machine) l.self.loaded.files.items)
+    × ((machine : Machine) → g.T.Tree.shows l.tree machine → g.T.Tree.shows l.fn.tree machine)

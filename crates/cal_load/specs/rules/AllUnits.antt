@@ -1,0 +1,193 @@
+-- All units in the search path, and what became of each: systemd.unit(5), Unit File Load Path. A stem is a unit's name
+-- without its suffix `.timer`.
+use Rattle.std.specs.Prelude.{◌≡◌, ⊤, ◌⊎◌, ℕ, IsTrue, Bool, true, false, List, [], ◌∷◌, ◌++◌, All, Option, None, Some, Result, Ok, Err, String, codes, map, string_bytes}
+use Rattle.std.specs.List.{Contains, filter_map, flat_map}
+use Rattle.std.specs.declared.alloc.Global.{Global}
+use Rattle.cal_machine.specs.rules.Machine.{Machine}
+use Rattle.cal_unit_index.specs.declared.fault.Reason as reasons
+use Rattle.cal_unit_index.specs.rules.Destinations.{sorted_once}
+use Rattle.cal_unit_index.specs.rules.Files.{FileRead, UnitText, file_at, text_at}
+use Rattle.cal_unit_index.specs.rules.Files.FileRead.{Mask, Unusable, Text}
+use Rattle.cal_unit_index.specs.rules.Index.{unit_stems_in}
+use Rattle.cal_unit_index.specs.rules.Units.{Unit, unit_on}
+use Rattle.cal_unit_index.specs.rules.Units.Unit.{Unfound, TemplateOnly, TooManyAliases, FoundAt}
+use Rattle.cal_load.specs.rules.Loaded.{unit_texts}
+use Rattle.cal_load.specs.rules.LoadedTarget.{IsLoadedUnit, timers_in}
+use Rattle.cal_load.specs.rules.TextFaults.{IsTextReason}
+use Rattle.cal_load.specs.declared.fault.TargetLoadFault.{TargetLoadFault}
+use Rattle.cal_load.specs.declared.fault.TargetLoadFault as faults
+use Rattle.cal_load.specs.declared.loaded.Loaded.{Loaded}
+use Rattle.cal_load.specs.declared.loaded.LoadedTarget as targets
+use Rattle.cal_load.specs.declared.target_fault.TargetFault.{TargetFault}
+use Rattle.cal_load.specs.declared.target_fault.TargetReason.{TargetReason}
+use Rattle.cal_load.specs.declared.target_fault.TargetReason.TheVariants.{NotFound, Template, Path}
+use Rattle.cal_load.specs.declared.target_fault.TargetReason as target_reasons
+
+-- ## Which units there are
+
+-- the own stem of a unit that was found
+abbrev pub found_stem : Unit → Option (List ℕ)
+found_stem Unfound = None
+found_stem TemplateOnly = None
+found_stem TooManyAliases = None
+found_stem (FoundAt file own_file own) = Some own
+
+-- the own stem of the unit that is found for a stem
+abbrev pub main_stem : Machine → List (List ℕ) → List ℕ → Option (List ℕ)
+main_stem machine path stem = found_stem (unit_on machine path stem)
+
+-- the own stems of all units in the search path, sorted by their bytes, each once
+abbrev pub units_on : Machine → List (List ℕ) → List (List ℕ)
+units_on machine path = sorted_once (filter_map (main_stem machine path) (unit_stems_in machine path))
+
+-- ## Why a unit can't be loaded
+
+-- the error is that this path can't be used, for this reason
+abbrev pub IsPathReason : List ℕ → reasons.Reason → TargetReason → Type 0
+IsPathReason path why reason = (place : String Global) × (string_bytes place ≡ path) × (reason ≡ Path place why)
+
+abbrev pub IsPathFault : List ℕ → reasons.Reason → TargetLoadFault → Type 0
+IsPathFault path why (faults.TheVariants.Target reason) = IsPathReason path why reason
+IsPathFault path why faults.TheVariants.NoMemory = ⊤
+
+-- the error is that the file at this path is not UTF-8
+abbrev pub IsNotUtf8Fault : List ℕ → TargetLoadFault → Type 0
+IsNotUtf8Fault path (faults.TheVariants.Target reason) = (place : String Global) × (string_bytes place ≡ path) × (reason ≡ target_reasons.TheVariants.NotUtf8 place)
+IsNotUtf8Fault path faults.TheVariants.NoMemory = ⊤
+
+-- the error for a unit whose own file can't be used
+abbrev pub IsUnusableReason : reasons.Reason → List ℕ → TargetReason → Type 0
+IsUnusableReason (reasons.TheVariants.Unreadable why) file reason = IsPathReason file (reasons.TheVariants.Unreadable why) reason
+IsUnusableReason reasons.TheVariants.IsFolder file reason = IsPathReason file reasons.TheVariants.IsFolder reason
+IsUnusableReason reasons.TheVariants.Missing file reason = reason ≡ NotFound
+IsUnusableReason reasons.TheVariants.TooLarge file reason = IsPathReason file reasons.TheVariants.TooLarge reason
+
+abbrev pub IsUnusableFault : reasons.Reason → List ℕ → TargetLoadFault → Type 0
+IsUnusableFault why file (faults.TheVariants.Target reason) = IsUnusableReason why file reason
+IsUnusableFault why file faults.TheVariants.NoMemory = ⊤
+
+-- the error for a target with its own file at the path `file`, where `read` is, and with all its files
+abbrev pub IsFileReason : Machine → FileRead → List ℕ → List UnitText → TargetReason → Type 0
+IsFileReason machine Mask file files reason = ⊥
+IsFileReason machine (Unusable why) file files reason = IsUnusableReason why file reason
+IsFileReason machine (Text bytes) file files reason = IsTextReason machine files reason
+
+abbrev pub IsFileFault : Machine → FileRead → List ℕ → List UnitText → TargetLoadFault → Type 0
+IsFileFault machine read file files (faults.TheVariants.Target reason) = IsFileReason machine read file files reason
+IsFileFault machine read file files faults.TheVariants.NoMemory = ⊤
+
+-- the error for a target that is the path of a single file
+abbrev pub IsTimerFileFault : Machine → List ℕ → TargetLoadFault → Type 0
+IsTimerFileFault machine path fault = IsFileFault machine (file_at machine path) path (text_at machine path) fault
+
+-- the error for what is found for a stem
+abbrev pub IsUnitReason : Machine → List (List ℕ) → List ℕ → Unit → TargetReason → Type 0
+IsUnitReason machine path asked Unfound reason = reason ≡ NotFound
+IsUnitReason machine path asked TemplateOnly reason = reason ≡ Template
+IsUnitReason machine path asked TooManyAliases reason = reason ≡ target_reasons.TheVariants.TooManyAliases
+IsUnitReason machine path asked (FoundAt file own_file own) reason =
+    IsFileReason machine (file_at machine file) file (unit_texts machine path file own_file own asked) reason
+
+abbrev pub IsUnitFault : Machine → List (List ℕ) → List ℕ → Unit → TargetLoadFault → Type 0
+IsUnitFault machine path asked unit (faults.TheVariants.Target reason) = IsUnitReason machine path asked unit reason
+IsUnitFault machine path asked unit faults.TheVariants.NoMemory = ⊤
+
+-- ## What became of each
+
+-- a unit, and what was found of it
+pub record Outcome : Type 0 where
+  pub stem : List ℕ
+  pub found : Result targets.LoadedTarget TargetLoadFault
+
+-- what was found is true of the machine
+abbrev pub IsFoundOf : Machine → List (List ℕ) → List ℕ → Result targets.LoadedTarget TargetLoadFault → Type 0
+IsFoundOf machine path asked (Ok found) = IsLoadedUnit machine path asked found
+IsFoundOf machine path asked (Err fault) = IsUnitFault machine path asked (unit_on machine path asked) fault
+
+abbrev pub IsOutcome : Machine → List (List ℕ) → Outcome → Type 0
+IsOutcome machine path outcome = IsFoundOf machine path outcome.stem outcome.found
+
+-- the name under which something masked is listed
+abbrev pub masked_in : List ℕ → Result targets.LoadedTarget TargetLoadFault → List (List ℕ)
+masked_in name (Ok (targets.TheVariants.Timer timer)) = []
+masked_in name (Ok targets.TheVariants.Masked) = name ∷ []
+masked_in name (Err fault) = []
+
+abbrev pub is_absent_reason : TargetReason → Bool
+is_absent_reason NotFound = true
+is_absent_reason Template = false
+is_absent_reason target_reasons.TheVariants.TooManyAliases = false
+is_absent_reason (Path place reason) = false
+is_absent_reason (target_reasons.TheVariants.NotUtf8 place) = false
+is_absent_reason (target_reasons.TheVariants.Line place line fault) = false
+is_absent_reason target_reasons.TheVariants.NothingToDo = false
+is_absent_reason (target_reasons.TheVariants.Zone place line zone reason) = false
+is_absent_reason (target_reasons.TheVariants.Expression fault) = false
+is_absent_reason (target_reasons.TheVariants.ExpressionZone zone reason) = false
+
+-- whether a unit has no file: it is a link to nothing, say
+abbrev pub is_absent : Result targets.LoadedTarget TargetLoadFault → Bool
+is_absent (Ok found) = false
+is_absent (Err (faults.TheVariants.Target reason)) = is_absent_reason reason
+is_absent (Err faults.TheVariants.NoMemory) = false
+
+-- the faults have this target with the reason of the error
+abbrev pub HasFault : List TargetFault → List ℕ → TargetLoadFault → Type 0
+HasFault all name (faults.TheVariants.Target reason) =
+    (fault : TargetFault) × Contains all fault × (string_bytes fault.target ≡ name) × (fault.reason ≡ reason)
+HasFault all name faults.TheVariants.NoMemory = ⊥
+
+-- what couldn't be loaded is among the faults
+abbrev pub IsReported : List TargetFault → List ℕ → Result targets.LoadedTarget TargetLoadFault → Type 0
+IsReported all name (Ok found) = ⊤
+IsReported all name (Err fault) = HasFault all name fault
+
+abbrev pub unit_name : List ℕ → List ℕ
+unit_name stem = stem ++ codes ".timer"
+
+-- a unit that couldn't be loaded is among the faults, unless it has no file
+abbrev pub IsAccounted : List TargetFault → Outcome → Type 0
+IsAccounted all outcome = IsTrue (is_absent outcome.found) ⊎ IsReported all (unit_name outcome.stem) outcome.found
+
+-- Everything that was loaded comes from these outcomes: the timers are those that were found, in this order; the masked
+-- units are those that were found to be masked; and each unit that couldn't be loaded is among the faults.
+pub record AreLoadedFrom (outcomes : List Outcome) (loaded : Loaded) : Type 0 where
+  pub timers : loaded.timers.items ≡ flat_map (λ outcome. timers_in outcome.found) outcomes
+  pub masked : map string_bytes loaded.masked.items ≡ flat_map (λ outcome. masked_in (unit_name outcome.stem) outcome.found) outcomes
+  pub accounted : All (IsAccounted loaded.faults.items) outcomes
+
+-- What was loaded comes from the outcomes of units with these stems. On each machine and search path of which `Knows` is
+-- true, the outcomes are true.
+pub record HasUnits (Knows : Machine → List (List ℕ) → Type 0) (stems : List (List ℕ)) (loaded : Loaded) : Type 0 where
+  pub outcomes : List Outcome
+  pub of_stems : map (λ outcome. outcome.stem) outcomes ≡ stems
+  pub loaded_from : AreLoadedFrom outcomes loaded
+  pub true_of : (machine : Machine) (path : List (List ℕ)) → Knows machine path → All (IsOutcome machine path) outcomes
+
+-- all units in the search path were looked for, and nothing else was loaded
+pub record HasAllUnits (Knows : Machine → List (List ℕ) → Type 0) (loaded : Loaded) : Type 0 where
+  pub stems : List (List ℕ)
+  pub of_units : HasUnits Knows stems loaded
+  pub are_all : (machine : Machine) (path : List (List ℕ)) → Knows machine path → stems ≡ units_on machine path
+
+-- ## Steps
+
+-- no fault was removed
+abbrev pub Keeps : List TargetFault → List TargetFault → Type 0
+Keeps old new = (fault : TargetFault) → Contains old fault → Contains new fault
+
+-- `new` is `old` with what was found under a name
+pub record IsPushed (name : List ℕ) (found : Result targets.LoadedTarget TargetLoadFault) (old new : Loaded) : Type 0 where
+  pub timers : new.timers.items ≡ old.timers.items ++ timers_in found
+  pub masked : map string_bytes new.masked.items ≡ map string_bytes old.masked.items ++ masked_in name found
+  pub reported : IsReported new.faults.items name found
+  pub kept : Keeps old.faults.items new.faults.items
+
+-- `new` is `old` with what became of one more unit
+pub record IsStep (Knows : Machine → List (List ℕ) → Type 0) (stem : List ℕ) (old new : Loaded) : Type 0 where
+  pub found : Result targets.LoadedTarget TargetLoadFault
+  pub timers : new.timers.items ≡ old.timers.items ++ timers_in found
+  pub masked : map string_bytes new.masked.items ≡ map string_bytes old.masked.items ++ masked_in (unit_name stem) found
+  pub accounted : IsAccounted new.faults.items (record { stem = stem; found = found })
+  pub kept : Keeps old.faults.items new.faults.items
+  pub true_of : (machine : Machine) (path : List (List ℕ)) → Knows machine path → IsFoundOf machine path stem found

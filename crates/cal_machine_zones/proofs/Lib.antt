@@ -1,2 +1,0 @@
-mod ZoneLemmas
-mod ZoneRows

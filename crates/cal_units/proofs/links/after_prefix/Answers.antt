@@ -1,5 +1,0 @@
-use Rattle.cal_units.proofs.LinkLemmas.{after_is}
-use Rattle.cal_units.proofs.links.after_prefix.Goals as goal
-
-pub returns : goal.returns
-returns c = after_is c.args.prefix.now c.args.text.now c.strip_prefix.result c.strip_prefix.ensures.cases
