@@ -1,1 +1,3 @@
+pub mod FoundLemmas
 mod LocalClockLemmas
+pub mod MachinePathLemmas

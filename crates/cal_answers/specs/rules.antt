@@ -1,3 +1,5 @@
 -- What this project's own rules say. The contracts of this crate cite these definitions.
+pub mod Found
 pub mod LocalClock
+pub mod MachinePath
 pub mod Present

@@ -1,26 +1,18 @@
 //! The answer to a question: the texts for standard output and standard error, and the exit status.
 
 ghost use Rattle.std.specs.Prelude.{◌≤◌, IfOk};
-ghost use Rattle.std.specs.Option.{option_or};
-ghost use Rattle.cal_answers.specs.rules.Present.{IsPresent};
-ghost use Rattle.cal_machine.specs.rules.Machine.{Machine};
 
 use crate::between::between;
 use crate::compare::same;
-use crate::index::{index_for, with_unreadable};
+use crate::found::{Found, LoadedByVerb};
+use crate::index::with_unreadable;
 use crate::lint::lint;
-use crate::local_clock::LocalClock;
-use crate::search_path::search_path;
-use crate::timers::{list, next, show};
+use crate::timers::{list, show};
 use cal_load::TargetFault;
-use cal_machine::{Entry, Tree, TreeFault};
 use cal_plan::PlanFault;
 use cal_tasks::Clocked;
-use cal_timers_command::{Question, Verb};
-use cal_timers_text::{Style, fault_text, zones_text};
-use cal_unit_index::UnitIndex;
-use cal_zone::Instant;
-use cal_zone_files::ZonesFault;
+use cal_timers_command::Question;
+use cal_timers_text::{Style, fault_text};
 use std::alloc::{AllocError, Global};
 
 /// The exit status if a timer can't be loaded, a file or folder can't be read, `lint` finds an error, or two timers
@@ -46,78 +38,49 @@ pub struct Answer {
     pub status: u8,
 }
 
-/// What a verb needs to know: parts of the question, and facts about the machine.
+/// What a verb needs to know: the present, the local zone, and parts of the question.
 #[derive(Clone, Copy)]
 pub(crate) struct Asked<'a> {
-    pub targets: &'a [&'a str],
-    /// The index of the search path of units, or of no folder if no unit is needed.
-    pub index: &'a UnitIndex,
     pub at: Clocked<'a>,
+    /// The arguments that are neither the verb nor options.
+    pub targets: &'a [String],
     /// The number of elapses to show.
     pub count: u32,
     pub is_json: bool,
     pub style: Style,
 }
 
-/// Answers a question about the timers of a machine.
+/// Answers a question from what [`read_question`](crate::read_question) found for it. Reads nothing itself.
 ///
-/// `clock` is the time that the machine's clock shows, in seconds of Unix time, or `None` if the clock can't be read.
-/// If the question names a present, `clock` isn't used. Fails with [`PlanFault::NoMemory`] if allocation fails.
-pub fn answer_question<T: Tree>(
+/// Fails with [`PlanFault::NoMemory`] if allocation fails.
+pub fn answer_question(
     alloc: Global,
-    tree: &mut T,
     question: &Question,
-    clock: Option<i64>,
+    found: &Found,
     style: Style,
 ) -> Result<Answer, PlanFault>
-    ensures status { IfOk result (λ answer. answer.status ≤ 2) }
-    ensures grows { (machine : Machine) → T.shows tree.new machine → T.shows tree.old machine }
+    ensures { IfOk result (λ answer. answer.status ≤ 2) }
 {
-    let Some(now) = present(question.now, clock) else {
-        return stopped(alloc, "the clock shows a time before 1970 or after 2199");
+    let known = match found {
+        Found::Answerable(known) => known,
+        Found::Unanswerable(reason) => return stopped(alloc, reason.as_str()),
     };
-    if !has_root(alloc, tree, question.root.as_str())? {
-        return stopped(alloc, "--root: not a folder");
-    }
-    let local = match LocalClock::find(
-        alloc,
-        tree,
-        question.zone.as_ref().map(|zone| zone.as_str()),
-    ) {
-        Ok(local) => local,
-        Err(ZonesFault::NoMemory) => return Err(PlanFault::NoMemory),
-        Err(fault) => return stopped(alloc, zones_text(alloc, &fault)?.as_str()),
-    };
-    let Some(zone) = local.zone() else {
+    let Some(local) = known.local.zone() else {
         return stopped(alloc, "the local zone isn't known");
     };
-    answer_at(alloc, tree, question, Clocked { now, local: zone }, style)
-}
-
-/// Returns the present: `given`, or else the time of `clock`. Returns `None` if there is neither, or if the time is not
-/// an [`Instant`].
-fn present(given: Option<i64>, clock: Option<i64>) -> Option<Instant>
-    ensures { IsPresent (option_or given clock) result }
-{
-    Instant::new(given.or(clock)?)
-}
-
-/// Returns whether the root of the tree is a folder. Returns `true` without a check if `root`, the root that the
-/// question names, is empty.
-///
-/// Elsewhere, the root is the empty path, and counts as a folder without a check. Here it is `/`: if the root that the
-/// question names is a link, the slash makes the system follow this link.
-fn has_root<T: Tree>(alloc: Global, tree: &mut T, root: &str) -> Result<bool, AllocError>
-    ensures grows { (machine : Machine) → T.shows tree.new machine → T.shows tree.old machine }
-{
-    if root.is_empty() {
-        return Ok(true);
-    }
-    match tree.look(alloc, "/") {
-        Ok(entry) => Ok(matches!(entry, Entry::Folder)),
-        Err(TreeFault::NoMemory) => Err(AllocError),
-        Err(TreeFault::Unreadable(_)) => Ok(false),
-    }
+    let asked = Asked {
+        at: Clocked {
+            now: known.now,
+            local,
+        },
+        targets: question.targets.as_slice(),
+        count: question.count.unwrap_or(DEFAULT_COUNT),
+        is_json: question.is_json,
+        style,
+    };
+    let answer = answer_loaded(alloc, asked, &known.loaded)?;
+    let answer = with_unreadable(alloc, known.index.unreadable(), answer)?;
+    Ok(answer)
 }
 
 /// Returns the answer to a question that can't be answered at all: an error line with the reason, and the status
@@ -132,64 +95,19 @@ pub(crate) fn stopped(alloc: Global, reason: &str) -> Result<Answer, PlanFault>
     })
 }
 
-/// Answers a question, given the present and the local zone.
-fn answer_at<T: Tree>(
+fn answer_loaded(
     alloc: Global,
-    tree: &mut T,
-    question: &Question,
-    at: Clocked<'_>,
-    style: Style,
-) -> Result<Answer, PlanFault>
-    ensures status { IfOk result (λ answer. answer.status ≤ 2) }
-    ensures grows { (machine : Machine) → T.shows tree.new machine → T.shows tree.old machine }
-{
-    let Some(path) = search_path(alloc, tree, question.is_user)? else {
-        return stopped(
-            alloc,
-            "the variable HOME isn't set, isn't an absolute path or can't be read",
-        );
-    };
-    let targets: Vec<&str> = question
-        .targets
-        .iter()
-        .map(|target| target.as_str())
-        .collect(alloc)?;
-    let index = index_for(
-        alloc,
-        tree,
-        question.verb,
-        path.as_slice(),
-        targets.as_slice(),
-    )?;
-    let asked = Asked {
-        targets: targets.as_slice(),
-        index: &index,
-        at,
-        count: question.count.unwrap_or(DEFAULT_COUNT),
-        is_json: question.is_json,
-        style,
-    };
-    let answer = answer_verb(alloc, tree, question.verb, asked)?;
-    let answer = with_unreadable(alloc, index.unreadable(), answer)?;
-    Ok(answer)
-}
-
-fn answer_verb<T: Tree>(
-    alloc: Global,
-    tree: &mut T,
-    verb: Verb,
     asked: Asked<'_>,
+    loaded: &LoadedByVerb,
 ) -> Result<Answer, PlanFault>
-    ensures status { IfOk result (λ answer. answer.status ≤ 2) }
-    ensures grows { (machine : Machine) → T.shows tree.new machine → T.shows tree.old machine }
+    ensures { IfOk result (λ answer. answer.status ≤ 2) }
 {
-    match verb {
-        Verb::List => list(alloc, tree, asked),
-        Verb::Show => show(alloc, tree, asked),
-        Verb::Lint => lint(alloc, tree, asked),
-        Verb::Between => between(alloc, tree, asked),
-        Verb::Same => same(alloc, tree, asked),
-        Verb::Next => next(alloc, tree, asked),
+    match loaded {
+        LoadedByVerb::List(timers) => list(alloc, asked, timers),
+        LoadedByVerb::Show(timers) | LoadedByVerb::Next(timers) => show(alloc, asked, timers),
+        LoadedByVerb::Lint(files, timers) => lint(alloc, asked, files, timers),
+        LoadedByVerb::Between(timers) => between(alloc, asked, timers),
+        LoadedByVerb::Same(first, second) => same(alloc, asked, first, second),
     }
 }
 

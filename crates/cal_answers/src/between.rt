@@ -1,11 +1,9 @@
 //! The verb `between`: all elapses of several timers in a range of time.
 
 ghost use Rattle.std.specs.Prelude.{◌≤◌, IfOk};
-ghost use Rattle.cal_machine.specs.rules.Machine.{Machine};
 
 use crate::answer::{Answer, Asked, fault_lines, status_of, stopped};
-use cal_load::{Loaded, load_timers};
-use cal_machine::Tree;
+use cal_load::Loaded;
 use cal_plan::PlanFault;
 use cal_tasks::{WhenFault, elapses_between, read_when};
 use cal_timers_json::between_json;
@@ -15,18 +13,14 @@ use std::alloc::Global;
 
 /// Lists the elapses of timers in a range. The first two targets are the start of the range, which is included, and its
 /// end, which isn't. An end such as `Mon 06:00` resolves to the first such time after the start. The other targets are
-/// the timers.
-pub(crate) fn between<T: Tree>(
-    alloc: Global,
-    tree: &mut T,
-    asked: Asked<'_>,
-) -> Result<Answer, PlanFault>
-    ensures status { IfOk result (λ answer. answer.status ≤ 2) }
-    ensures grows { (machine : Machine) → T.shows tree.new machine → T.shows tree.old machine }
+/// those that were loaded.
+pub(crate) fn between(alloc: Global, asked: Asked<'_>, loaded: &Loaded) -> Result<Answer, PlanFault>
+    ensures { IfOk result (λ answer. answer.status ≤ 2) }
 {
-    let [from, before, targets @ ..] = asked.targets else {
+    let [from, before, ..] = asked.targets else {
         return stopped(alloc, "FROM and TO are missing");
     };
+    let (from, before) = (from.as_str(), before.as_str());
     let from = match read_when(alloc, asked.at, asked.at.now, from) {
         Ok(instant) => instant,
         Err(fault) => return bad_time(alloc, from, fault),
@@ -38,8 +32,7 @@ pub(crate) fn between<T: Tree>(
     if before.secs() < from.secs() {
         return stopped(alloc, "TO is before FROM");
     }
-    let loaded = load_timers(alloc, tree, asked.index, targets)?;
-    range_of(alloc, asked, &loaded, from, before)
+    range_of(alloc, asked, loaded, from, before)
 }
 
 fn bad_time(alloc: Global, text: &str, fault: WhenFault) -> Result<Answer, PlanFault>

@@ -1,61 +1,30 @@
 //! The verb `same`: whether two timers elapse at the same instants.
 
 ghost use Rattle.std.specs.Prelude.{◌≤◌, IfOk};
-ghost use Rattle.cal_machine.specs.rules.Machine.{Machine};
 
-use crate::answer::{Answer, Asked, INVALID, fault_lines, push_fault_line, push_masked, stopped};
-use cal_load::{Loaded, LoadedTimer, TargetReason, load_expressions, load_timers};
-use cal_machine::Tree;
+use crate::answer::{Answer, Asked, INVALID, fault_lines, push_fault_line, push_masked};
+use cal_load::{Loaded, LoadedTimer};
 use cal_plan::PlanFault;
 use cal_tasks::difference_of;
 use cal_timers_json::same_json;
 use cal_timers_text::same_text;
 use std::alloc::{AllocError, Global};
 
-/// Compares the two timers that the targets name. Each target is a unit, a file or an expression.
-pub(crate) fn same<T: Tree>(
+/// Compares the two timers that were loaded.
+pub(crate) fn same(
     alloc: Global,
-    tree: &mut T,
     asked: Asked<'_>,
+    first: &Loaded,
+    second: &Loaded,
 ) -> Result<Answer, PlanFault>
-    ensures status { IfOk result (λ answer. answer.status ≤ 2) }
-    ensures grows { (machine : Machine) → T.shows tree.new machine → T.shows tree.old machine }
+    ensures { IfOk result (λ answer. answer.status ≤ 2) }
 {
-    let [one, other] = asked.targets else {
-        return stopped(alloc, "two timers are needed");
-    };
-    let first = load_one(alloc, tree, asked, one)?;
-    let second = load_one(alloc, tree, asked, other)?;
     match (first.timers.first(), second.timers.first()) {
-        (Some(these), Some(those)) => {
-            let err = lines_of_both(alloc, &first, &second)?;
-            compared(alloc, asked, these, those, err)
+        (Some(one), Some(other)) => {
+            let err = lines_of_both(alloc, first, second)?;
+            compared(alloc, asked, one, other, err)
         }
-        _ => unloaded(alloc, &first, &second),
-    }
-}
-
-/// Loads a unit or a file. If neither exists, loads the target as an expression. If that fails too, returns the error
-/// about the unit or the file.
-fn load_one<T: Tree>(
-    alloc: Global,
-    tree: &mut T,
-    asked: Asked<'_>,
-    target: &str,
-) -> Result<Loaded, AllocError>
-    ensures grows { (machine : Machine) → T.shows tree.new machine → T.shows tree.old machine }
-{
-    let loaded = load_timers(alloc, tree, asked.index, &[target])?;
-    match loaded.faults.first() {
-        Some(fault) if matches!(fault.reason, TargetReason::NotFound) => {
-            let expression = load_expressions(alloc, tree, &[target])?;
-            if expression.timers.is_empty() {
-                Ok(loaded)
-            } else {
-                Ok(expression)
-            }
-        }
-        _ => Ok(loaded),
+        _ => unloaded(alloc, first, second),
     }
 }
 

@@ -1,8 +1,10 @@
 //! The index of the search path, which is needed if a question is about units, and the errors that are found while it
 //! is read.
 
-ghost use Rattle.std.specs.Prelude.{◌≤◌, IfOk, max};
+ghost use Rattle.std.specs.Prelude.{◌≡◌, ◌≤◌, [], IfOk, length, map, max, string_bytes, true};
 ghost use Rattle.cal_machine.specs.rules.Machine.{Machine};
+ghost use Rattle.cal_unit_index.specs.rules.Index.{IsIndexOf};
+ghost use Rattle.cal_answers.specs.rules.Found.{IsIndexFor, is_about_all};
 
 use crate::answer::{Answer, INVALID, fault_lines};
 use cal_load::{TargetFault, TargetReason, is_path};
@@ -21,6 +23,10 @@ pub(crate) fn index_for<T: Tree>(
     path: &[String],
     targets: &[&str],
 ) -> Result<UnitIndex, AllocError>
+    ensures known { IfOk result (λ index. (machine : Machine) → T.shows tree.new machine
+        → IsIndexFor machine (map string_bytes path.now) index) }
+    ensures whole { is_about_all verb (length targets.now) ≡ true → IfOk result (λ index. (machine : Machine)
+        → T.shows tree.new machine → IsIndexOf machine (map string_bytes path.now) index) }
     ensures grows { (machine : Machine) → T.shows tree.new machine → T.shows tree.old machine }
 {
     if has_units(verb, targets) {
@@ -32,7 +38,9 @@ pub(crate) fn index_for<T: Tree>(
 
 /// Returns whether a question can be about units: it names no timers, and so is about all units, or it names a timer
 /// that isn't given as a path. `next` is never about units, since its targets are expressions.
-fn has_units(verb: Verb, targets: &[&str]) -> bool {
+fn has_units(verb: Verb, targets: &[&str]) -> bool
+    ensures { is_about_all verb (length targets.now) ≡ true → result ≡ true }
+{
     match verb {
         Verb::Next => false,
         _ => {
@@ -43,7 +51,9 @@ fn has_units(verb: Verb, targets: &[&str]) -> bool {
 }
 
 /// Returns the targets that are timers. The first two targets of `between` are instants.
-fn timers_of<'t>(verb: Verb, targets: &'t [&'t str]) -> &'t [&'t str] {
+pub(crate) fn timers_of<'t>(verb: Verb, targets: &'t [&'t str]) -> &'t [&'t str]
+    ensures { is_about_all verb (length targets.now) ≡ true → result.now ≡ [] }
+{
     match verb {
         Verb::Between => targets.get(2..).unwrap_or(&[]),
         _ => targets,

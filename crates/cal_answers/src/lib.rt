@@ -5,10 +5,17 @@
 mod answer;
 mod between;
 mod compare;
+mod fault;
+mod found;
 mod index;
 mod lint;
+mod loading;
 mod local_clock;
+mod reading;
 mod search_path;
 mod timers;
 
 pub use answer::{Answer, answer_question};
+pub use found::{Found, Known, LoadedByVerb};
+pub use local_clock::LocalClock;
+pub use reading::read_question;

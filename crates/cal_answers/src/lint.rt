@@ -1,12 +1,10 @@
 //! The verb `lint`: all problems of the files of timers.
 
 ghost use Rattle.std.specs.Prelude.{◌≤◌, IfOk};
-ghost use Rattle.cal_machine.specs.rules.Machine.{Machine};
 
 use crate::answer::{Answer, Asked, INVALID, fault_lines, push_fault_line};
 use cal_lint::{Finding, ProblemKind, findings};
-use cal_load::{Loaded, LoadedTimer, TargetFault, TargetReason, load_files, load_timers};
-use cal_machine::Tree;
+use cal_load::{Loaded, LoadedFiles, LoadedTimer, TargetFault, TargetReason};
 use cal_plan::PlanFault;
 use cal_read::TimerFault;
 use cal_tasks::{IdleLine, idle_lines};
@@ -31,23 +29,23 @@ struct FileProblem {
     text: String,
 }
 
-/// Returns all problems of the files, and then warnings about expressions and exceptions that have no effect. Each file
-/// is checked by itself.
-pub(crate) fn lint<T: Tree>(
+/// Returns all problems of the files, and then warnings about expressions and exceptions of the timers that have no
+/// effect. Each file is checked by itself.
+pub(crate) fn lint(
     alloc: Global,
-    tree: &mut T,
     asked: Asked<'_>,
+    files: &LoadedFiles,
+    timers: &Loaded,
 ) -> Result<Answer, PlanFault>
-    ensures status { IfOk result (λ answer. answer.status ≤ 2) }
-    ensures grows { (machine : Machine) → T.shows tree.new machine → T.shows tree.old machine }
+    ensures { IfOk result (λ answer. answer.status ≤ 2) }
 {
     let mut problems = Vec::new(alloc);
-    let of_files = add_files(alloc, tree, asked, &mut problems)?;
-    let loaded = load_whole_timers(alloc, tree, asked)?;
-    add_idle(alloc, asked, loaded.timers.as_slice(), &mut problems)?;
-    let mut err = fault_lines(alloc, of_files.as_slice())?;
-    for fault in &loaded.faults {
-        if is_of_timer(fault, of_files.as_slice(), problems.as_slice()) {
+    add_files(alloc, asked, files, &mut problems)?;
+    let of_files = files.faults.as_slice();
+    add_idle(alloc, asked, timers.timers.as_slice(), &mut problems)?;
+    let mut err = fault_lines(alloc, of_files)?;
+    for fault in &timers.faults {
+        if is_of_timer(fault, of_files, problems.as_slice()) {
             push_fault_line(alloc, &mut err, fault)?;
         }
     }
@@ -64,18 +62,14 @@ pub(crate) fn lint<T: Tree>(
     Ok(Answer { out, err, status })
 }
 
-/// Adds the problems of the files, each file checked by itself. Returns the errors about units, files and folders that
-/// can't be read.
-fn add_files<T: Tree>(
+/// Adds the problems of the files, each file checked by itself.
+fn add_files(
     alloc: Global,
-    tree: &mut T,
     asked: Asked<'_>,
+    files: &LoadedFiles,
     problems: &mut Vec<FileProblem>,
-) -> Result<Vec<TargetFault>, AllocError>
-    ensures grows { (machine : Machine) → T.shows tree.new machine → T.shows tree.old machine }
-{
-    let loaded = load_files(alloc, tree, asked.index, asked.targets)?;
-    for file in &loaded.files {
+) -> Result<(), AllocError> {
+    for file in &files.files {
         // systemd accepts comments that aren't UTF-8, so such bytes are replaced instead of being an error.
         let text = String::from_utf8_lossy(alloc, file.bytes.as_slice())?;
         add_file_problems(
@@ -86,7 +80,7 @@ fn add_files<T: Tree>(
             problems,
         )?;
     }
-    Ok(loaded.faults)
+    Ok(())
 }
 
 /// Adds the problems of a file. No file has a text longer than [`MAX_TEXT`]. For a longer `text`, adds nothing.
@@ -119,31 +113,6 @@ fn problem_of(file: String, finding: Finding, message: String, text: String) -> 
         suggestion: finding.suggestion,
         text,
     }
-}
-
-/// Loads the timers that the targets name. Targets that end in `.conf` are left out: a drop-in is not a timer by
-/// itself.
-fn load_whole_timers<T: Tree>(
-    alloc: Global,
-    tree: &mut T,
-    asked: Asked<'_>,
-) -> Result<Loaded, AllocError>
-    ensures grows { (machine : Machine) → T.shows tree.new machine → T.shows tree.old machine }
-{
-    let timers: Vec<&str> = asked
-        .targets
-        .iter()
-        .copied()
-        .filter(|target| !target.ends_with(".conf"))
-        .collect(alloc)?;
-    if timers.is_empty() && !asked.targets.is_empty() {
-        return Ok(Loaded {
-            timers: Vec::new(alloc),
-            masked: Vec::new(alloc),
-            faults: Vec::new(alloc),
-        });
-    }
-    load_timers(alloc, tree, asked.index, timers.as_slice())
 }
 
 /// Adds a warning about each expression that never elapses, and about each exception that suppresses nothing.
@@ -184,8 +153,8 @@ fn idle_problem(
 
 /// Returns whether an error is about the timer as a whole, and so isn't among the problems of its files. Such an error
 /// says that the timer names a zone that can't be loaded, that it has no setting that starts its unit, that all its
-/// files together have too many expressions, or that its file is a link to nothing. `of_files` are the errors that
-/// [`add_files`] returned.
+/// files together have too many expressions, or that its file is a link to nothing. `of_files` are the errors about units,
+/// files and folders that can't be read.
 ///
 /// All other errors are left to [`add_files`], which accepts more than loading a timer does, for example comments that
 /// aren't UTF-8.

@@ -13,7 +13,7 @@ use std::alloc::{AllocError, Global};
 
 /// The local zone of the machine, with the data that its [`Zone`] borrows.
 #[derive(Drop)]
-pub(crate) enum LocalClock {
+pub enum LocalClock {
     /// UTC, or a zone with a fixed UTC offset.
     Fixed(Zone<'static>),
     /// The zone with these rules.

@@ -1,11 +1,9 @@
-//! The verbs that show the next elapses: `list`, `show` and `next`.
+//! The verbs that show the next elapses: `list`, `show` and `next`. The answers of `show` and `next` have the same form.
 
 ghost use Rattle.std.specs.Prelude.{◌≤◌, IfOk};
-ghost use Rattle.cal_machine.specs.rules.Machine.{Machine};
 
 use crate::answer::{Answer, Asked, fault_lines, push_masked, status_of};
-use cal_load::{Loaded, LoadedTimer, load_expressions, load_timers};
-use cal_machine::Tree;
+use cal_load::{Loaded, LoadedTimer};
 use cal_plan::PlanFault;
 use cal_tasks::{ClockNote, clock_notes, first_elapses, next_of_timers};
 use cal_timers_json::{ShownTimer, list_json, show_json};
@@ -21,51 +19,20 @@ struct Elapsing {
 }
 
 /// Lists the next elapse of each timer, soonest first.
-pub(crate) fn list<T: Tree>(
-    alloc: Global,
-    tree: &mut T,
-    asked: Asked<'_>,
-) -> Result<Answer, PlanFault>
-    ensures status { IfOk result (λ answer. answer.status ≤ 2) }
-    ensures grows { (machine : Machine) → T.shows tree.new machine → T.shows tree.old machine }
+pub(crate) fn list(alloc: Global, asked: Asked<'_>, loaded: &Loaded) -> Result<Answer, PlanFault>
+    ensures { IfOk result (λ answer. answer.status ≤ 2) }
 {
-    let loaded = load_timers(alloc, tree, asked.index, asked.targets)?;
     let next = next_of_timers(alloc, asked.at, loaded.timers.as_slice())?;
     let out = if asked.is_json {
-        list_json(alloc, asked.at, &loaded, &next)?
+        list_json(alloc, asked.at, loaded, &next)?
     } else {
-        list_text(alloc, asked.at, &loaded, &next, asked.style)?
+        list_text(alloc, asked.at, loaded, &next, asked.style)?
     };
-    with_faults(alloc, &loaded, out)
+    with_faults(alloc, loaded, out)
 }
 
 /// Shows each timer with its files and its next elapses.
-pub(crate) fn show<T: Tree>(
-    alloc: Global,
-    tree: &mut T,
-    asked: Asked<'_>,
-) -> Result<Answer, PlanFault>
-    ensures status { IfOk result (λ answer. answer.status ≤ 2) }
-    ensures grows { (machine : Machine) → T.shows tree.new machine → T.shows tree.old machine }
-{
-    let loaded = load_timers(alloc, tree, asked.index, asked.targets)?;
-    show_loaded(alloc, asked, &loaded)
-}
-
-/// Shows the next elapses of calendar expressions, which are the targets.
-pub(crate) fn next<T: Tree>(
-    alloc: Global,
-    tree: &mut T,
-    asked: Asked<'_>,
-) -> Result<Answer, PlanFault>
-    ensures status { IfOk result (λ answer. answer.status ≤ 2) }
-    ensures grows { (machine : Machine) → T.shows tree.new machine → T.shows tree.old machine }
-{
-    let loaded = load_expressions(alloc, tree, asked.targets)?;
-    show_loaded(alloc, asked, &loaded)
-}
-
-fn show_loaded(alloc: Global, asked: Asked<'_>, loaded: &Loaded) -> Result<Answer, PlanFault>
+pub(crate) fn show(alloc: Global, asked: Asked<'_>, loaded: &Loaded) -> Result<Answer, PlanFault>
     ensures { IfOk result (λ answer. answer.status ≤ 2) }
 {
     let elapsing = elapsing_of(alloc, asked, loaded.timers.as_slice())?;

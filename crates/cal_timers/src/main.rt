@@ -5,8 +5,7 @@
 pub mod machine;
 
 use crate::machine::Machine;
-use cal_answers::{Answer, answer_question};
-use cal_machine::Recorder;
+use cal_answers::{Answer, answer_question, read_question};
 use cal_plan::PlanFault;
 use cal_timers_command::{CommandFault, Question};
 use cal_timers_text::Style;
@@ -61,13 +60,7 @@ fn given_arguments<R: Env + AllocGlobal>(rt: &R) -> io::Result<Vec<String>> {
 /// Answers a question about this machine, or about the part of it below the root that the question names, and prints
 /// the answer.
 fn answer_and_print(rt: &HostRuntime, question: &Question) -> ExitCode {
-    let machine = Machine {
-        rt,
-        root: question.root.as_str(),
-    };
-    let clock = machine.clock();
-    let mut tree = Recorder::new(rt.alloc(), machine);
-    match answer_question(rt.alloc(), &mut tree, question, clock, style_of(rt)) {
+    match read_and_answer(rt, question) {
         Ok(Answer { out, err, status }) => end(rt, out.as_str(), err.as_str(), status),
         Err(PlanFault::NoMemory) => end(rt, "", OUT_OF_MEMORY, FAILED),
         Err(PlanFault::NoSuchZone(_)) => end(
@@ -77,6 +70,16 @@ fn answer_and_print(rt: &HostRuntime, question: &Question) -> ExitCode {
             FAILED,
         ),
     }
+}
+
+fn read_and_answer(rt: &HostRuntime, question: &Question) -> Result<Answer, PlanFault> {
+    let machine = Machine {
+        rt,
+        root: question.root.as_str(),
+    };
+    let clock = machine.clock();
+    let found = read_question(rt.alloc(), machine, question, clock)?;
+    answer_question(rt.alloc(), question, &found, style_of(rt))
 }
 
 /// Returns the style of the output. For a terminal, the width of tables is limited, and text is bold or red unless the

@@ -1,10 +1,10 @@
-//! Tests of `answer_question`: an answer of each verb as text and as JSON, in which every function on the way has to
-//! succeed, and the error lines about what can't be read, which a transcript can't show if its user may read everything.
+//! Tests of `read_question` and `answer_question`: an answer of each verb as text and as JSON, in which every function
+//! on the way has to succeed, and the error lines about what can't be read, which a transcript can't show if its user
+//! may read everything.
 
 use crate::memory::{Item, Memory};
-use cal_answers::{Answer, answer_question};
+use cal_answers::{Answer, answer_question, read_question};
 use cal_library_tests::shared::{ensure, zone_file};
-use cal_machine::Recorder;
 use cal_timers_command::Question;
 use cal_timers_text::Style;
 use std::alloc::Global;
@@ -24,8 +24,8 @@ fn answer(alloc: Global, items: &[(&str, Item<'_>)], line: &str) -> Result<Strin
         return Err(line.into());
     };
     let clock = Some(1_704_067_200);
-    let mut tree = Recorder::new(alloc, Memory { items });
-    let Ok(answer) = answer_question(alloc, &mut tree, &question, clock, STYLE) else {
+    let found = read_question(alloc, Memory { items }, &question, clock)?;
+    let Ok(answer) = answer_question(alloc, &question, &found, STYLE) else {
         return Err(line.into());
     };
     let Answer { mut out, err, .. } = answer;

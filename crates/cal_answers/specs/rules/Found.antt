@@ -1,0 +1,122 @@
+-- What is found when a question is read: the clause of `read_question`, which `calendar-timers` calls for each run.
+use Rattle.std.specs.Prelude.{◌≡◌, ◌⊎◌, ◌==◌, ⊤, ℕ, ℤ, Bool, true, false, All, List, [], ◌∷◌, Option, Some, length, map, nat_le, option_map, string_bytes}
+use Rattle.std.specs.Option.{option_or}
+use Rattle.cal_machine.specs.rules.Machine.{Machine}
+use Rattle.cal_machine.specs.rules.Seen.{AllGiven, Matches, Said, Seen}
+use Rattle.cal_timers_command.specs.declared.question.Question.{Question}
+use Rattle.cal_timers_command.specs.declared.question.Verb.{Verb}
+use Rattle.cal_timers_command.specs.declared.question.Verb.TheVariants as verbs
+use Rattle.cal_unit_index.specs.declared.index.UnitIndex.{UnitIndex}
+use Rattle.cal_unit_index.specs.rules.Index.{IsIndexOf}
+use Rattle.cal_zone_files.specs.rules.MachineLocalZone.{machine_local_zone}
+use Rattle.cal_load.specs.declared.loaded.Loaded.{Loaded}
+use Rattle.cal_load.specs.rules.AllUnits.{HasAllUnits}
+use Rattle.cal_load.specs.rules.Expressions.{IsMadeOf}
+use Rattle.cal_load.specs.rules.Loaded.{IsStoredOn, IsTimerOn}
+use Rattle.cal_answers.specs.declared.found.Found as founds
+use Rattle.cal_answers.specs.declared.found.Known.{Known}
+use Rattle.cal_answers.specs.declared.found.LoadedByVerb.{LoadedByVerb}
+use Rattle.cal_answers.specs.declared.found.LoadedByVerb.TheVariants as loads
+use Rattle.cal_answers.specs.rules.LocalClock.{IsLocalZone, clock_zone}
+use Rattle.cal_answers.specs.rules.MachinePath.{machine_path}
+use Rattle.cal_answers.specs.rules.Present.{IsPresent}
+
+-- ## What was loaded
+
+-- each timer is a unit of the machine, found in this search path, or a single file
+abbrev pub AreTimersOn : Machine → List (List ℕ) → Loaded → Type 0
+AreTimersOn machine path loaded = All (IsTimerOn machine path) loaded.timers.items
+
+-- each timer has these expressions, and the zones of the machine that they name
+abbrev pub AreMadeOf : Machine → List (List ℕ) → Loaded → Type 0
+AreMadeOf machine texts loaded = All (IsMadeOf machine texts) loaded.timers.items
+
+-- a target of `same` is a unit, a file or an expression
+abbrev pub IsSideOn : Machine → List (List ℕ) → List ℕ → Loaded → Type 0
+IsSideOn machine path target loaded = AreTimersOn machine path loaded ⊎ AreMadeOf machine (target ∷ []) loaded
+
+-- `same` has two targets, and each of them was loaded by itself
+abbrev pub AreSidesOn : Machine → List (List ℕ) → List (List ℕ) → Loaded → Loaded → Type 0
+AreSidesOn machine path [] first second = ⊥
+AreSidesOn machine path (one ∷ []) first second = ⊥
+AreSidesOn machine path (one ∷ other ∷ []) first second = IsSideOn machine path one first × IsSideOn machine path other second
+AreSidesOn machine path (one ∷ other ∷ third ∷ rest) first second = ⊥
+
+abbrev pub verb_of : LoadedByVerb → Verb
+verb_of (loads.List timers) = verbs.List
+verb_of (loads.Show timers) = verbs.Show
+verb_of (loads.Lint files timers) = verbs.Lint
+verb_of (loads.Between timers) = verbs.Between
+verb_of (loads.Same first second) = verbs.Same
+verb_of (loads.Next timers) = verbs.Next
+
+-- the timers and the files that were loaded for these targets are those of the machine
+abbrev pub AreLoadedOn : Machine → List (List ℕ) → List (List ℕ) → LoadedByVerb → Type 0
+AreLoadedOn machine path targets (loads.List timers) = AreTimersOn machine path timers
+AreLoadedOn machine path targets (loads.Show timers) = AreTimersOn machine path timers
+AreLoadedOn machine path targets (loads.Lint files timers) =
+    All (IsStoredOn machine) files.files.items × AreTimersOn machine path timers
+AreLoadedOn machine path targets (loads.Between timers) = AreTimersOn machine path timers
+AreLoadedOn machine path targets (loads.Same first second) = AreSidesOn machine path targets first second
+AreLoadedOn machine path targets (loads.Next timers) = AreMadeOf machine targets timers
+
+-- Whether a question with this verb and this number of targets is about all units, since no target is a timer. The first
+-- two targets of `between` are instants.
+abbrev pub is_about_all : Verb → ℕ → Bool
+is_about_all verbs.List count = count == 0
+is_about_all verbs.Show count = false
+is_about_all verbs.Lint count = count == 0
+is_about_all verbs.Between count = nat_le count 2
+is_about_all verbs.Same count = false
+is_about_all verbs.Next count = false
+
+-- The timers are all units of each machine and search path of which `Knows` is true. Nothing is said of verbs whose
+-- questions are never about all units.
+abbrev pub AreAllUnits : (Machine → List (List ℕ) → Type 0) → LoadedByVerb → Type 0
+AreAllUnits Knows (loads.List timers) = HasAllUnits Knows timers
+AreAllUnits Knows (loads.Show timers) = ⊤
+AreAllUnits Knows (loads.Lint files timers) = HasAllUnits Knows timers
+AreAllUnits Knows (loads.Between timers) = HasAllUnits Knows timers
+AreAllUnits Knows (loads.Same first second) = ⊤
+AreAllUnits Knows (loads.Next timers) = ⊤
+
+-- the timers are all units of this machine and search path
+abbrev pub AreAllUnitsOn : Machine → List (List ℕ) → LoadedByVerb → Type 0
+AreAllUnitsOn machine path loaded = AreAllUnits (λ other folders. (other ≡ machine) × (folders ≡ path)) loaded
+
+-- ## What was found
+
+-- the index is that of this search path, or of no folder at all
+abbrev pub IsIndexFor : Machine → List (List ℕ) → UnitIndex → Type 0
+IsIndexFor machine path index = IsIndexOf machine path index ⊎ IsIndexOf machine [] index
+
+-- the path is the search path of the machine's manager, or has no folder at all, which is enough if no unit is needed
+abbrev pub IsPathOf : Machine → Bool → List (List ℕ) → Type 0
+IsPathOf machine is_user path = (machine_path machine is_user ≡ Some path) ⊎ (path ≡ [])
+
+-- What is known for a question is so on this machine: its local zone, the index of its search path, and the timers and
+-- files that the targets stand for. A question about all units has all of them.
+pub record IsKnownOn (machine : Machine) (question : Question) (known : Known) : Type 0 where
+  pub local : IsLocalZone machine (machine_local_zone machine (option_map string_bytes question.zone)) (clock_zone known.local)
+  pub path : List (List ℕ)
+  pub searched : IsPathOf machine question.is_user path
+  pub index : IsIndexOf machine path known.index
+  pub for_verb : verb_of known.loaded ≡ question.verb
+  pub loaded : AreLoadedOn machine path (map string_bytes question.targets.items) known.loaded
+  pub whole : is_about_all question.verb (length question.targets.items) ≡ true
+      → (machine_path machine question.is_user ≡ Some path) × AreAllUnitsOn machine path known.loaded
+
+-- What is known for a question rests on what was read. `given`: the raw system gave each answer that was read.
+-- `present`: the present is that of the question, or else that of the clock. `is_so`: what is known is so on every
+-- machine that matches what was read. `possible`: such a machine exists.
+pub record IsKnownBy (gives : Said → Bool) (question : Question) (clock : Option ℤ) (known : Known) : Type 0 where
+  pub read : Seen
+  pub given : AllGiven gives read
+  pub present : IsPresent (option_or question.now clock) (Some known.now)
+  pub is_so : (machine : Machine) → Matches read machine → IsKnownOn machine question known
+  pub possible : (machine : Machine) × Matches read machine
+
+-- nothing is said about a question that can't be answered
+abbrev pub IsFoundBy : (Said → Bool) → Question → Option ℤ → founds.Found → Type 0
+IsFoundBy gives question clock (founds.TheVariants.Unanswerable reason) = ⊤
+IsFoundBy gives question clock (founds.TheVariants.Answerable known) = IsKnownBy gives question clock known

@@ -1,0 +1,34 @@
+//! Why reading for a question ends early.
+
+use std::alloc::{AllocError, AllocFailed, Global};
+
+/// Why reading for a question ends early.
+#[derive(Debug, Drop)]
+pub(crate) enum ReadFault {
+    /// The question can't be answered, for this reason.
+    Unanswerable(String),
+    /// Out of memory.
+    NoMemory,
+}
+
+impl From<AllocError> for ReadFault {
+    fn from(_refused: AllocError) -> ReadFault {
+        ReadFault::NoMemory
+    }
+}
+
+impl<T: Drop> From<AllocFailed<T>> for ReadFault {
+    fn from(_refused: AllocFailed<T>) -> ReadFault {
+        ReadFault::NoMemory
+    }
+}
+
+impl ReadFault {
+    /// Returns the fault that the question can't be answered, for this reason.
+    pub(crate) fn reason(alloc: Global, reason: &str) -> ReadFault {
+        match String::from_str(alloc, reason) {
+            Ok(reason) => ReadFault::Unanswerable(reason),
+            Err(_) => ReadFault::NoMemory,
+        }
+    }
+}

@@ -1,0 +1,41 @@
+//! What is read to answer a question.
+
+use crate::local_clock::LocalClock;
+use cal_load::{Loaded, LoadedFiles};
+use cal_unit_index::UnitIndex;
+use cal_zone::Instant;
+
+/// What was found when a question was read.
+#[derive(Drop)]
+pub enum Found {
+    /// The question can't be answered, for this reason.
+    Unanswerable(String),
+    /// All that the answer depends on, apart from the question and the style of the output.
+    Answerable(Known),
+}
+
+/// All that the answer to a question depends on, apart from the question and the style of the output.
+#[derive(Drop)]
+pub struct Known {
+    /// The present.
+    pub now: Instant,
+    /// The local zone.
+    pub local: LocalClock,
+    /// The index of the search path of units, or of no folder if no unit is needed.
+    pub index: UnitIndex,
+    /// What the targets of the question stand for.
+    pub loaded: LoadedByVerb,
+}
+
+/// What was loaded for the targets of a question, by its verb.
+#[derive(Drop)]
+pub enum LoadedByVerb {
+    List(Loaded),
+    Show(Loaded),
+    /// The files, not parsed, and the timers. A drop-in that is a target is only among the files.
+    Lint(LoadedFiles, Loaded),
+    Between(Loaded),
+    /// What the first target and the second target stand for.
+    Same(Loaded, Loaded),
+    Next(Loaded),
+}

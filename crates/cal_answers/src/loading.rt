@@ -1,0 +1,126 @@
+//! Loading what the targets of a question stand for.
+
+ghost use Rattle.std.specs.Prelude.{◌≡◌, ℕ, List, [], All, IfOk, length, map, true};
+ghost use Rattle.cal_machine.specs.rules.Machine.{Machine};
+ghost use Rattle.cal_unit_index.specs.rules.Index.{IsIndexOf};
+ghost use Rattle.cal_load.specs.rules.AllUnits.{HasAllUnits};
+ghost use Rattle.cal_load.specs.rules.Loaded.{IsTimerOn};
+ghost use Rattle.cal_answers.specs.rules.Found.{AreAllUnits, AreLoadedOn, IsSideOn, is_about_all, verb_of};
+
+use crate::fault::ReadFault;
+use crate::found::LoadedByVerb;
+use crate::index::timers_of;
+use cal_load::{Loaded, TargetReason, load_expressions, load_files, load_timers};
+use cal_machine::Tree;
+use cal_timers_command::Verb;
+use cal_unit_index::UnitIndex;
+use std::alloc::{AllocError, Global};
+
+/// Loads what the targets of a question stand for. `index` is the index of the search path.
+pub(crate) fn load_by_verb<T: Tree>(
+    alloc: Global,
+    tree: &mut T,
+    index: &UnitIndex,
+    verb: Verb,
+    targets: &[&str],
+) -> Result<LoadedByVerb, ReadFault>
+    ensures verb { IfOk result (λ loaded. verb_of loaded ≡ verb) }
+    ensures known { IfOk result (λ loaded. (machine : Machine) (path : List (List ℕ)) → T.shows tree.new machine
+        → IsIndexOf machine path index.now → AreLoadedOn machine path (map (λ text. text.now) targets.now) loaded) }
+    ensures whole { is_about_all verb (length targets.now) ≡ true
+        → IfOk result (AreAllUnits (λ machine path. T.shows tree.new machine × IsIndexOf machine path index.now)) }
+    ensures grows { (machine : Machine) → T.shows tree.new machine → T.shows tree.old machine }
+{
+    match verb {
+        Verb::List => Ok(LoadedByVerb::List(load_timers(alloc, tree, index, targets)?)),
+        Verb::Show => Ok(LoadedByVerb::Show(load_timers(alloc, tree, index, targets)?)),
+        Verb::Lint => {
+            let files = load_files(alloc, tree, index, targets)?;
+            let timers = load_whole_timers(alloc, tree, index, targets)?;
+            Ok(LoadedByVerb::Lint(files, timers))
+        }
+        Verb::Between => {
+            let timers = timers_of(verb, targets);
+            Ok(LoadedByVerb::Between(load_timers(alloc, tree, index, timers)?))
+        }
+        Verb::Same => load_sides(alloc, tree, index, targets),
+        Verb::Next => Ok(LoadedByVerb::Next(load_expressions(alloc, tree, targets)?)),
+    }
+}
+
+/// Loads the timers that the targets name, or all units without a target. Targets that end in `.conf` are left out: a
+/// drop-in is not a timer by itself.
+fn load_whole_timers<T: Tree>(
+    alloc: Global,
+    tree: &mut T,
+    index: &UnitIndex,
+    targets: &[&str],
+) -> Result<Loaded, AllocError>
+    ensures known { IfOk result (λ loaded. (machine : Machine) (path : List (List ℕ)) → T.shows tree.new machine
+        → IsIndexOf machine path index.now → All (IsTimerOn machine path) loaded.timers.items) }
+    ensures whole { targets.now ≡ [] → IfOk result (HasAllUnits (λ machine path. T.shows tree.new machine × IsIndexOf machine path index.now)) }
+    ensures grows { (machine : Machine) → T.shows tree.new machine → T.shows tree.old machine }
+{
+    if targets.is_empty() {
+        return load_timers(alloc, tree, index, targets);
+    }
+    let timers: Vec<&str> = targets
+        .iter()
+        .copied()
+        .filter(|target| !target.ends_with(".conf"))
+        .collect(alloc)?;
+    if timers.is_empty() {
+        return Ok(Loaded {
+            timers: Vec::new(alloc),
+            masked: Vec::new(alloc),
+            faults: Vec::new(alloc),
+        });
+    }
+    load_timers(alloc, tree, index, timers.as_slice())
+}
+
+/// Loads the two timers that the targets of `same` name.
+fn load_sides<T: Tree>(
+    alloc: Global,
+    tree: &mut T,
+    index: &UnitIndex,
+    targets: &[&str],
+) -> Result<LoadedByVerb, ReadFault>
+    ensures verb { IfOk result (λ loaded. verb_of loaded ≡ Verb.Same) }
+    ensures known { IfOk result (λ loaded. (machine : Machine) (path : List (List ℕ)) → T.shows tree.new machine
+        → IsIndexOf machine path index.now → AreLoadedOn machine path (map (λ text. text.now) targets.now) loaded) }
+    ensures grows { (machine : Machine) → T.shows tree.new machine → T.shows tree.old machine }
+{
+    let [one, other] = targets else {
+        return Err(ReadFault::reason(alloc, "two timers are needed"));
+    };
+    let first = load_side(alloc, tree, index, one)?;
+    let second = load_side(alloc, tree, index, other)?;
+    Ok(LoadedByVerb::Same(first, second))
+}
+
+/// Loads a unit or a file. If neither exists, loads the target as an expression. If that fails too, returns the error
+/// about the unit or the file.
+fn load_side<T: Tree>(
+    alloc: Global,
+    tree: &mut T,
+    index: &UnitIndex,
+    target: &str,
+) -> Result<Loaded, AllocError>
+    ensures known { IfOk result (λ loaded. (machine : Machine) (path : List (List ℕ)) → T.shows tree.new machine
+        → IsIndexOf machine path index.now → IsSideOn machine path target.now loaded) }
+    ensures grows { (machine : Machine) → T.shows tree.new machine → T.shows tree.old machine }
+{
+    let loaded = load_timers(alloc, tree, index, &[target])?;
+    match loaded.faults.first() {
+        Some(fault) if matches!(fault.reason, TargetReason::NotFound) => {
+            let expression = load_expressions(alloc, tree, &[target])?;
+            if expression.timers.is_empty() {
+                Ok(loaded)
+            } else {
+                Ok(expression)
+            }
+        }
+        _ => Ok(loaded),
+    }
+}

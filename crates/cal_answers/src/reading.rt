@@ -1,0 +1,133 @@
+//! Reading all that the answer to a question depends on.
+
+ghost use Rattle.std.specs.Prelude.{◌≡◌, IfOk, Some, map, option_map, string_bytes};
+ghost use Rattle.std.specs.Option.{option_or};
+ghost use Rattle.cal_machine.specs.rules.Machine.{Machine};
+ghost use Rattle.cal_zone_files.specs.rules.MachineLocalZone.{machine_local_zone};
+ghost use Rattle.cal_answers.specs.rules.Found.{IsFoundBy, IsKnownOn};
+ghost use Rattle.cal_answers.specs.rules.LocalClock.{IsLocalZone, clock_zone};
+ghost use Rattle.cal_answers.specs.rules.Present.{IsPresent};
+
+use crate::fault::ReadFault;
+use crate::found::{Found, Known};
+use crate::index::index_for;
+use crate::loading::load_by_verb;
+use crate::local_clock::LocalClock;
+use crate::search_path::search_path;
+use cal_machine::{Entry, Raw, Recorder, Tree, TreeFault};
+use cal_timers_command::Question;
+use cal_timers_text::zones_text;
+use cal_zone::Instant;
+use cal_zone_files::ZonesFault;
+use std::alloc::{AllocError, Global};
+
+/// Reads all that the answer to a question depends on: the local zone, the search path, and the timers and files that
+/// the targets stand for. Each question about the machine is asked of `raw` at most once.
+///
+/// `clock` is the time that the machine's clock shows, in seconds of Unix time, or `None` if the clock can't be read.
+/// If the question names a present, `clock` isn't used. Fails only if allocation fails.
+pub fn read_question<R: Raw + Drop>(
+    alloc: Global,
+    raw: R,
+    question: &Question,
+    clock: Option<i64>,
+) -> Result<Found, AllocError>
+    ensures { IfOk result (IsFoundBy R.gives question.entry.now clock) }
+{
+    let mut tree = Recorder::new(alloc, raw);
+    match read_known(alloc, &mut tree, question, clock) {
+        Ok(known) => Ok(Found::Answerable(known)),
+        Err(ReadFault::Unanswerable(reason)) => Ok(Found::Unanswerable(reason)),
+        Err(ReadFault::NoMemory) => Err(AllocError),
+    }
+}
+
+fn read_known<T: Tree>(
+    alloc: Global,
+    tree: &mut T,
+    question: &Question,
+    clock: Option<i64>,
+) -> Result<Known, ReadFault>
+    ensures present { IfOk result (λ known. IsPresent (option_or question.entry.now.now clock) (Some known.now)) }
+    ensures known { IfOk result (λ known. (machine : Machine) → T.shows tree.new machine → IsKnownOn machine question.entry.now known) }
+    ensures grows { (machine : Machine) → T.shows tree.new machine → T.shows tree.old machine }
+{
+    let Some(now) = present(question.now, clock) else {
+        return Err(ReadFault::reason(alloc, "the clock shows a time before 1970 or after 2199"));
+    };
+    check_root(alloc, tree, question.root.as_str())?;
+    let local = find_local(alloc, tree, question.zone.as_deref())?;
+    let path = search_path(alloc, tree, question.is_user)?;
+    let targets = texts_of(alloc, question.targets.as_slice())?;
+    let index = index_for(
+        alloc,
+        tree,
+        question.verb,
+        path.as_slice(),
+        targets.as_slice(),
+    )?;
+    let loaded = load_by_verb(alloc, tree, &index, question.verb, targets.as_slice())?;
+    Ok(Known {
+        now,
+        local,
+        index,
+        loaded,
+    })
+}
+
+/// Returns the present: `given`, or else the time of `clock`. Returns `None` if there is neither, or if the time is not
+/// an [`Instant`].
+fn present(given: Option<i64>, clock: Option<i64>) -> Option<Instant>
+    ensures { IsPresent (option_or given clock) result }
+{
+    Instant::new(given.or(clock)?)
+}
+
+/// Checks that the root of the tree is a folder. Checks nothing if `root`, the root that the question names, is empty.
+///
+/// Elsewhere, the root is the empty path, and counts as a folder without a check. Here it is `/`: if the root that the
+/// question names is a link, the slash makes the system follow this link.
+fn check_root<T: Tree>(alloc: Global, tree: &mut T, root: &str) -> Result<(), ReadFault>
+    ensures grows { (machine : Machine) → T.shows tree.new machine → T.shows tree.old machine }
+{
+    if root.is_empty() {
+        return Ok(());
+    }
+    match tree.look(alloc, "/") {
+        Ok(Entry::Folder) => Ok(()),
+        Err(TreeFault::NoMemory) => Err(ReadFault::NoMemory),
+        Ok(_) | Err(TreeFault::Unreadable(_)) => {
+            Err(ReadFault::reason(alloc, "--root: not a folder"))
+        }
+    }
+}
+
+/// Finds the local zone. `option` is the value of `--zone`, if the option is given.
+fn find_local<T: Tree>(
+    alloc: Global,
+    tree: &mut T,
+    option: Option<&str>,
+) -> Result<LocalClock, ReadFault>
+    ensures zone { IfOk result (λ clock. (machine : Machine) → T.shows tree.new machine
+        → IsLocalZone machine (machine_local_zone machine (option_map (λ text. text.now) option.entry)) (clock_zone clock)) }
+    ensures grows { (machine : Machine) → T.shows tree.new machine → T.shows tree.old machine }
+{
+    match LocalClock::find(alloc, tree, option) {
+        Ok(local) => Ok(local),
+        Err(ZonesFault::NoMemory) => Err(ReadFault::NoMemory),
+        Err(fault) => {
+            let reason = zones_text(alloc, &fault)?;
+            Err(ReadFault::Unanswerable(reason))
+        }
+    }
+}
+
+fn texts_of(alloc: Global, targets: &[String]) -> Result<Vec<&str>, AllocError>
+    ensures { IfOk result (λ texts. map (λ text. text.now) texts.items ≡ map string_bytes targets.now) }
+{
+    let mut texts = Vec::new(alloc);
+    for target in targets {
+        texts.push(target.as_str())?;
+    }
+    Ok(texts)
+}
