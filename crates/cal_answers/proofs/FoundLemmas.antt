@@ -6,7 +6,9 @@ use Rattle.cal_timers_command.specs.declared.question.Question.{Question}
 use Rattle.cal_unit_index.specs.rules.Index.{IsIndexOf}
 use Rattle.cal_zone_files.specs.rules.MachineLocalZone.{machine_local_zone}
 use Rattle.cal_load.specs.declared.loaded.Loaded.{Loaded}
-use Rattle.cal_load.specs.rules.AllUnits.{HasAllUnits, IsOutcome, units_on}
+use Rattle.cal_load.specs.rules.AllTargets.{HasAllUnits, IsOutcome}
+use Rattle.cal_load.specs.rules.AllTargets.Sought.{ListedUnit}
+use Rattle.cal_load.specs.rules.AllUnits.{units_on}
 use Rattle.cal_answers.specs.declared.found.Known.{Known}
 use Rattle.cal_answers.specs.declared.found.LoadedByVerb.{LoadedByVerb}
 use Rattle.cal_answers.specs.declared.found.LoadedByVerb.TheVariants as loads
@@ -14,7 +16,7 @@ use Rattle.cal_answers.specs.rules.Found.{AreAllUnits, AreAllUnitsOn, AreLoadedO
 use Rattle.cal_answers.specs.rules.LocalClock.{IsLocalZone, clock_zone}
 use Rattle.cal_answers.specs.rules.MachinePath.{machine_path}
 
--- what was loaded for the first and for the second of two targets is that of `same`
+-- what was loaded for each of the two targets by itself is what was loaded for `same`
 pub two_sides : (machine : Machine) (path : List (List ℕ)) (targets : List (Bor (List ℕ))) (d : Bor (List ℕ)) (first second : Loaded)
     → 2 ≤ length targets → length targets < 3 → IsSideOn machine path (get_or targets 0 d).now first
     → IsSideOn machine path (get_or targets 1 d).now second → AreSidesOn machine path (map (λ text. text.now) targets) first second
@@ -23,21 +25,21 @@ two_sides machine path (x ∷ []) d first second two three one other = absurd (l
 two_sides machine path (x ∷ y ∷ []) d first second two three one other = (one, other)
 two_sides machine path (x ∷ y ∷ z ∷ rest) d first second two three one other = absurd (let no : ⊥ = omega (arith, three) in no)
 
--- timers that are all units of several machines are all units of each of them
+-- if the timers are all units of every machine of which `Knows` is true, they are all units of each such machine
 timers_at : (Knows : Machine → List (List ℕ) → Type 0) (machine : Machine) (path : List (List ℕ)) (timers : Loaded) → Knows machine path
     → HasAllUnits Knows timers → HasAllUnits (λ other folders. (other ≡ machine) × (folders ≡ path)) timers
 timers_at Knows machine path timers knows all = record {
-  stems = all.stems;
-  of_units = record {
-    outcomes = all.of_units.outcomes;
-    of_stems = all.of_units.of_stems;
-    loaded_from = all.of_units.loaded_from;
+  outcomes = all.outcomes;
+  loaded_from = all.loaded_from;
+  are = record {
     true_of = λ other folders same.
-        subst (λ other. All (IsOutcome other folders) all.of_units.outcomes) (sym same.0)
-        (subst (λ folders. All (IsOutcome machine folders) all.of_units.outcomes) (sym same.1) (all.of_units.true_of machine path knows));
+        subst (λ other. All (IsOutcome other folders) all.outcomes) (sym same.0)
+        (subst (λ folders. All (IsOutcome machine folders) all.outcomes) (sym same.1) (all.are.true_of machine path knows));
+    are_all = λ other folders same.
+        all.are.are_all machine path knows
+        ∙ ap (λ folders. map ListedUnit (units_on machine folders)) (sym same.1)
+        ∙ ap (λ other. map ListedUnit (units_on other folders)) (sym same.0);
   };
-  are_all = λ other folders same.
-      all.are_all machine path knows ∙ ap (units_on machine) (sym same.1) ∙ ap (λ other. units_on other folders) (sym same.0);
 }
 
 pub units_at : (Knows : Machine → List (List ℕ) → Type 0) (machine : Machine) (path : List (List ℕ)) (loaded : LoadedByVerb) → Knows machine path
@@ -49,7 +51,7 @@ units_at Knows machine path (loads.Between timers) knows all = timers_at Knows m
 units_at Knows machine path (loads.Same first second) knows all = tt
 units_at Knows machine path (loads.Next timers) knows all = tt
 
--- what is known is so on a machine if each part of it is; `all` says whether the question is about all units
+-- what is known is true on a machine if each part of it is; `all` says whether the question is about all units
 pub known_on : (machine : Machine) (question : Question) (known : Known) (path : List (List ℕ)) (all : Bool)
     → is_about_all question.verb (length question.targets.items) ≡ all
     → IsLocalZone machine (machine_local_zone machine (option_map string_bytes question.zone)) (clock_zone known.local)

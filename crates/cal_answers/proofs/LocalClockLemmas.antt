@@ -22,7 +22,7 @@ pub utc_zone : zone_of utc ≡ UTC
 unfolding zone_of
 utc_zone = refl
 
--- a zone that a rule names is the local zone if the rule tells it
+-- if the rule determines the local zone, then a zone that was found for the rule is the local zone
 pub ruled_as : (found : Result LocalClock ZonesFault) (rule : List ℕ) (Shows : Machine → Type 0) (local : Machine → MachineLocalZone)
     → ((machine : Machine) → Shows machine → ByRule rule ≡ local machine)
     → IfOk found (λ clock. (machine : Machine) → IsLocalZone machine (ByRule rule) (clock_zone clock))
@@ -31,7 +31,7 @@ ruled_as (Ok clock) rule Shows local same is =
     λ machine shows. subst (λ local. IsLocalZone machine local (clock_zone clock)) (same machine shows) (is machine)
 ruled_as (Err fault) rule Shows local same is = tt
 
--- a table that was loaded for a single name has this name
+-- a table that was loaded for a single name has a zone with this name
 pub has_single : (table : ZoneMap) (name : List ℕ) (names : List (String Global)) → map string_bytes names ≡ name ∷ []
     → is_some (zone_named table name) ≡ (is_utc_name name || list_any (bytes_eq name) (map string_bytes names))
     → is_some (zone_named table name) ≡ true
@@ -52,7 +52,7 @@ unfolding zone_named
 named_if machine table name has zones true is = rw is (utc_on machine name is)
 named_if machine table name has zones false is = some_on machine name is (zone_named table name) has (zones name is)
 
--- a zone that a table of the machine's zones has is the local zone if its name tells it
+-- if the local zone is given by a name that a table of the machine's zones has, then it is the table's zone
 pub named_zone : (machine : Machine) (table : ZoneMap) (name : List ℕ) → is_some (zone_named table name) ≡ true → HasZonesOf machine table
     → IsLocalZone machine (OfName name) (zone_named table name)
 named_zone machine table name has zones = named_if machine table name has zones (is_utc_name name) refl

@@ -24,7 +24,7 @@ impl<T: Drop> From<AllocFailed<T>> for ReadFault {
 }
 
 impl ReadFault {
-    /// Returns the fault that the question can't be answered, for this reason.
+    /// Returns the error that the question can't be answered, for this reason.
     pub(crate) fn reason(alloc: Global, reason: &str) -> ReadFault {
         match String::from_str(alloc, reason) {
             Ok(reason) => ReadFault::Unanswerable(reason),

@@ -60,8 +60,8 @@ pub(crate) fn timers_of<'t>(verb: Verb, targets: &'t [&'t str]) -> &'t [&'t str]
     }
 }
 
-/// Adds to an answer the error lines about what can't be read of the search path. No other error line of an answer is
-/// about these paths, unless such a path is a target as well.
+/// Adds an error line to an answer for each folder, file or link of the search path that can't be read. No other error
+/// line of the answer is about these paths, unless such a path is a target as well.
 pub(crate) fn with_unreadable(
     alloc: Global,
     unreadable: &[UnitFault],

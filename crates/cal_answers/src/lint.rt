@@ -1,4 +1,4 @@
-//! The verb `lint`: all problems of the files of timers.
+//! The verb `lint`: all problems of the files of timers, and lines of the timers that have no effect.
 
 ghost use Rattle.std.specs.Prelude.{◌≤◌, IfOk};
 

@@ -3,7 +3,7 @@
 ghost use Rattle.std.specs.Prelude.{◌≡◌, ℕ, List, [], All, IfOk, length, map, true};
 ghost use Rattle.cal_machine.specs.rules.Machine.{Machine};
 ghost use Rattle.cal_unit_index.specs.rules.Index.{IsIndexOf};
-ghost use Rattle.cal_load.specs.rules.AllUnits.{HasAllUnits};
+ghost use Rattle.cal_load.specs.rules.AllTargets.{HasAllUnits};
 ghost use Rattle.cal_load.specs.rules.Loaded.{IsTimerOn};
 ghost use Rattle.cal_answers.specs.rules.Found.{AreAllUnits, AreLoadedOn, IsSideOn, is_about_all, verb_of};
 

@@ -1,4 +1,5 @@
 pub mod ExpressionLemmas
+pub mod PathLemmas
 pub mod TextFaultLemmas
 pub mod TextLemmas
 pub mod TimerLemmas

@@ -56,7 +56,7 @@ number_reason machine files (Zone place line zone reason) h = absurd h
 number_reason machine files (Expression fault) h = h
 number_reason machine files (ExpressionZone zone reason) h = absurd h
 
--- why lines can't be numbered is why the files make no timer
+-- if lines can't be numbered, this is why the files don't make a timer
 pub number_text : (machine : Machine) (files : List UnitText) (fault : TargetLoadFault) → IsNumberFault files fault → IsTextFault machine files fault
 number_text machine files (faults.TheVariants.Target reason) h = number_reason machine files reason h
 number_text machine files faults.TheVariants.NoMemory h = tt
@@ -74,7 +74,7 @@ assignment_reason machine files (Zone place line zone reason) h = absurd h
 assignment_reason machine files (Expression fault) h = h
 assignment_reason machine files (ExpressionZone zone reason) h = absurd h
 
--- why assignments make no timer is why the files make none
+-- if the files' assignments don't make a timer, this is why the files don't make one
 pub assignment_text : (machine : Machine) (files : List UnitText) (assignments : List Assignment) (fault : TargetLoadFault)
     → assignments ≡ assignments_of_files files → IsAssignmentFault assignments fault → IsTextFault machine files fault
 assignment_text machine files assignments (faults.TheVariants.Target reason) e h =
@@ -95,7 +95,7 @@ error_named machine names name (zone_faults.Unread origin) has h = h
 error_named machine names name (zone_faults.At path reason) has h = (name, has, h.0, h.1)
 error_named machine names name zone_faults.NoMemory has h = tt
 
--- the first error in loading zones is about one of their names
+-- the first error in loading zones is about one of the names
 pub first_named : (machine : Machine) (names : List (List ℕ)) (found : ZonesFault) → IsFirstError machine names found → IsZonesError machine names found
 first_named machine names found h =
     error_named machine names h.name found (next_contained names h.index h.name h.after h.is_at) h.is_error
@@ -135,7 +135,7 @@ zone_fault machine files calendar path name reason (faults.TheVariants.Target fo
     zone_reason machine files calendar path name reason found of_files has at is h
 zone_fault machine files calendar path name reason faults.TheVariants.NoMemory of_files has at is h = tt
 
--- an error in loading the zones that files name is why the files make no timer
+-- if the zones that files name can't be loaded, this is why the files don't make a timer
 pub zones_text : (machine : Machine) (files : List UnitText) (calendar : calendars.Calendar) (names : List (List ℕ)) (found : ZonesFault) (fault : TargetLoadFault)
     → IsCalendarOf files calendar → names ≡ zone_names_of calendar → IsZonesError machine names found → IsZonesFault found fault
     → IsTextFault machine files fault
@@ -147,7 +147,7 @@ zones_text machine files calendar names zone_faults.NoMemory fault of_files same
 
 -- ## A unit's own file
 
--- a file whose text is there is a text
+-- if a file has been read from a path, then there is a text at this path
 pub is_text : (file : UnitText) (path : List ℕ) (read : FileRead)
     → file ∷ [] ≡ option_to_list (option_map (λ bytes. record { path = path; bytes = bytes }) (drop_in_bytes read))
     → (bytes : List ℕ) × (read ≡ Text bytes)

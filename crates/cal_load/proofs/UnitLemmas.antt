@@ -1,30 +1,43 @@
--- Lemmas on all units in the search path, and on what became of each.
-use Rattle.std.proofs.Common.{◌≡◌, ◌∙◌, ℕ, List, [], ◌∷◌, ◌++◌, Ok, Err, Option, Result, ap, append-nil, inl, inr, map, refl, string_bytes, subst, sym, true}
-use Rattle.std.proofs.lemmas.List.{flat_map_more, map-append}
-use Rattle.std.proofs.lemmas.List.Elements.{All-nil, All-push, All-weaker, Contains-append_left, Contains-push}
+-- Lemmas on what targets stand for, and on what became of everything that was looked for.
+use Rattle.std.proofs.Common.{◌≡◌, ◌+◌, ◌<◌, get_or, length, take, Bool, filter, ◌∙◌, append_assoc, ℕ, List, [], ◌∷◌, ◌++◌, Ok, Err, Option, Result, ap, append-nil, inl, inr, map, refl, string_bytes, subst, false, sym, true}
+use Rattle.std.proofs.lemmas.List.{flat_map_more, map-append, take_more}
+use Rattle.std.proofs.lemmas.Grind.{flat_map-append}
+use Rattle.std.proofs.lemmas.List.Elements.{All-append, All-cons, All-nil, All-weaker, filter-append, Contains-append_left, Contains-push}
 use Rattle.std.proofs.lemmas.List.Sums.{fold-append}
 use Rattle.std.specs.BTreeSet.{insert_key}
 use Rattle.std.specs.Cmp.Lexicographic.{slice_cmp}
-use Rattle.std.specs.List.{filter_map}
+use Rattle.std.specs.List.{filter_map, flat_map}
 use Rattle.std.specs.Option.{option_to_list}
 use Rattle.std.specs.Ordering.{nat_cmp}
-use Rattle.cal_machine.specs.rules.Machine.{Machine}
+use Rattle.cal_machine.specs.declared.tree.Unreadable.{Unreadable}
+use Rattle.cal_machine.specs.rules.Machine.{Listing, Machine}
+use Rattle.cal_machine.specs.rules.Places.{names_at}
+use Rattle.cal_machine.specs.rules.Seen.{seen}
 use Rattle.cal_unit_index.proofs.IndexLemmas.{appended_more}
 use Rattle.cal_unit_index.specs.declared.fault.Reason.{Reason}
 use Rattle.cal_unit_index.specs.rules.Destinations.{sorted_once, with_texts}
 use Rattle.cal_unit_index.specs.rules.Files.{FileRead, UnitText}
 use Rattle.cal_unit_index.specs.rules.Files.FileRead.{Unusable}
-use Rattle.cal_load.specs.rules.AllUnits.{AreLoadedFrom, HasFault, HasUnits, IsAccounted, IsFileFault, IsFileReason, IsFoundOf, IsOutcome, IsPushed, IsReported, IsStep, IsUnusableFault, Keeps, Outcome, is_absent, masked_in, unit_name}
-use Rattle.cal_load.specs.rules.LoadedTarget.{timers_in}
+use Rattle.cal_unit_index.specs.rules.Folders.{end_at}
+use Rattle.cal_load.specs.rules.AllTargets.{AreAdded, AreOutcomes, HasAll, IsAccounted, IsFound, IsMore, IsOutcome, IsUnreadFault, IsUnreadReason, Outcome, Sought, files_with, masked_of, is_path, name_of, path_in, sought_at, sought_by, sought_in, timers_of, wanted_at, wanted_in, without_slashes}
+use Rattle.cal_load.specs.rules.AllTargets.Sought.{ListedUnit, NamedUnit, NamesIn, SingleFile}
+use Rattle.cal_load.specs.declared.names.Wanted.TheVariants.{Timers}
+use Rattle.cal_load.specs.declared.target_fault.TargetReason.{TargetReason}
+use Rattle.std.specs.Prelude.{IfOk, String}
+use Rattle.std.specs.Borrow.{Bor}
+use Rattle.std.specs.Result.{IfErr}
+use Rattle.std.specs.declared.alloc.Global.{Global}
+use Rattle.cal_load.specs.rules.AllUnits.{HasFault, IsFileFault, IsFileReason, IsFoundOf, IsPushed, IsReported, IsUnusableFault, Keeps, is_absent, masked_in}
+use Rattle.cal_load.specs.rules.LoadedTarget.{is_folder, timers_in}
 use Rattle.cal_load.specs.declared.fault.TargetLoadFault.{TargetLoadFault}
 use Rattle.cal_load.specs.declared.fault.TargetLoadFault as faults
 use Rattle.cal_load.specs.declared.loaded.Loaded.{Loaded}
 use Rattle.cal_load.specs.declared.loaded.LoadedTarget as targets
 use Rattle.cal_load.specs.declared.target_fault.TargetFault.{TargetFault}
 
--- ## Faults that were found stay
+-- ## Faults are kept
 
--- what a list has, a list that begins with it has, too
+-- a list that begins with another list has all its faults
 pub keeps_appended : (old new more : List TargetFault) → new ≡ old ++ more → Keeps old new
 keeps_appended old new more e fault has = rw e (Contains-append_left old more fault has)
 
@@ -43,26 +56,43 @@ pub report_kept : (old new : List TargetFault) (name : List ℕ) (found : Result
 report_kept old new name (Ok found) keeps h = tt
 report_kept old new name (Err fault) keeps h = fault_kept old new name fault keeps h
 
+appended_both : {X Y : Type 0} (f : List X → List Y) (first second : List X) (old mid new : List Y) → f (first ++ second) ≡ f first ++ f second
+    → mid ≡ old ++ f first → new ≡ mid ++ f second → new ≡ old ++ f (first ++ second)
+appended_both f first second old mid new both h k =
+    k ∙ ap (λ xs. xs ++ f second) h ∙ append_assoc old (f first) (f second) ∙ ap (λ xs. old ++ xs) (sym both)
+
 account_kept : (old new : List TargetFault) (outcome : Outcome) → Keeps old new → IsAccounted old outcome → IsAccounted new outcome
 account_kept old new outcome keeps h =
     elim h [
       | inl absent ↦ inl absent
-      | inr reported ↦ inr (report_kept old new (unit_name outcome.stem) outcome.found keeps reported)
+      | inr reported ↦ inr (report_kept old new (name_of outcome.sought) outcome.found keeps reported)
     ]
 
--- a fault that is pushed is there
+-- what was added first, and then what was added afterwards
+added_both : (first second : List Outcome) (old mid new : Loaded) → AreAdded first old mid → AreAdded second mid new → AreAdded (first ++ second) old new
+added_both first second old mid new h k = record {
+  timers = appended_both (flat_map timers_of) first second old.timers.items mid.timers.items new.timers.items (flat_map-append timers_of first second) h.timers k.timers;
+  masked = appended_both (flat_map masked_of) first second (map string_bytes old.masked.items) (map string_bytes mid.masked.items) (map string_bytes new.masked.items)
+      (flat_map-append masked_of first second) h.masked k.masked;
+  accounted = All-append (IsAccounted new.faults.items) first second
+      (All-weaker (IsAccounted mid.faults.items) (IsAccounted new.faults.items) (λ outcome. account_kept mid.faults.items new.faults.items outcome k.kept) first h.accounted)
+      k.accounted;
+  kept = keeps_both old.faults.items mid.faults.items new.faults.items h.kept k.kept;
+}
+
+-- after a fault is appended to a list, the list has it
 pub fault_pushed : (old new : List TargetFault) (fault : TargetFault) (name : List ℕ) (found : TargetLoadFault) → new ≡ old ++ fault ∷ []
     → string_bytes fault.target ≡ name → found ≡ faults.TheVariants.Target fault.reason → HasFault new name found
 fault_pushed old new fault name found e named is =
     subst (HasFault new name) (sym is) (fault, rw e (Contains-push old fault), named, refl)
 
--- the error for a file that can't be used is the one for what is at its path
+-- an error about a file that can't be used is the error for a target whose own file it is
 pub file_unusable : (machine : Machine) (why : Reason) (path : List ℕ) (read : FileRead) (files : List UnitText) (fault : TargetLoadFault) → Unusable why ≡ read
     → IsUnusableFault why path fault → IsFileFault machine read path files fault
 file_unusable machine why path read files (faults.TheVariants.Target reason) is h = subst (λ read. IsFileReason machine read path files reason) is h
 file_unusable machine why path read files faults.TheVariants.NoMemory is h = tt
 
--- what was pushed stays if only faults are added afterwards
+-- what was pushed is kept if only faults are added afterwards
 pub pushed_kept : (name : List ℕ) (found : Result targets.LoadedTarget TargetLoadFault) (old mid new : Loaded)
     → new.timers ≡ mid.timers → new.masked ≡ mid.masked → IsPushed name found old mid → Keeps mid.faults.items new.faults.items → IsPushed name found old new
 pushed_kept name found old mid new timers masked pushed keeps = record {
@@ -74,7 +104,8 @@ pushed_kept name found old mid new timers masked pushed keeps = record {
 
 -- ## Sets of stems
 
--- a set of what `f` gives for the items of a list, with what it gives for one more
+-- If `before` is the sorted set of what `f` returns for the views of `xs`, and `after` also has what it returns for the
+-- view of `x`, then `after` is this set for `xs` followed by `x`.
 pub set_pushed : {X Y : Type 0} (f : Y → Option (List ℕ)) (view : X → Y) (before after : List (List ℕ)) (xs : List X) (x : X)
     → after ≡ with_texts before (option_to_list (f (view x))) → before ≡ sorted_once (filter_map f (map view xs))
     → after ≡ sorted_once (filter_map f (map view (xs ++ x ∷ [])))
@@ -84,71 +115,206 @@ set_pushed f view before after xs x added held =
     ∙ sym (fold-append (insert_key (slice_cmp nat_cmp)) [] (filter_map f (map view xs)) (option_to_list (f (view x))))
     ∙ ap sorted_once (appended_more f view [] (filter_map f (map view xs)) (filter_map f (map view xs) ++ option_to_list (f (view x))) xs x refl refl)
 
--- ## One more unit
+-- a set of the names that pass a test, with one more name if it passes
+pub wanted_pushed : {X : Type 0} (test : List ℕ → Bool) (view : X → List ℕ) (before after : List (List ℕ)) (xs : List X) (x : X)
+    → after ≡ with_texts before (filter test (view x ∷ [])) → before ≡ sorted_once (filter test (map view xs))
+    → after ≡ sorted_once (filter test (map view (xs ++ x ∷ [])))
+wanted_pushed test view before after xs x added held =
+    added
+    ∙ ap (λ names. with_texts names (filter test (view x ∷ []))) held
+    ∙ sym (fold-append (insert_key (slice_cmp nat_cmp)) [] (filter test (map view xs)) (filter test (view x ∷ [])))
+    ∙ ap sorted_once (sym (filter-append test (map view xs) (view x ∷ [])) ∙ ap (filter test) (sym (map-append view xs (x ∷ []))))
 
-abbrev outcome_of : (Knows : Machine → List (List ℕ) → Type 0) (stem : List ℕ) (old new : Loaded) → IsStep Knows stem old new → Outcome
-outcome_of Knows stem old new step = record { stem = stem; found = step.found }
+-- ## What came from outcomes
 
-loaded_more : (Knows : Machine → List (List ℕ) → Type 0) (stem : List ℕ) (old new : Loaded) (step : IsStep Knows stem old new) (outcomes : List Outcome)
-    → AreLoadedFrom outcomes old → AreLoadedFrom (outcomes ++ outcome_of Knows stem old new step ∷ []) new
-loaded_more Knows stem old new step outcomes h =
-    let outcome : Outcome = outcome_of Knows stem old new step in
-    record {
-      timers = step.timers ∙ ap (λ xs. xs ++ timers_in step.found) h.timers ∙ flat_map_more (λ outcome. timers_in outcome.found) [] outcomes outcome;
-      masked = step.masked ∙ ap (λ xs. xs ++ masked_in (unit_name stem) step.found) h.masked
-          ∙ flat_map_more (λ outcome. masked_in (unit_name outcome.stem) outcome.found) [] outcomes outcome;
-      accounted = All-push (IsAccounted new.faults.items) outcomes outcome
-          (All-weaker (IsAccounted old.faults.items) (IsAccounted new.faults.items) (λ outcome. account_kept old.faults.items new.faults.items outcome step.kept) outcomes h.accounted)
-          step.accounted;
-    }
-
--- If what was loaded comes from units with the stems `stems`, then with one more step it comes from these and one more.
--- What is known may become more.
-pub units_more : (Knows Now : Machine → List (List ℕ) → Type 0) (stems : List (List ℕ)) (stem : List ℕ) (old new : Loaded)
+-- the outcomes of `first`, and then those of `second`; what is known may become more
+pub more_both : (Knows Now : Machine → List (List ℕ) → Type 0) (first second : Machine → List (List ℕ) → List Sought) (old mid new : Loaded)
     → ((machine : Machine) (path : List (List ℕ)) → Now machine path → Knows machine path)
-    → HasUnits Knows stems old → IsStep Now stem old new → HasUnits Now (stems ++ stem ∷ []) new
-units_more Knows Now stems stem old new more h step =
-    let outcome : Outcome = outcome_of Now stem old new step in
-    record {
-      outcomes = h.outcomes ++ outcome ∷ [];
-      of_stems = map-append (λ outcome. outcome.stem) h.outcomes (outcome ∷ []) ∙ ap (λ xs. xs ++ stem ∷ []) h.of_stems;
-      loaded_from = loaded_more Now stem old new step h.outcomes h.loaded_from;
-      true_of = λ machine path knows. All-push (IsOutcome machine path) h.outcomes outcome
-          (h.true_of machine path (more machine path knows)) (step.true_of machine path knows);
-    }
+    → IsMore Knows first old mid → IsMore Now second mid new → IsMore Now (λ machine path. first machine path ++ second machine path) old new
+more_both Knows Now first second old mid new known h k = record {
+  outcomes = h.outcomes ++ k.outcomes;
+  added = added_both h.outcomes k.outcomes old mid new h.added k.added;
+  are = record {
+    true_of = λ machine path now. All-append (IsOutcome machine path) h.outcomes k.outcomes
+        (h.are.true_of machine path (known machine path now)) (k.are.true_of machine path now);
+    are_all = λ machine path now.
+        map-append (λ outcome. outcome.sought) h.outcomes k.outcomes
+        ∙ ap (λ xs. xs ++ map (λ outcome. outcome.sought) k.outcomes) (h.are.are_all machine path (known machine path now))
+        ∙ ap (λ xs. first machine path ++ xs) (k.are.are_all machine path now);
+  };
+}
 
-pub no_units : (Knows : Machine → List (List ℕ) → Type 0) (loaded : Loaded) → loaded.timers.items ≡ [] → loaded.masked.items ≡ [] → HasUnits Knows [] loaded
-no_units Knows loaded timers masked = record {
+-- if `first` and `second` are the same wherever `Now` is true
+pub more_as : (Knows Now : Machine → List (List ℕ) → Type 0) (first second : Machine → List (List ℕ) → List Sought) (old new : Loaded)
+    → ((machine : Machine) (path : List (List ℕ)) → Now machine path → Knows machine path)
+    → ((machine : Machine) (path : List (List ℕ)) → Now machine path → first machine path ≡ second machine path)
+    → IsMore Knows first old new → IsMore Now second old new
+more_as Knows Now first second old new known same h = record {
+  outcomes = h.outcomes;
+  added = h.added;
+  are = record {
+    true_of = λ machine path now. h.are.true_of machine path (known machine path now);
+    are_all = λ machine path now. h.are.are_all machine path (known machine path now) ∙ same machine path now;
+  };
+}
+
+pub none_more : (Knows : Machine → List (List ℕ) → Type 0) (loaded : Loaded) → IsMore Knows (λ machine path. []) loaded loaded
+none_more Knows loaded = record {
   outcomes = [];
-  of_stems = refl;
-  loaded_from = record { timers = timers; masked = ap (map string_bytes) masked; accounted = All-nil (IsAccounted loaded.faults.items) };
-  true_of = λ machine path knows. All-nil (IsOutcome machine path);
+  added = record {
+    timers = sym (append-nil loaded.timers.items);
+    masked = sym (append-nil (map string_bytes loaded.masked.items));
+    accounted = All-nil (IsAccounted loaded.faults.items);
+    kept = keeps_same loaded.faults.items;
+  };
+  are = record {
+    true_of = λ machine path knows. All-nil (IsOutcome machine path);
+    are_all = λ machine path knows. refl;
+  };
 }
 
--- a step in which nothing was loaded, since a unit has no file
-pub absent_step : (Knows : Machine → List (List ℕ) → Type 0) (stem : List ℕ) (loaded : Loaded) (found : Result targets.LoadedTarget TargetLoadFault)
+-- what was loaded comes from these outcomes alone, if nothing had been loaded before
+pub all_loaded : (Knows : Machine → List (List ℕ) → Type 0) (sought : Machine → List (List ℕ) → List Sought) (start loaded : Loaded)
+    → start.timers.items ≡ [] → start.masked.items ≡ [] → IsMore Knows sought start loaded → HasAll Knows sought loaded
+all_loaded Knows sought start loaded timers masked h = record {
+  outcomes = h.outcomes;
+  loaded_from = record {
+    timers = h.added.timers ∙ ap (λ xs. xs ++ flat_map timers_of h.outcomes) timers;
+    masked = h.added.masked ∙ ap (λ xs. map string_bytes xs ++ flat_map masked_of h.outcomes) masked;
+    accounted = h.added.accounted;
+  };
+  are = h.are;
+}
+
+-- ## One more outcome
+
+abbrev outcome_of : Sought → Result targets.LoadedTarget TargetLoadFault → Outcome
+outcome_of sought found = record { sought = sought; found = found }
+
+one_outcome : (Knows : Machine → List (List ℕ) → Type 0) (sought : Sought) (found : Result targets.LoadedTarget TargetLoadFault)
+    → ((machine : Machine) (path : List (List ℕ)) → Knows machine path → IsFound machine path sought found)
+    → AreOutcomes Knows (λ machine path. sought ∷ []) (outcome_of sought found ∷ [])
+one_outcome Knows sought found true_of = record {
+  true_of = λ machine path knows. All-cons (IsOutcome machine path) (outcome_of sought found) [] (true_of machine path knows) (All-nil (IsOutcome machine path));
+  are_all = λ machine path knows. refl;
+}
+
+-- what was found was pushed under its name
+pub pushed_more : (Knows : Machine → List (List ℕ) → Type 0) (sought : Sought) (name : List ℕ) (old new : Loaded) (found : Result targets.LoadedTarget TargetLoadFault)
+    → name ≡ name_of sought → IsPushed name found old new
+    → ((machine : Machine) (path : List (List ℕ)) → Knows machine path → IsFound machine path sought found)
+    → IsMore Knows (λ machine path. sought ∷ []) old new
+pushed_more Knows sought name old new found e pushed true_of = record {
+  outcomes = outcome_of sought found ∷ [];
+  added = record {
+    timers = pushed.timers ∙ ap (λ xs. old.timers.items ++ xs) (sym (append-nil (timers_in found)));
+    masked = pushed.masked ∙ ap (λ xs. map string_bytes old.masked.items ++ xs) (ap (λ name. masked_in name found) e ∙ sym (append-nil (masked_in (name_of sought) found)));
+    accounted = All-cons (IsAccounted new.faults.items) (outcome_of sought found) []
+        (inr (subst (λ name. IsReported new.faults.items name found) e pushed.reported)) (All-nil (IsAccounted new.faults.items));
+    kept = pushed.kept;
+  };
+  are = one_outcome Knows sought found true_of;
+}
+
+-- nothing was loaded, since a unit of the search path has no file
+pub absent_more : (Knows : Machine → List (List ℕ) → Type 0) (stem : List ℕ) (loaded : Loaded) (found : Result targets.LoadedTarget TargetLoadFault)
     → is_absent found ≡ true → ((machine : Machine) (path : List (List ℕ)) → Knows machine path → IsFoundOf machine path stem found)
-    → IsStep Knows stem loaded loaded
-absent_step Knows stem loaded (Ok found) e true_of = absurd (cc)
-absent_step Knows stem loaded (Err fault) e true_of = record {
-  found = Err fault;
-  timers = sym (append-nil loaded.timers.items);
-  masked = sym (append-nil (map string_bytes loaded.masked.items));
-  accounted = inl (rw e refl);
-  kept = keeps_same loaded.faults.items;
-  true_of = true_of;
+    → IsMore Knows (λ machine path. ListedUnit stem ∷ []) loaded loaded
+absent_more Knows stem loaded (Ok found) e true_of = absurd (cc)
+absent_more Knows stem loaded (Err fault) e true_of = record {
+  outcomes = outcome_of (ListedUnit stem) (Err fault) ∷ [];
+  added = record {
+    timers = sym (append-nil loaded.timers.items);
+    masked = sym (append-nil (map string_bytes loaded.masked.items));
+    accounted = All-cons (IsAccounted loaded.faults.items) (outcome_of (ListedUnit stem) (Err fault)) [] (inl (rw e refl)) (All-nil (IsAccounted loaded.faults.items));
+    kept = keeps_same loaded.faults.items;
+  };
+  are = one_outcome Knows (ListedUnit stem) (Err fault) true_of;
 }
 
--- a step in which what was found was pushed under the name of the unit
-pub pushed_step : (Knows : Machine → List (List ℕ) → Type 0) (stem name : List ℕ) (old new : Loaded) (found : Result targets.LoadedTarget TargetLoadFault)
-    → name ≡ unit_name stem → IsPushed name found old new
-    → ((machine : Machine) (path : List (List ℕ)) → Knows machine path → IsFoundOf machine path stem found)
-    → IsStep Knows stem old new
-pushed_step Knows stem name old new found e pushed true_of = record {
-  found = found;
-  timers = pushed.timers;
-  masked = pushed.masked ∙ ap (λ name. map string_bytes old.masked.items ++ masked_in name found) e;
-  accounted = inr (subst (λ name. IsReported new.faults.items name found) e pushed.reported);
-  kept = pushed.kept;
-  true_of = true_of;
-}
+-- ## What was found, and errors in finding it
+
+pub ok_or_err : {X E : Type 0} (P : X → Type 0) (Q : E → Type 0) (R : Result X E → Type 0) (r : Result X E)
+    → ((x : X) → P x → R (Ok x)) → ((e : E) → Q e → R (Err e)) → IfOk r P → IfErr r Q → R r
+ok_or_err P Q R (Ok x) f g h k = f x h
+ok_or_err P Q R (Err e) f g h k = g e k
+
+unread_alone : (folder : List ℕ) (names : Result Listing Unreadable) (reason : TargetReason) → IsUnreadReason folder names reason
+    → NamesIn folder ∷ [] ≡ sought_in folder (seen (wanted_in Timers) names)
+unread_alone folder (Ok names) reason h = absurd h
+unread_alone folder (Err why) reason h = refl
+
+-- a folder whose names can't be read
+pub unread_more : (Shows : Machine → Type 0) (folder : List ℕ) (fault : TargetLoadFault) (old new : Loaded)
+    → ((machine : Machine) → Shows machine → IsUnreadFault folder (names_at machine folder) fault)
+    → IsPushed folder (Err fault) old new
+    → IsMore (λ machine path. Shows machine) (λ machine path. sought_in folder (wanted_at machine Timers folder)) old new
+unread_more Shows folder (faults.TheVariants.Target reason) old new unread pushed =
+    let Knows : Machine → List (List ℕ) → Type 0 = λ machine path. Shows machine in
+    more_as Knows Knows (λ machine path. NamesIn folder ∷ []) (λ machine path. sought_in folder (wanted_at machine Timers folder)) old new
+    (λ machine path shows. shows) (λ machine path shows. unread_alone folder (names_at machine folder) reason (unread machine shows))
+    (pushed_more Knows (NamesIn folder) folder old new (Err (faults.TheVariants.Target reason)) refl pushed (λ machine path shows. unread machine shows))
+unread_more Shows folder faults.TheVariants.NoMemory old new unread pushed = absurd pushed.reported
+
+-- one more file of a folder
+pub file_more : (Knows Now : Machine → List (List ℕ) → Type 0) (folder : List ℕ) (names : List (String Global)) (name : String Global) (path : List ℕ) (old mid new : Loaded)
+    → ((machine : Machine) (path : List (List ℕ)) → Now machine path → Knows machine path) → path ≡ path_in folder (string_bytes name)
+    → IsMore Knows (λ machine path. files_with folder (map string_bytes names)) old mid → IsMore Now (λ machine search. SingleFile path ∷ []) mid new
+    → IsMore Now (λ machine path. files_with folder (map string_bytes (names ++ name ∷ []))) old new
+file_more Knows Now folder names name path old mid new known is h k =
+    let before : List Sought = files_with folder (map string_bytes names) in
+    more_as Now Now (λ machine search. before ++ SingleFile path ∷ []) (λ machine search. files_with folder (map string_bytes (names ++ name ∷ []))) old new
+    (λ machine search now. now)
+    (λ machine search now.
+    ap (λ path. before ++ SingleFile path ∷ []) is
+    ∙ sym (map-append (λ name. SingleFile (path_in folder name)) (map string_bytes names) (string_bytes name ∷ []))
+    ∙ ap (files_with folder) (sym (map-append string_bytes names (name ∷ []))))
+    (more_both Knows Now (λ machine search. before) (λ machine search. SingleFile path ∷ []) old mid new known h k)
+
+-- one more unit of the search path
+pub listed_more : (Knows Now : Machine → List (List ℕ) → Type 0) (stems : List (String Global)) (stem : String Global) (name : List ℕ) (old mid new : Loaded)
+    → ((machine : Machine) (path : List (List ℕ)) → Now machine path → Knows machine path) → name ≡ string_bytes stem
+    → IsMore Knows (λ machine path. map ListedUnit (map string_bytes stems)) old mid → IsMore Now (λ machine path. ListedUnit name ∷ []) mid new
+    → IsMore Now (λ machine path. map ListedUnit (map string_bytes (stems ++ stem ∷ []))) old new
+listed_more Knows Now stems stem name old mid new known is h k =
+    let before : List Sought = map ListedUnit (map string_bytes stems) in
+    more_as Now Now (λ machine path. before ++ ListedUnit name ∷ []) (λ machine path. map ListedUnit (map string_bytes (stems ++ stem ∷ []))) old new
+    (λ machine path now. now)
+    (λ machine path now.
+    ap (λ name. before ++ ListedUnit name ∷ []) is
+    ∙ sym (map-append ListedUnit (map string_bytes stems) (string_bytes stem ∷ []))
+    ∙ ap (map ListedUnit) (sym (map-append string_bytes stems (stem ∷ []))))
+    (more_both Knows Now (λ machine path. before) (λ machine path. ListedUnit name ∷ []) old mid new known h k)
+
+-- one more target
+pub target_more : (Knows Now : Machine → List (List ℕ) → Type 0) (targets : List (Bor (List ℕ))) (i : ℕ) (target other : Bor (List ℕ)) (old mid new : Loaded)
+    → ((machine : Machine) (path : List (List ℕ)) → Now machine path → Knows machine path) → i < length targets → target.now ≡ (get_or targets i other).now
+    → IsMore Knows (λ machine path. flat_map (sought_by machine) (map (λ target. target.now) (take i targets))) old mid
+    → IsMore Now (λ machine path. sought_by machine target.now) mid new
+    → IsMore Now (λ machine path. flat_map (sought_by machine) (map (λ target. target.now) (take (i + 1) targets))) old new
+target_more Knows Now targets i target other old mid new known within is h k =
+    let before : Machine → List Sought = λ machine. flat_map (sought_by machine) (map (λ target. target.now) (take i targets)) in
+    more_as Now Now (λ machine path. before machine ++ sought_by machine target.now) (λ machine path. flat_map (sought_by machine) (map (λ target. target.now) (take (i + 1) targets))) old new
+    (λ machine path now. now)
+    (λ machine path now.
+    ap (λ name. before machine ++ sought_by machine name) is
+    ∙ flat_map_more (sought_by machine) [] (map (λ target. target.now) (take i targets)) (get_or targets i other).now
+    ∙ ap (flat_map (sought_by machine)) (sym (map-append (λ target. target.now) (take i targets) (get_or targets i other ∷ []))
+    ∙ ap (map (λ target. target.now)) (sym (take_more targets i other within))))
+    (more_both Knows Now (λ machine path. before machine) (λ machine path. sought_by machine target.now) old mid new known h k)
+
+-- ## Kinds of targets
+
+pub folder_sought : (machine : Machine) (path : List ℕ) → is_folder (end_at machine path) ≡ true
+    → sought_in path (wanted_at machine Timers path) ≡ sought_at machine path
+folder_sought machine path e = rw e refl
+
+pub file_sought : (machine : Machine) (path : List ℕ) → is_folder (end_at machine path) ≡ false → SingleFile path ∷ [] ≡ sought_at machine path
+file_sought machine path e = rw e refl
+
+pub path_sought : (machine : Machine) (target path : List ℕ) → is_path target ≡ true → path ≡ without_slashes target
+    → sought_at machine path ≡ sought_by machine target
+path_sought machine target path e is = rw e (ap (sought_at machine) is)
+
+pub name_sought : (machine : Machine) (target : List ℕ) → is_path target ≡ false → NamedUnit target ∷ [] ≡ sought_by machine target
+name_sought machine target e = rw e refl

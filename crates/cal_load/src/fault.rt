@@ -2,7 +2,7 @@
 
 ghost use Rattle.std.specs.Prelude.{◌≡◌, OnOk};
 ghost use Rattle.cal_load.specs.declared.fault.TargetLoadFault.TheVariants.{NoMemory};
-ghost use Rattle.cal_load.specs.rules.AllUnits.{HasFault, IsNotUtf8Fault, IsPathFault, Keeps};
+ghost use Rattle.cal_load.specs.rules.AllUnits.{HasFault, IsNotUtf8Fault, IsPathFault, IsTreeFault, Keeps};
 
 use crate::target_fault::{TargetFault, TargetReason};
 use cal_machine::TreeFault;
@@ -56,7 +56,9 @@ impl TargetLoadFault {
     }
 
     /// Converts the error with which reading at this path failed.
-    pub(crate) fn of_tree(alloc: Global, path: &str, fault: TreeFault) -> TargetLoadFault {
+    pub(crate) fn of_tree(alloc: Global, path: &str, fault: TreeFault) -> TargetLoadFault
+        ensures { IsTreeFault path.now fault result }
+    {
         match fault {
             TreeFault::Unreadable(why) => {
                 TargetLoadFault::at(alloc, path, Reason::Unreadable(why))
@@ -87,7 +89,7 @@ pub(crate) fn push_fault(
     }
 }
 
-/// Adds what was lost of units, such as a drop-in that can't be read, to `faults`. Each path is added once.
+/// Adds the drop-ins and drop-in folders that can't be read to `faults`, unless `faults` has their paths already.
 pub(crate) fn push_lost(
     faults: &mut Vec<TargetFault>,
     lost: Vec<UnitFault>,

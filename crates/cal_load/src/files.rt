@@ -72,7 +72,7 @@ fn all_files<T: Tree>(
 /// What became of the file at a path.
 #[derive(Clone, Copy, PartialEq, Eq, Debug)]
 enum Taken {
-    /// It was read, now or before.
+    /// It was read, or it has been tried before, with whatever result.
     Read,
     /// It is a mask.
     Masked,
@@ -172,8 +172,8 @@ impl Reading {
         }
     }
 
-    /// Reads the file of a unit, and then its drop-ins unless the file is a mask. Returns why the file can't be used, if it
-    /// can't.
+    /// Reads the file of a unit, and then its drop-ins, unless the file is a mask. `asked` is the stem by which the
+    /// unit was asked for. Returns the reason if the file can't be used.
     fn take_unit<T: Tree>(
         &mut self,
         alloc: Global,
@@ -216,7 +216,7 @@ impl Reading {
         Ok(())
     }
 
-    /// Reads the drop-in at a path. A folder or a link to nothing is read as nothing, as in systemd.
+    /// Reads the drop-in at a path. Skips a folder or a link to nothing, as systemd does.
     fn take_drop_in<T: Tree>(
         &mut self,
         alloc: Global,

@@ -1,5 +1,5 @@
-//! The timers that a user names by unit, by file, by folder or by expression, with the zones that their expressions
-//! name; and the files that a user names, not parsed.
+//! Loading the timers that a user names by unit, by file, by folder or by expression, with the zones that their
+//! expressions name, and reading the files of timers without parsing them.
 #![tactic(auto)]
 
 mod calendar;

@@ -17,10 +17,10 @@ use std::alloc::{AllocError, Global};
 /// A timer, and everything that its elapses depend on except the local zone.
 #[derive(Drop)]
 pub struct LoadedTimer {
-    /// The name of the unit's file, such as `backup.timer`; or the path of a file that was read by itself; or the
-    /// expressions, separated by commas.
+    /// The unit's own name, such as `backup.timer`; or the path of a file that was read by itself; or the expressions,
+    /// separated by commas.
     pub name: String,
-    /// The files that were read: first the timer's own file, and then its drop-ins.
+    /// The files that were read: first the timer's own file, and then its drop-ins. Empty for expressions.
     pub files: Vec<UnitText>,
     /// The number of each file's first line. Line numbers continue from file to file.
     pub first_lines: Vec<u32>,
@@ -111,7 +111,7 @@ pub struct Loaded {
     pub faults: Vec<TargetFault>,
 }
 
-/// What a name of a unit, or the path of a file, stands for.
+/// What was found for the name of a unit or the path of a file.
 #[derive(Drop)]
 pub(crate) enum LoadedTarget {
     Timer(LoadedTimer),

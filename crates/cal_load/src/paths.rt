@@ -1,19 +1,22 @@
 //! Targets that are paths: folders and files.
 
-ghost use Rattle.std.specs.Prelude.{◌≡◌, IfOk};
+ghost use Rattle.std.specs.Prelude.{◌≡◌, IfOk, string_bytes};
 ghost use Rattle.cal_machine.specs.rules.Machine.{Machine};
 ghost use Rattle.cal_unit_index.specs.rules.Folders.{end_at};
+ghost use Rattle.cal_load.specs.rules.AllTargets.{before_slash, is_path, path_in, without_slashes};
 ghost use Rattle.cal_load.specs.rules.LoadedTarget.{is_folder};
 
 use cal_machine::{Entry, Last, Tree, TreeFault, find_place};
 use std::alloc::{AllocError, Global};
 
 /// Returns whether a target is a path: it has a `/`, or it is `.` or `..`. Any other target is the name of a unit.
-pub fn is_path(target: &str) -> bool {
+pub fn is_path(target: &str) -> bool
+    ensures { result ≡ is_path target.now }
+{
     target.as_bytes().contains(&b'/') || target == "." || target == ".."
 }
 
-/// Returns whether a path leads to a folder.
+/// Returns whether a path leads to a folder. Returns `false` if the path can't be followed.
 pub(crate) fn is_folder<T: Tree>(
     alloc: Global,
     tree: &mut T,
@@ -31,15 +34,24 @@ pub(crate) fn is_folder<T: Tree>(
 }
 
 /// Removes the slashes at the end of a path. The path of the root keeps one.
-pub(crate) fn without_slashes(path: &str) -> &str {
+pub(crate) fn without_slashes(path: &str) -> &str
+    ensures { result.now ≡ without_slashes path.now }
+{
     let shorter = path.trim_end_matches('/');
     if shorter.is_empty() { "/" } else { shorter }
 }
 
 /// Returns the path of the file `name` in `folder`. The path of the folder must not end with a slash, unless it is `/`.
-pub(crate) fn path_in(alloc: Global, folder: &str, name: &str) -> Result<String, AllocError> {
-    if folder == "/" {
-        return format!(in alloc; "/{name}");
-    }
+pub(crate) fn path_in(alloc: Global, folder: &str, name: &str) -> Result<String, AllocError>
+    ensures { IfOk result (λ path. string_bytes path ≡ path_in folder.now name.now) }
+{
+    let folder = before_slash(folder);
     format!(in alloc; "{folder}/{name}")
+}
+
+/// Returns what stands before the slash and the name in the path of a file in `folder`: nothing in the root.
+fn before_slash(folder: &str) -> &str
+    ensures { result.now ≡ before_slash folder.now }
+{
+    if folder == "/" { "" } else { folder }
 }

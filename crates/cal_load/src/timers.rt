@@ -1,13 +1,17 @@
 //! The timers that a user names.
 
-ghost use Rattle.std.specs.Prelude.{◌≡◌, ℕ, List, [], All, IfOk, OnOk};
+ghost use Rattle.std.specs.Prelude.{◌≡◌, ◌≢◌, ◌∷◌, ℕ, List, [], All, IfOk, OnOk, map};
 ghost use Rattle.cal_machine.specs.rules.Machine.{Machine};
 ghost use Rattle.cal_unit_index.specs.rules.Index.{IsIndexOf};
-ghost use Rattle.cal_load.specs.rules.AllUnits.{HasAllUnits, IsPushed, IsStep, is_absent};
+ghost use Rattle.cal_load.specs.declared.names.Wanted.TheVariants.{Timers};
+ghost use Rattle.cal_unit_index.specs.rules.UnitName.{unit_stem};
+ghost use Rattle.cal_load.specs.rules.AllTargets.Sought.{ListedUnit, SingleFile};
+ghost use Rattle.cal_load.specs.rules.AllTargets.{HasAllTargets, HasAllUnits, IsFoundIfValid, IsMore, sought_at, sought_by, sought_in, wanted_at};
+ghost use Rattle.cal_load.specs.rules.AllUnits.{IsPushed, is_absent};
 ghost use Rattle.cal_load.specs.rules.Loaded.{IsTimerOn};
 ghost use Rattle.cal_load.specs.rules.LoadedTarget.{IsLoadedTarget};
 
-use crate::fault::{TargetLoadFault, push_fault, push_lost};
+use crate::fault::{TargetLoadFault, push_lost};
 use crate::loaded::{Loaded, LoadedTarget};
 use crate::names::{Wanted, files_in, units_in};
 use crate::paths::{is_folder, is_path, path_in, without_slashes};
@@ -39,6 +43,8 @@ pub fn load_timers<T: Tree>(
     ensures known { IfOk result (λ loaded. (machine : Machine) (path : List (List ℕ)) → T.shows tree.new machine
         → IsIndexOf machine path index.now → All (IsTimerOn machine path) loaded.timers.items) }
     ensures whole { targets.now ≡ [] → IfOk result (HasAllUnits (λ machine path. T.shows tree.new machine × IsIndexOf machine path index.now)) }
+    ensures targets { targets.now ≢ [] → IfOk result (HasAllTargets (λ machine path. T.shows tree.new machine × IsIndexOf machine path index.now)
+        (map (λ target. target.now) targets.now)) }
     ensures grows { (machine : Machine) → T.shows tree.new machine → T.shows tree.old machine }
 {
     if targets.is_empty() {
@@ -73,8 +79,8 @@ fn load_listed<T: Tree>(
     stem: &str,
     loaded: &mut Loaded,
 ) -> Result<(), AllocError>
-    ensures step { OnOk result (IsStep (λ machine path. T.shows tree.new machine × IsIndexOf machine path index.now)
-        stem.now loaded.old loaded.new) }
+    ensures more { OnOk result (IsMore (λ machine path. T.shows tree.new machine × IsIndexOf machine path index.now)
+        (λ machine path. ListedUnit stem.now ∷ []) loaded.old loaded.new) }
     ensures known { OnOk result ((machine : Machine) (path : List (List ℕ)) → T.shows tree.new machine
         → IsIndexOf machine path index.now → All (IsTimerOn machine path) loaded.old.timers.items
         → All (IsTimerOn machine path) loaded.new.timers.items) }
@@ -89,7 +95,7 @@ fn load_listed<T: Tree>(
     push_found(alloc, loaded, name.as_str(), found, lost)
 }
 
-/// Appends what was found for a target, and what was lost of it.
+/// Appends what was found for a target, and the errors about its drop-ins.
 fn push_found(
     alloc: Global,
     loaded: &mut Loaded,
@@ -116,6 +122,8 @@ fn load_target<T: Tree>(
     target: &str,
     loaded: &mut Loaded,
 ) -> Result<(), AllocError>
+    ensures more { OnOk result (IsMore (λ machine path. T.shows tree.new machine × IsIndexOf machine path index.now)
+        (λ machine path. sought_by machine target.now) loaded.old loaded.new) }
     ensures known { OnOk result ((machine : Machine) (path : List (List ℕ)) → T.shows tree.new machine
         → IsIndexOf machine path index.now → All (IsTimerOn machine path) loaded.old.timers.items
         → All (IsTimerOn machine path) loaded.new.timers.items) }
@@ -139,6 +147,8 @@ fn read_named<T: Tree>(
 ) -> Result<LoadedTarget, TargetLoadFault>
     ensures known { IfOk result (λ found. (machine : Machine) (path : List (List ℕ)) → T.shows tree.new machine
         → IsIndexOf machine path index.now → IsLoadedTarget machine path found) }
+    ensures found { (machine : Machine) (path : List (List ℕ)) → T.shows tree.new machine
+        → IsIndexOf machine path index.now → IsFoundIfValid machine path (unit_stem name.now) result }
     ensures grows { (machine : Machine) → T.shows tree.new machine → T.shows tree.old machine }
 {
     match unit_stem(name) {
@@ -154,6 +164,8 @@ fn load_path<T: Tree>(
     target: &str,
     loaded: &mut Loaded,
 ) -> Result<(), AllocError>
+    ensures more { OnOk result (IsMore (λ machine path. T.shows tree.new machine)
+        (λ machine path. sought_at machine target.now) loaded.old loaded.new) }
     ensures known { OnOk result ((machine : Machine) (path : List (List ℕ)) → T.shows tree.new machine
         → All (IsTimerOn machine path) loaded.old.timers.items → All (IsTimerOn machine path) loaded.new.timers.items) }
     ensures grows { (machine : Machine) → T.shows tree.new machine → T.shows tree.old machine }
@@ -171,6 +183,8 @@ fn load_file<T: Tree>(
     path: &str,
     loaded: &mut Loaded,
 ) -> Result<(), AllocError>
+    ensures more { OnOk result (IsMore (λ machine path. T.shows tree.new machine)
+        (λ machine search. SingleFile path.now ∷ []) loaded.old loaded.new) }
     ensures known { OnOk result ((machine : Machine) (path : List (List ℕ)) → T.shows tree.new machine
         → All (IsTimerOn machine path) loaded.old.timers.items → All (IsTimerOn machine path) loaded.new.timers.items) }
     ensures grows { (machine : Machine) → T.shows tree.new machine → T.shows tree.old machine }
@@ -185,13 +199,15 @@ fn load_folder<T: Tree>(
     folder: &str,
     loaded: &mut Loaded,
 ) -> Result<(), AllocError>
+    ensures more { OnOk result (IsMore (λ machine path. T.shows tree.new machine)
+        (λ machine path. sought_in folder.now (wanted_at machine Timers folder.now)) loaded.old loaded.new) }
     ensures known { OnOk result ((machine : Machine) (path : List (List ℕ)) → T.shows tree.new machine
         → All (IsTimerOn machine path) loaded.old.timers.items → All (IsTimerOn machine path) loaded.new.timers.items) }
     ensures grows { (machine : Machine) → T.shows tree.new machine → T.shows tree.old machine }
 {
     let names = match files_in(alloc, tree, folder, Wanted::Timers) {
         Ok(names) => names,
-        Err(fault) => return push_fault(alloc, &mut loaded.faults, folder, fault),
+        Err(fault) => return loaded.push(alloc, folder, Err(fault)),
     };
     for name in names {
         let file = path_in(alloc, folder, name.as_str())?;

@@ -13,6 +13,7 @@ ghost use Rattle.cal_unit_index.specs.rules.Index.{IsIndexOf};
 ghost use Rattle.cal_unit_index.specs.rules.Names.{names_on};
 ghost use Rattle.cal_unit_index.specs.rules.Units.{unit_on};
 ghost use Rattle.cal_load.specs.rules.TextFaults.{IsAssignmentFault, IsLineReason, IsTextFault, IsZoneReason, IsZonesFault, at_line};
+ghost use Rattle.cal_load.specs.rules.AllTargets.{IsReadAt};
 ghost use Rattle.cal_load.specs.rules.AllUnits.{IsFileFault, IsTimerFileFault, IsUnitFault, IsUnusableFault};
 ghost use Rattle.cal_load.specs.rules.Loaded.{IsCalendarBy, IsCalendarOf, IsTimerReadFrom, unit_texts};
 ghost use Rattle.cal_load.specs.rules.LoadedTarget.{IsFoundTarget, IsLoadedFile, IsLoadedUnit, IsOwnFile};
@@ -41,8 +42,8 @@ struct ParsedFiles {
     notes: Vec<String>,
 }
 
-/// Reads the unit that is found for this stem, with its drop-ins. Adds the drop-ins and their folders that can't be read
-/// to `lost`.
+/// Reads the unit that is found for this stem, with its drop-ins. Adds the drop-ins and drop-in folders that can't be
+/// read to `lost`.
 pub(crate) fn read_unit<T: Tree>(
     alloc: Global,
     tree: &mut T,
@@ -64,7 +65,7 @@ pub(crate) fn read_unit<T: Tree>(
     }
 }
 
-/// Reads the unit with this file.
+/// Reads the unit with this file and its drop-ins. `asked` is the stem by which the unit was asked for.
 fn read_found<T: Tree>(
     alloc: Global,
     tree: &mut T,
@@ -125,7 +126,7 @@ fn own_fault(alloc: Global, path: &str, reason: Reason) -> TargetLoadFault
     }
 }
 
-/// Reads the drop-ins of a unit. Adds those that can't be read to `lost`, and so each of their folders.
+/// Reads the drop-ins of a unit. Adds the drop-ins and drop-in folders that can't be read to `lost`.
 fn drop_in_texts<T: Tree>(
     alloc: Global,
     tree: &mut T,
@@ -180,6 +181,7 @@ pub(crate) fn read_timer_file<T: Tree>(
     ensures fault { IfErr result (λ fault. (machine : Machine) → T.shows tree.new machine
         → IsTimerFileFault machine path.now fault) }
     ensures grows { (machine : Machine) → T.shows tree.new machine → T.shows tree.old machine }
+    ensures read { IfOk result (λ found. (machine : Machine) → T.shows tree.new machine → IsReadAt machine path.now found) }
 {
     let Some(own) = read_own(alloc, tree, path)? else {
         return Ok(LoadedTarget::Masked);
@@ -189,7 +191,7 @@ pub(crate) fn read_timer_file<T: Tree>(
     Ok(LoadedTarget::Timer(timer_from_files(alloc, tree, name, files)?))
 }
 
-/// Returns the timer that these files make up.
+/// Parses the files of a timer, and loads the zones that they name.
 fn timer_from_files<T: Tree>(
     alloc: Global,
     tree: &mut T,

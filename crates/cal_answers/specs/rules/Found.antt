@@ -1,4 +1,4 @@
--- What is found when a question is read: the clause of `read_question`, which `calendar-timers` calls for each run.
+-- What is found when a question is read: the contract of `read_question`, which `calendar-timers` calls once per run.
 use Rattle.std.specs.Prelude.{◌≡◌, ◌⊎◌, ◌==◌, ⊤, ℕ, ℤ, Bool, true, false, All, List, [], ◌∷◌, Option, Some, length, map, nat_le, option_map, string_bytes}
 use Rattle.std.specs.Option.{option_or}
 use Rattle.cal_machine.specs.rules.Machine.{Machine}
@@ -10,7 +10,7 @@ use Rattle.cal_unit_index.specs.declared.index.UnitIndex.{UnitIndex}
 use Rattle.cal_unit_index.specs.rules.Index.{IsIndexOf}
 use Rattle.cal_zone_files.specs.rules.MachineLocalZone.{machine_local_zone}
 use Rattle.cal_load.specs.declared.loaded.Loaded.{Loaded}
-use Rattle.cal_load.specs.rules.AllUnits.{HasAllUnits}
+use Rattle.cal_load.specs.rules.AllTargets.{HasAllUnits}
 use Rattle.cal_load.specs.rules.Expressions.{IsMadeOf}
 use Rattle.cal_load.specs.rules.Loaded.{IsStoredOn, IsTimerOn}
 use Rattle.cal_answers.specs.declared.found.Found as founds
@@ -31,7 +31,7 @@ AreTimersOn machine path loaded = All (IsTimerOn machine path) loaded.timers.ite
 abbrev pub AreMadeOf : Machine → List (List ℕ) → Loaded → Type 0
 AreMadeOf machine texts loaded = All (IsMadeOf machine texts) loaded.timers.items
 
--- a target of `same` is a unit, a file or an expression
+-- what was loaded for a target of `same`: units or files of the machine, or the target as an expression
 abbrev pub IsSideOn : Machine → List (List ℕ) → List ℕ → Loaded → Type 0
 IsSideOn machine path target loaded = AreTimersOn machine path loaded ⊎ AreMadeOf machine (target ∷ []) loaded
 
@@ -94,8 +94,8 @@ IsIndexFor machine path index = IsIndexOf machine path index ⊎ IsIndexOf machi
 abbrev pub IsPathOf : Machine → Bool → List (List ℕ) → Type 0
 IsPathOf machine is_user path = (machine_path machine is_user ≡ Some path) ⊎ (path ≡ [])
 
--- What is known for a question is so on this machine: its local zone, the index of its search path, and the timers and
--- files that the targets stand for. A question about all units has all of them.
+-- What is known for a question is true on this machine: the local zone, the index of the search path, and the timers
+-- and files that the targets stand for. If the question is about all units, all of them are known.
 pub record IsKnownOn (machine : Machine) (question : Question) (known : Known) : Type 0 where
   pub local : IsLocalZone machine (machine_local_zone machine (option_map string_bytes question.zone)) (clock_zone known.local)
   pub path : List (List ℕ)
@@ -106,8 +106,8 @@ pub record IsKnownOn (machine : Machine) (question : Question) (known : Known) :
   pub whole : is_about_all question.verb (length question.targets.items) ≡ true
       → (machine_path machine question.is_user ≡ Some path) × AreAllUnitsOn machine path known.loaded
 
--- What is known for a question rests on what was read. `given`: the raw system gave each answer that was read.
--- `present`: the present is that of the question, or else that of the clock. `is_so`: what is known is so on every
+-- What is known for a question follows from what was read. `given`: the system calls gave each answer that was read.
+-- `present`: the present is that of the question, or else that of the clock. `is_so`: what is known is true on every
 -- machine that matches what was read. `possible`: such a machine exists.
 pub record IsKnownBy (gives : Said → Bool) (question : Question) (clock : Option ℤ) (known : Known) : Type 0 where
   pub read : Seen

@@ -1,4 +1,4 @@
--- The local zone of a machine, as a zone of `jiff`. Which zone it is, `cal_zone_files` says.
+-- The local zone of a machine, as a zone of `jiff`. `cal_zone_files` defines which zone is the local zone.
 use Rattle.std.specs.Prelude.{◌≡◌, ℕ, Bool, true, false, List, Option, None, Some, string_bytes}
 use Rattle.jiff.specs.Placed.{IsPosixZone}
 use Rattle.jiff.specs.Types.{TimeZone, UTC}
@@ -12,12 +12,12 @@ use Rattle.cal_zone.specs.rules.ZoneTable.{zone_named}
 use Rattle.cal_answers.specs.declared.local_clock.LocalClock.{LocalClock}
 use Rattle.cal_answers.specs.declared.local_clock.LocalClock.TheVariants.{Fixed, Ruled, Named}
 
--- whether the zone is the one that a name stands for, which is UTC if the name is `UTC`, ignoring case
+-- whether the zone is the one with this name; the flag says whether the name is `UTC`, ignoring case
 abbrev pub IsZoneNamed : Machine → List ℕ → Bool → TimeZone → Type 0
 IsZoneNamed machine name true zone = zone ≡ UTC
 IsZoneNamed machine name false zone = IsZoneOn machine name zone
 
--- whether the zone of `jiff` is this local zone; none is if the local zone is not clear or can't be read
+-- whether the zone of `jiff` is this local zone; no zone is if the local zone is unclear or can't be read
 abbrev pub IsThisZone : Machine → MachineLocalZone → TimeZone → Type 0
 IsThisZone machine InUtc zone = zone ≡ UTC
 IsThisZone machine (Ahead seconds) zone = zone ≡ fixed_offset_zone seconds

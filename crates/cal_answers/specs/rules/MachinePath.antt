@@ -24,7 +24,7 @@ variables_on machine =
       runtime_dir = variable_on machine (codes "XDG_RUNTIME_DIR");
     }
 
--- the search path of the user's manager, or else of the system's, without `SYSTEMD_UNIT_PATH`
+-- the search path of the user's manager if the flag is true, or else of the system's, without `SYSTEMD_UNIT_PATH`
 abbrev pub usual_path : Machine → Bool → Option (List (List ℕ))
 usual_path machine true = user_path (variables_on machine)
 usual_path machine false = Some system_folders
@@ -34,7 +34,7 @@ abbrev pub path_by : Option (List ℕ) → List (List ℕ) → List (List ℕ)
 path_by None usual = usual
 path_by (Some value) usual = given_path value usual
 
--- the search path of the user's manager, or else of the system's; None if a user's manager has no usual search path
+-- the search path of the user's manager if `is_user` is true, or else of the system's; None if it has no usual path
 abbrev pub machine_path : Machine → Bool → Option (List (List ℕ))
 machine_path machine is_user =
     option_map (path_by (variable_on machine (codes "SYSTEMD_UNIT_PATH"))) (usual_path machine is_user)

@@ -1,8 +1,9 @@
--- All units in the search path, and what became of each: systemd.unit(5), Unit File Load Path. A stem is a unit's name
+-- All units in the search path, and what was found of one: systemd.unit(5), Unit File Load Path. A stem is a unit's name
 -- without its suffix `.timer`.
-use Rattle.std.specs.Prelude.{◌≡◌, ⊤, ◌⊎◌, ℕ, IsTrue, Bool, true, false, List, [], ◌∷◌, ◌++◌, All, Option, None, Some, Result, Ok, Err, String, codes, map, string_bytes}
-use Rattle.std.specs.List.{Contains, filter_map, flat_map}
+use Rattle.std.specs.Prelude.{◌≡◌, ⊤, ℕ, Bool, true, false, List, [], ◌∷◌, ◌++◌, Option, None, Some, Result, Ok, Err, String, codes, map, string_bytes}
+use Rattle.std.specs.List.{Contains, filter_map}
 use Rattle.std.specs.declared.alloc.Global.{Global}
+use Rattle.cal_machine.specs.declared.tree.TreeFault as tree_faults
 use Rattle.cal_machine.specs.rules.Machine.{Machine}
 use Rattle.cal_unit_index.specs.declared.fault.Reason as reasons
 use Rattle.cal_unit_index.specs.rules.Destinations.{sorted_once}
@@ -55,6 +56,11 @@ abbrev pub IsNotUtf8Fault : List ℕ → TargetLoadFault → Type 0
 IsNotUtf8Fault path (faults.TheVariants.Target reason) = (place : String Global) × (string_bytes place ≡ path) × (reason ≡ target_reasons.TheVariants.NotUtf8 place)
 IsNotUtf8Fault path faults.TheVariants.NoMemory = ⊤
 
+-- the error for what a path leads to, if looking at it failed
+abbrev pub IsTreeFault : List ℕ → tree_faults.TreeFault → TargetLoadFault → Type 0
+IsTreeFault path (tree_faults.TheVariants.Unreadable why) fault = IsPathFault path (reasons.TheVariants.Unreadable why) fault
+IsTreeFault path tree_faults.TheVariants.NoMemory fault = fault ≡ faults.TheVariants.NoMemory
+
 -- the error for a unit whose own file can't be used
 abbrev pub IsUnusableReason : reasons.Reason → List ℕ → TargetReason → Type 0
 IsUnusableReason (reasons.TheVariants.Unreadable why) file reason = IsPathReason file (reasons.TheVariants.Unreadable why) reason
@@ -66,7 +72,7 @@ abbrev pub IsUnusableFault : reasons.Reason → List ℕ → TargetLoadFault →
 IsUnusableFault why file (faults.TheVariants.Target reason) = IsUnusableReason why file reason
 IsUnusableFault why file faults.TheVariants.NoMemory = ⊤
 
--- the error for a target with its own file at the path `file`, where `read` is, and with all its files
+-- the error for a target: `file` is the path of its own file, `read` what is read there, and `files` has all its files
 abbrev pub IsFileReason : Machine → FileRead → List ℕ → List UnitText → TargetReason → Type 0
 IsFileReason machine Mask file files reason = ⊥
 IsFileReason machine (Unusable why) file files reason = IsUnusableReason why file reason
@@ -80,7 +86,7 @@ IsFileFault machine read file files faults.TheVariants.NoMemory = ⊤
 abbrev pub IsTimerFileFault : Machine → List ℕ → TargetLoadFault → Type 0
 IsTimerFileFault machine path fault = IsFileFault machine (file_at machine path) path (text_at machine path) fault
 
--- the error for what is found for a stem
+-- the error for a unit that was asked for by the stem `asked`, by what is found for this stem
 abbrev pub IsUnitReason : Machine → List (List ℕ) → List ℕ → Unit → TargetReason → Type 0
 IsUnitReason machine path asked Unfound reason = reason ≡ NotFound
 IsUnitReason machine path asked TemplateOnly reason = reason ≡ Template
@@ -92,20 +98,12 @@ abbrev pub IsUnitFault : Machine → List (List ℕ) → List ℕ → Unit → T
 IsUnitFault machine path asked unit (faults.TheVariants.Target reason) = IsUnitReason machine path asked unit reason
 IsUnitFault machine path asked unit faults.TheVariants.NoMemory = ⊤
 
--- ## What became of each
+-- ## What was found
 
--- a unit, and what was found of it
-pub record Outcome : Type 0 where
-  pub stem : List ℕ
-  pub found : Result targets.LoadedTarget TargetLoadFault
-
--- what was found is true of the machine
+-- what was found for the stem `asked` is true of the machine
 abbrev pub IsFoundOf : Machine → List (List ℕ) → List ℕ → Result targets.LoadedTarget TargetLoadFault → Type 0
 IsFoundOf machine path asked (Ok found) = IsLoadedUnit machine path asked found
 IsFoundOf machine path asked (Err fault) = IsUnitFault machine path asked (unit_on machine path asked) fault
-
-abbrev pub IsOutcome : Machine → List (List ℕ) → Outcome → Type 0
-IsOutcome machine path outcome = IsFoundOf machine path outcome.stem outcome.found
 
 -- the name under which something masked is listed
 abbrev pub masked_in : List ℕ → Result targets.LoadedTarget TargetLoadFault → List (List ℕ)
@@ -125,19 +123,19 @@ is_absent_reason (target_reasons.TheVariants.Zone place line zone reason) = fals
 is_absent_reason (target_reasons.TheVariants.Expression fault) = false
 is_absent_reason (target_reasons.TheVariants.ExpressionZone zone reason) = false
 
--- whether a unit has no file: it is a link to nothing, say
+-- whether a unit has no file, for example because its file is a link to nothing
 abbrev pub is_absent : Result targets.LoadedTarget TargetLoadFault → Bool
 is_absent (Ok found) = false
 is_absent (Err (faults.TheVariants.Target reason)) = is_absent_reason reason
 is_absent (Err faults.TheVariants.NoMemory) = false
 
--- the faults have this target with the reason of the error
+-- one of the faults is about the target with this name, and has the reason of this error
 abbrev pub HasFault : List TargetFault → List ℕ → TargetLoadFault → Type 0
 HasFault all name (faults.TheVariants.Target reason) =
     (fault : TargetFault) × Contains all fault × (string_bytes fault.target ≡ name) × (fault.reason ≡ reason)
 HasFault all name faults.TheVariants.NoMemory = ⊥
 
--- what couldn't be loaded is among the faults
+-- if what was found is an error, it is among the faults
 abbrev pub IsReported : List TargetFault → List ℕ → Result targets.LoadedTarget TargetLoadFault → Type 0
 IsReported all name (Ok found) = ⊤
 IsReported all name (Err fault) = HasFault all name fault
@@ -145,49 +143,15 @@ IsReported all name (Err fault) = HasFault all name fault
 abbrev pub unit_name : List ℕ → List ℕ
 unit_name stem = stem ++ codes ".timer"
 
--- a unit that couldn't be loaded is among the faults, unless it has no file
-abbrev pub IsAccounted : List TargetFault → Outcome → Type 0
-IsAccounted all outcome = IsTrue (is_absent outcome.found) ⊎ IsReported all (unit_name outcome.stem) outcome.found
-
--- Everything that was loaded comes from these outcomes: the timers are those that were found, in this order; the masked
--- units are those that were found to be masked; and each unit that couldn't be loaded is among the faults.
-pub record AreLoadedFrom (outcomes : List Outcome) (loaded : Loaded) : Type 0 where
-  pub timers : loaded.timers.items ≡ flat_map (λ outcome. timers_in outcome.found) outcomes
-  pub masked : map string_bytes loaded.masked.items ≡ flat_map (λ outcome. masked_in (unit_name outcome.stem) outcome.found) outcomes
-  pub accounted : All (IsAccounted loaded.faults.items) outcomes
-
--- What was loaded comes from the outcomes of units with these stems. On each machine and search path of which `Knows` is
--- true, the outcomes are true.
-pub record HasUnits (Knows : Machine → List (List ℕ) → Type 0) (stems : List (List ℕ)) (loaded : Loaded) : Type 0 where
-  pub outcomes : List Outcome
-  pub of_stems : map (λ outcome. outcome.stem) outcomes ≡ stems
-  pub loaded_from : AreLoadedFrom outcomes loaded
-  pub true_of : (machine : Machine) (path : List (List ℕ)) → Knows machine path → All (IsOutcome machine path) outcomes
-
--- all units in the search path were looked for, and nothing else was loaded
-pub record HasAllUnits (Knows : Machine → List (List ℕ) → Type 0) (loaded : Loaded) : Type 0 where
-  pub stems : List (List ℕ)
-  pub of_units : HasUnits Knows stems loaded
-  pub are_all : (machine : Machine) (path : List (List ℕ)) → Knows machine path → stems ≡ units_on machine path
-
 -- ## Steps
 
 -- no fault was removed
 abbrev pub Keeps : List TargetFault → List TargetFault → Type 0
 Keeps old new = (fault : TargetFault) → Contains old fault → Contains new fault
 
--- `new` is `old` with what was found under a name
+-- `new` is `old` with what was found for this name, and perhaps with more faults
 pub record IsPushed (name : List ℕ) (found : Result targets.LoadedTarget TargetLoadFault) (old new : Loaded) : Type 0 where
   pub timers : new.timers.items ≡ old.timers.items ++ timers_in found
   pub masked : map string_bytes new.masked.items ≡ map string_bytes old.masked.items ++ masked_in name found
   pub reported : IsReported new.faults.items name found
   pub kept : Keeps old.faults.items new.faults.items
-
--- `new` is `old` with what became of one more unit
-pub record IsStep (Knows : Machine → List (List ℕ) → Type 0) (stem : List ℕ) (old new : Loaded) : Type 0 where
-  pub found : Result targets.LoadedTarget TargetLoadFault
-  pub timers : new.timers.items ≡ old.timers.items ++ timers_in found
-  pub masked : map string_bytes new.masked.items ≡ map string_bytes old.masked.items ++ masked_in (unit_name stem) found
-  pub accounted : IsAccounted new.faults.items (record { stem = stem; found = found })
-  pub kept : Keeps old.faults.items new.faults.items
-  pub true_of : (machine : Machine) (path : List (List ℕ)) → Knows machine path → IsFoundOf machine path stem found

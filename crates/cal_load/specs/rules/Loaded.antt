@@ -28,8 +28,8 @@ use Rattle.cal_load.specs.declared.calendar.Calendar as calendars
 use Rattle.cal_load.specs.declared.loaded.LoadedTimer.{LoadedTimer}
 
 -- The files of the unit whose own file is at the path `file`: this file, and then its drop-ins, in the order in which
--- they are read. `own_file` and `own` are the stems under which the file was found and of the unit, and `asked` is the
--- one by which the unit was asked for.
+-- they are read. `own_file` is the stem under which the file was found, `own` the stem of the unit's own name, and
+-- `asked` the stem by which the unit was asked for.
 abbrev pub unit_texts : Machine → List (List ℕ) → List ℕ → List ℕ → List ℕ → List ℕ → List UnitText
 unit_texts machine path file own_file own asked =
     text_at machine file ++ texts_at machine (drop_ins machine path (names_on machine path own_file own asked))
@@ -44,7 +44,7 @@ texts_of_unit machine path asked (FoundAt file own_file own) = unit_texts machin
 abbrev pub unit_files : Machine → List (List ℕ) → List ℕ → List UnitText
 unit_files machine path asked = texts_of_unit machine path asked (unit_on machine path asked)
 
--- the name of a unit: its own, also if it was asked for by that of an alias
+-- the unit's own name, even if it was asked for by an alias
 abbrev pub name_of_unit : Unit → List ℕ
 name_of_unit Unfound = []
 name_of_unit TemplateOnly = []
@@ -84,7 +84,7 @@ exceptions_in calendars.TheVariants.Nothing = []
 exceptions_in (calendars.TheVariants.Timer timer) = timer.exceptions
 exceptions_in (calendars.TheVariants.Expressions list) = []
 
--- the names of the zones that these expressions name
+-- the names of the zones in these expressions
 abbrev pub zone_names_in : List (TimerLine Fields) → List (List ℕ)
 zone_names_in entries = flat_map (λ entry. option_to_list (name_in entry.expr.zone)) entries
 

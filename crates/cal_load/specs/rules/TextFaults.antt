@@ -1,5 +1,5 @@
--- Why the files of a timer can't be loaded: systemd.syntax(7) and systemd.timer(5), OnCalendar=. In which line an error
--- is, isn't said here.
+-- Why the files of a timer can't be loaded: systemd.syntax(7) and systemd.timer(5), OnCalendar=. These definitions
+-- don't say which line an error names.
 use Rattle.std.specs.Prelude.{◌≡◌, ⊤, ℕ, List, ◌++◌, Err, string_bytes}
 use Rattle.std.specs.List.{Contains}
 use Rattle.std.specs.Str.{IsUtf8}
@@ -24,15 +24,16 @@ use Rattle.cal_load.specs.rules.Loaded.{IsCalendarOf, assignments_of_files, exce
 
 -- ## Texts
 
--- a file is at this path
+-- one of the files is at this path
 abbrev pub HasFileAt : List UnitText → List ℕ → Type 0
 HasFileAt files path = (file : UnitText) × Contains files file × (file.path ≡ path)
 
--- a file at this path isn't UTF-8
+-- one of the files is at this path, and isn't UTF-8
 abbrev pub HasNotUtf8At : List UnitText → List ℕ → Type 0
 HasNotUtf8At files path = (file : UnitText) × Contains files file × (file.path ≡ path) × (IsUtf8 file.bytes → ⊥)
 
--- why the lines of files can't be numbered: a file isn't UTF-8, or is too large together with those before it
+-- Why the lines of files can't be numbered: one of them isn't UTF-8, or is too large together with those before it. How
+-- large they are isn't stated here.
 abbrev pub IsNumberReason : List UnitText → TargetReason → Type 0
 IsNumberReason files NotFound = ⊥
 IsNumberReason files Template = ⊥
@@ -51,7 +52,7 @@ IsNumberFault files faults.TheVariants.NoMemory = ⊤
 
 -- ## Assignments
 
--- an error about a line, with this number in place of its own
+-- the error, with this line number in place of its own if it is about an invalid line or about too many expressions
 abbrev pub at_line : TimerFault → ℕ → TimerFault
 at_line timer_faults.ReadFailed line = timer_faults.ReadFailed
 at_line timer_faults.TooLarge line = timer_faults.TooLarge
@@ -61,12 +62,12 @@ at_line (timer_faults.TooMany number) line = timer_faults.TooMany line
 at_line timer_faults.NothingToDo line = timer_faults.NothingToDo
 at_line timer_faults.NoMemory line = timer_faults.NoMemory
 
--- reading the assignments fails with this error, but for the number of its line
+-- reading the assignments fails with this error, apart from the number of its line
 abbrev pub IsLineFault : List Assignment → ℕ → TimerFault → Type 0
 IsLineFault assignments line fault =
     (found : TimerFault) × (lists_of expr_in assignments ≡ Err found) × (fault ≡ at_line found line)
 
--- the error for a target is about a line that is invalid, with this error but for the number of its line
+-- the error for a target says that a line is invalid, with the error `found` apart from the number of its line
 abbrev pub IsLineReason : TimerFault → TargetReason → Type 0
 IsLineReason found NotFound = ⊥
 IsLineReason found Template = ⊥
@@ -79,7 +80,7 @@ IsLineReason found (Zone place line zone reason) = ⊥
 IsLineReason found (Expression fault) = ⊥
 IsLineReason found (ExpressionZone zone reason) = ⊥
 
--- why assignments make no timer: a line is invalid, or no setting starts a unit
+-- why assignments don't make a timer: a line is invalid, or there is no expression
 abbrev pub IsAssignmentReason : List Assignment → TargetReason → Type 0
 IsAssignmentReason assignments NotFound = ⊥
 IsAssignmentReason assignments Template = ⊥
@@ -135,16 +136,16 @@ abbrev pub IsZoneLoadFault : List ℕ → FileReason → TargetLoadFault → Typ
 IsZoneLoadFault zone reason (faults.TheVariants.Target found) = IsZoneReason zone reason found
 IsZoneLoadFault zone reason faults.TheVariants.NoMemory = ⊤
 
--- the error of a target for an error in loading zones
+-- the error for a target if loading its zones fails with this error
 abbrev pub IsZonesFault : ZonesFault → TargetLoadFault → Type 0
 IsZonesFault (zone_faults.Unclear origin) fault = fault ≡ faults.TheVariants.NoMemory
 IsZonesFault (zone_faults.Unread origin) fault = fault ≡ faults.TheVariants.NoMemory
 IsZonesFault (zone_faults.At path reason) fault = IsZoneLoadFault (string_bytes path) reason fault
 IsZonesFault zone_faults.NoMemory fault = fault ≡ faults.TheVariants.NoMemory
 
--- ## All of them
+-- ## All errors of files
 
--- why files make no timer
+-- why files don't make a timer
 abbrev pub IsTextReason : Machine → List UnitText → TargetReason → Type 0
 IsTextReason machine files NotFound = ⊥
 IsTextReason machine files Template = ⊥

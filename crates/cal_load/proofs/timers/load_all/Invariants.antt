@@ -1,7 +1,8 @@
 use Rattle.std.proofs.Common.{ℕ, List, All, map, string_bytes}
 use Rattle.cal_machine.specs.rules.Machine.{Machine}
 use Rattle.cal_unit_index.specs.rules.Index.{IsIndexOf}
-use Rattle.cal_load.specs.rules.AllUnits.{HasUnits}
+use Rattle.cal_load.specs.rules.AllTargets.{IsMore}
+use Rattle.cal_load.specs.rules.AllTargets.Sought.{ListedUnit}
 use Rattle.cal_load.specs.rules.Loaded.{IsTimerOn}
 use Rattle.cal_load.proofs.timers.load_all.Given as goal
 
@@ -10,4 +11,5 @@ invariant-loop-stem g l =
     ((machine : Machine) (path : List (List ℕ)) → g.T.Tree.shows l.tree machine → IsIndexOf machine path l.index
     → All (IsTimerOn machine path) l.loaded.timers.items)
     × ((machine : Machine) → g.T.Tree.shows l.tree machine → g.T.Tree.shows l.fn.tree machine)
-    × HasUnits (λ machine path. g.T.Tree.shows l.tree machine × IsIndexOf machine path l.index) (map string_bytes l.yielded) l.loaded
+    × IsMore (λ machine path. g.T.Tree.shows l.tree machine × IsIndexOf machine path l.index)
+    (λ machine path. map ListedUnit (map string_bytes l.yielded)) l.initial.loaded l.loaded

@@ -1,6 +1,8 @@
-use Rattle.std.proofs.Common.{ℕ, List, All}
+use Rattle.std.proofs.Common.{ℕ, List, All, map, take}
+use Rattle.std.specs.List.{flat_map}
 use Rattle.cal_machine.specs.rules.Machine.{Machine}
 use Rattle.cal_unit_index.specs.rules.Index.{IsIndexOf}
+use Rattle.cal_load.specs.rules.AllTargets.{IsMore, sought_by}
 use Rattle.cal_load.specs.rules.Loaded.{IsTimerOn}
 use Rattle.cal_load.proofs.timers.load_timers.Given as goal
 
@@ -9,3 +11,5 @@ invariant-loop-target g l =
     ((machine : Machine) (path : List (List ℕ)) → g.T.Tree.shows l.tree machine → IsIndexOf machine path l.index
     → All (IsTimerOn machine path) l.loaded.timers.items)
     × ((machine : Machine) → g.T.Tree.shows l.tree machine → g.T.Tree.shows l.fn.tree machine)
+    × IsMore (λ machine path. g.T.Tree.shows l.tree machine × IsIndexOf machine path l.index)
+    (λ machine path. flat_map (sought_by machine) (map (λ target. target.now) (take l.target-index l.targets))) l.initial.loaded l.loaded
