@@ -121,8 +121,8 @@ fn push_entry<R: Files + Drop>(
     Ok(())
 }
 
-/// Returns what counts as being at a path at which there is nothing. A link to `/dev/null` masks a unit also below a
-/// root folder that has no devices, such as that of an image, so `/dev` and `/dev/null` are never missing.
+/// Returns what is assumed to be at a path if nothing is there. A link to `/dev/null` also masks a unit below a root
+/// folder that has no devices, such as that of an image, so `/dev` and `/dev/null` are never missing.
 fn assumed_at(path: &str) -> Entry {
     match path {
         "/dev" => Entry::Folder,
@@ -146,8 +146,8 @@ fn look_at_link<R: Files + AllocGlobal>(
     }
 }
 
-/// Returns whether the target of a link in `/proc/self/fd` is no path but stands for an open pipe or socket, as in
-/// `pipe:[42]` (proc(5)). Reading the link itself reads from there, so that `lint /dev/stdin` can read a pipe.
+/// Returns whether the target of a link in `/proc/self/fd` is not a path but stands for an open pipe or socket, as in
+/// `pipe:[42]` (proc(5)). Opening such a link opens the pipe itself, so `lint /dev/stdin` can read a pipe.
 fn is_open_file(target: &str) -> bool {
     !target.contains('/') && target.contains(":[") && target.ends_with(']')
 }
