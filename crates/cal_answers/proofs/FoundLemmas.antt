@@ -1,18 +1,15 @@
 -- Lemmas on what is found when a question is read.
-use Rattle.std.proofs.Common.{◌≡◌, ◌∙◌, ◌<◌, ◌≤◌, ℕ, All, Bool, Bor, true, false, List, [], ◌∷◌, Some, ap, arith, get_or, inl, inr, length, map, option_map, refl, string_bytes, subst, sym}
-use Rattle.std.proofs.lemmas.Bool.{false≢true}
+use Rattle.std.proofs.Common.{◌≡◌, ◌∙◌, ◌<◌, ◌≤◌, ℕ, All, Bool, Bor, true, false, List, [], ◌∷◌, Some, ap, arith, drop, get_or, inl, inr, length, map, option_map, refl, string_bytes, subst, sym}
 use Rattle.cal_machine.specs.rules.Machine.{Machine}
 use Rattle.cal_timers_command.specs.declared.question.Question.{Question}
 use Rattle.cal_unit_index.specs.rules.Index.{IsIndexOf}
 use Rattle.cal_zone_files.specs.rules.MachineLocalZone.{machine_local_zone}
 use Rattle.cal_load.specs.declared.loaded.Loaded.{Loaded}
-use Rattle.cal_load.specs.rules.AllTargets.{HasAllUnits, IsOutcome}
-use Rattle.cal_load.specs.rules.AllTargets.Sought.{ListedUnit}
-use Rattle.cal_load.specs.rules.AllUnits.{units_on}
+use Rattle.cal_load.specs.rules.AllTargets.{HasAll, IsOutcome, Sought}
 use Rattle.cal_answers.specs.declared.found.Known.{Known}
 use Rattle.cal_answers.specs.declared.found.LoadedByVerb.{LoadedByVerb}
 use Rattle.cal_answers.specs.declared.found.LoadedByVerb.TheVariants as loads
-use Rattle.cal_answers.specs.rules.Found.{AreAllUnits, AreAllUnitsOn, AreLoadedOn, AreSidesOn, IsIndexFor, IsKnownOn, IsSideOn, is_about_all, verb_of}
+use Rattle.cal_answers.specs.rules.Found.{AreAll, AreAllOn, AreLoadedOn, AreSidesOn, HasAllFor, HasAllLinted, IsIndexFor, IsKnownOn, IsPathOf, IsSideOn, needs_units, targets_of, verb_of}
 use Rattle.cal_answers.specs.rules.LocalClock.{IsLocalZone, clock_zone}
 use Rattle.cal_answers.specs.rules.MachinePath.{machine_path}
 
@@ -25,10 +22,10 @@ two_sides machine path (x ∷ []) d first second two three one other = absurd (l
 two_sides machine path (x ∷ y ∷ []) d first second two three one other = (one, other)
 two_sides machine path (x ∷ y ∷ z ∷ rest) d first second two three one other = absurd (let no : ⊥ = omega (arith, three) in no)
 
--- if the timers are all units of every machine of which `Knows` is true, they are all units of each such machine
-timers_at : (Knows : Machine → List (List ℕ) → Type 0) (machine : Machine) (path : List (List ℕ)) (timers : Loaded) → Knows machine path
-    → HasAllUnits Knows timers → HasAllUnits (λ other folders. (other ≡ machine) × (folders ≡ path)) timers
-timers_at Knows machine path timers knows all = record {
+-- if nothing is missing on each machine and search path of which `Knows` is true, then nothing is missing on one of them
+all_at : (Knows : Machine → List (List ℕ) → Type 0) (sought : Machine → List (List ℕ) → List Sought) (machine : Machine) (path : List (List ℕ)) (timers : Loaded)
+    → Knows machine path → HasAll Knows sought timers → HasAll (λ other folders. (other ≡ machine) × (folders ≡ path)) sought timers
+all_at Knows sought machine path timers knows all = record {
   outcomes = all.outcomes;
   loaded_from = all.loaded_from;
   are = record {
@@ -36,57 +33,64 @@ timers_at Knows machine path timers knows all = record {
         subst (λ other. All (IsOutcome other folders) all.outcomes) (sym same.0)
         (subst (λ folders. All (IsOutcome machine folders) all.outcomes) (sym same.1) (all.are.true_of machine path knows));
     are_all = λ other folders same.
-        all.are.are_all machine path knows
-        ∙ ap (λ folders. map ListedUnit (units_on machine folders)) (sym same.1)
-        ∙ ap (λ other. map ListedUnit (units_on other folders)) (sym same.0);
+        all.are.are_all machine path knows ∙ ap (sought machine) (sym same.1) ∙ ap (λ other. sought other folders) (sym same.0);
   };
 }
 
-pub units_at : (Knows : Machine → List (List ℕ) → Type 0) (machine : Machine) (path : List (List ℕ)) (loaded : LoadedByVerb) → Knows machine path
-    → AreAllUnits Knows loaded → AreAllUnitsOn machine path loaded
-units_at Knows machine path (loads.List timers) knows all = timers_at Knows machine path timers knows all
-units_at Knows machine path (loads.Show timers) knows all = tt
-units_at Knows machine path (loads.Lint files timers) knows all = timers_at Knows machine path timers knows all
-units_at Knows machine path (loads.Between timers) knows all = timers_at Knows machine path timers knows all
-units_at Knows machine path (loads.Same first second) knows all = tt
-units_at Knows machine path (loads.Next timers) knows all = tt
+for_at : (Knows : Machine → List (List ℕ) → Type 0) (machine : Machine) (path targets : List (List ℕ)) (timers : Loaded) → Knows machine path
+    → HasAllFor Knows targets timers → HasAllFor (λ other folders. (other ≡ machine) × (folders ≡ path)) targets timers
+for_at Knows machine path [] timers knows all = all_at Knows _ machine path timers knows all
+for_at Knows machine path (one ∷ rest) timers knows all = all_at Knows _ machine path timers knows all
 
--- what is known is true on a machine if each part of it is; `all` says whether the question is about all units
-pub known_on : (machine : Machine) (question : Question) (known : Known) (path : List (List ℕ)) (all : Bool)
-    → is_about_all question.verb (length question.targets.items) ≡ all
+linted_at : (Knows : Machine → List (List ℕ) → Type 0) (machine : Machine) (path targets : List (List ℕ)) (timers : Loaded) → Knows machine path
+    → HasAllLinted Knows targets timers → HasAllLinted (λ other folders. (other ≡ machine) × (folders ≡ path)) targets timers
+linted_at Knows machine path [] timers knows all = all_at Knows _ machine path timers knows all
+linted_at Knows machine path (one ∷ rest) timers knows all = tt
+
+pub loaded_at : (Knows : Machine → List (List ℕ) → Type 0) (machine : Machine) (path targets : List (List ℕ)) (loaded : LoadedByVerb) → Knows machine path
+    → AreAll Knows targets loaded → AreAllOn machine path targets loaded
+loaded_at Knows machine path targets (loads.List timers) knows all = for_at Knows machine path targets timers knows all
+loaded_at Knows machine path targets (loads.Show timers) knows all = for_at Knows machine path targets timers knows all
+loaded_at Knows machine path targets (loads.Lint files timers) knows all = linted_at Knows machine path targets timers knows all
+loaded_at Knows machine path targets (loads.Between timers) knows all = for_at Knows machine path (drop 2 targets) timers knows all
+loaded_at Knows machine path targets (loads.Same first second) knows all = tt
+loaded_at Knows machine path targets (loads.Next timers) knows all = tt
+
+-- what is known is true on a machine if each part of it is; `needed` says whether the question can be about units
+pub known_on : (machine : Machine) (question : Question) (known : Known) (path : List (List ℕ)) (needed : Bool)
+    → needs_units question.verb (targets_of question) ≡ needed
     → IsLocalZone machine (machine_local_zone machine (option_map string_bytes question.zone)) (clock_zone known.local)
     → machine_path machine question.is_user ≡ Some path → IsIndexFor machine path known.index
-    → (all ≡ true → IsIndexOf machine path known.index) → verb_of known.loaded ≡ question.verb
-    → ((folders : List (List ℕ)) → IsIndexOf machine folders known.index
-    → AreLoadedOn machine folders (map string_bytes question.targets.items) known.loaded)
-    → ((folders : List (List ℕ)) → IsIndexOf machine folders known.index → all ≡ true → AreAllUnitsOn machine folders known.loaded)
+    → (needed ≡ true → IsIndexOf machine path known.index) → verb_of known.loaded ≡ question.verb
+    → ((folders : List (List ℕ)) → IsIndexOf machine folders known.index → AreLoadedOn machine folders (targets_of question) known.loaded)
+    → ((folders : List (List ℕ)) → IsIndexOf machine folders known.index → AreAllOn machine folders (targets_of question) known.loaded)
     → IsKnownOn machine question known
 known_on machine question known path true about zone searched index indexed same loads whole =
     let is : IsIndexOf machine path known.index = indexed refl in
     record {
       local = zone;
       path = path;
-      searched = inl searched;
+      searched = subst (λ needed. IsPathOf machine question.is_user needed path) (sym about) searched;
       index = is;
       for_verb = same;
       loaded = loads path is;
-      whole = λ _. (searched, whole path is refl);
+      whole = whole path is;
     }
 known_on machine question known path false about zone searched (inl is) indexed same loads whole = record {
   local = zone;
   path = path;
-  searched = inl searched;
+  searched = subst (λ needed. IsPathOf machine question.is_user needed path) (sym about) (inl searched);
   index = is;
   for_verb = same;
   loaded = loads path is;
-  whole = λ e. absurd (false≢true (sym about ∙ e));
+  whole = whole path is;
 }
 known_on machine question known path false about zone searched (inr is) indexed same loads whole = record {
   local = zone;
   path = [];
-  searched = inr refl;
+  searched = subst (λ needed. IsPathOf machine question.is_user needed []) (sym about) (inr refl);
   index = is;
   for_verb = same;
   loaded = loads [] is;
-  whole = λ e. absurd (false≢true (sym about ∙ e));
+  whole = whole [] is;
 }

@@ -1,10 +1,12 @@
 //! The index of the search path, which is needed if a question is about units, and the errors that are found while it
 //! is read.
 
-ghost use Rattle.std.specs.Prelude.{◌≡◌, ◌≤◌, [], IfOk, length, map, max, string_bytes, true};
+ghost use Rattle.std.specs.Prelude.{◌≡◌, ◌≤◌, [], IfOk, map, max, not, string_bytes, true};
+ghost use Rattle.std.specs.List.{list_any};
 ghost use Rattle.cal_machine.specs.rules.Machine.{Machine};
 ghost use Rattle.cal_unit_index.specs.rules.Index.{IsIndexOf};
-ghost use Rattle.cal_answers.specs.rules.Found.{IsIndexFor, is_about_all};
+ghost use Rattle.cal_load.specs.rules.AllTargets.{is_path};
+ghost use Rattle.cal_answers.specs.rules.Found.{IsIndexFor, name_units, needs_units, timer_targets};
 
 use crate::answer::{Answer, INVALID, fault_lines};
 use cal_load::{TargetFault, TargetReason, is_path};
@@ -25,7 +27,7 @@ pub(crate) fn index_for<T: Tree>(
 ) -> Result<UnitIndex, AllocError>
     ensures known { IfOk result (λ index. (machine : Machine) → T.shows tree.new machine
         → IsIndexFor machine (map string_bytes path.now) index) }
-    ensures whole { is_about_all verb (length targets.now) ≡ true → IfOk result (λ index. (machine : Machine)
+    ensures whole { needs_units verb (map (λ text. text.now) targets.now) ≡ true → IfOk result (λ index. (machine : Machine)
         → T.shows tree.new machine → IsIndexOf machine (map string_bytes path.now) index) }
     ensures grows { (machine : Machine) → T.shows tree.new machine → T.shows tree.old machine }
 {
@@ -39,20 +41,36 @@ pub(crate) fn index_for<T: Tree>(
 /// Returns whether a question can be about units: it names no timers, and so is about all units, or it names a timer
 /// that isn't given as a path. `next` is never about units, since its targets are expressions.
 fn has_units(verb: Verb, targets: &[&str]) -> bool
-    ensures { is_about_all verb (length targets.now) ≡ true → result ≡ true }
+    ensures { result ≡ needs_units verb (map (λ text. text.now) targets.now) }
 {
     match verb {
         Verb::Next => false,
-        _ => {
-            let timers = timers_of(verb, targets);
-            timers.is_empty() || timers.iter().any(|target| !is_path(target))
+        Verb::Between => name_units(timers_of(verb, targets)),
+        Verb::List | Verb::Show | Verb::Lint | Verb::Same => name_units(targets),
+    }
+}
+
+fn name_units(timers: &[&str]) -> bool
+    ensures { result ≡ name_units (map (λ text. text.now) timers.now) }
+{
+    timers.is_empty() || has_name(timers)
+}
+
+/// Returns whether at least one of the targets is not a path.
+fn has_name(targets: &[&str]) -> bool
+    ensures { result ≡ list_any (λ target. not (is_path target)) (map (λ text. text.now) targets.now) }
+{
+    for target in targets {
+        if !is_path(target) {
+            return true;
         }
     }
+    false
 }
 
 /// Returns the targets that are timers. The first two targets of `between` are instants.
 pub(crate) fn timers_of<'t>(verb: Verb, targets: &'t [&'t str]) -> &'t [&'t str]
-    ensures { is_about_all verb (length targets.now) ≡ true → result.now ≡ [] }
+    ensures { result.now ≡ timer_targets verb targets.now }
 {
     match verb {
         Verb::Between => targets.get(2..).unwrap_or(&[]),

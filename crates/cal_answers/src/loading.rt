@@ -5,7 +5,7 @@ ghost use Rattle.cal_machine.specs.rules.Machine.{Machine};
 ghost use Rattle.cal_unit_index.specs.rules.Index.{IsIndexOf};
 ghost use Rattle.cal_load.specs.rules.AllTargets.{HasAllUnits};
 ghost use Rattle.cal_load.specs.rules.Loaded.{IsTimerOn};
-ghost use Rattle.cal_answers.specs.rules.Found.{AreAllUnits, AreLoadedOn, IsSideOn, is_about_all, verb_of};
+ghost use Rattle.cal_answers.specs.rules.Found.{AreAll, AreLoadedOn, IsSideOn, verb_of};
 
 use crate::fault::ReadFault;
 use crate::found::LoadedByVerb;
@@ -27,8 +27,8 @@ pub(crate) fn load_by_verb<T: Tree>(
     ensures verb { IfOk result (λ loaded. verb_of loaded ≡ verb) }
     ensures known { IfOk result (λ loaded. (machine : Machine) (path : List (List ℕ)) → T.shows tree.new machine
         → IsIndexOf machine path index.now → AreLoadedOn machine path (map (λ text. text.now) targets.now) loaded) }
-    ensures whole { is_about_all verb (length targets.now) ≡ true
-        → IfOk result (AreAllUnits (λ machine path. T.shows tree.new machine × IsIndexOf machine path index.now)) }
+    ensures whole { IfOk result (AreAll (λ machine path. T.shows tree.new machine × IsIndexOf machine path index.now)
+        (map (λ text. text.now) targets.now)) }
     ensures grows { (machine : Machine) → T.shows tree.new machine → T.shows tree.old machine }
 {
     match verb {

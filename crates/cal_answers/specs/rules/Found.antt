@@ -1,5 +1,6 @@
 -- What is found when a question is read: the contract of `read_question`, which `calendar-timers` calls once per run.
-use Rattle.std.specs.Prelude.{◌≡◌, ◌⊎◌, ◌==◌, ⊤, ℕ, ℤ, Bool, true, false, All, List, [], ◌∷◌, Option, Some, length, map, nat_le, option_map, string_bytes}
+use Rattle.std.specs.Prelude.{◌≡◌, ◌⊎◌, ◌==◌, ◌||◌, ⊤, ℕ, ℤ, Bool, true, false, not, All, List, [], ◌∷◌, Option, Some, drop, length, map, option_map, string_bytes}
+use Rattle.std.specs.List.{list_any}
 use Rattle.std.specs.Option.{option_or}
 use Rattle.cal_machine.specs.rules.Machine.{Machine}
 use Rattle.cal_machine.specs.rules.Seen.{AllGiven, Matches, Said, Seen}
@@ -10,7 +11,7 @@ use Rattle.cal_unit_index.specs.declared.index.UnitIndex.{UnitIndex}
 use Rattle.cal_unit_index.specs.rules.Index.{IsIndexOf}
 use Rattle.cal_zone_files.specs.rules.MachineLocalZone.{machine_local_zone}
 use Rattle.cal_load.specs.declared.loaded.Loaded.{Loaded}
-use Rattle.cal_load.specs.rules.AllTargets.{HasAllUnits}
+use Rattle.cal_load.specs.rules.AllTargets.{HasAllTargets, HasAllUnits, is_path}
 use Rattle.cal_load.specs.rules.Expressions.{IsMadeOf}
 use Rattle.cal_load.specs.rules.Loaded.{IsStoredOn, IsTimerOn}
 use Rattle.cal_answers.specs.declared.found.Found as founds
@@ -60,29 +61,51 @@ AreLoadedOn machine path targets (loads.Between timers) = AreTimersOn machine pa
 AreLoadedOn machine path targets (loads.Same first second) = AreSidesOn machine path targets first second
 AreLoadedOn machine path targets (loads.Next timers) = AreMadeOf machine targets timers
 
--- Whether a question with this verb and this number of targets is about all units, since no target is a timer. The first
--- two targets of `between` are instants.
-abbrev pub is_about_all : Verb → ℕ → Bool
-is_about_all verbs.List count = count == 0
-is_about_all verbs.Show count = false
-is_about_all verbs.Lint count = count == 0
-is_about_all verbs.Between count = nat_le count 2
-is_about_all verbs.Same count = false
-is_about_all verbs.Next count = false
+-- the targets after those that say when: the first two of `between` are instants
+abbrev pub timer_targets : {X : Type 0} → Verb → List X → List X
+timer_targets verbs.List targets = targets
+timer_targets verbs.Show targets = targets
+timer_targets verbs.Lint targets = targets
+timer_targets verbs.Between targets = drop 2 targets
+timer_targets verbs.Same targets = targets
+timer_targets verbs.Next targets = targets
 
--- The timers are all units of each machine and search path of which `Knows` is true. Nothing is said of verbs whose
--- questions are never about all units.
-abbrev pub AreAllUnits : (Machine → List (List ℕ) → Type 0) → LoadedByVerb → Type 0
-AreAllUnits Knows (loads.List timers) = HasAllUnits Knows timers
-AreAllUnits Knows (loads.Show timers) = ⊤
-AreAllUnits Knows (loads.Lint files timers) = HasAllUnits Knows timers
-AreAllUnits Knows (loads.Between timers) = HasAllUnits Knows timers
-AreAllUnits Knows (loads.Same first second) = ⊤
-AreAllUnits Knows (loads.Next timers) = ⊤
+-- whether these targets can be about units: there are none, which stands for all units, or one of them is not a path
+abbrev pub name_units : List (List ℕ) → Bool
+name_units targets = length targets == 0 || list_any (λ target. not (is_path target)) targets
 
--- the timers are all units of this machine and search path
-abbrev pub AreAllUnitsOn : Machine → List (List ℕ) → LoadedByVerb → Type 0
-AreAllUnitsOn machine path loaded = AreAllUnits (λ other folders. (other ≡ machine) × (folders ≡ path)) loaded
+-- whether a question can be about units; the targets of `next` are expressions
+abbrev pub needs_units : Verb → List (List ℕ) → Bool
+needs_units verbs.List targets = name_units targets
+needs_units verbs.Show targets = name_units targets
+needs_units verbs.Lint targets = name_units targets
+needs_units verbs.Between targets = name_units (drop 2 targets)
+needs_units verbs.Same targets = name_units targets
+needs_units verbs.Next targets = false
+
+-- everything that these targets stand for was looked for, and nothing else was loaded; no target stands for all units
+abbrev pub HasAllFor : (Machine → List (List ℕ) → Type 0) → List (List ℕ) → Loaded → Type 0
+HasAllFor Knows [] timers = HasAllUnits Knows timers
+HasAllFor Knows (one ∷ rest) timers = HasAllTargets Knows (one ∷ rest) timers
+
+-- `lint` loads no timers for targets that are drop-ins, so this only says that no target stands for all units
+abbrev pub HasAllLinted : (Machine → List (List ℕ) → Type 0) → List (List ℕ) → Loaded → Type 0
+HasAllLinted Knows [] timers = HasAllUnits Knows timers
+HasAllLinted Knows (one ∷ rest) timers = ⊤
+
+-- No timer is missing that the targets stand for on a machine and search path of which `Knows` is true. Of `same` and
+-- `next`, `AreLoadedOn` says all that is said.
+abbrev pub AreAll : (Machine → List (List ℕ) → Type 0) → List (List ℕ) → LoadedByVerb → Type 0
+AreAll Knows targets (loads.List timers) = HasAllFor Knows targets timers
+AreAll Knows targets (loads.Show timers) = HasAllFor Knows targets timers
+AreAll Knows targets (loads.Lint files timers) = HasAllLinted Knows targets timers
+AreAll Knows targets (loads.Between timers) = HasAllFor Knows (drop 2 targets) timers
+AreAll Knows targets (loads.Same first second) = ⊤
+AreAll Knows targets (loads.Next timers) = ⊤
+
+-- no timer is missing that the targets stand for on this machine and search path
+abbrev pub AreAllOn : Machine → List (List ℕ) → List (List ℕ) → LoadedByVerb → Type 0
+AreAllOn machine path targets loaded = AreAll (λ other folders. (other ≡ machine) × (folders ≡ path)) targets loaded
 
 -- ## What was found
 
@@ -90,21 +113,24 @@ AreAllUnitsOn machine path loaded = AreAllUnits (λ other folders. (other ≡ ma
 abbrev pub IsIndexFor : Machine → List (List ℕ) → UnitIndex → Type 0
 IsIndexFor machine path index = IsIndexOf machine path index ⊎ IsIndexOf machine [] index
 
--- the path is the search path of the machine's manager, or has no folder at all, which is enough if no unit is needed
-abbrev pub IsPathOf : Machine → Bool → List (List ℕ) → Type 0
-IsPathOf machine is_user path = (machine_path machine is_user ≡ Some path) ⊎ (path ≡ [])
+-- the path is the search path of the machine's manager; if no unit is needed, it may also have no folder at all
+abbrev pub IsPathOf : Machine → Bool → Bool → List (List ℕ) → Type 0
+IsPathOf machine is_user true path = machine_path machine is_user ≡ Some path
+IsPathOf machine is_user false path = (machine_path machine is_user ≡ Some path) ⊎ (path ≡ [])
+
+abbrev pub targets_of : Question → List (List ℕ)
+targets_of question = map string_bytes question.targets.items
 
 -- What is known for a question is true on this machine: the local zone, the index of the search path, and the timers
--- and files that the targets stand for. If the question is about all units, all of them are known.
+-- and files that the targets stand for, of which none is missing.
 pub record IsKnownOn (machine : Machine) (question : Question) (known : Known) : Type 0 where
   pub local : IsLocalZone machine (machine_local_zone machine (option_map string_bytes question.zone)) (clock_zone known.local)
   pub path : List (List ℕ)
-  pub searched : IsPathOf machine question.is_user path
+  pub searched : IsPathOf machine question.is_user (needs_units question.verb (targets_of question)) path
   pub index : IsIndexOf machine path known.index
   pub for_verb : verb_of known.loaded ≡ question.verb
-  pub loaded : AreLoadedOn machine path (map string_bytes question.targets.items) known.loaded
-  pub whole : is_about_all question.verb (length question.targets.items) ≡ true
-      → (machine_path machine question.is_user ≡ Some path) × AreAllUnitsOn machine path known.loaded
+  pub loaded : AreLoadedOn machine path (targets_of question) known.loaded
+  pub whole : AreAllOn machine path (targets_of question) known.loaded
 
 -- What is known for a question follows from what was read. `given`: the system calls gave each answer that was read.
 -- `present`: the present is that of the question, or else that of the clock. `is_so`: what is known is true on every

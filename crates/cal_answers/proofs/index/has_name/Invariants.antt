@@ -1,0 +1,10 @@
+-- a name is among the remaining targets if and only if it is among all targets, because all targets so far are paths
+use Rattle.std.proofs.Common.{◌≡◌, drop, map, not}
+use Rattle.std.specs.List.{list_any}
+use Rattle.cal_load.specs.rules.AllTargets.{is_path}
+use Rattle.cal_answers.proofs.index.has_name.Given as goal
+
+abbrev pub invariant-loop-target : goal.invariant-loop-target
+invariant-loop-target l =
+    list_any (λ target. not (is_path target)) (map (λ text. text.now) (drop l.target-index l.targets))
+    ≡ list_any (λ target. not (is_path target)) (map (λ text. text.now) l.targets)
