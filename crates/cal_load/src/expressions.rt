@@ -1,9 +1,11 @@
 //! Timers that are made of expressions alone.
 
-ghost use Rattle.std.specs.Prelude.{◌≡◌, ◌∷◌, ◌++◌, [], ℕ, List, All, IfOk, OnOk, map};
+ghost use Rattle.std.specs.Prelude.{◌≡◌, ◌∷◌, ◌++◌, [], ℕ, List, All, IfOk, OnOk, Some, map, string_bytes};
+ghost use Rattle.std.specs.Result.{IfErr};
 ghost use Rattle.cal_timer.specs.rules.TimerView.{shown};
 ghost use Rattle.cal_machine.specs.rules.Machine.{Machine};
-ghost use Rattle.cal_load.specs.rules.Expressions.{AreOf, IsMadeOf, IsTimerOf};
+ghost use Rattle.cal_zone_files.specs.rules.ZoneFiles.{zone_path};
+ghost use Rattle.cal_load.specs.rules.Expressions.{AreOf, IsErrorAlone, IsMadeOf, IsParseError, IsTimerAlone, IsTimerOf, IsTimerOrReason, IsZoneErrorAlone, first_with_zone};
 
 use crate::calendar::Calendar;
 use crate::fault::{TargetLoadFault, push_fault};
@@ -27,6 +29,8 @@ pub fn load_expressions<T: Tree>(
 ) -> Result<Loaded, AllocError>
     ensures known { IfOk result (λ loaded. (machine : Machine) → T.shows tree.new machine
         → All (IsMadeOf machine (map (λ text. text.now) expressions.now)) loaded.timers.items) }
+    ensures outcome { IfOk result (IsTimerOrReason (λ machine. T.shows tree.new machine)
+        (map (λ text. text.now) expressions.now)) }
     ensures grows { (machine : Machine) → T.shows tree.new machine → T.shows tree.old machine }
 {
     let mut lines = Vec::new(alloc);
@@ -40,7 +44,7 @@ pub fn load_expressions<T: Tree>(
 
 /// Returns a result without timers, with this error for the target.
 fn only_fault(alloc: Global, target: &str, fault: TargetLoadFault) -> Result<Loaded, AllocError>
-    ensures { IfOk result (λ loaded. loaded.timers.items ≡ []) }
+    ensures { IfOk result (IsErrorAlone target.now fault) }
 {
     let mut loaded = Loaded::new(alloc);
     push_fault(alloc, &mut loaded.faults, target, fault)?;
@@ -53,8 +57,9 @@ fn push_expression(
     lines: &mut Vec<TimerLine>,
     expression: &str,
 ) -> Result<(), TargetLoadFault>
-    ensures { OnOk result ((texts : List (List ℕ)) → AreOf texts (map shown lines.old.items)
+    ensures pushed { OnOk result ((texts : List (List ℕ)) → AreOf texts (map shown lines.old.items)
         → AreOf (texts ++ expression.now ∷ []) (map shown lines.new.items)) }
+    ensures fault { IfErr result (IsParseError expression.now) }
 {
     let expr = match read_expr(alloc, expression) {
         Ok(expr) => expr,
@@ -80,6 +85,8 @@ fn with_zones<T: Tree>(
     requires { AreOf (map (λ text. text.now) expressions.now) (map shown lines.items) }
     ensures known { IfOk result (λ loaded. (machine : Machine) → T.shows tree.new machine
         → All (IsMadeOf machine (map (λ text. text.now) expressions.now)) loaded.timers.items) }
+    ensures outcome { IfOk result (IsTimerOrReason (λ machine. T.shows tree.new machine)
+        (map (λ text. text.now) expressions.now)) }
     ensures grows { (machine : Machine) → T.shows tree.new machine → T.shows tree.old machine }
 {
     match load_named_zones(alloc, tree, lines.as_slice(), &[]) {
@@ -97,7 +104,9 @@ fn only_timer(
     lines: Vec<TimerLine>,
     zones: ZoneTable,
 ) -> Result<Loaded, AllocError>
-    ensures { IfOk result (λ loaded. All (IsTimerOf (map shown lines.items) zones) loaded.timers.items) }
+    ensures known { IfOk result (λ loaded. All (IsTimerOf (map shown lines.items) zones) loaded.timers.items) }
+    ensures alone { IfOk result IsTimerAlone }
+    ensures masked { IfOk result (λ loaded. loaded.masked.items ≡ []) }
 {
     let mut loaded = Loaded::new(alloc);
     loaded.timers.push(LoadedTimer {
@@ -119,14 +128,22 @@ fn only_zone_fault(
     zone: String,
     reason: FileReason,
 ) -> Result<Loaded, AllocError>
-    ensures { IfOk result (λ loaded. loaded.timers.items ≡ []) }
+    ensures { IfOk result (IsZoneErrorAlone (map shown lines.items) zone reason) }
 {
-    let target = match first_with_zone(lines.as_slice(), zone.as_str()) {
-        Some(line) => String::from_str(alloc, line.text.as_str())?,
-        None => String::new(alloc),
-    };
+    let target = first_text(alloc, lines.as_slice(), zone.as_str())?;
     let fault = TargetLoadFault::Target(TargetReason::ExpressionZone(zone, reason));
     only_fault(alloc, target.as_str(), fault)
+}
+
+/// Returns the text of the first line that names the zone whose file is at `path`, or an empty text if no line does.
+fn first_text(alloc: Global, lines: &[TimerLine], path: &str) -> Result<String, AllocError>
+    ensures { IfOk result (λ found. (zone text : List ℕ) → path.now ≡ zone_path zone
+        → first_with_zone zone (map shown lines.now) ≡ Some text → string_bytes found ≡ text) }
+{
+    match first_with_zone(lines, path) {
+        Some(line) => String::from_str(alloc, line.text.as_str()),
+        None => Ok(String::new(alloc)),
+    }
 }
 
 /// Returns the expressions, separated by commas.

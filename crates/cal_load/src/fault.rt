@@ -2,7 +2,7 @@
 
 ghost use Rattle.std.specs.Prelude.{◌≡◌, OnOk};
 ghost use Rattle.cal_load.specs.declared.fault.TargetLoadFault.TheVariants.{NoMemory};
-ghost use Rattle.cal_load.specs.rules.AllUnits.{HasFault, IsNotUtf8Fault, IsPathFault, IsTreeFault, Keeps};
+ghost use Rattle.cal_load.specs.rules.AllUnits.{HasFault, IsFaultPushed, IsNotUtf8Fault, IsPathFault, IsTreeFault, Keeps};
 
 use crate::target_fault::{TargetFault, TargetReason};
 use cal_machine::TreeFault;
@@ -76,6 +76,7 @@ pub(crate) fn push_fault(
     target: &str,
     fault: TargetLoadFault,
 ) -> Result<(), AllocError>
+    ensures pushed { OnOk result (IsFaultPushed faults.old.items faults.new.items target.now fault) }
     ensures reported { OnOk result (HasFault faults.new.items target.now fault) }
     ensures kept { OnOk result (Keeps faults.old.items faults.new.items) }
 {

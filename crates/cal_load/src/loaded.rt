@@ -122,6 +122,7 @@ impl Loaded {
     pub(crate) fn new(alloc: Global) -> Loaded
         ensures timers { result.timers.items ≡ [] }
         ensures masked { result.masked.items ≡ [] }
+        ensures faults { result.faults.items ≡ [] }
     {
         Loaded {
             timers: Vec::new(alloc),

@@ -1,15 +1,17 @@
 //! The zones that the expressions of a timer name.
 
-ghost use Rattle.std.specs.Prelude.{◌≡◌, ◌++◌, IfOk, OnOk, map, option_copied, string_bytes};
+ghost use Rattle.std.specs.Prelude.{◌≡◌, ◌++◌, ℕ, List, IfOk, OnOk, map, option_copied, string_bytes};
+ghost use Rattle.std.specs.List.{find};
 ghost use Rattle.std.specs.Option.{option_to_list};
 ghost use Rattle.std.specs.Result.{IfErr};
-ghost use Rattle.cal_zone_files.specs.rules.ZoneFiles.{HasZonesOf};
+ghost use Rattle.cal_zone_files.specs.rules.ZoneFiles.{HasZonesOf, zone_path};
 ghost use Rattle.cal_timer.specs.rules.TimerView.{shown};
 ghost use Rattle.cal_machine.specs.rules.Machine.{Machine};
+ghost use Rattle.cal_load.specs.rules.Expressions.{names_zone};
 ghost use Rattle.cal_load.specs.rules.Loaded.{HasNames, zone_names_in};
 ghost use Rattle.cal_load.specs.rules.TextFaults.{IsZonesError};
 
-use cal_machine::Tree;
+use cal_machine::{Tree, after_prefix};
 use cal_timer::TimerLine;
 use cal_zone::ZoneTable;
 use cal_zone_files::{ZonesFault, load_zones};
@@ -69,9 +71,28 @@ fn push_zone_name(
 }
 
 /// Returns the first line that names the zone whose file is at `path`.
-pub(crate) fn first_with_zone<'l>(lines: &'l [TimerLine], path: &str) -> Option<&'l TimerLine> {
-    let zone = path.strip_prefix(ZONE_FOLDER)?;
-    lines
-        .iter()
-        .find(|line| line.expr.zone_name() == Some(zone))
+pub(crate) fn first_with_zone<'l>(lines: &'l [TimerLine], path: &str) -> Option<&'l TimerLine>
+    ensures { (zone : List ℕ) → path.now ≡ zone_path zone
+        → option_copied result ≡ find (λ line. names_zone zone (shown line)) lines.now }
+{
+    match after_prefix(ZONE_FOLDER, path) {
+        Some(zone) => first_named(lines, zone),
+        None => None,
+    }
+}
+
+/// Returns the first line that names this zone.
+fn first_named<'l>(lines: &'l [TimerLine], zone: &str) -> Option<&'l TimerLine>
+    ensures { option_copied result ≡ find (λ line. names_zone zone.now (shown line)) lines.now }
+{
+    lines.iter().find(|line| is_named(line, zone))
+}
+
+fn is_named(line: &TimerLine, zone: &str) -> bool
+    ensures { result ≡ names_zone zone.now (shown line.now) }
+{
+    match line.expr.zone_name() {
+        Some(name) => name == zone,
+        None => false,
+    }
 }

@@ -145,6 +145,11 @@ unit_name stem = stem ++ codes ".timer"
 
 -- ## Steps
 
+-- `new` is `old` with this error of a target appended
+abbrev pub IsFaultPushed : List TargetFault → List TargetFault → List ℕ → TargetLoadFault → Type 0
+IsFaultPushed old new name error =
+    (fault : TargetFault) × (new ≡ old ++ fault ∷ []) × (string_bytes fault.target ≡ name) × (error ≡ faults.TheVariants.Target fault.reason)
+
 -- no fault was removed
 abbrev pub Keeps : List TargetFault → List TargetFault → Type 0
 Keeps old new = (fault : TargetFault) → Contains old fault → Contains new fault

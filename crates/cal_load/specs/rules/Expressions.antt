@@ -1,12 +1,28 @@
 -- Timers that are made of calendar expressions alone: systemd.time(7), Calendar Events.
-use Rattle.std.specs.Prelude.{◌≡◌, ℕ, List, [], All, Ok, map}
+use Rattle.std.specs.Prelude.{◌≡◌, ◌≢◌, ◌⊎◌, ℕ, Bool, List, [], ◌∷◌, All, Option, Some, Ok, Err, String, is_ok, length, map, not, option_map, string_bytes}
+use Rattle.std.specs.List.{find, list_any}
+use Rattle.std.specs.Option.{option_to_list}
+use Rattle.std.specs.Str.{bytes_eq}
+use Rattle.std.specs.declared.alloc.Global.{Global}
 use Rattle.cal_spec.specs.computed.Expr.{expr_in}
+use Rattle.cal_spec.specs.declared.spec_fault.SpecFault.{SpecFault}
 use Rattle.cal_spec.specs.rules.Fields.{Fields}
+use Rattle.cal_spec.specs.rules.ZoneSuffix.{name_in}
 use Rattle.cal_timer.specs.rules.TimerEntries.{TimerLine}
 use Rattle.cal_machine.specs.rules.Machine.{Machine}
 use Rattle.cal_zone.specs.rules.ZoneTable.{ZoneMap}
+use Rattle.cal_zone_files.specs.declared.fault.FileReason.{FileReason}
+use Rattle.cal_zone_files.specs.rules.ZoneFiles.{IsReasonOn, zone_path}
 use Rattle.cal_load.specs.rules.Loaded.{HasZones, exceptions_in, expressions_in}
+use Rattle.cal_load.specs.declared.fault.TargetLoadFault.{TargetLoadFault}
+use Rattle.cal_load.specs.declared.fault.TargetLoadFault as faults
+use Rattle.cal_load.specs.declared.loaded.Loaded.{Loaded}
 use Rattle.cal_load.specs.declared.loaded.LoadedTimer.{LoadedTimer}
+use Rattle.cal_load.specs.declared.target_fault.TargetFault.{TargetFault}
+use Rattle.cal_load.specs.declared.target_fault.TargetReason.{TargetReason}
+use Rattle.cal_load.specs.declared.target_fault.TargetReason.TheVariants.{NotFound, Template, TooManyAliases, Path, NotUtf8, Line, NothingToDo, Zone, Expression, ExpressionZone}
+
+-- ## Timers
 
 -- the entries have these texts, all of which are valid expressions
 abbrev pub AreOf : List (List ℕ) → List (TimerLine Fields) → Type 0
@@ -23,3 +39,81 @@ abbrev pub IsMadeOf : Machine → List (List ℕ) → LoadedTimer → Type 0
 IsMadeOf machine texts timer =
     AreOf texts (expressions_in timer.calendar) × (exceptions_in timer.calendar ≡ [])
     × HasZones machine timer.calendar timer.zones
+
+-- ## Errors
+
+-- the first of these texts that isn't a valid expression
+abbrev pub first_invalid : List (List ℕ) → Option (List ℕ)
+first_invalid texts = find (λ text. not (is_ok (expr_in text))) texts
+
+-- whether the entry names this zone
+abbrev pub names_zone : List ℕ → TimerLine Fields → Bool
+names_zone zone entry = list_any (bytes_eq zone) (option_to_list (name_in entry.expr.zone))
+
+-- the text of the first entry that names this zone
+abbrev pub first_with_zone : List ℕ → List (TimerLine Fields) → Option (List ℕ)
+first_with_zone zone entries = option_map (λ entry. entry.text) (find (names_zone zone) entries)
+
+-- the zone file at this path can't be used for this reason, and `target` is the text of the first entry that names its
+-- zone
+pub record IsUnusableZone (machine : Machine) (entries : List (TimerLine Fields)) (target path : List ℕ) (reason : FileReason) : Type 0 where
+  pub zone : List ℕ
+  pub has_path : path ≡ zone_path zone
+  pub is_unusable : IsReasonOn machine zone reason
+  pub is_first : first_with_zone zone entries ≡ Some target
+
+-- Why these texts don't make a timer: `target` is the first of them that is invalid, and `fault` is the error of parsing
+-- it. Or all of them are valid, the zone file at `path` can't be used, and `target` is the first that names its zone.
+-- `Shows` holds for the machines that agree with what the tree returned.
+abbrev pub IsExpressionReason : (Machine → Type 0) → List (List ℕ) → List ℕ → TargetReason → Type 0
+IsExpressionReason Shows texts target NotFound = ⊥
+IsExpressionReason Shows texts target Template = ⊥
+IsExpressionReason Shows texts target TooManyAliases = ⊥
+IsExpressionReason Shows texts target (Path place why) = ⊥
+IsExpressionReason Shows texts target (NotUtf8 place) = ⊥
+IsExpressionReason Shows texts target (Line place line fault) = ⊥
+IsExpressionReason Shows texts target NothingToDo = ⊥
+IsExpressionReason Shows texts target (Zone place line zone reason) = ⊥
+IsExpressionReason Shows texts target (Expression fault) = (first_invalid texts ≡ Some target) × (expr_in target ≡ Err fault)
+IsExpressionReason Shows texts target (ExpressionZone path reason) =
+    (entries : List (TimerLine Fields)) × AreOf texts entries
+    × ((machine : Machine) → Shows machine → IsUnusableZone machine entries target (string_bytes path) reason)
+
+-- ## Results
+
+-- there is one timer, and no error
+abbrev pub IsTimerAlone : Loaded → Type 0
+IsTimerAlone loaded = (length loaded.timers.items ≡ 1) × (loaded.faults.items ≡ [])
+
+-- there is no timer, and one error, which says why these texts don't make a timer
+abbrev pub IsReasonAlone : (Machine → Type 0) → List (List ℕ) → Loaded → Type 0
+IsReasonAlone Shows texts loaded =
+    (loaded.timers.items ≡ [])
+    × ((fault : TargetFault) × (loaded.faults.items ≡ fault ∷ []) × IsExpressionReason Shows texts (string_bytes fault.target) fault.reason)
+
+-- These texts made a timer, or there is an error that says why they don't make one. `Shows` is as above.
+abbrev pub IsTimerOrReason : (Machine → Type 0) → List (List ℕ) → Loaded → Type 0
+IsTimerOrReason Shows texts loaded = (loaded.masked.items ≡ []) × (IsTimerAlone loaded ⊎ IsReasonAlone Shows texts loaded)
+
+-- ## Steps
+
+-- unless memory ran out, the error is the one of parsing this text
+abbrev pub IsParseError : List ℕ → TargetLoadFault → Type 0
+IsParseError text error =
+    error ≢ faults.TheVariants.NoMemory → (fault : SpecFault) × (error ≡ faults.TheVariants.Target (Expression fault)) × (expr_in text ≡ Err fault)
+
+-- there is nothing but this error, which is about the target with this name
+pub record IsErrorAlone (target : List ℕ) (error : TargetLoadFault) (loaded : Loaded) : Type 0 where
+  pub timers : loaded.timers.items ≡ []
+  pub masked : loaded.masked.items ≡ []
+  pub fault : TargetFault
+  pub only : loaded.faults.items ≡ fault ∷ []
+  pub named : string_bytes fault.target ≡ target
+  pub is_error : error ≡ faults.TheVariants.Target fault.reason
+
+-- there is nothing but an error about the zone file at this path; its target is the text of the first entry that names
+-- the zone, if an entry does
+abbrev pub IsZoneErrorAlone : List (TimerLine Fields) → String Global → FileReason → Loaded → Type 0
+IsZoneErrorAlone entries path reason loaded =
+    (target : List ℕ) × IsErrorAlone target (faults.TheVariants.Target (ExpressionZone path reason)) loaded
+    × ((zone text : List ℕ) → string_bytes path ≡ zone_path zone → first_with_zone zone entries ≡ Some text → target ≡ text)
