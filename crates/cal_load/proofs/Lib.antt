@@ -1,4 +1,5 @@
 pub mod ExpressionLemmas
+pub mod FileLemmas
 pub mod PathLemmas
 pub mod TextFaultLemmas
 pub mod TextLemmas

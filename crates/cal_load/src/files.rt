@@ -1,7 +1,17 @@
 //! Reading the files that a user names, each once.
 
-ghost use Rattle.std.specs.Prelude.{◌≡◌, [], All, IfOk, OnOk};
+ghost use Rattle.std.specs.Prelude.{◌≡◌, ◌≢◌, ◌∷◌, ◌++◌, ℕ, List, [], All, IfOk, OnOk, map, string_bytes};
+ghost use Rattle.std.specs.List.{flat_map};
 ghost use Rattle.cal_machine.specs.rules.Machine.{Machine};
+ghost use Rattle.cal_unit_index.specs.rules.DropIns.{drop_ins};
+ghost use Rattle.cal_unit_index.specs.rules.Files.{file_at, shown_file};
+ghost use Rattle.cal_unit_index.specs.rules.Index.{IsIndexOf};
+ghost use Rattle.cal_unit_index.specs.rules.Names.{names_on};
+ghost use Rattle.cal_unit_index.specs.rules.UnitName.{unit_stem};
+ghost use Rattle.cal_unit_index.specs.rules.Units.Unit.{FoundAt};
+ghost use Rattle.cal_load.specs.declared.names.Wanted.TheVariants.{Texts};
+ghost use Rattle.cal_load.specs.rules.AllFiles.{AreTextsAt, AreTried, AreTriedAlso, IsTaken, again, all_paths, is_read, is_text, paths_by, paths_if_valid, paths_in, paths_of_unit, unit_paths};
+ghost use Rattle.cal_load.specs.rules.AllTargets.{wanted_at};
 ghost use Rattle.cal_load.specs.rules.Loaded.{IsStoredOn};
 
 use crate::fault::{TargetLoadFault, push_fault, push_lost};
@@ -14,7 +24,7 @@ use cal_unit_index::{
     find_unit, names_of, read_file, unit_stem,
 };
 use std::alloc::{AllocError, Global};
-use std::collections::BTreeSet;
+use std::collections::BTreeMap;
 
 /// Files that were read.
 #[derive(Debug, Drop)]
@@ -40,6 +50,11 @@ pub fn load_files<T: Tree>(
 ) -> Result<LoadedFiles, AllocError>
     ensures known { IfOk result (λ loaded. (machine : Machine) → T.shows tree.new machine
         → All (IsStoredOn machine) loaded.files.items) }
+    ensures whole { targets.now ≡ [] → IfOk result (λ loaded. (machine : Machine) (path : List (List ℕ)) → T.shows tree.new machine
+        → IsIndexOf machine path index.now → AreTextsAt machine (all_paths machine path) loaded.files.items) }
+    ensures targets { targets.now ≢ [] → IfOk result (λ loaded. (machine : Machine) (path : List (List ℕ)) → T.shows tree.new machine
+        → IsIndexOf machine path index.now
+        → AreTextsAt machine (flat_map (paths_by machine path) (map (λ target. target.now) targets.now)) loaded.files.items) }
     ensures grows { (machine : Machine) → T.shows tree.new machine → T.shows tree.old machine }
 {
     if targets.is_empty() {
@@ -60,6 +75,8 @@ fn all_files<T: Tree>(
 ) -> Result<LoadedFiles, AllocError>
     ensures known { IfOk result (λ loaded. (machine : Machine) → T.shows tree.new machine
         → All (IsStoredOn machine) loaded.files.items) }
+    ensures whole { IfOk result (λ loaded. (machine : Machine) (path : List (List ℕ)) → T.shows tree.new machine
+        → IsIndexOf machine path index.now → AreTextsAt machine (all_paths machine path) loaded.files.items) }
     ensures grows { (machine : Machine) → T.shows tree.new machine → T.shows tree.old machine }
 {
     let mut reading = Reading::new(alloc);
@@ -72,27 +89,31 @@ fn all_files<T: Tree>(
 /// What became of the file at a path.
 #[derive(Clone, Copy, PartialEq, Eq, Debug)]
 enum Taken {
-    /// It was read, or it has been tried before, with whatever result.
+    /// It was read, now or before.
     Read,
     /// It is a mask.
     Masked,
     /// It can't be used, for this reason.
     Unusable(Reason),
+    /// It was tried before, and can't be used. It needn't be reported again.
+    UnusableBefore,
 }
 
-/// The files that were read so far, and all paths that were tried.
+/// The files that were read so far.
 #[derive(Drop)]
 struct Reading {
-    seen: BTreeSet<String>,
+    /// The paths that were tried, with what trying them again returns.
+    seen: BTreeMap<String, Taken>,
     loaded: LoadedFiles,
 }
 
 impl Reading {
     fn new(alloc: Global) -> Reading
-        ensures { result.loaded.files.items ≡ [] }
+        ensures empty { result.loaded.files.items ≡ [] }
+        ensures tried { (machine : Machine) → AreTried machine [] result }
     {
         Reading {
-            seen: BTreeSet::new(alloc),
+            seen: BTreeMap::new(alloc),
             loaded: LoadedFiles {
                 files: Vec::new(alloc),
                 faults: Vec::new(alloc),
@@ -110,6 +131,8 @@ impl Reading {
     ) -> Result<(), AllocError>
         ensures known { OnOk result ((machine : Machine) → T.shows tree.new machine
             → All (IsStoredOn machine) self.old.loaded.files.items → All (IsStoredOn machine) self.new.loaded.files.items) }
+        ensures tried { OnOk result ((machine : Machine) (path : List (List ℕ)) → T.shows tree.new machine
+            → IsIndexOf machine path index.now → AreTriedAlso machine (unit_paths machine path stem.now) self.old self.new) }
         ensures grows { (machine : Machine) → T.shows tree.new machine → T.shows tree.old machine }
     {
         let Unit::Found(file) = find_unit(alloc, index, stem)? else {
@@ -134,6 +157,8 @@ impl Reading {
     ) -> Result<(), AllocError>
         ensures known { OnOk result ((machine : Machine) → T.shows tree.new machine
             → All (IsStoredOn machine) self.old.loaded.files.items → All (IsStoredOn machine) self.new.loaded.files.items) }
+        ensures tried { OnOk result ((machine : Machine) (path : List (List ℕ)) → T.shows tree.new machine
+            → IsIndexOf machine path index.now → AreTriedAlso machine (paths_by machine path target.now) self.old self.new) }
         ensures grows { (machine : Machine) → T.shows tree.new machine → T.shows tree.old machine }
     {
         if !is_path(target) {
@@ -156,6 +181,9 @@ impl Reading {
     ) -> Result<(), AllocError>
         ensures known { OnOk result ((machine : Machine) → T.shows tree.new machine
             → All (IsStoredOn machine) self.old.loaded.files.items → All (IsStoredOn machine) self.new.loaded.files.items) }
+        ensures tried { OnOk result ((machine : Machine) (path : List (List ℕ)) → T.shows tree.new machine
+            → IsIndexOf machine path index.now
+            → AreTriedAlso machine (paths_if_valid machine path (unit_stem name.now)) self.old self.new) }
         ensures grows { (machine : Machine) → T.shows tree.new machine → T.shows tree.old machine }
     {
         let Some(stem) = unit_stem(name) else {
@@ -184,11 +212,14 @@ impl Reading {
     ) -> Result<Option<Reason>, AllocError>
         ensures known { OnOk result ((machine : Machine) → T.shows tree.new machine
             → All (IsStoredOn machine) self.old.loaded.files.items → All (IsStoredOn machine) self.new.loaded.files.items) }
+        ensures tried { OnOk result ((machine : Machine) (path : List (List ℕ)) → T.shows tree.new machine
+            → IsIndexOf machine path index.now → AreTriedAlso machine (paths_of_unit machine path asked.now
+            (FoundAt (string_bytes file.now.path) (string_bytes file.now.file) (string_bytes file.now.stem))) self.old self.new) }
         ensures grows { (machine : Machine) → T.shows tree.new machine → T.shows tree.old machine }
     {
         match self.take(alloc, tree, file.path.as_str())? {
             Taken::Read => self.take_drop_ins(alloc, tree, index, asked, file)?,
-            Taken::Masked => {}
+            Taken::Masked | Taken::UnusableBefore => {}
             Taken::Unusable(reason) => return Ok(Some(reason)),
         }
         Ok(None)
@@ -205,6 +236,9 @@ impl Reading {
     ) -> Result<(), AllocError>
         ensures known { OnOk result ((machine : Machine) → T.shows tree.new machine
             → All (IsStoredOn machine) self.old.loaded.files.items → All (IsStoredOn machine) self.new.loaded.files.items) }
+        ensures tried { OnOk result ((machine : Machine) (path : List (List ℕ)) → T.shows tree.new machine
+            → IsIndexOf machine path index.now → AreTriedAlso machine (drop_ins machine path
+            (names_on machine path (string_bytes file.now.file) (string_bytes file.now.stem) asked.now)) self.old self.new) }
         ensures grows { (machine : Machine) → T.shows tree.new machine → T.shows tree.old machine }
     {
         let names = names_of(alloc, index, file, asked)?;
@@ -225,12 +259,15 @@ impl Reading {
     ) -> Result<(), AllocError>
         ensures known { OnOk result ((machine : Machine) → T.shows tree.new machine
             → All (IsStoredOn machine) self.old.loaded.files.items → All (IsStoredOn machine) self.new.loaded.files.items) }
+        ensures tried { OnOk result ((machine : Machine) → T.shows tree.new machine
+            → AreTriedAlso machine (string_bytes path ∷ []) self.old self.new) }
         ensures grows { (machine : Machine) → T.shows tree.new machine → T.shows tree.old machine }
     {
         match self.take(alloc, tree, path.as_str())? {
-            Taken::Read | Taken::Masked | Taken::Unusable(Reason::Missing | Reason::IsFolder) => Ok(
-                (),
-            ),
+            Taken::Read
+            | Taken::Masked
+            | Taken::UnusableBefore
+            | Taken::Unusable(Reason::Missing | Reason::IsFolder) => Ok(()),
             Taken::Unusable(reason) => {
                 let lost = vec![in alloc; UnitFault { path, reason }]?;
                 push_lost(&mut self.loaded.faults, lost)
@@ -247,6 +284,8 @@ impl Reading {
     ) -> Result<(), AllocError>
         ensures known { OnOk result ((machine : Machine) → T.shows tree.new machine
             → All (IsStoredOn machine) self.old.loaded.files.items → All (IsStoredOn machine) self.new.loaded.files.items) }
+        ensures tried { OnOk result ((machine : Machine) → T.shows tree.new machine
+            → AreTriedAlso machine (paths_in folder.now (wanted_at machine Texts folder.now)) self.old self.new) }
         ensures grows { (machine : Machine) → T.shows tree.new machine → T.shows tree.old machine }
     {
         let names = match files_in(alloc, tree, folder, Wanted::Texts) {
@@ -269,10 +308,12 @@ impl Reading {
     ) -> Result<(), AllocError>
         ensures known { OnOk result ((machine : Machine) → T.shows tree.new machine
             → All (IsStoredOn machine) self.old.loaded.files.items → All (IsStoredOn machine) self.new.loaded.files.items) }
+        ensures tried { OnOk result ((machine : Machine) → T.shows tree.new machine
+            → AreTriedAlso machine (path.now ∷ []) self.old self.new) }
         ensures grows { (machine : Machine) → T.shows tree.new machine → T.shows tree.old machine }
     {
         match self.take(alloc, tree, path)? {
-            Taken::Read | Taken::Masked => Ok(()),
+            Taken::Read | Taken::Masked | Taken::UnusableBefore => Ok(()),
             Taken::Unusable(reason) => self.push_unusable(alloc, path, path, reason),
         }
     }
@@ -286,13 +327,27 @@ impl Reading {
     ) -> Result<Taken, AllocError>
         ensures known { OnOk result ((machine : Machine) → T.shows tree.new machine
             → All (IsStoredOn machine) self.old.loaded.files.items → All (IsStoredOn machine) self.new.loaded.files.items) }
+        ensures tried { IfOk result (λ taken. (machine : Machine) → T.shows tree.new machine
+            → IsTaken machine path.now taken self.old self.new) }
         ensures grows { (machine : Machine) → T.shows tree.new machine → T.shows tree.old machine }
     {
-        if self.seen.contains(path) {
-            return Ok(Taken::Read);
+        if let Some(taken) = self.seen.get(path) {
+            return Ok(*taken);
         }
         let found = read_file(alloc, tree, path)?;
-        self.seen.insert(String::from_str(alloc, path)?)?;
+        self.push_file(alloc, path, found)
+    }
+
+    /// Adds what was found at a path that hasn't been tried before.
+    fn push_file(&mut self, alloc: Global, path: &str, found: FileRead) -> Result<Taken, AllocError>
+        ensures known { OnOk result ((machine : Machine) → shown_file found ≡ file_at machine path.now
+            → All (IsStoredOn machine) self.old.loaded.files.items → All (IsStoredOn machine) self.new.loaded.files.items) }
+        ensures taken { IfOk result (λ taken. is_read taken ≡ is_text (shown_file found)) }
+        ensures tried { OnOk result ((machine : Machine) (paths : List (List ℕ)) → shown_file found ≡ file_at machine path.now
+            → AreTried machine paths self.old → AreTried machine (paths ++ path.now ∷ []) self.new) }
+    {
+        self.seen
+            .insert(String::from_str(alloc, path)?, taken_again(&found))?;
         match found {
             FileRead::Mask => Ok(Taken::Masked),
             FileRead::Unusable(reason) => Ok(Taken::Unusable(reason)),
@@ -312,7 +367,8 @@ impl Reading {
         path: &str,
         reason: Reason,
     ) -> Result<(), AllocError>
-        ensures { self.new.loaded.files.items ≡ self.old.loaded.files.items }
+        ensures files { self.new.loaded.files.items ≡ self.old.loaded.files.items }
+        ensures seen { self.new.seen ≡ self.old.seen }
     {
         let reason = match reason {
             Reason::Missing => TargetReason::NotFound,
@@ -327,9 +383,21 @@ impl Reading {
         target: &str,
         reason: TargetReason,
     ) -> Result<(), AllocError>
-        ensures { self.new.loaded.files.items ≡ self.old.loaded.files.items }
+        ensures files { self.new.loaded.files.items ≡ self.old.loaded.files.items }
+        ensures seen { self.new.seen ≡ self.old.seen }
     {
         let fault = TargetLoadFault::Target(reason);
         push_fault(alloc, &mut self.loaded.faults, target, fault)
+    }
+}
+
+/// Returns what trying a path again returns, if this was found there.
+fn taken_again(found: &FileRead) -> Taken
+    ensures { result ≡ again (shown_file found.now) }
+{
+    match found {
+        FileRead::Mask => Taken::Masked,
+        FileRead::Unusable(_) => Taken::UnusableBefore,
+        FileRead::Text(_) => Taken::Read,
     }
 }

@@ -1,0 +1,116 @@
+-- Which files targets stand for. A target is how a user names timers, as in `AllTargets`.
+use Rattle.std.specs.Prelude.{◌≡◌, ℕ, Bool, true, false, if◌then◌else◌, List, [], ◌∷◌, ◌++◌, Option, None, Some, Result, Ok, Err, map}
+use Rattle.std.specs.BTreeMap.{get_by_text}
+use Rattle.std.specs.List.{flat_map, fold, list_any}
+use Rattle.std.specs.Str.{bytes_eq}
+use Rattle.cal_machine.specs.declared.tree.Unreadable.{Unreadable}
+use Rattle.cal_machine.specs.rules.Machine.{Machine}
+use Rattle.cal_unit_index.specs.declared.files.UnitText as texts
+use Rattle.cal_unit_index.specs.rules.DropIns.{drop_ins}
+use Rattle.cal_unit_index.specs.rules.Files.{FileRead, file_at, shown_unit_text, texts_at}
+use Rattle.cal_unit_index.specs.rules.Files.FileRead.{Mask, Unusable, Text}
+use Rattle.cal_unit_index.specs.rules.Folders.{end_at}
+use Rattle.cal_unit_index.specs.rules.Names.{names_on}
+use Rattle.cal_unit_index.specs.rules.UnitName.{unit_stem}
+use Rattle.cal_unit_index.specs.rules.Units.{Unit, unit_on}
+use Rattle.cal_unit_index.specs.rules.Units.Unit.{Unfound, TemplateOnly, TooManyAliases, FoundAt}
+use Rattle.cal_load.specs.rules.AllTargets.{is_path, path_in, wanted_at, without_slashes}
+use Rattle.cal_load.specs.rules.AllUnits.{units_on}
+use Rattle.cal_load.specs.rules.LoadedTarget.{is_folder}
+use Rattle.cal_load.specs.declared.files.Reading.{Reading}
+use Rattle.cal_load.specs.declared.files.Taken.{Taken}
+use Rattle.cal_load.specs.declared.files.Taken as taken
+use Rattle.cal_load.specs.declared.names.Wanted as wanted
+
+-- ## The paths that a target stands for
+
+-- whether a file is a text: not a mask, and not unusable
+abbrev pub is_text : FileRead → Bool
+is_text Mask = false
+is_text (Unusable reason) = false
+is_text (Text bytes) = true
+
+-- The paths of a unit that was asked for by the stem `asked`: of its own file, and then of its drop-ins. A unit whose
+-- own file is not a text has no drop-ins.
+abbrev pub paths_of_unit : Machine → List (List ℕ) → List ℕ → Unit → List (List ℕ)
+paths_of_unit machine path asked Unfound = []
+paths_of_unit machine path asked TemplateOnly = []
+paths_of_unit machine path asked TooManyAliases = []
+paths_of_unit machine path asked (FoundAt file own_file own) =
+    file ∷ (if is_text (file_at machine file) then drop_ins machine path (names_on machine path own_file own asked) else [])
+
+-- the paths of the unit that is found for a stem
+abbrev pub unit_paths : Machine → List (List ℕ) → List ℕ → List (List ℕ)
+unit_paths machine path asked = paths_of_unit machine path asked (unit_on machine path asked)
+
+-- the paths of a unit by its name; a name that isn't valid has no stem
+abbrev pub paths_if_valid : Machine → List (List ℕ) → Option (List ℕ) → List (List ℕ)
+paths_if_valid machine path None = []
+paths_if_valid machine path (Some stem) = unit_paths machine path stem
+
+-- the paths of the files with these names in a folder, or nothing if its names can't be read
+abbrev pub paths_in : List ℕ → Result (List (List ℕ)) Unreadable → List (List ℕ)
+paths_in folder (Ok names) = map (path_in folder) names
+paths_in folder (Err why) = []
+
+-- what a path stands for: the texts in a folder, or itself
+abbrev pub paths_at : Machine → List ℕ → List (List ℕ)
+paths_at machine path =
+    if is_folder (end_at machine path) then paths_in path (wanted_at machine wanted.TheVariants.Texts path) else path ∷ []
+
+-- the paths that a target stands for
+abbrev pub paths_by : Machine → List (List ℕ) → List ℕ → List (List ℕ)
+paths_by machine path target =
+    if is_path target then paths_at machine (without_slashes target) else paths_if_valid machine path (unit_stem target)
+
+-- the paths of all units in the search path
+abbrev pub all_paths : Machine → List (List ℕ) → List (List ℕ)
+all_paths machine path = flat_map (unit_paths machine path) (units_on machine path)
+
+-- ## The files at these paths
+
+-- the paths with one more at their end, unless they have it already
+abbrev pub with_path : List (List ℕ) → List ℕ → List (List ℕ)
+with_path paths path = if list_any (bytes_eq path) paths then paths else paths ++ path ∷ []
+
+-- each of the paths once, at its first place
+abbrev pub each_once : List (List ℕ) → List (List ℕ)
+each_once paths = fold with_path [] paths
+
+-- these are the texts at these paths, in this order, each path once
+abbrev pub AreTextsAt : Machine → List (List ℕ) → List texts.UnitText → Type 0
+AreTextsAt machine paths files = map shown_unit_text files ≡ texts_at machine (each_once paths)
+
+-- ## Steps
+
+-- what trying a path again returns
+abbrev pub again : FileRead → Taken
+again Mask = taken.TheVariants.Masked
+again (Unusable reason) = taken.TheVariants.UnusableBefore
+again (Text bytes) = taken.TheVariants.Read
+
+abbrev pub is_read : Taken → Bool
+is_read taken.TheVariants.Read = true
+is_read taken.TheVariants.Masked = false
+is_read (taken.TheVariants.Unusable reason) = false
+is_read taken.TheVariants.UnusableBefore = false
+
+-- what is remembered of a path after these paths were tried
+abbrev pub remembered_of : Machine → List (List ℕ) → List ℕ → Option Taken
+remembered_of machine paths path = if list_any (bytes_eq path) paths then Some (again (file_at machine path)) else None
+
+-- These paths were tried, in this order, and no others. Their texts were read, and it is remembered what is at each.
+pub record AreTried (machine : Machine) (paths : List (List ℕ)) (reading : Reading) : Type 0 where
+  pub files : map shown_unit_text reading.loaded.files.items ≡ texts_at machine paths
+  pub seen : (path : List ℕ) → get_by_text reading.seen path ≡ remembered_of machine paths path
+
+-- between `old` and `new` these paths were tried, except those that had been tried before
+abbrev pub AreTriedAlso : Machine → List (List ℕ) → Reading → Reading → Type 0
+AreTriedAlso machine more old new = (paths : List (List ℕ)) → AreTried machine paths old → AreTried machine (fold with_path paths more) new
+
+-- between `old` and `new` this path was tried, unless it had been tried before; in either case it is known whether it
+-- has a text
+abbrev pub IsTaken : Machine → List ℕ → Taken → Reading → Reading → Type 0
+IsTaken machine path taken old new =
+    (paths : List (List ℕ)) → AreTried machine paths old
+    → AreTried machine (with_path paths path) new × (is_read taken ≡ is_text (file_at machine path))
