@@ -41,13 +41,6 @@ impl<R: Raw> Recorder<R> {
             variables: BTreeMap::new(alloc),
         }
     }
-
-    /// Returns `raw`, to call it without recording the answer.
-    pub fn raw(&self) -> &R
-        ensures { result.now ≡ self.now.raw }
-    {
-        &self.raw
-    }
 }
 
 impl<R: Raw> Tree for Recorder<R> {
