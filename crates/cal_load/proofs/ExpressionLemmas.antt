@@ -1,4 +1,4 @@
--- Lemmas on timers that are made of expressions alone.
+-- Lemmas on timers that are made of calendar expressions, without files.
 use Rattle.std.proofs.Common.{◌≡◌, ◌+◌, ◌<◌, ◌∙◌, ◌||◌, ℕ, Bool, Bor, List, Option, [], ◌∷◌, ◌++◌, None, Some, All, Ok, Err, true, false, ap, append-nil, cond, drop, get_or, inr, length, map, refl, string_bytes, subst, sym, take}
 use Rattle.std.proofs.lemmas.List.{drop_more, map-append, take-append-drop, take_more}
 use Rattle.std.proofs.lemmas.List.Elements.{All-head, All-tail}
@@ -26,7 +26,7 @@ use Rattle.cal_load.specs.declared.fault.TargetLoadFault.{TargetLoadFault}
 use Rattle.cal_load.specs.declared.fault.TargetLoadFault as faults
 use Rattle.cal_load.specs.declared.loaded.Loaded.{Loaded}
 use Rattle.cal_load.specs.declared.target_fault.TargetReason.TheVariants.{Expression, ExpressionZone}
-use Rattle.cal_load.specs.rules.Expressions.{AreOf, IsErrorAlone, IsExpressionReason, IsParseError, IsTimerOrReason, IsUnusableZone, IsZoneErrorAlone, first_invalid, first_with_zone, names_zone}
+use Rattle.cal_load.specs.rules.Expressions.{AreOf, HasOnlyFault, HasOnlyZoneFault, IsExpressionReason, IsParseError, IsTimerOrReason, IsUnusableZone, first_invalid, first_with_zone, names_zone}
 use Rattle.cal_load.specs.rules.Loaded.{zone_names_in}
 use Rattle.cal_load.specs.rules.TextFaults.{IsZonesError}
 
@@ -67,17 +67,17 @@ invalid_first texts i d entries fault h before bad =
     ap first_invalid e ∙ find-append test front back ∙ ap (λ r. option_or r (find test back)) none ∙ here
 
 -- the only error is about the first invalid expression
-pub invalid_alone : (Shows : Machine → Type 0) (texts : List (List ℕ)) (target : List ℕ) (error : TargetLoadFault) (loaded : Loaded) → IsParseError target error
-    → ((fault : SpecFault) → expr_in target ≡ Err fault → first_invalid texts ≡ Some target) → IsErrorAlone target error loaded
+pub invalid_only : (Shows : Machine → Type 0) (texts : List (List ℕ)) (target : List ℕ) (error : TargetLoadFault) (loaded : Loaded) → IsParseError target error
+    → ((fault : SpecFault) → expr_in target ≡ Err fault → first_invalid texts ≡ Some target) → HasOnlyFault target error loaded
     → IsTimerOrReason Shows texts loaded
-invalid_alone Shows texts target error loaded wrong first alone =
-    let is_error = alone.is_error in
+invalid_only Shows texts target error loaded wrong first single =
+    let is_error = single.is_error in
     let found = wrong (λ e. absurd (cc)) in
-    let same : faults.TheVariants.Target (Expression found.0) ≡ faults.TheVariants.Target alone.fault.reason = sym found.1 ∙ is_error in
-    let reason : Expression found.0 ≡ alone.fault.reason = cc in
-    let is : IsExpressionReason Shows texts (string_bytes alone.fault.target) (Expression found.0) =
-    subst (λ name. IsExpressionReason Shows texts name (Expression found.0)) (sym alone.named) (first found.0 found.2, found.2) in
-    (alone.masked, inr (alone.timers, (alone.fault, alone.only, subst (IsExpressionReason Shows texts (string_bytes alone.fault.target)) reason is)))
+    let same : faults.TheVariants.Target (Expression found.0) ≡ faults.TheVariants.Target single.fault.reason = sym found.1 ∙ is_error in
+    let reason : Expression found.0 ≡ single.fault.reason = cc in
+    let is : IsExpressionReason Shows texts (string_bytes single.fault.target) (Expression found.0) =
+    subst (λ name. IsExpressionReason Shows texts name (Expression found.0)) (sym single.named) (first found.0 found.2, found.2) in
+    (single.masked, inr (single.timers, (single.fault, single.only, subst (IsExpressionReason Shows texts (string_bytes single.fault.target)) reason is)))
 
 -- ## Zones
 
@@ -126,14 +126,14 @@ zone_found zone (entry ∷ entries) h =
     (zone_found zone entries)
 
 -- the only error is about a zone file that can't be used
-pub zone_alone : (Shows : Machine → Type 0) (texts : List (List ℕ)) (entries : List (TimerLine Fields)) (path : String Global) (reason : FileReason) (loaded : Loaded)
+pub zone_only : (Shows : Machine → Type 0) (texts : List (List ℕ)) (entries : List (TimerLine Fields)) (path : String Global) (reason : FileReason) (loaded : Loaded)
     → AreOf texts entries → ((machine : Machine) → Shows machine → IsZonesError machine (zone_names_in entries ++ []) (zone_faults.At path reason))
-    → IsZoneErrorAlone entries path reason loaded → IsTimerOrReason Shows texts loaded
-zone_alone Shows texts entries path reason loaded are error h =
-    let alone = h.1 in
-    let is_error = alone.is_error in
-    let same : ExpressionZone path reason ≡ alone.fault.reason = cc in
-    let on_machine : (machine : Machine) → Shows machine → IsUnusableZone machine entries (string_bytes alone.fault.target) (string_bytes path) reason = λ machine shows.
+    → HasOnlyZoneFault entries path reason loaded → IsTimerOrReason Shows texts loaded
+zone_only Shows texts entries path reason loaded are error h =
+    let single = h.1 in
+    let is_error = single.is_error in
+    let same : ExpressionZone path reason ≡ single.fault.reason = cc in
+    let on_machine : (machine : Machine) → Shows machine → IsUnusableZone machine entries (string_bytes single.fault.target) (string_bytes path) reason = λ machine shows.
     let found = error machine shows in
     let has : Contains (zone_names_in entries) found.0 = subst (λ names. Contains names found.0) (append-nil (zone_names_in entries)) found.1 in
     let first = zone_found found.0 entries (list_any-from_Any (bytes_eq found.0) (zone_names_in entries) (has.0, found.0, has.1, has.2, (bytes_eq-Decides found.0 found.0).1 refl)) in
@@ -141,6 +141,6 @@ zone_alone Shows texts entries path reason loaded are error h =
       zone = found.0;
       has_path = found.2;
       is_unusable = found.3;
-      is_first = first.1 ∙ ap Some (sym (h.2 found.0 first.0 found.2 first.1) ∙ sym alone.named);
+      is_first = first.1 ∙ ap Some (sym (h.2 found.0 first.0 found.2 first.1) ∙ sym single.named);
     } in
-    (alone.masked, inr (alone.timers, (alone.fault, alone.only, subst (IsExpressionReason Shows texts (string_bytes alone.fault.target)) same (entries, are, on_machine))))
+    (single.masked, inr (single.timers, (single.fault, single.only, subst (IsExpressionReason Shows texts (string_bytes single.fault.target)) same (entries, are, on_machine))))

@@ -173,7 +173,7 @@ none_more Knows loaded = record {
   };
 }
 
--- what was loaded comes from these outcomes alone, if nothing had been loaded before
+-- if nothing had been loaded before, everything that was loaded comes from these outcomes
 pub all_loaded : (Knows : Machine → List (List ℕ) → Type 0) (sought : Machine → List (List ℕ) → List Sought) (start loaded : Loaded)
     → start.timers.items ≡ [] → start.masked.items ≡ [] → IsMore Knows sought start loaded → HasAll Knows sought loaded
 all_loaded Knows sought start loaded timers masked h = record {
@@ -239,10 +239,10 @@ pub ok_or_err : {X E : Type 0} (P : X → Type 0) (Q : E → Type 0) (R : Result
 ok_or_err P Q R (Ok x) f g h k = f x h
 ok_or_err P Q R (Err e) f g h k = g e k
 
-unread_alone : (folder : List ℕ) (names : Result Listing Unreadable) (reason : TargetReason) → IsUnreadReason folder names reason
+unread_only : (folder : List ℕ) (names : Result Listing Unreadable) (reason : TargetReason) → IsUnreadReason folder names reason
     → NamesIn folder ∷ [] ≡ sought_in folder (seen (wanted_in Timers) names)
-unread_alone folder (Ok names) reason h = absurd h
-unread_alone folder (Err why) reason h = refl
+unread_only folder (Ok names) reason h = absurd h
+unread_only folder (Err why) reason h = refl
 
 -- a folder whose names can't be read
 pub unread_more : (Shows : Machine → Type 0) (folder : List ℕ) (fault : TargetLoadFault) (old new : Loaded)
@@ -252,7 +252,7 @@ pub unread_more : (Shows : Machine → Type 0) (folder : List ℕ) (fault : Targ
 unread_more Shows folder (faults.TheVariants.Target reason) old new unread pushed =
     let Knows : Machine → List (List ℕ) → Type 0 = λ machine path. Shows machine in
     more_as Knows Knows (λ machine path. NamesIn folder ∷ []) (λ machine path. sought_in folder (wanted_at machine Timers folder)) old new
-    (λ machine path shows. shows) (λ machine path shows. unread_alone folder (names_at machine folder) reason (unread machine shows))
+    (λ machine path shows. shows) (λ machine path shows. unread_only folder (names_at machine folder) reason (unread machine shows))
     (pushed_more Knows (NamesIn folder) folder old new (Err (faults.TheVariants.Target reason)) refl pushed (λ machine path shows. unread machine shows))
 unread_more Shows folder faults.TheVariants.NoMemory old new unread pushed = absurd pushed.reported
 

@@ -1,11 +1,11 @@
-//! Timers that are made of expressions alone.
+//! Timers that are made of calendar expressions, without files.
 
 ghost use Rattle.std.specs.Prelude.{◌≡◌, ◌∷◌, ◌++◌, [], ℕ, List, All, IfOk, OnOk, Some, map, string_bytes};
 ghost use Rattle.std.specs.Result.{IfErr};
 ghost use Rattle.cal_timer.specs.rules.TimerView.{shown};
 ghost use Rattle.cal_machine.specs.rules.Machine.{Machine};
 ghost use Rattle.cal_zone_files.specs.rules.ZoneFiles.{zone_path};
-ghost use Rattle.cal_load.specs.rules.Expressions.{AreOf, IsErrorAlone, IsMadeOf, IsParseError, IsTimerAlone, IsTimerOf, IsTimerOrReason, IsZoneErrorAlone, first_with_zone};
+ghost use Rattle.cal_load.specs.rules.Expressions.{AreOf, HasOneTimer, HasOnlyFault, HasOnlyZoneFault, IsMadeOf, IsParseError, IsTimerOf, IsTimerOrReason, first_with_zone};
 
 use crate::calendar::Calendar;
 use crate::fault::{TargetLoadFault, push_fault};
@@ -44,7 +44,7 @@ pub fn load_expressions<T: Tree>(
 
 /// Returns a result without timers, with this error for the target.
 fn only_fault(alloc: Global, target: &str, fault: TargetLoadFault) -> Result<Loaded, AllocError>
-    ensures { IfOk result (IsErrorAlone target.now fault) }
+    ensures { IfOk result (HasOnlyFault target.now fault) }
 {
     let mut loaded = Loaded::new(alloc);
     push_fault(alloc, &mut loaded.faults, target, fault)?;
@@ -105,7 +105,7 @@ fn only_timer(
     zones: ZoneTable,
 ) -> Result<Loaded, AllocError>
     ensures known { IfOk result (λ loaded. All (IsTimerOf (map shown lines.items) zones) loaded.timers.items) }
-    ensures alone { IfOk result IsTimerAlone }
+    ensures single { IfOk result HasOneTimer }
     ensures masked { IfOk result (λ loaded. loaded.masked.items ≡ []) }
 {
     let mut loaded = Loaded::new(alloc);
@@ -128,7 +128,7 @@ fn only_zone_fault(
     zone: String,
     reason: FileReason,
 ) -> Result<Loaded, AllocError>
-    ensures { IfOk result (IsZoneErrorAlone (map shown lines.items) zone reason) }
+    ensures { IfOk result (HasOnlyZoneFault (map shown lines.items) zone reason) }
 {
     let target = first_text(alloc, lines.as_slice(), zone.as_str())?;
     let fault = TargetLoadFault::Target(TargetReason::ExpressionZone(zone, reason));

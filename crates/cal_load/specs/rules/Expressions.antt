@@ -1,4 +1,4 @@
--- Timers that are made of calendar expressions alone: systemd.time(7), Calendar Events.
+-- Timers that are made of calendar expressions, without files: systemd.time(7), Calendar Events.
 use Rattle.std.specs.Prelude.{◌≡◌, ◌≢◌, ◌⊎◌, ℕ, Bool, List, [], ◌∷◌, All, Option, Some, Ok, Err, String, is_ok, length, map, not, option_map, string_bytes}
 use Rattle.std.specs.List.{find, list_any}
 use Rattle.std.specs.Option.{option_to_list}
@@ -82,18 +82,18 @@ IsExpressionReason Shows texts target (ExpressionZone path reason) =
 -- ## Results
 
 -- there is one timer, and no error
-abbrev pub IsTimerAlone : Loaded → Type 0
-IsTimerAlone loaded = (length loaded.timers.items ≡ 1) × (loaded.faults.items ≡ [])
+abbrev pub HasOneTimer : Loaded → Type 0
+HasOneTimer loaded = (length loaded.timers.items ≡ 1) × (loaded.faults.items ≡ [])
 
 -- there is no timer, and one error, which says why these texts don't make a timer
-abbrev pub IsReasonAlone : (Machine → Type 0) → List (List ℕ) → Loaded → Type 0
-IsReasonAlone Shows texts loaded =
+abbrev pub HasOneFault : (Machine → Type 0) → List (List ℕ) → Loaded → Type 0
+HasOneFault Shows texts loaded =
     (loaded.timers.items ≡ [])
     × ((fault : TargetFault) × (loaded.faults.items ≡ fault ∷ []) × IsExpressionReason Shows texts (string_bytes fault.target) fault.reason)
 
 -- These texts made a timer, or there is an error that says why they don't make one. `Shows` is as above.
 abbrev pub IsTimerOrReason : (Machine → Type 0) → List (List ℕ) → Loaded → Type 0
-IsTimerOrReason Shows texts loaded = (loaded.masked.items ≡ []) × (IsTimerAlone loaded ⊎ IsReasonAlone Shows texts loaded)
+IsTimerOrReason Shows texts loaded = (loaded.masked.items ≡ []) × (HasOneTimer loaded ⊎ HasOneFault Shows texts loaded)
 
 -- ## Steps
 
@@ -103,7 +103,7 @@ IsParseError text error =
     error ≢ faults.TheVariants.NoMemory → (fault : SpecFault) × (error ≡ faults.TheVariants.Target (Expression fault)) × (expr_in text ≡ Err fault)
 
 -- there is nothing but this error, which is about the target with this name
-pub record IsErrorAlone (target : List ℕ) (error : TargetLoadFault) (loaded : Loaded) : Type 0 where
+pub record HasOnlyFault (target : List ℕ) (error : TargetLoadFault) (loaded : Loaded) : Type 0 where
   pub timers : loaded.timers.items ≡ []
   pub masked : loaded.masked.items ≡ []
   pub fault : TargetFault
@@ -113,7 +113,7 @@ pub record IsErrorAlone (target : List ℕ) (error : TargetLoadFault) (loaded : 
 
 -- there is nothing but an error about the zone file at this path; its target is the text of the first entry that names
 -- the zone, if an entry does
-abbrev pub IsZoneErrorAlone : List (TimerLine Fields) → String Global → FileReason → Loaded → Type 0
-IsZoneErrorAlone entries path reason loaded =
-    (target : List ℕ) × IsErrorAlone target (faults.TheVariants.Target (ExpressionZone path reason)) loaded
+abbrev pub HasOnlyZoneFault : List (TimerLine Fields) → String Global → FileReason → Loaded → Type 0
+HasOnlyZoneFault entries path reason loaded =
+    (target : List ℕ) × HasOnlyFault target (faults.TheVariants.Target (ExpressionZone path reason)) loaded
     × ((zone text : List ℕ) → string_bytes path ≡ zone_path zone → first_with_zone zone entries ≡ Some text → target ≡ text)
