@@ -91,7 +91,7 @@ cond_map : {X Y : Type 0} (f : X → Y) (b : Bool) (x : X) (r : Option X) (s : O
 cond_map f true x r s e = refl
 cond_map f false x r s e = e
 
-find_map : {X Y : Type 0} (f : X → Y) (test : Y → Bool) (xs : List X) → find test (map f xs) ≡ option_map f (find (λ x. test (f x)) xs)
+pub find_map : {X Y : Type 0} (f : X → Y) (test : Y → Bool) (xs : List X) → find test (map f xs) ≡ option_map f (find (λ x. test (f x)) xs)
 find_map f test [] = refl
 find_map f test (x ∷ xs) = cond_map f (test (f x)) x (find (λ x. test (f x)) xs) (find test (map f xs)) (find_map f test xs)
 
@@ -117,7 +117,7 @@ found_more true c entry found h f = (entry.text, refl)
 found_more false c entry found h f = f h
 
 -- if entries name a zone, one of them is the first
-zone_found : (zone : List ℕ) (entries : List (TimerLine Fields)) → list_any (bytes_eq zone) (zone_names_in entries) ≡ true
+pub zone_found : (zone : List ℕ) (entries : List (TimerLine Fields)) → list_any (bytes_eq zone) (zone_names_in entries) ≡ true
     → (text : List ℕ) × (first_with_zone zone entries ≡ Some text)
 zone_found zone [] h = absurd (cc)
 zone_found zone (entry ∷ entries) h =

@@ -1,16 +1,27 @@
 -- Lemmas on why the files of a timer can't be loaded.
-use Rattle.std.proofs.Common.{◌≡◌, ◌∙◌, ◌<◌, ℕ, List, [], ◌∷◌, arith, take, ap, drop, get_or, length, map, refl, string_bytes, subst, sym}
-use Rattle.std.proofs.lemmas.List.{get_or-map, length-map, take-append-drop}
-use Rattle.std.proofs.lemmas.List.Elements.{Contains-append_right}
-use Rattle.std.specs.List.{Contains}
-use Rattle.std.specs.Option.{option_to_list}
-use Rattle.std.specs.Prelude.{option_map}
-use Rattle.std.specs.Str.{IsUtf8}
+use Rattle.std.proofs.Common.{◌≡◌, ◌≢◌, ◌∙◌, ◌+◌, ◌≤◌, ◌^◌, ℕ, All, Bool, Bor, true, false, List, [], ◌∷◌, ◌++◌, Option, None, Some, Err, arith, take, ap, cond, drop, length, map, refl, subst, sym}
+use Rattle.std.proofs.lemmas.List.{take-append-drop}
+use Rattle.std.proofs.lemmas.List.Concat.{flat_map-append}
+use Rattle.std.proofs.lemmas.List.Elements.{All-head, All-nil, All-tail, Contains-append_right}
+use Rattle.std.proofs.lemmas.List.Folds.{find-append, list_any-from_Any}
+use Rattle.std.proofs.lemmas.Option.{same_Some}
+use Rattle.std.proofs.lemmas.Slice.Eq.{bytes_eq-Decides}
+use Rattle.std.specs.List.{Contains, find}
+use Rattle.std.specs.Option.{option_or, option_to_list}
+use Rattle.std.specs.Prelude.{option_copied, option_map}
+use Rattle.std.specs.Str.{IsUtf8, bytes_eq}
 use Rattle.cal_machine.specs.rules.Machine.{Machine}
-use Rattle.cal_timer.specs.rules.Assignments.{Assignment}
+use Rattle.cal_spec.specs.computed.Expr.{expr_in}
+use Rattle.cal_spec.specs.rules.Fields.{Fields}
+use Rattle.cal_spec.specs.rules.ZoneSuffix.{name_in}
+use Rattle.cal_timer.specs.declared.fault.TimerFault.{TimerFault}
+use Rattle.cal_timer.specs.declared.fault.TimerFault.TheVariants as timer_faults
+use Rattle.cal_timer.specs.declared.timer.TimerLine as declared_line
+use Rattle.cal_timer.specs.rules.TimerEntries.{TimerLine, lists_of}
+use Rattle.cal_timer.specs.rules.TimerFault.{line_of}
+use Rattle.cal_timer.specs.rules.TimerView.{shown}
 use Rattle.cal_unit_index.specs.declared.fault.Reason as reasons
-use Rattle.cal_unit_index.specs.declared.files.UnitText as texts
-use Rattle.cal_unit_index.specs.rules.Files.{FileRead, UnitText, drop_in_bytes, shown_unit_text}
+use Rattle.cal_unit_index.specs.rules.Files.{FileRead, UnitText, drop_in_bytes}
 use Rattle.cal_unit_index.specs.rules.Files.FileRead.{Mask, Unusable, Text}
 use Rattle.cal_zone_files.specs.declared.fault.FileReason.{FileReason}
 use Rattle.cal_zone_files.specs.declared.fault.ZonesFault.{ZonesFault}
@@ -22,27 +33,28 @@ use Rattle.cal_load.specs.declared.fault.TargetLoadFault as faults
 use Rattle.cal_load.specs.declared.target_fault.TargetReason.{TargetReason}
 use Rattle.cal_load.specs.declared.target_fault.TargetReason.TheVariants.{NotFound, Template, TooManyAliases, Path, NotUtf8, Line, NothingToDo, Zone, Expression, ExpressionZone}
 use Rattle.cal_load.specs.rules.AllUnits.{IsNotUtf8Fault, IsPathFault}
-use Rattle.cal_load.specs.rules.Loaded.{IsCalendarOf, assignments_of_files}
-use Rattle.cal_load.specs.rules.TextFaults.{IsAssignmentFault, IsAssignmentReason, IsNumberFault, IsNumberReason, IsTextFault, IsZoneLoadFault, IsZoneReason, HasUnusableZone, IsZonesError, IsZonesFault, zone_names_of}
+use Rattle.cal_load.specs.rules.Expressions.{names_zone}
+use Rattle.cal_load.specs.rules.Loaded.{IsCalendarOf, assignments_of_files, exceptions_in, expressions_in, zone_names_in}
+use Rattle.cal_load.specs.rules.Position.{HasLine, IsLineIn, total_lines}
+use Rattle.cal_load.specs.rules.TextFaults.{IsAssignmentFault, IsAssignmentReason, IsFirstWithZone, IsLineFault, IsNumberFault, IsNumberReason, IsTextFault, HasUnusableZone, IsZonesError, at_line, zone_names_of}
+use Rattle.cal_load.proofs.ExpressionLemmas.{find_map, zone_found}
+use Rattle.cal_load.proofs.PositionLemmas.{assignments_numbered, entries_numbered, fault_numbered}
 
 -- ## Texts
 
-pub contains_shown : (files : List texts.UnitText) (i : ℕ) (file : texts.UnitText) → i < length files → file ≡ get_or files i file
-    → Contains (map shown_unit_text files) (shown_unit_text file)
-contains_shown files i file h at =
-    (i, subst (λ n. i < n) (sym (length-map files shown_unit_text)) h, get_or-map shown_unit_text files i file (shown_unit_text file) h ∙ ap shown_unit_text (sym at))
-
 pub not_utf8_numbered : (file : UnitText) (fault : TargetLoadFault) → (IsUtf8 file.bytes → ⊥) → IsNotUtf8Fault file.path fault
-    → (files : List UnitText) → Contains files file → IsNumberFault files fault
-not_utf8_numbered file (faults.TheVariants.Target reason) not h files has =
-    subst (IsNumberReason files) (sym h.2) (file, has, sym h.1, not)
-not_utf8_numbered file faults.TheVariants.NoMemory not h files has = tt
+    → (before after : List UnitText) → IsNumberFault (before ++ file ∷ after) fault
+not_utf8_numbered file (faults.TheVariants.Target reason) not h before after =
+    subst (IsNumberReason (before ++ file ∷ after)) (sym h.2)
+    (file, Contains-append_right before (file ∷ after) file (0, omega arith, refl), sym h.1, not)
+not_utf8_numbered file faults.TheVariants.NoMemory not h before after = tt
 
 pub too_large_numbered : (file : UnitText) (fault : TargetLoadFault) → IsPathFault file.path reasons.TheVariants.TooLarge fault
-    → (files : List UnitText) → Contains files file → IsNumberFault files fault
-too_large_numbered file (faults.TheVariants.Target reason) h files has =
-    subst (IsNumberReason files) (sym h.2) ((file, has, sym h.1), refl)
-too_large_numbered file faults.TheVariants.NoMemory h files has = tt
+    → (before after : List UnitText) → 2 ^ 32 ≤ total_lines before + 1 + length file.bytes → IsNumberFault (before ++ file ∷ after) fault
+too_large_numbered file (faults.TheVariants.Target reason) h before after large =
+    subst (IsNumberReason (before ++ file ∷ after)) (sym h.2)
+    (record { before = before; file = file; after = after; divided = refl; has_path = sym h.1; is_large = large }, refl)
+too_large_numbered file faults.TheVariants.NoMemory h before after large = tt
 
 number_reason : (machine : Machine) (files : List UnitText) (reason : TargetReason) → IsNumberReason files reason → IsTextFault machine files (faults.TheVariants.Target reason)
 number_reason machine files NotFound h = h
@@ -61,7 +73,9 @@ pub number_text : (machine : Machine) (files : List UnitText) (fault : TargetLoa
 number_text machine files (faults.TheVariants.Target reason) h = number_reason machine files reason h
 number_text machine files faults.TheVariants.NoMemory h = tt
 
-assignment_reason : (machine : Machine) (files : List UnitText) (reason : TargetReason) → IsAssignmentReason (assignments_of_files files) reason
+-- ## Assignments
+
+assignment_reason : (machine : Machine) (files : List UnitText) (reason : TargetReason) → IsAssignmentReason files reason
     → IsTextFault machine files (faults.TheVariants.Target reason)
 assignment_reason machine files NotFound h = h
 assignment_reason machine files Template h = h
@@ -72,14 +86,21 @@ assignment_reason machine files (Line place line fault) h = h
 assignment_reason machine files NothingToDo h = h
 assignment_reason machine files (Zone place line zone reason) h = absurd h
 assignment_reason machine files (Expression fault) h = h
-assignment_reason machine files (ExpressionZone zone reason) h = absurd h
+assignment_reason machine files (ExpressionZone zone reason) h = h
 
 -- if the files' assignments don't make a timer, this is why the files don't make one
-pub assignment_text : (machine : Machine) (files : List UnitText) (assignments : List Assignment) (fault : TargetLoadFault)
-    → assignments ≡ assignments_of_files files → IsAssignmentFault assignments fault → IsTextFault machine files fault
-assignment_text machine files assignments (faults.TheVariants.Target reason) e h =
-    assignment_reason machine files reason (subst (λ all. IsAssignmentReason all reason) e h)
-assignment_text machine files assignments faults.TheVariants.NoMemory e h = tt
+pub assignment_text : (machine : Machine) (files : List UnitText) (fault : TargetLoadFault) → IsAssignmentFault files fault → IsTextFault machine files fault
+assignment_text machine files (faults.TheVariants.Target reason) h = assignment_reason machine files reason h
+assignment_text machine files faults.TheVariants.NoMemory h = tt
+
+-- an error in the assignments of files is about a line of one of the files
+pub line_text : (files : List UnitText) (path : List ℕ) (line number : ℕ) (found fault : TimerFault) → found ≢ timer_faults.NothingToDo
+    → lists_of expr_in (assignments_of_files files) ≡ Err found → ((n : ℕ) → line_of found ≡ Some n → number ≡ n)
+    → (HasLine files number → IsLineIn files number path line) → fault ≡ at_line found line → IsLineFault files path line fault
+line_text files path line number found fault other error numbered is_in same =
+    let about = fault_numbered expr_in (HasLine files) (assignments_of_files files) found (assignments_numbered files) other error in
+    let is : number ≡ about.0 = numbered about.0 about.1 in
+    (found, error, (number, about.1 ∙ ap Some (sym is), is_in (subst (HasLine files) (sym is) about.2), same))
 
 -- ## Zones
 
@@ -100,50 +121,77 @@ pub first_named : (machine : Machine) (names : List (List ℕ)) (found : ZonesFa
 first_named machine names found h =
     error_named machine names h.name found (next_contained names h.index h.name h.after h.is_at) h.is_error
 
-zone_text : (machine : Machine) (files : List UnitText) (calendar : calendars.Calendar) (zone name : List ℕ) (reason why : FileReason)
-    → IsCalendarOf files calendar → Contains (zone_names_of calendar) name → zone ≡ zone_path name → IsReasonOn machine name reason → why ≡ reason
-    → HasUnusableZone machine files zone why
-zone_text machine files calendar zone name reason why of_files has path is same = record {
-  calendar = calendar;
-  of_files = of_files;
-  name = name;
-  is_named = has;
-  has_path = path;
-  is_unusable = subst (IsReasonOn machine name) (sym same) is;
-}
+number_or : (found other : Option (Bor declared_line.TimerLine)) (entry : TimerLine Fields)
+    → option_or (option_map shown (option_copied found)) (option_map shown (option_copied other)) ≡ Some entry
+    → option_map (λ line. line.now.number) (option_or found other) ≡ Some entry.number
+number_or (Some line) other entry e = ap (option_map (λ (entry : TimerLine Fields). entry.number)) e
+number_or None (Some line) entry e = ap (option_map (λ (entry : TimerLine Fields). entry.number)) e
+number_or None None entry e = absurd (cc)
 
-zone_reason : (machine : Machine) (files : List UnitText) (calendar : calendars.Calendar) (path name : List ℕ) (reason : FileReason) (found : TargetReason)
-    → IsCalendarOf files calendar → Contains (zone_names_of calendar) name → path ≡ zone_path name → IsReasonOn machine name reason
-    → IsZoneReason path reason found → IsTextFault machine files (faults.TheVariants.Target found)
-zone_reason machine files calendar path name reason NotFound of_files has at is h = h
-zone_reason machine files calendar path name reason Template of_files has at is h = h
-zone_reason machine files calendar path name reason TooManyAliases of_files has at is h = h
-zone_reason machine files calendar path name reason (Path place why) of_files has at is h = absurd h
-zone_reason machine files calendar path name reason (NotUtf8 place) of_files has at is h = absurd h
-zone_reason machine files calendar path name reason (Line place line fault) of_files has at is h = absurd h
-zone_reason machine files calendar path name reason NothingToDo of_files has at is h = absurd h
-zone_reason machine files calendar path name reason (Zone place line zone why) of_files has at is h =
-    zone_text machine files calendar (string_bytes zone) name reason why of_files has (h.0 ∙ at) is h.1
-zone_reason machine files calendar path name reason (Expression fault) of_files has at is h = h
-zone_reason machine files calendar path name reason (ExpressionZone zone why) of_files has at is h =
-    zone_text machine files calendar (string_bytes zone) name reason why of_files has (h.0 ∙ at) is h.1
+-- the number of the first expression that names a zone, or, if none does, of the first exception
+pub number_found : (zone : List ℕ) (entry : TimerLine Fields) (lines exceptions : List declared_line.TimerLine) (found other : Option (Bor declared_line.TimerLine))
+    → option_copied found ≡ find (λ line. names_zone zone (shown line)) lines → option_copied other ≡ find (λ line. names_zone zone (shown line)) exceptions
+    → find (names_zone zone) (map shown lines ++ map shown exceptions) ≡ Some entry
+    → option_map (λ line. line.now.number) (option_or found other) ≡ Some entry.number
+number_found zone entry lines exceptions found other h k first =
+    number_or found other entry
+    (ap (λ one. option_or (option_map shown one) (option_map shown (option_copied other))) h
+    ∙ ap (λ two. option_or (option_map shown (find (λ line. names_zone zone (shown line)) lines)) (option_map shown two)) k
+    ∙ ap (λ one. option_or one (option_map shown (find (λ line. names_zone zone (shown line)) exceptions))) (sym (find_map shown (names_zone zone) lines))
+    ∙ ap (λ two. option_or (find (names_zone zone) (map shown lines)) two) (sym (find_map shown (names_zone zone) exceptions))
+    ∙ sym (find-append (names_zone zone) (map shown lines) (map shown exceptions))
+    ∙ first)
 
-zone_fault : (machine : Machine) (files : List UnitText) (calendar : calendars.Calendar) (path name : List ℕ) (reason : FileReason) (fault : TargetLoadFault)
-    → IsCalendarOf files calendar → Contains (zone_names_of calendar) name → path ≡ zone_path name → IsReasonOn machine name reason
-    → IsZoneLoadFault path reason fault → IsTextFault machine files fault
-zone_fault machine files calendar path name reason (faults.TheVariants.Target found) of_files has at is h =
-    zone_reason machine files calendar path name reason found of_files has at is h
-zone_fault machine files calendar path name reason faults.TheVariants.NoMemory of_files has at is h = tt
+some_of_map : {X Y : Type 0} (f : X → Y) (o : Option X) (y : Y) → option_map f o ≡ Some y → (x : X) × (o ≡ Some x)
+some_of_map f None y e = absurd (cc)
+some_of_map f (Some x) y e = (x, refl)
 
--- if the zones that files name can't be loaded, this is why the files don't make a timer
-pub zones_text : (machine : Machine) (files : List UnitText) (calendar : calendars.Calendar) (names : List (List ℕ)) (found : ZonesFault) (fault : TargetLoadFault)
-    → IsCalendarOf files calendar → names ≡ zone_names_of calendar → IsZonesError machine names found → IsZonesFault found fault
-    → IsTextFault machine files fault
-zones_text machine files calendar names (zone_faults.Unclear origin) fault of_files same error h = absurd error
-zones_text machine files calendar names (zone_faults.Unread origin) fault of_files same error h = absurd error
-zones_text machine files calendar names (zone_faults.At path reason) fault of_files same error h =
-    zone_fault machine files calendar (string_bytes path) error.0 reason fault of_files (subst (λ all. Contains all error.0) same error.1) error.2 error.3 h
-zones_text machine files calendar names zone_faults.NoMemory fault of_files same error h = rw h tt
+one_found : {X : Type 0} (P : X → Type 0) (c : Bool) (first x : X) (found : Option X) → P first → (found ≡ Some x → P x) → cond c (Some first) found ≡ Some x → P x
+one_found P true first x found h rest e = subst P (same_Some first x e) h
+one_found P false first x found h rest e = rest e
+
+-- what holds for all elements holds for the one that was found
+found_by : {X : Type 0} (P : X → Type 0) (test : X → Bool) (xs : List X) (x : X) → All P xs → find test xs ≡ Some x → P x
+found_by P test [] x all e = absurd (cc)
+found_by P test (first ∷ xs) x all e = one_found P (test first) first x (find test xs) (All-head P first xs all) (found_by P test xs x (All-tail P first xs all)) e
+
+calendar_lines : (files : List UnitText) (calendar : calendars.Calendar) → IsCalendarOf files calendar
+    → All (λ entry. HasLine files entry.number) (expressions_in calendar ++ exceptions_in calendar)
+calendar_lines files calendars.TheVariants.Nothing h = All-nil (λ (entry : TimerLine Fields). HasLine files entry.number)
+calendar_lines files (calendars.TheVariants.Timer timer) h = entries_numbered expr_in (HasLine files) (assignments_of_files files) timer (assignments_numbered files) h
+calendar_lines files (calendars.TheVariants.Expressions list) h = absurd h
+
+-- if the files name this zone, a line of one of them has the first expression or exception that names it
+first_entry : (files : List UnitText) (calendar : calendars.Calendar) (name : List ℕ) → IsCalendarOf files calendar → Contains (zone_names_of calendar) name
+    → (entry : TimerLine Fields) × IsFirstWithZone calendar name entry × HasLine files entry.number
+first_entry files calendar name of_files named =
+    let all = expressions_in calendar ++ exceptions_in calendar in
+    let has : Contains (zone_names_in all) name =
+    subst (λ names. Contains names name) (sym (flat_map-append (λ (entry : TimerLine Fields). option_to_list (name_in entry.expr.zone)) (expressions_in calendar) (exceptions_in calendar))) named in
+    let text = zone_found name all (list_any-from_Any (bytes_eq name) (zone_names_in all) (has.0, name, has.1, has.2, (bytes_eq-Decides name name).1 refl)) in
+    let entry = some_of_map (λ (entry : TimerLine Fields). entry.text) (find (names_zone name) all) text.0 text.1 in
+    (entry.0, entry.1, found_by (λ (entry : TimerLine Fields). HasLine files entry.number) (names_zone name) all entry.0 (calendar_lines files calendar of_files) entry.1)
+
+-- if the zone file at the path `zone` can't be used, this is why the files don't make a timer
+pub zone_text : (machine : Machine) (files : List UnitText) (calendar : calendars.Calendar) (path : List ℕ) (line number : ℕ) (zone : List ℕ) (reason : FileReason)
+    → IsCalendarOf files calendar
+    → ((name : List ℕ) (entry : TimerLine Fields) → zone ≡ zone_path name → IsFirstWithZone calendar name entry → number ≡ entry.number)
+    → (HasLine files number → IsLineIn files number path line)
+    → (name : List ℕ) × Contains (zone_names_of calendar) name × (zone ≡ zone_path name) × IsReasonOn machine name reason
+    → HasUnusableZone machine files path line zone reason
+zone_text machine files calendar path line number zone reason of_files numbered is_in error =
+    let first = first_entry files calendar error.0 of_files error.1 in
+    let same : number ≡ first.0.number = numbered error.0 first.0 error.2 first.1 in
+    record {
+      calendar = calendar;
+      of_files = of_files;
+      name = error.0;
+      has_path = error.2;
+      is_unusable = error.3;
+      entry = first.0;
+      is_first = first.1;
+      is_at = subst (λ n. IsLineIn files n path line) same (is_in (subst (HasLine files) (sym same) first.2));
+    }
 
 -- ## A unit's own file
 

@@ -1,6 +1,6 @@
 //! Timers that were loaded.
 
-ghost use Rattle.std.specs.Prelude.{◌≡◌, ◌+◌, ◌++◌, [], IfSome, OnOk, map, slice_get};
+ghost use Rattle.std.specs.Prelude.{◌≡◌, ◌+◌, ◌<◌, ◌≤◌, ◌^◌, ◌++◌, [], ℕ, List, MatchOption, OnOk, length, map, slice_get, slice_index};
 ghost use Rattle.cal_timer.specs.rules.TimerView.{shown};
 ghost use Rattle.cal_load.specs.rules.Loaded.{exceptions_in, expressions_in};
 ghost use Rattle.cal_load.specs.rules.AllUnits.{IsPushed};
@@ -48,10 +48,12 @@ impl LoadedTimer {
     }
 
     /// Returns the path of the file that has the line with this continued number, and the line's number in that file,
-    /// counted from 1. Returns `None` if no file begins at or before the line.
+    /// counted from 1. Returns `None` if no file begins at or before the line, or if the line's number in its file is
+    /// 2^32.
     pub fn position(&self, number: u32) -> Option<(&str, u32)>
-        ensures { IfSome result (λ position.
-            IsPosition self.now.files.items self.now.first_lines.items number position.0.now position.1) }
+        ensures { MatchOption result
+            ((path : List ℕ) (line : ℕ) → IsPosition self.now.files.items self.now.first_lines.items number path line → 2 ^ 32 ≤ line)
+            (λ position. IsPosition self.now.files.items self.now.first_lines.items number position.0.now position.1) }
     {
         position_in(self.files.as_slice(), self.first_lines.as_slice(), number)
     }
@@ -64,7 +66,9 @@ pub(crate) fn position_in<'f>(
     first_lines: &[u32],
     number: u32,
 ) -> Option<(&'f str, u32)>
-    ensures { IfSome result (λ position. IsPosition files.now first_lines.now number position.0.now position.1) }
+    ensures { MatchOption result
+        ((path : List ℕ) (line : ℕ) → IsPosition files.now first_lines.now number path line → 2 ^ 32 ≤ line)
+        (λ position. IsPosition files.now first_lines.now number position.0.now position.1) }
 {
     let index = last_until(first_lines, number)?;
     let line = line_from(first_lines[index], number)?;
@@ -75,21 +79,25 @@ pub(crate) fn position_in<'f>(
 /// Converts a continued number to the number of the line in its file, counted from 1. `first` is the continued number
 /// of the file's first line.
 fn line_from(first: u32, number: u32) -> Option<u32>
-    ensures { IfSome result (λ line. first + line ≡ number + 1) }
+    ensures { MatchOption result
+        (first ≤ number → (line : ℕ) → first + line ≡ number + 1 → 2 ^ 32 ≤ line)
+        (λ line. first + line ≡ number + 1) }
 {
     let before = number.checked_sub(first)?;
     before.checked_add(1)
 }
 
 fn file_with_index(files: &[UnitText], index: usize) -> Option<&UnitText>
-    ensures { IfSome result (λ file. slice_get files.now index ≡ Some file.now) }
+    ensures { MatchOption result (slice_get files.now index ≡ None) (λ file. slice_get files.now index ≡ Some file.now) }
 {
     files.get(index)
 }
 
 /// Returns the index of the last of these numbers that is at most `number`.
 fn last_until(numbers: &[u32], number: u32) -> Option<usize>
-    ensures { IfSome result (λ index. IsLastUntil numbers.now number index) }
+    ensures { MatchOption result
+        ((k : ℕ) → k < length numbers.now → number < slice_index numbers.now k)
+        (λ index. IsLastUntil numbers.now number index) }
 {
     let mut found = None;
     for (index, first) in numbers.iter().enumerate() {

@@ -1,21 +1,23 @@
 //! Reading a timer from its files.
 
-ghost use Rattle.std.specs.Prelude.{◌≡◌, ◌≢◌, Err, ◌+◌, ◌<◌, ◌^◌, ◌∷◌, ◌++◌, ℕ, List, All, IfOk, OnOk, length, map, string_bytes};
+ghost use Rattle.std.specs.Prelude.{◌≡◌, ◌≢◌, Err, ◌+◌, ◌<◌, ◌^◌, ◌∷◌, ◌++◌, ℕ, List, All, IfOk, MatchResult, OnOk, length, map, string_bytes};
 ghost use Rattle.cal_machine.specs.rules.Machine.{Machine};
 ghost use Rattle.cal_read.specs.rules.TimerTexts.{assignments_of};
 ghost use Rattle.std.specs.Result.{IfErr};
 ghost use Rattle.cal_unit_index.specs.rules.DropIns.{drop_ins};
 ghost use Rattle.cal_spec.specs.computed.Expr.{expr_in};
-ghost use Rattle.cal_timer.specs.rules.Assignments.{Assignment};
-ghost use Rattle.cal_timer.specs.rules.TimerEntries.{lists_of};
+ghost use Rattle.cal_spec.specs.rules.Fields.{Fields};
+ghost use Rattle.cal_timer.specs.rules.TimerEntries.{TimerLine, lists_of};
 ghost use Rattle.cal_unit_index.specs.rules.Files.{UnitText as FileText, file_at, shown_unit_text, texts_at};
 ghost use Rattle.cal_unit_index.specs.rules.Index.{IsIndexOf};
 ghost use Rattle.cal_unit_index.specs.rules.Names.{names_on};
 ghost use Rattle.cal_unit_index.specs.rules.Units.{unit_on};
-ghost use Rattle.cal_load.specs.rules.TextFaults.{IsAssignmentFault, IsLineReason, IsTextFault, IsZoneReason, IsZonesFault, at_line};
+ghost use Rattle.cal_zone_files.specs.rules.ZoneFiles.{zone_path};
+ghost use Rattle.cal_load.specs.rules.Position.{AreFirstLines, HasLine, IsLineIn};
+ghost use Rattle.cal_load.specs.rules.TextFaults.{IsAssignmentFault, IsFirstWithZone, IsTextFault, IsZonesError, at_line, zone_names_of};
 ghost use Rattle.cal_load.specs.rules.AllTargets.{IsReadAt};
 ghost use Rattle.cal_load.specs.rules.AllUnits.{IsFileFault, IsTimerFileFault, IsUnitFault, IsUnusableFault};
-ghost use Rattle.cal_load.specs.rules.Loaded.{IsCalendarBy, IsCalendarOf, IsTimerReadFrom, unit_texts};
+ghost use Rattle.cal_load.specs.rules.Loaded.{IsCalendarBy, IsCalendarOf, IsTimerReadFrom, assignments_of_files, unit_texts};
 ghost use Rattle.cal_load.specs.rules.LoadedTarget.{IsFoundTarget, IsLoadedFile, IsLoadedUnit, IsOwnFile};
 
 use crate::calendar::Calendar;
@@ -31,7 +33,7 @@ use cal_unit_index::{
     DropInTexts, DropIns, FileRead, Reason, Unit, UnitFault, UnitFile, UnitIndex, UnitText,
     find_drop_ins, find_unit, names_of, read_drop_ins, read_file,
 };
-use cal_zone_files::{FileReason, ZonesFault};
+use cal_zone_files::ZonesFault;
 use std::alloc::{AllocError, Global};
 
 /// What the files of a timer say.
@@ -228,29 +230,34 @@ fn timer_from_files<T: Tree>(
 
 fn parse_files(alloc: Global, files: &[UnitText]) -> Result<ParsedFiles, TargetLoadFault>
     ensures calendar { IfOk result (λ parsed. IsCalendarOf (map shown_unit_text files.now) parsed.calendar) }
+    ensures numbered { IfOk result (λ parsed. AreFirstLines (map shown_unit_text files.now) parsed.first_lines.items) }
     ensures fault { IfErr result (λ fault. (machine : Machine) → IsTextFault machine (map shown_unit_text files.now) fault) }
 {
     let texts = numbered_texts(alloc, files)?;
+    let first_lines = first_lines(alloc, texts.as_slice())?;
     let notes = notes_of(alloc, texts.as_slice())?;
     let starts = can_start(notes.as_slice());
+    let calendar = match read_calendar(alloc, texts.as_slice(), starts) {
+        Ok(calendar) => calendar,
+        Err(fault) => return Err(text_fault(alloc, files, first_lines.as_slice(), fault)),
+    };
     Ok(ParsedFiles {
-        first_lines: first_lines(alloc, texts.as_slice())?,
-        calendar: read_timer_calendar(alloc, files, texts.as_slice(), starts)?,
+        first_lines,
+        calendar,
         notes: shown_notes(alloc, notes.as_slice())?,
     })
 }
 
-/// Reads the expressions and exceptions in `texts`, which are the texts of `files`. `starts` says whether other
-/// settings start the unit.
-fn read_timer_calendar(
+/// Reads the expressions and exceptions in these texts. `starts` says whether other settings start the unit.
+fn read_calendar(
     alloc: Global,
-    files: &[UnitText],
     texts: &[NumberedText<'_>],
     starts: bool,
-) -> Result<Calendar, TargetLoadFault>
+) -> Result<Calendar, TimerFault>
     requires { All (λ text. text.first + length text.text.now < 2 ^ 32) texts.now }
-    ensures calendar { IfOk result (λ calendar. IsCalendarBy (assignments_of texts.now) calendar) }
-    ensures fault { IfErr result (IsAssignmentFault (assignments_of texts.now)) }
+    ensures { MatchResult result
+        (λ calendar. IsCalendarBy (assignments_of texts.now) calendar)
+        (λ fault. fault ≢ TimerFault.NoMemory → lists_of expr_in (assignments_of texts.now) ≡ Err fault) }
 {
     match read_texts(alloc, texts) {
         Ok(timer) => Ok(Calendar::Timer(timer)),
@@ -260,52 +267,51 @@ fn read_timer_calendar(
                 fault: TimerFault::NothingToDo,
             },
         ) if starts => Ok(Calendar::Nothing),
-        Err(found) => Err(text_fault(alloc, files, texts, found)),
+        Err(found) => Err(found.fault),
     }
 }
 
-/// Returns the error for a target whose texts are invalid.
+/// Returns the error for a target, given the error of its files' assignments. In the result, an invalid line has the
+/// number that it has in its own file.
 fn text_fault(
     alloc: Global,
     files: &[UnitText],
-    texts: &[NumberedText<'_>],
-    found: FileFault,
+    first_lines: &[u32],
+    fault: TimerFault,
 ) -> TargetLoadFault
-    ensures { (assignments : List Assignment)
-        → (found.fault ≢ TimerFault.NoMemory → lists_of expr_in assignments ≡ Err found.fault)
-        → IsAssignmentFault assignments result }
+    requires numbered { AreFirstLines (map shown_unit_text files.now) first_lines.now }
+    requires found { fault ≢ TimerFault.NoMemory
+        → lists_of expr_in (assignments_of_files (map shown_unit_text files.now)) ≡ Err fault }
+    ensures { IsAssignmentFault (map shown_unit_text files.now) result }
 {
-    match found.fault {
+    match fault {
         TimerFault::NoMemory => TargetLoadFault::NoMemory,
         TimerFault::NothingToDo => TargetLoadFault::Target(TargetReason::NothingToDo),
-        fault => match line_fault(alloc, files, texts, found.file, fault) {
-            Ok(reason) => TargetLoadFault::Target(reason),
-            Err(_) => TargetLoadFault::NoMemory,
-        },
+        fault => {
+            let number = fault.line().unwrap_or(1);
+            let (path, line) = line_in(files, first_lines, number);
+            match String::from_str(alloc, path) {
+                Ok(path) => {
+                    let fault = with_line_number(fault, line);
+                    TargetLoadFault::Target(TargetReason::Line(path, line, fault))
+                }
+                Err(_) => TargetLoadFault::NoMemory,
+            }
+        }
     }
 }
 
-/// Returns the error for an invalid line in the text with this index. In the error, the line has the number that it has
-/// in its own file.
-fn line_fault(
-    alloc: Global,
-    files: &[UnitText],
-    texts: &[NumberedText<'_>],
-    index: Option<usize>,
-    fault: TimerFault,
-) -> Result<TargetReason, AllocError>
-    ensures { IfOk result (IsLineReason fault) }
+/// Returns the path of the file that has the line with this continued number, and the line's number in that file,
+/// counted from 1. One of the files must have the line.
+fn line_in<'f>(files: &'f [UnitText], first_lines: &[u32], number: u32) -> (&'f str, u32)
+    requires { AreFirstLines (map shown_unit_text files.now) first_lines.now }
+    ensures { HasLine (map shown_unit_text files.now) number
+        → IsLineIn (map shown_unit_text files.now) number result.0.now result.1 }
 {
-    let index = index.unwrap_or(0);
-    let first = texts.get(index).map_or(1, |text| text.first);
-    let path = files.get(index).map_or("", |file| file.path.as_str());
-    let line = fault
-        .line()
-        .unwrap_or(first)
-        .saturating_sub(first)
-        .saturating_add(1);
-    let path = String::from_str(alloc, path)?;
-    Ok(TargetReason::Line(path, line, with_line_number(fault, line)))
+    match position_in(files, first_lines, number) {
+        Some(position) => position,
+        None => ("", number),
+    }
 }
 
 /// Replaces the line number in an error about an invalid line, or about too many expressions, by `line`. Returns any
@@ -327,39 +333,34 @@ fn zone_fault(
     parsed: &ParsedFiles,
     fault: ZonesFault,
 ) -> TargetLoadFault
-    ensures { IsZonesFault fault result }
+    requires numbered { AreFirstLines (map shown_unit_text files.now) parsed.now.first_lines.items }
+    requires calendar { IsCalendarOf (map shown_unit_text files.now) parsed.now.calendar }
+    ensures { (machine : Machine) → IsZonesError machine (zone_names_of parsed.now.calendar) fault
+        → IsTextFault machine (map shown_unit_text files.now) result }
 {
     match fault {
-        ZonesFault::At(zone, reason) => match unread_zone(alloc, files, parsed, zone, reason) {
-            Ok(reason) => TargetLoadFault::Target(reason),
-            Err(_) => TargetLoadFault::NoMemory,
-        },
+        ZonesFault::At(zone, reason) => {
+            let number = line_with_zone(&parsed.calendar, zone.as_str());
+            let (path, line) = line_in(files, parsed.first_lines.as_slice(), number);
+            match String::from_str(alloc, path) {
+                Ok(path) => TargetLoadFault::Target(TargetReason::Zone(path, line, zone, reason)),
+                Err(_) => TargetLoadFault::NoMemory,
+            }
+        }
         // Of the other errors, only the one for running out of memory can occur. The rest are about the local zone,
         // which isn't looked up here.
         _ => TargetLoadFault::NoMemory,
     }
 }
 
-fn unread_zone(
-    alloc: Global,
-    files: &[UnitText],
-    parsed: &ParsedFiles,
-    zone: String,
-    reason: FileReason,
-) -> Result<TargetReason, AllocError>
-    ensures { IfOk result (IsZoneReason (string_bytes zone) reason) }
+/// Returns the continued number of the line with the first expression that names the zone whose file is at `path`, or,
+/// if no expression names it, of the line with the first exception that names it.
+fn line_with_zone(calendar: &Calendar, path: &str) -> u32
+    ensures { (zone : List ℕ) (entry : TimerLine Fields) → path.now ≡ zone_path zone
+        → IsFirstWithZone calendar.now zone entry → result ≡ entry.number }
 {
-    let calendar = &parsed.calendar;
-    let line = first_with_zone(calendar.lines(), zone.as_str()).or(first_with_zone(
-        calendar.exceptions(),
-        zone.as_str(),
-    ));
-    let number = line.map_or(1, |line| line.number);
-    match position_in(files, parsed.first_lines.as_slice(), number) {
-        Some((path, line)) => {
-            let path = String::from_str(alloc, path)?;
-            Ok(TargetReason::Zone(path, line, zone, reason))
-        }
-        None => Ok(TargetReason::ExpressionZone(zone, reason)),
+    match first_with_zone(calendar.lines(), path).or(first_with_zone(calendar.exceptions(), path)) {
+        Some(line) => line.number,
+        None => 1,
     }
 }

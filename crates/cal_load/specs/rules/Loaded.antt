@@ -26,6 +26,7 @@ use Rattle.cal_unit_index.specs.rules.Units.Unit.{Unfound, TemplateOnly, TooMany
 use Rattle.cal_zone.specs.rules.ZoneTable.{ZoneMap, zone_named}
 use Rattle.cal_load.specs.declared.calendar.Calendar as calendars
 use Rattle.cal_load.specs.declared.loaded.LoadedTimer.{LoadedTimer}
+use Rattle.cal_load.specs.rules.Position.{AreFirstLines}
 
 -- The files of the unit whose own file is at the path `file`: this file, and then its drop-ins, in the order in which
 -- they are read. `own_file` is the stem under which the file was found, `own` the stem of the unit's own name, and
@@ -100,6 +101,7 @@ HasZones machine calendar table =
 -- the timer was read from these files of a machine
 pub record IsTimerReadFrom (machine : Machine) (files : List UnitText) (timer : LoadedTimer) : Type 0 where
   pub has_files : map shown_unit_text timer.files.items ≡ files
+  pub has_first_lines : AreFirstLines files timer.first_lines.items
   pub has_calendar : IsCalendarOf files timer.calendar
   pub has_zones : HasZones machine timer.calendar timer.zones
 

@@ -1,12 +1,12 @@
--- Why the files of a timer can't be loaded: systemd.syntax(7) and systemd.timer(5), OnCalendar=. These definitions
--- don't say which line an error names.
-use Rattle.std.specs.Prelude.{◌≡◌, ⊤, ℕ, List, ◌++◌, Err, string_bytes}
-use Rattle.std.specs.List.{Contains}
+-- Why the files of a timer can't be loaded: systemd.syntax(7) and systemd.timer(5), OnCalendar=.
+use Rattle.std.specs.Prelude.{◌≡◌, ⊤, ◌+◌, ◌≤◌, ◌^◌, ℕ, List, ◌∷◌, ◌++◌, Err, Some, length, string_bytes}
+use Rattle.std.specs.List.{Contains, find}
 use Rattle.std.specs.Str.{IsUtf8}
 use Rattle.cal_machine.specs.rules.Machine.{Machine}
 use Rattle.cal_spec.specs.computed.Expr.{expr_in}
-use Rattle.cal_timer.specs.rules.Assignments.{Assignment}
-use Rattle.cal_timer.specs.rules.TimerEntries.{lists_of}
+use Rattle.cal_spec.specs.rules.Fields.{Fields}
+use Rattle.cal_timer.specs.rules.TimerEntries.{TimerLine, lists_of}
+use Rattle.cal_timer.specs.rules.TimerFault.{line_of}
 use Rattle.cal_timer.specs.declared.fault.TimerFault.{TimerFault}
 use Rattle.cal_timer.specs.declared.fault.TimerFault.TheVariants as timer_faults
 use Rattle.cal_unit_index.specs.declared.fault.Reason as reasons
@@ -20,25 +20,32 @@ use Rattle.cal_load.specs.declared.fault.TargetLoadFault.{TargetLoadFault}
 use Rattle.cal_load.specs.declared.fault.TargetLoadFault as faults
 use Rattle.cal_load.specs.declared.target_fault.TargetReason.{TargetReason}
 use Rattle.cal_load.specs.declared.target_fault.TargetReason.TheVariants.{NotFound, Template, TooManyAliases, Path, NotUtf8, Line, NothingToDo, Zone, Expression, ExpressionZone}
+use Rattle.cal_load.specs.rules.Expressions.{names_zone}
 use Rattle.cal_load.specs.rules.Loaded.{IsCalendarOf, assignments_of_files, exceptions_in, expressions_in, zone_names_in}
+use Rattle.cal_load.specs.rules.Position.{IsLineIn, total_lines}
 
 -- ## Texts
-
--- one of the files is at this path
-abbrev pub HasFileAt : List UnitText → List ℕ → Type 0
-HasFileAt files path = (file : UnitText) × Contains files file × (file.path ≡ path)
 
 -- one of the files is at this path, and isn't UTF-8
 abbrev pub HasNotUtf8At : List UnitText → List ℕ → Type 0
 HasNotUtf8At files path = (file : UnitText) × Contains files file × (file.path ≡ path) × (IsUtf8 file.bytes → ⊥)
 
--- Why the lines of files can't be numbered: one of them isn't UTF-8, or is too large together with those before it. How
--- large they are isn't stated here.
+-- The file at this path is too large for line numbers below 2^32: the number of its first line plus its length in bytes
+-- is 2^32 or more.
+pub record HasTooLargeAt (files : List UnitText) (path : List ℕ) : Type 0 where
+  pub before : List UnitText
+  pub file : UnitText
+  pub after : List UnitText
+  pub divided : files ≡ before ++ file ∷ after
+  pub has_path : file.path ≡ path
+  pub is_large : 2 ^ 32 ≤ total_lines before + 1 + length file.bytes
+
+-- why the lines of files can't be numbered: one of the files isn't UTF-8, or is too large
 abbrev pub IsNumberReason : List UnitText → TargetReason → Type 0
 IsNumberReason files NotFound = ⊥
 IsNumberReason files Template = ⊥
 IsNumberReason files TooManyAliases = ⊥
-IsNumberReason files (Path place why) = HasFileAt files (string_bytes place) × (why ≡ reasons.TheVariants.TooLarge)
+IsNumberReason files (Path place why) = HasTooLargeAt files (string_bytes place) × (why ≡ reasons.TheVariants.TooLarge)
 IsNumberReason files (NotUtf8 place) = HasNotUtf8At files (string_bytes place)
 IsNumberReason files (Line place line fault) = ⊥
 IsNumberReason files NothingToDo = ⊥
@@ -62,40 +69,32 @@ at_line (timer_faults.TooMany number) line = timer_faults.TooMany line
 at_line timer_faults.NothingToDo line = timer_faults.NothingToDo
 at_line timer_faults.NoMemory line = timer_faults.NoMemory
 
--- reading the assignments fails with this error, apart from the number of its line
-abbrev pub IsLineFault : List Assignment → ℕ → TimerFault → Type 0
-IsLineFault assignments line fault =
-    (found : TimerFault) × (lists_of expr_in assignments ≡ Err found) × (fault ≡ at_line found line)
+-- the error `found` is about line `line` of the file at `path`, and `fault` is the same error with the number `line`
+abbrev pub IsFaultAt : List UnitText → TimerFault → List ℕ → ℕ → TimerFault → Type 0
+IsFaultAt files found path line fault =
+    (number : ℕ) × (line_of found ≡ Some number) × IsLineIn files number path line × (fault ≡ at_line found line)
 
--- the error for a target says that a line is invalid, with the error `found` apart from the number of its line
-abbrev pub IsLineReason : TimerFault → TargetReason → Type 0
-IsLineReason found NotFound = ⊥
-IsLineReason found Template = ⊥
-IsLineReason found TooManyAliases = ⊥
-IsLineReason found (Path place why) = ⊥
-IsLineReason found (NotUtf8 place) = ⊥
-IsLineReason found (Line place line fault) = fault ≡ at_line found line
-IsLineReason found NothingToDo = ⊥
-IsLineReason found (Zone place line zone reason) = ⊥
-IsLineReason found (Expression fault) = ⊥
-IsLineReason found (ExpressionZone zone reason) = ⊥
+-- the error of the files' assignments is `fault`, which is about line `line` of the file at `path`
+abbrev pub IsLineFault : List UnitText → List ℕ → ℕ → TimerFault → Type 0
+IsLineFault files path line fault =
+    (found : TimerFault) × (lists_of expr_in (assignments_of_files files) ≡ Err found) × IsFaultAt files found path line fault
 
--- why assignments don't make a timer: a line is invalid, or there is no expression
-abbrev pub IsAssignmentReason : List Assignment → TargetReason → Type 0
-IsAssignmentReason assignments NotFound = ⊥
-IsAssignmentReason assignments Template = ⊥
-IsAssignmentReason assignments TooManyAliases = ⊥
-IsAssignmentReason assignments (Path place why) = ⊥
-IsAssignmentReason assignments (NotUtf8 place) = ⊥
-IsAssignmentReason assignments (Line place line fault) = IsLineFault assignments line fault
-IsAssignmentReason assignments NothingToDo = lists_of expr_in assignments ≡ Err timer_faults.NothingToDo
-IsAssignmentReason assignments (Zone place line zone reason) = ⊥
-IsAssignmentReason assignments (Expression fault) = ⊥
-IsAssignmentReason assignments (ExpressionZone zone reason) = ⊥
+-- why the assignments of files don't make a timer: a line is invalid, or there is no expression
+abbrev pub IsAssignmentReason : List UnitText → TargetReason → Type 0
+IsAssignmentReason files NotFound = ⊥
+IsAssignmentReason files Template = ⊥
+IsAssignmentReason files TooManyAliases = ⊥
+IsAssignmentReason files (Path place why) = ⊥
+IsAssignmentReason files (NotUtf8 place) = ⊥
+IsAssignmentReason files (Line place line fault) = IsLineFault files (string_bytes place) line fault
+IsAssignmentReason files NothingToDo = lists_of expr_in (assignments_of_files files) ≡ Err timer_faults.NothingToDo
+IsAssignmentReason files (Zone place line zone reason) = ⊥
+IsAssignmentReason files (Expression fault) = ⊥
+IsAssignmentReason files (ExpressionZone zone reason) = ⊥
 
-abbrev pub IsAssignmentFault : List Assignment → TargetLoadFault → Type 0
-IsAssignmentFault assignments (faults.TheVariants.Target reason) = IsAssignmentReason assignments reason
-IsAssignmentFault assignments faults.TheVariants.NoMemory = ⊤
+abbrev pub IsAssignmentFault : List UnitText → TargetLoadFault → Type 0
+IsAssignmentFault files (faults.TheVariants.Target reason) = IsAssignmentReason files reason
+IsAssignmentFault files faults.TheVariants.NoMemory = ⊤
 
 -- ## Zones
 
@@ -110,38 +109,22 @@ IsZonesError machine names (zone_faults.At path reason) =
     (name : List ℕ) × Contains names name × (string_bytes path ≡ zone_path name) × IsReasonOn machine name reason
 IsZonesError machine names zone_faults.NoMemory = ⊤
 
--- the files name a zone whose file, at the path `zone`, can't be used for this reason
-pub record HasUnusableZone (machine : Machine) (files : List UnitText) (zone : List ℕ) (reason : FileReason) : Type 0 where
+-- `entry` is the first expression of the calendar that names this zone, or, if no expression names it, the first
+-- exception
+abbrev pub IsFirstWithZone : calendars.Calendar → List ℕ → TimerLine Fields → Type 0
+IsFirstWithZone calendar zone entry = find (names_zone zone) (expressions_in calendar ++ exceptions_in calendar) ≡ Some entry
+
+-- The files name a zone whose file, at the path `zone`, can't be used for this reason. Line `line` of the file at `path`
+-- has the first expression that names the zone, or, if no expression names it, the first exception.
+pub record HasUnusableZone (machine : Machine) (files : List UnitText) (path : List ℕ) (line : ℕ) (zone : List ℕ) (reason : FileReason) : Type 0 where
   pub calendar : calendars.Calendar
   pub of_files : IsCalendarOf files calendar
   pub name : List ℕ
-  pub is_named : Contains (zone_names_of calendar) name
   pub has_path : zone ≡ zone_path name
   pub is_unusable : IsReasonOn machine name reason
-
--- the error is about the zone file at this path, with this reason
-abbrev pub IsZoneReason : List ℕ → FileReason → TargetReason → Type 0
-IsZoneReason zone reason NotFound = ⊥
-IsZoneReason zone reason Template = ⊥
-IsZoneReason zone reason TooManyAliases = ⊥
-IsZoneReason zone reason (Path place why) = ⊥
-IsZoneReason zone reason (NotUtf8 place) = ⊥
-IsZoneReason zone reason (Line place line fault) = ⊥
-IsZoneReason zone reason NothingToDo = ⊥
-IsZoneReason zone reason (Zone place line path why) = (string_bytes path ≡ zone) × (why ≡ reason)
-IsZoneReason zone reason (Expression fault) = ⊥
-IsZoneReason zone reason (ExpressionZone path why) = (string_bytes path ≡ zone) × (why ≡ reason)
-
-abbrev pub IsZoneLoadFault : List ℕ → FileReason → TargetLoadFault → Type 0
-IsZoneLoadFault zone reason (faults.TheVariants.Target found) = IsZoneReason zone reason found
-IsZoneLoadFault zone reason faults.TheVariants.NoMemory = ⊤
-
--- the error for a target if loading its zones fails with this error
-abbrev pub IsZonesFault : ZonesFault → TargetLoadFault → Type 0
-IsZonesFault (zone_faults.Unclear origin) fault = fault ≡ faults.TheVariants.NoMemory
-IsZonesFault (zone_faults.Unread origin) fault = fault ≡ faults.TheVariants.NoMemory
-IsZonesFault (zone_faults.At path reason) fault = IsZoneLoadFault (string_bytes path) reason fault
-IsZonesFault zone_faults.NoMemory fault = fault ≡ faults.TheVariants.NoMemory
+  pub entry : TimerLine Fields
+  pub is_first : IsFirstWithZone calendar name entry
+  pub is_at : IsLineIn files entry.number path line
 
 -- ## All errors of files
 
@@ -152,11 +135,11 @@ IsTextReason machine files Template = ⊥
 IsTextReason machine files TooManyAliases = ⊥
 IsTextReason machine files (Path place why) = IsNumberReason files (Path place why)
 IsTextReason machine files (NotUtf8 place) = IsNumberReason files (NotUtf8 place)
-IsTextReason machine files (Line place line fault) = IsAssignmentReason (assignments_of_files files) (Line place line fault)
-IsTextReason machine files NothingToDo = IsAssignmentReason (assignments_of_files files) NothingToDo
-IsTextReason machine files (Zone place line zone reason) = HasUnusableZone machine files (string_bytes zone) reason
+IsTextReason machine files (Line place line fault) = IsAssignmentReason files (Line place line fault)
+IsTextReason machine files NothingToDo = IsAssignmentReason files NothingToDo
+IsTextReason machine files (Zone place line zone reason) = HasUnusableZone machine files (string_bytes place) line (string_bytes zone) reason
 IsTextReason machine files (Expression fault) = ⊥
-IsTextReason machine files (ExpressionZone zone reason) = HasUnusableZone machine files (string_bytes zone) reason
+IsTextReason machine files (ExpressionZone zone reason) = ⊥
 
 abbrev pub IsTextFault : Machine → List UnitText → TargetLoadFault → Type 0
 IsTextFault machine files (faults.TheVariants.Target reason) = IsTextReason machine files reason

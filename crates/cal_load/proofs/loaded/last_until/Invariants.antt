@@ -2,8 +2,10 @@ use Rattle.std.proofs.Common.{ℕ, ◌<◌, ◌≤◌}
 use Rattle.std.specs.Prelude.{MatchOption, slice_index}
 use Rattle.cal_load.proofs.loaded.last_until.Given as goal
 
--- if an index was found, it is the index of the last number so far that is at most `number`
+-- If an index was found, it is the index of the last number so far that is at most `number`. Otherwise all numbers so
+-- far are larger.
 abbrev pub invariant-loop-index : goal.invariant-loop-index
 invariant-loop-index l =
-    MatchOption l.found (Unit {0}) (λ index. (index < l.index) × (slice_index l.numbers index ≤ l.number)
+    MatchOption l.found ((k : ℕ) → k < l.index → l.number < slice_index l.numbers k)
+    (λ index. (index < l.index) × (slice_index l.numbers index ≤ l.number)
     × ((k : ℕ) → index < k → k < l.index → l.number < slice_index l.numbers k))

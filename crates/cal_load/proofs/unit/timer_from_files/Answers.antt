@@ -1,9 +1,8 @@
 use Rattle.std.proofs.Common.{◌≡◌, ◌∙◌, ◌++◌, Err, ap, map, rules, subst}
 use Rattle.cal_timer.specs.rules.TimerView.{shown}
 use Rattle.cal_unit_index.specs.rules.Files.{shown_unit_text}
-use Rattle.cal_load.specs.rules.Loaded.{IsCalendarOf, expressions_in, zone_names_in}
-use Rattle.cal_load.specs.rules.TextFaults.{IsTextFault, zone_names_of}
-use Rattle.cal_load.proofs.TextFaultLemmas.{zones_text}
+use Rattle.cal_load.specs.rules.Loaded.{expressions_in, zone_names_in}
+use Rattle.cal_load.specs.rules.TextFaults.{IsTextFault, IsZonesError, zone_names_of}
 use Rattle.cal_load.proofs.unit.timer_from_files.Goals as goal
 
 pub returns-in_err-parsed-clause-fault : goal.returns-in_err-parsed-clause-fault
@@ -14,9 +13,8 @@ returns-in_err-parsed-clause-fault g c =
 pub returns-in-Err-clause-fault : goal.returns-in-Err-clause-fault
 returns-in-Err-clause-fault g c machine shows =
     let calendar = c.in_ok-parsed.parsed.calendar in
-    let of_files : IsCalendarOf (map shown_unit_text c.args.files.items) calendar =
-    subst (λ files. IsCalendarOf (map shown_unit_text files) calendar) c.as_slice.ensures.value c.in_ok-parsed.ensures.calendar in
     let names : zone_names_in (map shown c.lines.result.now) ++ zone_names_in (map shown c.exceptions.result.now) ≡ zone_names_of calendar =
     ap (λ all. zone_names_in all ++ zone_names_in (map shown c.exceptions.result.now)) c.lines.ensures
     ∙ ap (λ all. zone_names_in (expressions_in calendar) ++ zone_names_in all) c.exceptions.ensures in
-    zones_text machine (map shown_unit_text c.args.files.items) calendar _ c.in-Err.fault c.zone_fault.result of_files names (c.in-Err.ensures.fault machine shows) c.zone_fault.ensures
+    subst (λ files. IsTextFault machine (map shown_unit_text files) c.zone_fault.result) c.as_slice-in-Err.ensures.value
+    (c.zone_fault.ensures machine (subst (λ all. IsZonesError machine all c.in-Err.fault) names (c.in-Err.ensures.fault machine shows)))
