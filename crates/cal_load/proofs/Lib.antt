@@ -1,5 +1,6 @@
 pub mod ExpressionLemmas
 pub mod FileLemmas
+pub mod NoteLemmas
 pub mod PathLemmas
 pub mod PositionLemmas
 pub mod TextFaultLemmas

@@ -5,5 +5,6 @@ pub mod AllUnits
 pub mod Expressions
 pub mod Loaded
 pub mod LoadedTarget
+pub mod Notes
 pub mod Position
 pub mod TextFaults

@@ -1,6 +1,6 @@
 //! Reading a timer from its files.
 
-ghost use Rattle.std.specs.Prelude.{◌≡◌, ◌≢◌, Err, ◌+◌, ◌<◌, ◌^◌, ◌∷◌, ◌++◌, ℕ, List, All, IfOk, MatchResult, OnOk, length, map, string_bytes};
+ghost use Rattle.std.specs.Prelude.{◌≡◌, ◌≢◌, Err, ◌+◌, ◌<◌, ◌^◌, ◌∷◌, ◌++◌, ℕ, false, List, All, IfOk, MatchResult, OnOk, length, map, string_bytes};
 ghost use Rattle.cal_machine.specs.rules.Machine.{Machine};
 ghost use Rattle.cal_read.specs.rules.TimerTexts.{assignments_of};
 ghost use Rattle.std.specs.Result.{IfErr};
@@ -13,6 +13,7 @@ ghost use Rattle.cal_unit_index.specs.rules.Index.{IsIndexOf};
 ghost use Rattle.cal_unit_index.specs.rules.Names.{names_on};
 ghost use Rattle.cal_unit_index.specs.rules.Units.{unit_on};
 ghost use Rattle.cal_zone_files.specs.rules.ZoneFiles.{zone_path};
+ghost use Rattle.cal_load.specs.rules.Notes.{note_text, notes_in, starts_unit};
 ghost use Rattle.cal_load.specs.rules.Position.{AreFirstLines, HasLine, IsLineIn};
 ghost use Rattle.cal_load.specs.rules.TextFaults.{IsAssignmentFault, IsFirstWithZone, IsTextFault, IsZonesError, at_line, zone_names_of};
 ghost use Rattle.cal_load.specs.rules.AllTargets.{IsReadAt};
@@ -231,6 +232,8 @@ fn timer_from_files<T: Tree>(
 fn parse_files(alloc: Global, files: &[UnitText]) -> Result<ParsedFiles, TargetLoadFault>
     ensures calendar { IfOk result (λ parsed. IsCalendarOf (map shown_unit_text files.now) parsed.calendar) }
     ensures numbered { IfOk result (λ parsed. AreFirstLines (map shown_unit_text files.now) parsed.first_lines.items) }
+    ensures notes { IfOk result (λ parsed. map string_bytes parsed.notes.items
+        ≡ map note_text (notes_in (assignments_of_files (map shown_unit_text files.now)))) }
     ensures fault { IfErr result (λ fault. (machine : Machine) → IsTextFault machine (map shown_unit_text files.now) fault) }
 {
     let texts = numbered_texts(alloc, files)?;
@@ -254,10 +257,12 @@ fn read_calendar(
     texts: &[NumberedText<'_>],
     starts: bool,
 ) -> Result<Calendar, TimerFault>
-    requires { All (λ text. text.first + length text.text.now < 2 ^ 32) texts.now }
+    requires numbered { All (λ text. text.first + length text.text.now < 2 ^ 32) texts.now }
+    requires starts { starts ≡ starts_unit (assignments_of texts.now) }
     ensures { MatchResult result
         (λ calendar. IsCalendarBy (assignments_of texts.now) calendar)
-        (λ fault. fault ≢ TimerFault.NoMemory → lists_of expr_in (assignments_of texts.now) ≡ Err fault) }
+        (λ fault. (fault ≢ TimerFault.NoMemory → lists_of expr_in (assignments_of texts.now) ≡ Err fault)
+        × (fault ≡ TimerFault.NothingToDo → starts_unit (assignments_of texts.now) ≡ false)) }
 {
     match read_texts(alloc, texts) {
         Ok(timer) => Ok(Calendar::Timer(timer)),
@@ -282,6 +287,8 @@ fn text_fault(
     requires numbered { AreFirstLines (map shown_unit_text files.now) first_lines.now }
     requires found { fault ≢ TimerFault.NoMemory
         → lists_of expr_in (assignments_of_files (map shown_unit_text files.now)) ≡ Err fault }
+    requires nothing { fault ≡ TimerFault.NothingToDo
+        → starts_unit (assignments_of_files (map shown_unit_text files.now)) ≡ false }
     ensures { IsAssignmentFault (map shown_unit_text files.now) result }
 {
     match fault {

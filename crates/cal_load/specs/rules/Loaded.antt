@@ -1,5 +1,5 @@
 -- Timers that are loaded from the files of a machine: systemd.unit(5), Description, and systemd.timer(5), OnCalendar=.
-use Rattle.std.specs.Prelude.{◌≡◌, ◌⊎◌, ◌+◌, ◌||◌, ℕ, false, List, [], ◌∷◌, ◌++◌, Ok, Err, codes, is_some, length, map, string_bytes}
+use Rattle.std.specs.Prelude.{◌≡◌, ◌⊎◌, ◌+◌, ◌||◌, ℕ, false, true, List, [], ◌∷◌, ◌++◌, Ok, Err, codes, is_some, length, map, string_bytes}
 use Rattle.std.specs.List.{flat_map, list_any}
 use Rattle.std.specs.Option.{option_to_list}
 use Rattle.std.specs.Str.{bytes_eq}
@@ -26,6 +26,7 @@ use Rattle.cal_unit_index.specs.rules.Units.Unit.{Unfound, TemplateOnly, TooMany
 use Rattle.cal_zone.specs.rules.ZoneTable.{ZoneMap, zone_named}
 use Rattle.cal_load.specs.declared.calendar.Calendar as calendars
 use Rattle.cal_load.specs.declared.loaded.LoadedTimer.{LoadedTimer}
+use Rattle.cal_load.specs.rules.Notes.{note_text, notes_in, starts_unit}
 use Rattle.cal_load.specs.rules.Position.{AreFirstLines}
 
 -- The files of the unit whose own file is at the path `file`: this file, and then its drop-ins, in the order in which
@@ -65,10 +66,10 @@ bytes_in files = map (λ file. file.bytes) files
 abbrev pub assignments_of_files : List UnitText → List Assignment
 assignments_of_files files = assignments_from 1 (bytes_in files)
 
--- none of these assignments has an error, and the calendar has their expressions and exceptions, or nothing if there
--- are no expressions
+-- None of these assignments has an error, and the calendar has their expressions and exceptions, or nothing if there are
+-- no expressions, but other assignments start the unit.
 abbrev pub IsCalendarBy : List Assignment → calendars.Calendar → Type 0
-IsCalendarBy assignments calendars.TheVariants.Nothing = lists_of expr_in assignments ≡ Err NothingToDo
+IsCalendarBy assignments calendars.TheVariants.Nothing = (lists_of expr_in assignments ≡ Err NothingToDo) × (starts_unit assignments ≡ true)
 IsCalendarBy assignments (calendars.TheVariants.Timer timer) = lists_of expr_in assignments ≡ Ok timer
 IsCalendarBy assignments (calendars.TheVariants.Expressions list) = ⊥
 
@@ -104,6 +105,7 @@ pub record IsTimerReadFrom (machine : Machine) (files : List UnitText) (timer : 
   pub has_first_lines : AreFirstLines files timer.first_lines.items
   pub has_calendar : IsCalendarOf files timer.calendar
   pub has_zones : HasZones machine timer.calendar timer.zones
+  pub has_notes : map string_bytes timer.notes.items ≡ map note_text (notes_in (assignments_of_files files))
 
 -- the timer is the unit that is found for this stem: it has the unit's name, and was read from its file and its drop-ins
 abbrev pub IsUnitOn : Machine → List (List ℕ) → List ℕ → LoadedTimer → Type 0

@@ -1,5 +1,5 @@
 -- Why the files of a timer can't be loaded: systemd.syntax(7) and systemd.timer(5), OnCalendar=.
-use Rattle.std.specs.Prelude.{◌≡◌, ⊤, ◌+◌, ◌≤◌, ◌^◌, ℕ, List, ◌∷◌, ◌++◌, Err, Some, length, string_bytes}
+use Rattle.std.specs.Prelude.{◌≡◌, ⊤, ◌+◌, ◌≤◌, ◌^◌, ℕ, false, List, ◌∷◌, ◌++◌, Err, Some, length, string_bytes}
 use Rattle.std.specs.List.{Contains, find}
 use Rattle.std.specs.Str.{IsUtf8}
 use Rattle.cal_machine.specs.rules.Machine.{Machine}
@@ -22,6 +22,7 @@ use Rattle.cal_load.specs.declared.target_fault.TargetReason.{TargetReason}
 use Rattle.cal_load.specs.declared.target_fault.TargetReason.TheVariants.{NotFound, Template, TooManyAliases, Path, NotUtf8, Line, NothingToDo, Zone, Expression, ExpressionZone}
 use Rattle.cal_load.specs.rules.Expressions.{names_zone}
 use Rattle.cal_load.specs.rules.Loaded.{IsCalendarOf, assignments_of_files, exceptions_in, expressions_in, zone_names_in}
+use Rattle.cal_load.specs.rules.Notes.{starts_unit}
 use Rattle.cal_load.specs.rules.Position.{IsLineIn, total_lines}
 
 -- ## Texts
@@ -79,7 +80,12 @@ abbrev pub IsLineFault : List UnitText → List ℕ → ℕ → TimerFault → T
 IsLineFault files path line fault =
     (found : TimerFault) × (lists_of expr_in (assignments_of_files files) ≡ Err found) × IsFaultAt files found path line fault
 
--- why the assignments of files don't make a timer: a line is invalid, or there is no expression
+-- the assignments of files have no expression, and no other assignment starts the unit
+abbrev pub StartNothing : List UnitText → Type 0
+StartNothing files =
+    (lists_of expr_in (assignments_of_files files) ≡ Err timer_faults.NothingToDo) × (starts_unit (assignments_of_files files) ≡ false)
+
+-- why the assignments of files don't make a timer: a line is invalid, or nothing starts the unit
 abbrev pub IsAssignmentReason : List UnitText → TargetReason → Type 0
 IsAssignmentReason files NotFound = ⊥
 IsAssignmentReason files Template = ⊥
@@ -87,7 +93,7 @@ IsAssignmentReason files TooManyAliases = ⊥
 IsAssignmentReason files (Path place why) = ⊥
 IsAssignmentReason files (NotUtf8 place) = ⊥
 IsAssignmentReason files (Line place line fault) = IsLineFault files (string_bytes place) line fault
-IsAssignmentReason files NothingToDo = lists_of expr_in (assignments_of_files files) ≡ Err timer_faults.NothingToDo
+IsAssignmentReason files NothingToDo = StartNothing files
 IsAssignmentReason files (Zone place line zone reason) = ⊥
 IsAssignmentReason files (Expression fault) = ⊥
 IsAssignmentReason files (ExpressionZone zone reason) = ⊥
