@@ -1,4 +1,5 @@
 pub mod ExpressionLemmas
+pub mod FileFaultLemmas
 pub mod FileLemmas
 pub mod NoteLemmas
 pub mod PathLemmas

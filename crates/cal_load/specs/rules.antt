@@ -3,6 +3,7 @@ pub mod AllFiles
 pub mod AllTargets
 pub mod AllUnits
 pub mod Expressions
+pub mod FileFaults
 pub mod Loaded
 pub mod LoadedTarget
 pub mod Notes

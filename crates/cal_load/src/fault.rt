@@ -1,8 +1,11 @@
 //! The errors of one target.
 
-ghost use Rattle.std.specs.Prelude.{◌≡◌, OnOk};
+ghost use Rattle.std.specs.Prelude.{◌≡◌, ◌∷◌, [], true, OnOk, map, string_bytes};
+ghost use Rattle.std.specs.List.{Contains};
+ghost use Rattle.cal_unit_index.specs.rules.Index.{shown_fault};
 ghost use Rattle.cal_load.specs.declared.fault.TargetLoadFault.TheVariants.{NoMemory};
-ghost use Rattle.cal_load.specs.rules.AllUnits.{HasFault, IsFaultPushed, IsNotUtf8Fault, IsPathFault, IsTreeFault, Keeps};
+ghost use Rattle.cal_load.specs.rules.AllUnits.{HasFault, IsFaultPushed, IsNotUtf8Fault, IsPathFault, IsPathReason, IsTreeFault, Keeps};
+ghost use Rattle.cal_load.specs.rules.FileFaults.{AreLostAlso, IsCause, IsFaultOf, IsLostIn, Lost, lost_path};
 
 use crate::target_fault::{TargetFault, TargetReason};
 use cal_machine::TreeFault;
@@ -90,31 +93,73 @@ pub(crate) fn push_fault(
     }
 }
 
-/// Adds the drop-ins and drop-in folders that can't be read to `faults`, unless `faults` has their paths already.
+/// Adds the drop-ins and drop-in folders that can't be read to `faults`, as [`push_once`] does.
 pub(crate) fn push_lost(
     faults: &mut Vec<TargetFault>,
     lost: Vec<UnitFault>,
 ) -> Result<(), AllocError>
     ensures kept { OnOk result (Keeps faults.old.items faults.new.items) }
+    ensures lost { OnOk result (AreLostAlso (map lost_path (map shown_fault lost.items)) faults.old.items faults.new.items) }
 {
     for fault in lost {
-        push_once(faults, fault)?;
+        push_path(faults, fault.path, fault.reason)?;
     }
     Ok(())
 }
 
-fn push_once(faults: &mut Vec<TargetFault>, fault: UnitFault) -> Result<(), AllocError>
+/// Adds that a path can't be used, for this reason, as [`push_once`] does.
+pub(crate) fn push_path(
+    faults: &mut Vec<TargetFault>,
+    path: String,
+    why: Reason,
+) -> Result<(), AllocError>
     ensures kept { OnOk result (Keeps faults.old.items faults.new.items) }
+    ensures lost { OnOk result (AreLostAlso (lost_path (record { path = string_bytes path; reason = why }) ∷ []) faults.old.items faults.new.items) }
 {
-    if !is_known(faults.as_slice(), fault.path.as_str()) {
-        faults.push(TargetFault {
-            target: fault.path.clone()?,
-            reason: TargetReason::Path(fault.path, fault.reason),
-        })?;
+    let target = path.clone()?;
+    let reason = TargetReason::Path(path, why);
+    push_once(faults, TargetFault { target, reason })
+}
+
+/// Adds the error to `faults`, unless it is about a path, and `faults` has this path with the same reason already. The
+/// targets of both errors may differ.
+pub(crate) fn push_once(faults: &mut Vec<TargetFault>, fault: TargetFault) -> Result<(), AllocError>
+    ensures kept { OnOk result (Keeps faults.old.items faults.new.items) }
+    ensures lost { OnOk result ((lost : Lost) → IsFaultOf lost fault → AreLostAlso (lost ∷ []) faults.old.items faults.new.items) }
+{
+    if is_known(faults.as_slice(), &fault.reason) {
+        return Ok(());
     }
+    faults.push(fault)?;
     Ok(())
 }
 
-fn is_known(faults: &[TargetFault], path: &str) -> bool {
-    faults.iter().any(|fault| fault.target.as_str() == path)
+/// Returns whether the reason is about a path, and one of the errors has the same reason.
+fn is_known(faults: &[TargetFault], reason: &TargetReason) -> bool
+    ensures { result ≡ true → (lost : Lost) → IsCause lost.cause reason.now → IsLostIn faults.now lost }
+{
+    match reason {
+        TargetReason::Path(path, why) => has_path(faults, path.as_str(), *why),
+        _ => false,
+    }
+}
+
+fn has_path(faults: &[TargetFault], path: &str, why: Reason) -> bool
+    ensures { result ≡ true → (fault : TargetFault) × Contains faults.now fault × IsPathReason path.now why fault.reason }
+{
+    for fault in faults {
+        if is_at(fault, path, why) {
+            return true;
+        }
+    }
+    false
+}
+
+fn is_at(fault: &TargetFault, path: &str, why: Reason) -> bool
+    ensures { result ≡ true → IsPathReason path.now why fault.now.reason }
+{
+    match &fault.reason {
+        TargetReason::Path(place, reason) => place.as_str() == path && *reason == why,
+        _ => false,
+    }
 }

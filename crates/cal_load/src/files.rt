@@ -1,27 +1,30 @@
 //! Reading the files that a user names, each once.
 
-ghost use Rattle.std.specs.Prelude.{◌≡◌, ◌≢◌, ◌∷◌, ◌++◌, ℕ, List, [], All, IfOk, OnOk, map, string_bytes};
+ghost use Rattle.std.specs.Prelude.{◌≡◌, ◌≢◌, ◌∷◌, ◌++◌, ℕ, List, [], All, Some, IfOk, OnOk, map, string_bytes};
 ghost use Rattle.std.specs.List.{flat_map};
 ghost use Rattle.cal_machine.specs.rules.Machine.{Machine};
 ghost use Rattle.cal_unit_index.specs.rules.DropIns.{drop_ins};
-ghost use Rattle.cal_unit_index.specs.rules.Files.{file_at, shown_file};
+ghost use Rattle.cal_unit_index.specs.rules.Files.{file_at, shown_file, shown_unit_text};
 ghost use Rattle.cal_unit_index.specs.rules.Index.{IsIndexOf};
 ghost use Rattle.cal_unit_index.specs.rules.Names.{names_on};
 ghost use Rattle.cal_unit_index.specs.rules.UnitName.{unit_stem};
+ghost use Rattle.cal_unit_index.specs.rules.Units.{Unit as FoundUnit, unit_on};
 ghost use Rattle.cal_unit_index.specs.rules.Units.Unit.{FoundAt};
 ghost use Rattle.cal_load.specs.declared.names.Wanted.TheVariants.{Texts};
-ghost use Rattle.cal_load.specs.rules.AllFiles.{AreTextsAt, AreTried, AreTriedAlso, IsTaken, again, all_paths, is_read, is_text, paths_by, paths_if_valid, paths_in, paths_of_unit, unit_paths};
+ghost use Rattle.cal_load.specs.rules.AllFiles.{AreTextsAt, AreTried, IsTaken, all_paths, paths_by, paths_if_valid, paths_in, paths_of_unit, taken_of, text_of, unit_paths};
 ghost use Rattle.cal_load.specs.rules.AllTargets.{wanted_at};
+ghost use Rattle.cal_load.specs.rules.AllUnits.{IsPathReason, is_absent_reason};
+ghost use Rattle.cal_load.specs.rules.FileFaults.{AreFaultsOf, AreLostAlso, AreReadAlso, AreReadFor, Cause, IsCause, all_lost, cause_of, cause_of_unit, lost_as, lost_by, lost_drop_in, lost_drop_ins, lost_file, lost_folder, lost_listed, lost_named, lost_of_unit};
 ghost use Rattle.cal_load.specs.rules.Loaded.{IsStoredOn};
 
-use crate::fault::{TargetLoadFault, push_fault, push_lost};
+use crate::fault::{TargetLoadFault, push_lost, push_once, push_path};
 use crate::names::{Wanted, files_in, units_in};
 use crate::paths::{is_folder, is_path, path_in, without_slashes};
 use crate::target_fault::{TargetFault, TargetReason};
 use cal_machine::Tree;
 use cal_unit_index::{
-    DropIns, FileRead, Reason, Unit, UnitFault, UnitFile, UnitIndex, UnitText, find_drop_ins,
-    find_unit, names_of, read_file, unit_stem,
+    DropIns, FileRead, Reason, Unit, UnitFile, UnitIndex, UnitText, find_drop_ins, find_unit,
+    names_of, read_file, unit_stem,
 };
 use std::alloc::{AllocError, Global};
 use std::collections::BTreeMap;
@@ -31,7 +34,8 @@ use std::collections::BTreeMap;
 pub struct LoadedFiles {
     /// The files in the order of the targets, each once. Their bytes needn't be UTF-8.
     pub files: Vec<UnitText>,
-    /// The units, files and folders that couldn't be read, each with the reason.
+    /// The units, files and folders that couldn't be read, each with the reason. A path that can't be used is here once,
+    /// with the first target that leads to it.
     pub faults: Vec<TargetFault>,
 }
 
@@ -41,7 +45,8 @@ pub struct LoadedFiles {
 /// `index` is the index of the search path. A target is a path or the name of a timer, as for [`crate::load_timers`]. A
 /// timer stands for its file and its drop-ins, a folder for all its files with the suffix `.timer` or `.conf`, and any
 /// other file for itself. A masked unit has no files. What can't be read is in [`LoadedFiles::faults`], and all other
-/// files are still read. Fails only if allocation fails.
+/// files are still read. A drop-in that is a folder, or a link to nothing, is skipped, and so is a unit that has no file
+/// if there is no target. Fails only if allocation fails.
 pub fn load_files<T: Tree>(
     alloc: Global,
     tree: &mut T,
@@ -51,10 +56,12 @@ pub fn load_files<T: Tree>(
     ensures known { IfOk result (λ loaded. (machine : Machine) → T.shows tree.new machine
         → All (IsStoredOn machine) loaded.files.items) }
     ensures whole { targets.now ≡ [] → IfOk result (λ loaded. (machine : Machine) (path : List (List ℕ)) → T.shows tree.new machine
-        → IsIndexOf machine path index.now → AreTextsAt machine (all_paths machine path) loaded.files.items) }
+        → IsIndexOf machine path index.now → AreTextsAt machine (all_paths machine path) loaded.files.items
+        × AreFaultsOf (all_lost machine path) loaded.faults.items) }
     ensures targets { targets.now ≢ [] → IfOk result (λ loaded. (machine : Machine) (path : List (List ℕ)) → T.shows tree.new machine
         → IsIndexOf machine path index.now
-        → AreTextsAt machine (flat_map (paths_by machine path) (map (λ target. target.now) targets.now)) loaded.files.items) }
+        → AreTextsAt machine (flat_map (paths_by machine path) (map (λ target. target.now) targets.now)) loaded.files.items
+        × AreFaultsOf (flat_map (lost_by machine path) (map (λ target. target.now) targets.now)) loaded.faults.items) }
     ensures grows { (machine : Machine) → T.shows tree.new machine → T.shows tree.old machine }
 {
     if targets.is_empty() {
@@ -76,7 +83,8 @@ fn all_files<T: Tree>(
     ensures known { IfOk result (λ loaded. (machine : Machine) → T.shows tree.new machine
         → All (IsStoredOn machine) loaded.files.items) }
     ensures whole { IfOk result (λ loaded. (machine : Machine) (path : List (List ℕ)) → T.shows tree.new machine
-        → IsIndexOf machine path index.now → AreTextsAt machine (all_paths machine path) loaded.files.items) }
+        → IsIndexOf machine path index.now → AreTextsAt machine (all_paths machine path) loaded.files.items
+        × AreFaultsOf (all_lost machine path) loaded.faults.items) }
     ensures grows { (machine : Machine) → T.shows tree.new machine → T.shows tree.old machine }
 {
     let mut reading = Reading::new(alloc);
@@ -86,23 +94,21 @@ fn all_files<T: Tree>(
     Ok(reading.loaded)
 }
 
-/// What became of the file at a path.
+/// What is at a path.
 #[derive(Clone, Copy, PartialEq, Eq, Debug)]
 enum Taken {
-    /// It was read, now or before.
+    /// A text, which was read.
     Read,
-    /// It is a mask.
+    /// A mask.
     Masked,
-    /// It can't be used, for this reason.
+    /// Nothing that can be used, for this reason.
     Unusable(Reason),
-    /// It was tried before, and can't be used. It needn't be reported again.
-    UnusableBefore,
 }
 
 /// The files that were read so far.
 #[derive(Drop)]
 struct Reading {
-    /// The paths that were tried, with what trying them again returns.
+    /// The paths that were tried, with what is there.
     seen: BTreeMap<String, Taken>,
     loaded: LoadedFiles,
 }
@@ -110,6 +116,7 @@ struct Reading {
 impl Reading {
     fn new(alloc: Global) -> Reading
         ensures empty { result.loaded.files.items ≡ [] }
+        ensures no_faults { result.loaded.faults.items ≡ [] }
         ensures tried { (machine : Machine) → AreTried machine [] result }
     {
         Reading {
@@ -121,7 +128,7 @@ impl Reading {
         }
     }
 
-    /// Reads the files of the unit with this stem. Skips it if its file is a link to nothing.
+    /// Reads the files of the unit with this stem. Skips it if it has no file, as if its file is a link to nothing.
     fn take_listed<T: Tree>(
         &mut self,
         alloc: Global,
@@ -131,20 +138,18 @@ impl Reading {
     ) -> Result<(), AllocError>
         ensures known { OnOk result ((machine : Machine) → T.shows tree.new machine
             → All (IsStoredOn machine) self.old.loaded.files.items → All (IsStoredOn machine) self.new.loaded.files.items) }
-        ensures tried { OnOk result ((machine : Machine) (path : List (List ℕ)) → T.shows tree.new machine
-            → IsIndexOf machine path index.now → AreTriedAlso machine (unit_paths machine path stem.now) self.old self.new) }
+        ensures read { OnOk result ((machine : Machine) (path : List (List ℕ)) → T.shows tree.new machine → IsIndexOf machine path index.now
+            → AreReadAlso machine (unit_paths machine path stem.now) (lost_listed machine path stem.now) self.old self.new) }
         ensures grows { (machine : Machine) → T.shows tree.new machine → T.shows tree.old machine }
     {
-        let Unit::Found(file) = find_unit(alloc, index, stem)? else {
+        let Some(reason) = self.take_unit(alloc, tree, index, stem)? else {
             return Ok(());
         };
-        match self.take_unit(alloc, tree, index, stem, &file)? {
-            Some(Reason::Missing) | None => Ok(()),
-            Some(reason) => {
-                let name = format!(in alloc; "{stem}.timer")?;
-                self.push_unusable(alloc, name.as_str(), file.path.as_str(), reason)
-            }
+        if is_absent(&reason) {
+            return Ok(());
         }
+        let target = format!(in alloc; "{stem}.timer")?;
+        push_once(&mut self.loaded.faults, TargetFault { target, reason })
     }
 
     /// Reads the files of a target.
@@ -157,8 +162,8 @@ impl Reading {
     ) -> Result<(), AllocError>
         ensures known { OnOk result ((machine : Machine) → T.shows tree.new machine
             → All (IsStoredOn machine) self.old.loaded.files.items → All (IsStoredOn machine) self.new.loaded.files.items) }
-        ensures tried { OnOk result ((machine : Machine) (path : List (List ℕ)) → T.shows tree.new machine
-            → IsIndexOf machine path index.now → AreTriedAlso machine (paths_by machine path target.now) self.old self.new) }
+        ensures read { OnOk result ((machine : Machine) (path : List (List ℕ)) → T.shows tree.new machine → IsIndexOf machine path index.now
+            → AreReadAlso machine (paths_by machine path target.now) (lost_by machine path target.now) self.old self.new) }
         ensures grows { (machine : Machine) → T.shows tree.new machine → T.shows tree.old machine }
     {
         if !is_path(target) {
@@ -181,48 +186,73 @@ impl Reading {
     ) -> Result<(), AllocError>
         ensures known { OnOk result ((machine : Machine) → T.shows tree.new machine
             → All (IsStoredOn machine) self.old.loaded.files.items → All (IsStoredOn machine) self.new.loaded.files.items) }
-        ensures tried { OnOk result ((machine : Machine) (path : List (List ℕ)) → T.shows tree.new machine
-            → IsIndexOf machine path index.now
-            → AreTriedAlso machine (paths_if_valid machine path (unit_stem name.now)) self.old self.new) }
+        ensures read { OnOk result ((machine : Machine) (path : List (List ℕ)) → T.shows tree.new machine → IsIndexOf machine path index.now
+            → AreReadAlso machine (paths_if_valid machine path (unit_stem name.now)) (lost_named machine path name.now) self.old self.new) }
         ensures grows { (machine : Machine) → T.shows tree.new machine → T.shows tree.old machine }
     {
         let Some(stem) = unit_stem(name) else {
-            return self.push_reason(alloc, name, TargetReason::NotFound);
+            return push_named(alloc, &mut self.loaded.faults, name, TargetReason::NotFound);
         };
-        match find_unit(alloc, index, stem)? {
-            Unit::NotFound => self.push_reason(alloc, name, TargetReason::NotFound),
-            Unit::Template => self.push_reason(alloc, name, TargetReason::Template),
-            Unit::Endless => self.push_reason(alloc, name, TargetReason::TooManyAliases),
-            Unit::Found(file) => match self.take_unit(alloc, tree, index, stem, &file)? {
-                Some(reason) => self.push_unusable(alloc, name, file.path.as_str(), reason),
-                None => Ok(()),
-            },
+        match self.take_unit(alloc, tree, index, stem)? {
+            Some(reason) => push_named(alloc, &mut self.loaded.faults, name, reason),
+            None => Ok(()),
         }
     }
 
-    /// Reads the file of a unit, and then its drop-ins, unless the file is a mask. `asked` is the stem by which the
-    /// unit was asked for. Returns the reason if the file can't be used.
+    /// Reads the files of the unit that is found for the stem `asked`. Returns the reason if there is no such unit, or
+    /// its own file can't be used.
     fn take_unit<T: Tree>(
         &mut self,
         alloc: Global,
         tree: &mut T,
         index: &UnitIndex,
         asked: &str,
-        file: &UnitFile,
-    ) -> Result<Option<Reason>, AllocError>
+    ) -> Result<Option<TargetReason>, AllocError>
         ensures known { OnOk result ((machine : Machine) → T.shows tree.new machine
             → All (IsStoredOn machine) self.old.loaded.files.items → All (IsStoredOn machine) self.new.loaded.files.items) }
-        ensures tried { OnOk result ((machine : Machine) (path : List (List ℕ)) → T.shows tree.new machine
-            → IsIndexOf machine path index.now → AreTriedAlso machine (paths_of_unit machine path asked.now
-            (FoundAt (string_bytes file.now.path) (string_bytes file.now.file) (string_bytes file.now.stem))) self.old self.new) }
+        ensures read { IfOk result (λ reason. (machine : Machine) (path : List (List ℕ)) → T.shows tree.new machine → IsIndexOf machine path index.now
+            → AreReadFor machine (unit_paths machine path asked.now) (lost_of_unit machine path asked.now (unit_on machine path asked.now))
+            (cause_of_unit machine (unit_on machine path asked.now)) reason self.old self.new) }
+        ensures grows { (machine : Machine) → T.shows tree.new machine → T.shows tree.old machine }
+    {
+        match find_unit(alloc, index, asked)? {
+            Unit::NotFound => Ok(Some(TargetReason::NotFound)),
+            Unit::Template => Ok(Some(TargetReason::Template)),
+            Unit::Endless => Ok(Some(TargetReason::TooManyAliases)),
+            Unit::Found(file) => self.take_found(alloc, tree, index, asked, &file),
+        }
+    }
+
+    /// Reads the file of a unit, and then its drop-ins, unless the file is a mask. `asked` is the stem by which the
+    /// unit was asked for. Returns the reason if the file can't be used.
+    fn take_found<T: Tree>(
+        &mut self,
+        alloc: Global,
+        tree: &mut T,
+        index: &UnitIndex,
+        asked: &str,
+        file: &UnitFile,
+    ) -> Result<Option<TargetReason>, AllocError>
+        ensures known { OnOk result ((machine : Machine) → T.shows tree.new machine
+            → All (IsStoredOn machine) self.old.loaded.files.items → All (IsStoredOn machine) self.new.loaded.files.items) }
+        ensures read { IfOk result (λ reason. (machine : Machine) (path : List (List ℕ)) (unit : FoundUnit) → T.shows tree.new machine
+            → IsIndexOf machine path index.now
+            → FoundAt (string_bytes file.now.path) (string_bytes file.now.file) (string_bytes file.now.stem) ≡ unit
+            → AreReadFor machine (paths_of_unit machine path asked.now unit) (lost_of_unit machine path asked.now unit)
+            (cause_of_unit machine unit) reason self.old self.new) }
         ensures grows { (machine : Machine) → T.shows tree.new machine → T.shows tree.old machine }
     {
         match self.take(alloc, tree, file.path.as_str())? {
-            Taken::Read => self.take_drop_ins(alloc, tree, index, asked, file)?,
-            Taken::Masked | Taken::UnusableBefore => {}
-            Taken::Unusable(reason) => return Ok(Some(reason)),
+            Taken::Read => {
+                self.take_drop_ins(alloc, tree, index, asked, file)?;
+                Ok(None)
+            }
+            Taken::Masked => Ok(None),
+            Taken::Unusable(reason) => {
+                let reason = unusable(alloc, file.path.as_str(), reason)?;
+                Ok(Some(reason))
+            }
         }
-        Ok(None)
     }
 
     /// Reads the drop-ins of a unit.
@@ -236,9 +266,10 @@ impl Reading {
     ) -> Result<(), AllocError>
         ensures known { OnOk result ((machine : Machine) → T.shows tree.new machine
             → All (IsStoredOn machine) self.old.loaded.files.items → All (IsStoredOn machine) self.new.loaded.files.items) }
-        ensures tried { OnOk result ((machine : Machine) (path : List (List ℕ)) → T.shows tree.new machine
-            → IsIndexOf machine path index.now → AreTriedAlso machine (drop_ins machine path
-            (names_on machine path (string_bytes file.now.file) (string_bytes file.now.stem) asked.now)) self.old self.new) }
+        ensures read { OnOk result ((machine : Machine) (path : List (List ℕ)) → T.shows tree.new machine
+            → IsIndexOf machine path index.now
+            → let names = names_on machine path (string_bytes file.now.file) (string_bytes file.now.stem) asked.now in
+            AreReadAlso machine (drop_ins machine path names) (lost_drop_ins machine path names) self.old self.new) }
         ensures grows { (machine : Machine) → T.shows tree.new machine → T.shows tree.old machine }
     {
         let names = names_of(alloc, index, file, asked)?;
@@ -259,18 +290,20 @@ impl Reading {
     ) -> Result<(), AllocError>
         ensures known { OnOk result ((machine : Machine) → T.shows tree.new machine
             → All (IsStoredOn machine) self.old.loaded.files.items → All (IsStoredOn machine) self.new.loaded.files.items) }
-        ensures tried { OnOk result ((machine : Machine) → T.shows tree.new machine
-            → AreTriedAlso machine (string_bytes path ∷ []) self.old self.new) }
+        ensures read { OnOk result ((machine : Machine) → T.shows tree.new machine
+            → AreReadAlso machine (string_bytes path ∷ []) (lost_drop_in machine (string_bytes path)) self.old self.new) }
         ensures grows { (machine : Machine) → T.shows tree.new machine → T.shows tree.old machine }
     {
         match self.take(alloc, tree, path.as_str())? {
-            Taken::Read
-            | Taken::Masked
-            | Taken::UnusableBefore
-            | Taken::Unusable(Reason::Missing | Reason::IsFolder) => Ok(()),
-            Taken::Unusable(reason) => {
-                let lost = vec![in alloc; UnitFault { path, reason }]?;
-                push_lost(&mut self.loaded.faults, lost)
+            Taken::Read => Ok(()),
+            Taken::Masked => Ok(()),
+            Taken::Unusable(Reason::Missing) => Ok(()),
+            Taken::Unusable(Reason::IsFolder) => Ok(()),
+            Taken::Unusable(Reason::TooLarge) => {
+                push_path(&mut self.loaded.faults, path, Reason::TooLarge)
+            }
+            Taken::Unusable(Reason::Unreadable(why)) => {
+                push_path(&mut self.loaded.faults, path, Reason::Unreadable(why))
             }
         }
     }
@@ -284,13 +317,16 @@ impl Reading {
     ) -> Result<(), AllocError>
         ensures known { OnOk result ((machine : Machine) → T.shows tree.new machine
             → All (IsStoredOn machine) self.old.loaded.files.items → All (IsStoredOn machine) self.new.loaded.files.items) }
-        ensures tried { OnOk result ((machine : Machine) → T.shows tree.new machine
-            → AreTriedAlso machine (paths_in folder.now (wanted_at machine Texts folder.now)) self.old self.new) }
+        ensures read { OnOk result ((machine : Machine) → T.shows tree.new machine
+            → AreReadAlso machine (paths_in folder.now (wanted_at machine Texts folder.now)) (lost_folder machine folder.now) self.old self.new) }
         ensures grows { (machine : Machine) → T.shows tree.new machine → T.shows tree.old machine }
     {
         let names = match files_in(alloc, tree, folder, Wanted::Texts) {
             Ok(names) => names,
-            Err(fault) => return push_fault(alloc, &mut self.loaded.faults, folder, fault),
+            Err(TargetLoadFault::Target(reason)) => {
+                return push_named(alloc, &mut self.loaded.faults, folder, reason);
+            }
+            Err(TargetLoadFault::NoMemory) => return Err(AllocError),
         };
         for name in names {
             let path = path_in(alloc, folder, name.as_str())?;
@@ -308,17 +344,21 @@ impl Reading {
     ) -> Result<(), AllocError>
         ensures known { OnOk result ((machine : Machine) → T.shows tree.new machine
             → All (IsStoredOn machine) self.old.loaded.files.items → All (IsStoredOn machine) self.new.loaded.files.items) }
-        ensures tried { OnOk result ((machine : Machine) → T.shows tree.new machine
-            → AreTriedAlso machine (path.now ∷ []) self.old self.new) }
+        ensures read { OnOk result ((machine : Machine) → T.shows tree.new machine
+            → AreReadAlso machine (path.now ∷ []) (lost_file machine path.now) self.old self.new) }
         ensures grows { (machine : Machine) → T.shows tree.new machine → T.shows tree.old machine }
     {
         match self.take(alloc, tree, path)? {
-            Taken::Read | Taken::Masked | Taken::UnusableBefore => Ok(()),
-            Taken::Unusable(reason) => self.push_unusable(alloc, path, path, reason),
+            Taken::Read => Ok(()),
+            Taken::Masked => Ok(()),
+            Taken::Unusable(reason) => {
+                let reason = unusable(alloc, path, reason)?;
+                push_named(alloc, &mut self.loaded.faults, path, reason)
+            }
         }
     }
 
-    /// Reads the file at a path, unless that has been tried before.
+    /// Reads the file at a path, unless that has been tried before. Returns what is there in either case.
     fn take<T: Tree>(
         &mut self,
         alloc: Global,
@@ -329,6 +369,7 @@ impl Reading {
             → All (IsStoredOn machine) self.old.loaded.files.items → All (IsStoredOn machine) self.new.loaded.files.items) }
         ensures tried { IfOk result (λ taken. (machine : Machine) → T.shows tree.new machine
             → IsTaken machine path.now taken self.old self.new) }
+        ensures faults { OnOk result (self.new.loaded.faults.items ≡ self.old.loaded.faults.items) }
         ensures grows { (machine : Machine) → T.shows tree.new machine → T.shows tree.old machine }
     {
         if let Some(taken) = self.seen.get(path) {
@@ -342,62 +383,84 @@ impl Reading {
     fn push_file(&mut self, alloc: Global, path: &str, found: FileRead) -> Result<Taken, AllocError>
         ensures known { OnOk result ((machine : Machine) → shown_file found ≡ file_at machine path.now
             → All (IsStoredOn machine) self.old.loaded.files.items → All (IsStoredOn machine) self.new.loaded.files.items) }
-        ensures taken { IfOk result (λ taken. is_read taken ≡ is_text (shown_file found)) }
+        ensures taken { IfOk result (λ taken. taken ≡ taken_of (shown_file found)) }
         ensures tried { OnOk result ((machine : Machine) (paths : List (List ℕ)) → shown_file found ≡ file_at machine path.now
             → AreTried machine paths self.old → AreTried machine (paths ++ path.now ∷ []) self.new) }
+        ensures faults { OnOk result (self.new.loaded.faults.items ≡ self.old.loaded.faults.items) }
     {
-        self.seen
-            .insert(String::from_str(alloc, path)?, taken_again(&found))?;
-        match found {
-            FileRead::Mask => Ok(Taken::Masked),
-            FileRead::Unusable(reason) => Ok(Taken::Unusable(reason)),
-            FileRead::Text(bytes) => {
-                let path = String::from_str(alloc, path)?;
-                self.loaded.files.push(UnitText { path, bytes })?;
-                Ok(Taken::Read)
-            }
-        }
-    }
-
-    /// Adds the error that a target can't be read because the file at `path` can't be used.
-    fn push_unusable(
-        &mut self,
-        alloc: Global,
-        target: &str,
-        path: &str,
-        reason: Reason,
-    ) -> Result<(), AllocError>
-        ensures files { self.new.loaded.files.items ≡ self.old.loaded.files.items }
-        ensures seen { self.new.seen ≡ self.old.seen }
-    {
-        let reason = match reason {
-            Reason::Missing => TargetReason::NotFound,
-            reason => TargetReason::Path(String::from_str(alloc, path)?, reason),
-        };
-        self.push_reason(alloc, target, reason)
-    }
-
-    fn push_reason(
-        &mut self,
-        alloc: Global,
-        target: &str,
-        reason: TargetReason,
-    ) -> Result<(), AllocError>
-        ensures files { self.new.loaded.files.items ≡ self.old.loaded.files.items }
-        ensures seen { self.new.seen ≡ self.old.seen }
-    {
-        let fault = TargetLoadFault::Target(reason);
-        push_fault(alloc, &mut self.loaded.faults, target, fault)
+        let taken = taken_of(&found);
+        self.seen.insert(String::from_str(alloc, path)?, taken)?;
+        push_text(alloc, &mut self.loaded.files, path, found)?;
+        Ok(taken)
     }
 }
 
-/// Returns what trying a path again returns, if this was found there.
-fn taken_again(found: &FileRead) -> Taken
-    ensures { result ≡ again (shown_file found.now) }
+fn taken_of(found: &FileRead) -> Taken
+    ensures { result ≡ taken_of (shown_file found.now) }
 {
     match found {
         FileRead::Mask => Taken::Masked,
-        FileRead::Unusable(_) => Taken::UnusableBefore,
+        FileRead::Unusable(reason) => Taken::Unusable(*reason),
         FileRead::Text(_) => Taken::Read,
     }
+}
+
+/// Appends the text that was found at a path, if there is one.
+fn push_text(
+    alloc: Global,
+    files: &mut Vec<UnitText>,
+    path: &str,
+    found: FileRead,
+) -> Result<(), AllocError>
+    ensures { OnOk result (map shown_unit_text files.new.items
+        ≡ map shown_unit_text files.old.items ++ text_of path.now (shown_file found)) }
+{
+    match found {
+        FileRead::Mask => Ok(()),
+        FileRead::Unusable(_) => Ok(()),
+        FileRead::Text(bytes) => {
+            let path = String::from_str(alloc, path)?;
+            files.push(UnitText { path, bytes })?;
+            Ok(())
+        }
+    }
+}
+
+/// Returns the reason why a target can't be read, if its own file at this path can't be used.
+fn unusable(alloc: Global, path: &str, reason: Reason) -> Result<TargetReason, AllocError>
+    ensures { IfOk result (λ found. IsCause (cause_of path.now reason) found) }
+{
+    match reason {
+        Reason::Missing => Ok(TargetReason::NotFound),
+        Reason::Unreadable(why) => path_reason(alloc, path, Reason::Unreadable(why)),
+        Reason::IsFolder => path_reason(alloc, path, Reason::IsFolder),
+        Reason::TooLarge => path_reason(alloc, path, Reason::TooLarge),
+    }
+}
+
+fn path_reason(alloc: Global, path: &str, reason: Reason) -> Result<TargetReason, AllocError>
+    ensures { IfOk result (λ found. IsPathReason path.now reason found) }
+{
+    let path = String::from_str(alloc, path)?;
+    Ok(TargetReason::Path(path, reason))
+}
+
+fn is_absent(reason: &TargetReason) -> bool
+    ensures { result ≡ is_absent_reason reason.now }
+{
+    matches!(reason, TargetReason::NotFound)
+}
+
+/// Adds that the target with this name can't be read, for this reason.
+fn push_named(
+    alloc: Global,
+    faults: &mut Vec<TargetFault>,
+    name: &str,
+    reason: TargetReason,
+) -> Result<(), AllocError>
+    ensures { OnOk result ((cause : Cause) → IsCause cause reason
+        → AreLostAlso (lost_as name.now (Some cause)) faults.old.items faults.new.items) }
+{
+    let target = String::from_str(alloc, name)?;
+    push_once(faults, TargetFault { target, reason })
 }

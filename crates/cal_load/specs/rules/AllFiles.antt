@@ -1,13 +1,14 @@
 -- Which files targets stand for. A target is how a user names timers, as in `AllTargets`.
-use Rattle.std.specs.Prelude.{◌≡◌, ℕ, Bool, true, false, if◌then◌else◌, List, [], ◌∷◌, ◌++◌, Option, None, Some, Result, Ok, Err, map}
+use Rattle.std.specs.Prelude.{◌≡◌, ℕ, Bool, true, false, if◌then◌else◌, List, [], ◌∷◌, ◌++◌, Option, None, Some, Result, Ok, Err, filter, map, not}
 use Rattle.std.specs.BTreeMap.{get_by_text}
-use Rattle.std.specs.List.{flat_map, fold, list_any}
+use Rattle.std.specs.List.{flat_map, list_any}
+use Rattle.std.specs.Option.{option_map, option_to_list}
 use Rattle.std.specs.Str.{bytes_eq}
 use Rattle.cal_machine.specs.declared.tree.Unreadable.{Unreadable}
 use Rattle.cal_machine.specs.rules.Machine.{Machine}
 use Rattle.cal_unit_index.specs.declared.files.UnitText as texts
 use Rattle.cal_unit_index.specs.rules.DropIns.{drop_ins}
-use Rattle.cal_unit_index.specs.rules.Files.{FileRead, file_at, shown_unit_text, texts_at}
+use Rattle.cal_unit_index.specs.rules.Files.{FileRead, UnitText, drop_in_bytes, file_at, shown_unit_text, texts_at}
 use Rattle.cal_unit_index.specs.rules.Files.FileRead.{Mask, Unusable, Text}
 use Rattle.cal_unit_index.specs.rules.Folders.{end_at}
 use Rattle.cal_unit_index.specs.rules.Names.{names_on}
@@ -69,13 +70,10 @@ all_paths machine path = flat_map (unit_paths machine path) (units_on machine pa
 
 -- ## The files at these paths
 
--- the paths with one more at their end, unless they have it already
-abbrev pub with_path : List (List ℕ) → List ℕ → List (List ℕ)
-with_path paths path = if list_any (bytes_eq path) paths then paths else paths ++ path ∷ []
-
 -- each of the paths once, at its first place
 abbrev pub each_once : List (List ℕ) → List (List ℕ)
-each_once paths = fold with_path [] paths
+each_once [] = []
+each_once (path ∷ paths) = path ∷ filter (λ other. not (bytes_eq other path)) (each_once paths)
 
 -- these are the texts at these paths, in this order, each path once
 abbrev pub AreTextsAt : Machine → List (List ℕ) → List texts.UnitText → Type 0
@@ -83,34 +81,31 @@ AreTextsAt machine paths files = map shown_unit_text files ≡ texts_at machine 
 
 -- ## Steps
 
--- what trying a path again returns
-abbrev pub again : FileRead → Taken
-again Mask = taken.TheVariants.Masked
-again (Unusable reason) = taken.TheVariants.UnusableBefore
-again (Text bytes) = taken.TheVariants.Read
+-- the text that was found at a path, or nothing
+abbrev pub text_of : List ℕ → FileRead → List UnitText
+text_of path found = option_to_list (option_map (λ bytes. record { path = path; bytes = bytes }) (drop_in_bytes found))
 
-abbrev pub is_read : Taken → Bool
-is_read taken.TheVariants.Read = true
-is_read taken.TheVariants.Masked = false
-is_read (taken.TheVariants.Unusable reason) = false
-is_read taken.TheVariants.UnusableBefore = false
+-- what a path is remembered to have
+abbrev pub taken_of : FileRead → Taken
+taken_of Mask = taken.TheVariants.Masked
+taken_of (Unusable reason) = taken.TheVariants.Unusable reason
+taken_of (Text bytes) = taken.TheVariants.Read
+
+-- the paths with one more at their end, unless they have it already
+abbrev pub with_path : List (List ℕ) → List ℕ → List (List ℕ)
+with_path paths path = if list_any (bytes_eq path) paths then paths else paths ++ path ∷ []
 
 -- what is remembered of a path after these paths were tried
 abbrev pub remembered_of : Machine → List (List ℕ) → List ℕ → Option Taken
-remembered_of machine paths path = if list_any (bytes_eq path) paths then Some (again (file_at machine path)) else None
+remembered_of machine paths path = if list_any (bytes_eq path) paths then Some (taken_of (file_at machine path)) else None
 
 -- These paths were tried, in this order, and no others. Their texts were read, and it is remembered what is at each.
 pub record AreTried (machine : Machine) (paths : List (List ℕ)) (reading : Reading) : Type 0 where
   pub files : map shown_unit_text reading.loaded.files.items ≡ texts_at machine paths
   pub seen : (path : List ℕ) → get_by_text reading.seen path ≡ remembered_of machine paths path
 
--- between `old` and `new` these paths were tried, except those that had been tried before
-abbrev pub AreTriedAlso : Machine → List (List ℕ) → Reading → Reading → Type 0
-AreTriedAlso machine more old new = (paths : List (List ℕ)) → AreTried machine paths old → AreTried machine (fold with_path paths more) new
-
--- between `old` and `new` this path was tried, unless it had been tried before; in either case it is known whether it
--- has a text
+-- between `old` and `new` this path was tried, unless it had been tried before; in either case it is known what is there
 abbrev pub IsTaken : Machine → List ℕ → Taken → Reading → Reading → Type 0
 IsTaken machine path taken old new =
     (paths : List (List ℕ)) → AreTried machine paths old
-    → AreTried machine (with_path paths path) new × (is_read taken ≡ is_text (file_at machine path))
+    → AreTried machine (with_path paths path) new × (taken ≡ taken_of (file_at machine path))

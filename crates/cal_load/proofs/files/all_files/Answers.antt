@@ -3,15 +3,16 @@ use Rattle.std.proofs.lemmas.Iterator.Consumers.{YieldsList-end, YieldsList-from
 use Rattle.std.proofs.lemmas.List.{map-id}
 use Rattle.std.specs.List.{flat_map}
 use Rattle.cal_load.specs.rules.AllFiles.{unit_paths}
-use Rattle.cal_load.proofs.FileLemmas.{all_tried, also_unit}
+use Rattle.cal_load.specs.rules.FileFaults.{lost_listed}
+use Rattle.cal_load.proofs.FileLemmas.{all_read, read_unit}
 use Rattle.cal_load.proofs.files.all_files.Goals as goal
 
 pub loop-stem-preserved : goal.loop-stem-preserved
 loop-stem-preserved g c = (
   λ machine shows. c.in_ok-take_listed.ensures.known machine shows (c.loop-stem.invariant.0 machine (c.take_listed.ensures.grows machine shows)),
   λ machine shows. c.loop-stem.invariant.1 machine (c.take_listed.ensures.grows machine shows),
-  λ machine path shows is. also_unit machine (unit_paths machine path) c.loop-stem.yielded c.in-Some.stem _ c.new-reading.result c.loop-stem.reading c.take_listed.new.self
-      c.as_str.ensures.value (c.loop-stem.invariant.2 machine path (c.take_listed.ensures.grows machine shows) is) (c.in_ok-take_listed.ensures.tried machine path shows is),
+  λ machine path shows is. read_unit machine (unit_paths machine path) (lost_listed machine path) c.loop-stem.yielded c.in-Some.stem _ c.new-reading.result c.loop-stem.reading c.take_listed.new.self
+      c.as_str.ensures.value (c.loop-stem.invariant.2 machine path (c.take_listed.ensures.grows machine shows) is) (c.in_ok-take_listed.ensures.read machine path shows is),
 )
 
 pub returns-clause-whole : goal.returns-clause-whole
@@ -19,6 +20,7 @@ returns-clause-whole g c machine path shows is =
     let keys = c.in_ok-stem-items.stem-items.keys in
     let done = YieldsList-end (YieldsList-from_rest keys c.into_iter-stem-iterator.ensures.into_iter_gives.0) c.loop-stem.yielded _ c.loop-stem.yielded_by _ _ c.in-None.is c.next.ensures.steps in
     let all : map string_bytes c.loop-stem.yielded ≡ map string_bytes keys = ap (map string_bytes) (sym (map-id c.loop-stem.yielded) ∙ done.0) in
-    all_tried machine _ _ c.new-reading.result c.loop-stem.reading
-    (ap (flat_map (unit_paths machine path)) (all ∙ c.in_ok-stem-items.ensures.known machine path is))
-    (c.new-reading.ensures.tried machine) (c.loop-stem.invariant.2 machine path shows is)
+    let units = all ∙ c.in_ok-stem-items.ensures.known machine path is in
+    all_read machine _ _ _ _ c.new-reading.result c.loop-stem.reading
+    (ap (flat_map (unit_paths machine path)) units) (ap (flat_map (lost_listed machine path)) units)
+    (c.new-reading.ensures.tried machine) c.new-reading.ensures.no_faults (c.loop-stem.invariant.2 machine path shows is)

@@ -1,12 +1,25 @@
-use Rattle.std.proofs.Common.{ap, arith, map}
+use Rattle.std.proofs.Common.{[], ap, arith, get_or, map, refl}
 use Rattle.std.proofs.lemmas.List.{take_all}
 use Rattle.std.specs.List.{flat_map}
 use Rattle.cal_load.specs.rules.AllFiles.{paths_by}
-use Rattle.cal_load.proofs.FileLemmas.{all_tried}
+use Rattle.cal_load.specs.rules.FileFaults.{lost_by}
+use Rattle.cal_load.proofs.FileLemmas.{all_read, read_target}
 use Rattle.cal_load.proofs.files.load_files.Goals as goal
+
+pub loop-target-preserved : goal.loop-target-preserved
+loop-target-preserved g c = (
+  λ machine shows. c.in_ok-take_target.ensures.known machine shows (c.loop-target.invariant.0 machine (c.take_target.ensures.grows machine shows)),
+  λ machine shows. c.loop-target.invariant.1 machine (c.take_target.ensures.grows machine shows),
+  λ machine path shows is. read_target machine (paths_by machine path) (lost_by machine path) c.args.targets.now c.loop-target.target-index
+      (get_or c.args.targets.now c.loop-target.target-index (record { ref_ptr = (0, 0); now = [] })) (record { ref_ptr = (0, 0); now = [] })
+      c.new-reading.result c.loop-target.reading c.take_target.new.self (omega arith) refl
+      (c.loop-target.invariant.2 machine path (c.take_target.ensures.grows machine shows) is) (c.in_ok-take_target.ensures.read machine path shows is),
+)
 
 pub returns-clause-targets : goal.returns-clause-targets
 returns-clause-targets g c some machine path shows is =
-    all_tried machine _ _ c.new-reading.result c.loop-target.reading
-    (ap (λ targets. flat_map (paths_by machine path) (map (λ target. target.now) targets)) (take_all c.loop-target.target-index c.args.targets.now (omega arith)))
-    (c.new-reading.ensures.tried machine) (c.loop-target.invariant.2 machine path shows is)
+    let all = take_all c.loop-target.target-index c.args.targets.now (omega arith) in
+    all_read machine _ _ _ _ c.new-reading.result c.loop-target.reading
+    (ap (λ targets. flat_map (paths_by machine path) (map (λ target. target.now) targets)) all)
+    (ap (λ targets. flat_map (lost_by machine path) (map (λ target. target.now) targets)) all)
+    (c.new-reading.ensures.tried machine) c.new-reading.ensures.no_faults (c.loop-target.invariant.2 machine path shows is)

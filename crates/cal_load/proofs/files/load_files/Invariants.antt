@@ -2,7 +2,8 @@ use Rattle.std.proofs.Common.{ℕ, List, All, map, take}
 use Rattle.std.specs.List.{flat_map}
 use Rattle.cal_machine.specs.rules.Machine.{Machine}
 use Rattle.cal_unit_index.specs.rules.Index.{IsIndexOf}
-use Rattle.cal_load.specs.rules.AllFiles.{AreTriedAlso, paths_by}
+use Rattle.cal_load.specs.rules.AllFiles.{paths_by}
+use Rattle.cal_load.specs.rules.FileFaults.{AreReadAlso, lost_by}
 use Rattle.cal_load.specs.rules.Loaded.{IsStoredOn}
 use Rattle.cal_load.proofs.files.load_files.Given as goal
 
@@ -11,4 +12,5 @@ invariant-loop-target g l =
     ((machine : Machine) → g.T.Tree.shows l.tree machine → All (IsStoredOn machine) l.reading.loaded.files.items)
     × ((machine : Machine) → g.T.Tree.shows l.tree machine → g.T.Tree.shows l.fn.tree machine)
     × ((machine : Machine) (path : List (List ℕ)) → g.T.Tree.shows l.tree machine → IsIndexOf machine path l.index
-    → AreTriedAlso machine (flat_map (paths_by machine path) (map (λ target. target.now) (take l.target-index l.targets))) l.initial.reading l.reading)
+    → AreReadAlso machine (flat_map (paths_by machine path) (map (λ target. target.now) (take l.target-index l.targets)))
+    (flat_map (lost_by machine path) (map (λ target. target.now) (take l.target-index l.targets))) l.initial.reading l.reading)

@@ -1,6 +1,7 @@
 use Rattle.std.proofs.Common.{All, map, string_bytes}
+use Rattle.std.specs.List.{flat_map}
 use Rattle.cal_machine.specs.rules.Machine.{Machine}
-use Rattle.cal_load.specs.rules.AllFiles.{AreTriedAlso}
+use Rattle.cal_load.specs.rules.FileFaults.{AreReadAlso, lost_drop_in}
 use Rattle.cal_load.specs.rules.Loaded.{IsStoredOn}
 use Rattle.cal_load.proofs.files.Reading.take_drop_ins.Given as goal
 
@@ -10,4 +11,5 @@ invariant-loop-path g l =
     → All (IsStoredOn machine) l.fn.self.loaded.files.items → All (IsStoredOn machine) l.self.loaded.files.items)
     × ((machine : Machine) → g.T.Tree.shows l.tree machine → g.T.Tree.shows l.fn.tree machine)
     × ((machine : Machine) → g.T.Tree.shows l.tree machine → g.T.Tree.shows l.initial.tree machine)
-    × ((machine : Machine) → g.T.Tree.shows l.tree machine → AreTriedAlso machine (map string_bytes l.yielded) l.fn.self l.self)
+    × ((machine : Machine) → g.T.Tree.shows l.tree machine
+    → AreReadAlso machine (map string_bytes l.yielded) (flat_map (lost_drop_in machine) (map string_bytes l.yielded)) l.initial.self l.self)

@@ -1,7 +1,8 @@
 use Rattle.std.proofs.Common.{All, map, string_bytes}
+use Rattle.std.specs.List.{flat_map}
 use Rattle.cal_machine.specs.rules.Machine.{Machine}
-use Rattle.cal_load.specs.rules.AllFiles.{AreTriedAlso}
 use Rattle.cal_load.specs.rules.AllTargets.{path_in}
+use Rattle.cal_load.specs.rules.FileFaults.{AreReadAlso, lost_file}
 use Rattle.cal_load.specs.rules.Loaded.{IsStoredOn}
 use Rattle.cal_load.proofs.files.Reading.take_folder.Given as goal
 
@@ -12,4 +13,5 @@ invariant-loop-name g l =
     × ((machine : Machine) → g.T.Tree.shows l.tree machine → g.T.Tree.shows l.fn.tree machine)
     × ((machine : Machine) → g.T.Tree.shows l.tree machine → g.T.Tree.shows l.initial.tree machine)
     × ((machine : Machine) → g.T.Tree.shows l.tree machine
-    → AreTriedAlso machine (map (path_in l.folder) (map string_bytes l.yielded)) l.fn.self l.self)
+    → AreReadAlso machine (map (path_in l.folder) (map string_bytes l.yielded))
+    (flat_map (lost_file machine) (map (path_in l.folder) (map string_bytes l.yielded))) l.fn.self l.self)

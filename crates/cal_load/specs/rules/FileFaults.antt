@@ -1,0 +1,209 @@
+-- What can't be read of the files that targets stand for, and which errors say so: systemd.unit(5), Description and Unit
+-- File Load Path. A target is how a user names timers, as in `AllTargets`, and its paths are those of `AllFiles`.
+use Rattle.std.specs.Prelude.{◌≡◌, ⊤, ◌⊎◌, ℕ, if◌then◌else◌, List, [], ◌∷◌, ◌++◌, All, Option, None, Some, map, string_bytes}
+use Rattle.std.specs.List.{Contains, flat_map, fold}
+use Rattle.cal_machine.specs.rules.Machine.{Machine}
+use Rattle.cal_machine.specs.rules.Places.{names_at}
+use Rattle.cal_unit_index.specs.declared.fault.Reason.{Reason}
+use Rattle.cal_unit_index.specs.declared.fault.Reason.TheVariants as reasons
+use Rattle.cal_unit_index.specs.rules.DropIns.{drop_ins, unread_folders}
+use Rattle.cal_unit_index.specs.rules.Files.{FileRead, fault_at, file_at}
+use Rattle.cal_unit_index.specs.rules.Files.FileRead.{Mask, Unusable, Text}
+use Rattle.cal_unit_index.specs.rules.Folders.{end_at}
+use Rattle.cal_unit_index.specs.rules.Index.{Fault, faults_of_listing}
+use Rattle.cal_unit_index.specs.rules.Names.{names_on}
+use Rattle.cal_unit_index.specs.rules.UnitName.{unit_stem}
+use Rattle.cal_unit_index.specs.rules.Units.{Unit, unit_on}
+use Rattle.cal_unit_index.specs.rules.Units.Unit.{Unfound, TemplateOnly, TooManyAliases, FoundAt}
+use Rattle.cal_load.specs.rules.AllFiles.{AreTried, is_text, paths_in, with_path}
+use Rattle.cal_load.specs.rules.AllTargets.{is_path, wanted_at, without_slashes}
+use Rattle.cal_load.specs.rules.AllUnits.{IsPathReason, Keeps, unit_name, units_on}
+use Rattle.cal_load.specs.rules.LoadedTarget.{is_folder}
+use Rattle.cal_load.specs.declared.files.Reading.{Reading}
+use Rattle.cal_load.specs.declared.names.Wanted as wanted
+use Rattle.cal_load.specs.declared.target_fault.TargetFault.{TargetFault}
+use Rattle.cal_load.specs.declared.target_fault.TargetReason.{TargetReason}
+use Rattle.cal_load.specs.declared.target_fault.TargetReason.TheVariants as target_reasons
+
+-- ## What is lost
+
+-- Why something can't be read: there is no such unit, or nothing is at its path; its name is that of a template; its
+-- aliases are more than are followed; or what is at this path can't be used, for this reason.
+pub data Cause : Type 0 where
+  Absent : Cause
+  IsTemplate : Cause
+  ManyAliases : Cause
+  UnusableAt : (path : List ℕ) → (why : Reason) → Cause
+
+-- what can't be read, by the name under which it is reported
+pub record Lost : Type 0 where
+  pub name : List ℕ
+  pub cause : Cause
+
+abbrev pub lost_as : List ℕ → Option Cause → List Lost
+lost_as name None = []
+lost_as name (Some cause) = record { name = name; cause = cause } ∷ []
+
+-- ## Files
+
+-- why the file at a path is lost, if what is there can't be used for this reason
+abbrev pub cause_of : List ℕ → Reason → Cause
+cause_of path (reasons.Unreadable why) = UnusableAt path (reasons.Unreadable why)
+cause_of path reasons.IsFolder = UnusableAt path reasons.IsFolder
+cause_of path reasons.Missing = Absent
+cause_of path reasons.TooLarge = UnusableAt path reasons.TooLarge
+
+-- why the file at a path is lost, if it is
+abbrev pub cause_at : List ℕ → FileRead → Option Cause
+cause_at path Mask = None
+cause_at path (Unusable why) = Some (cause_of path why)
+cause_at path (Text bytes) = None
+
+-- a single file is reported by its path
+abbrev pub lost_file : Machine → List ℕ → List Lost
+lost_file machine path = lost_as path (cause_at path (file_at machine path))
+
+-- ## Units
+
+-- a drop-in or a folder is reported by its path
+abbrev pub lost_path : Fault → Lost
+lost_path fault = record { name = fault.path; cause = UnusableAt fault.path fault.reason }
+
+-- a drop-in that can't be read; a drop-in that is a folder, or a link to nothing, is skipped
+abbrev pub lost_drop_in : Machine → List ℕ → List Lost
+lost_drop_in machine path = map lost_path (fault_at machine path)
+
+-- what can't be read of the drop-ins of a unit with these names: drop-in folders, and then drop-ins
+abbrev pub lost_drop_ins : Machine → List (List ℕ) → List (List ℕ) → List Lost
+lost_drop_ins machine path names =
+    map lost_path (unread_folders machine path names) ++ flat_map (lost_drop_in machine) (drop_ins machine path names)
+
+-- why a unit is lost, if it is: it isn't found, or its own file is lost
+abbrev pub cause_of_unit : Machine → Unit → Option Cause
+cause_of_unit machine Unfound = Some Absent
+cause_of_unit machine TemplateOnly = Some IsTemplate
+cause_of_unit machine TooManyAliases = Some ManyAliases
+cause_of_unit machine (FoundAt file own_file own) = cause_at file (file_at machine file)
+
+-- What can't be read of the drop-ins of a unit that was asked for by the stem `asked`. A unit whose own file is not a
+-- text has no drop-ins.
+abbrev pub lost_of_unit : Machine → List (List ℕ) → List ℕ → Unit → List Lost
+lost_of_unit machine path asked Unfound = []
+lost_of_unit machine path asked TemplateOnly = []
+lost_of_unit machine path asked TooManyAliases = []
+lost_of_unit machine path asked (FoundAt file own_file own) =
+    if is_text (file_at machine file) then lost_drop_ins machine path (names_on machine path own_file own asked) else []
+
+-- why the unit with this stem is lost, if it is; a name that isn't valid has no stem
+abbrev pub cause_if_valid : Machine → List (List ℕ) → Option (List ℕ) → Option Cause
+cause_if_valid machine path None = Some Absent
+cause_if_valid machine path (Some stem) = cause_of_unit machine (unit_on machine path stem)
+
+abbrev pub lost_if_valid : Machine → List (List ℕ) → Option (List ℕ) → List Lost
+lost_if_valid machine path None = []
+lost_if_valid machine path (Some stem) = lost_of_unit machine path stem (unit_on machine path stem)
+
+-- what can't be read of the unit with the name that a user gave
+abbrev pub lost_named : Machine → List (List ℕ) → List ℕ → List Lost
+lost_named machine path name =
+    lost_if_valid machine path (unit_stem name) ++ lost_as name (cause_if_valid machine path (unit_stem name))
+
+-- a unit of the search path that has no file, such as a link to nothing, is skipped
+abbrev pub unless_absent : Option Cause → Option Cause
+unless_absent None = None
+unless_absent (Some Absent) = None
+unless_absent (Some IsTemplate) = Some IsTemplate
+unless_absent (Some ManyAliases) = Some ManyAliases
+unless_absent (Some (UnusableAt path why)) = Some (UnusableAt path why)
+
+-- what can't be read of a unit of the search path
+abbrev pub lost_listed : Machine → List (List ℕ) → List ℕ → List Lost
+lost_listed machine path stem =
+    lost_of_unit machine path stem (unit_on machine path stem)
+    ++ lost_as (unit_name stem) (unless_absent (cause_of_unit machine (unit_on machine path stem)))
+
+-- ## Targets
+
+-- what can't be read of a folder: its names, or files in it
+abbrev pub lost_folder : Machine → List ℕ → List Lost
+lost_folder machine folder =
+    map lost_path (faults_of_listing folder (names_at machine folder))
+    ++ flat_map (lost_file machine) (paths_in folder (wanted_at machine wanted.TheVariants.Texts folder))
+
+abbrev pub lost_at : Machine → List ℕ → List Lost
+lost_at machine path = if is_folder (end_at machine path) then lost_folder machine path else lost_file machine path
+
+-- what can't be read of that for which a target stands
+abbrev pub lost_by : Machine → List (List ℕ) → List ℕ → List Lost
+lost_by machine path target =
+    if is_path target then lost_at machine (without_slashes target) else lost_named machine path target
+
+-- what can't be read of all units in the search path
+abbrev pub all_lost : Machine → List (List ℕ) → List Lost
+all_lost machine path = flat_map (lost_listed machine path) (units_on machine path)
+
+-- ## The errors
+
+-- the reason in an error says this cause
+abbrev pub IsCause : Cause → TargetReason → Type 0
+IsCause Absent reason = reason ≡ target_reasons.NotFound
+IsCause IsTemplate reason = reason ≡ target_reasons.Template
+IsCause ManyAliases reason = reason ≡ target_reasons.TooManyAliases
+IsCause (UnusableAt path why) reason = IsPathReason path why reason
+
+-- the error says that this is lost, and why
+pub record IsFaultOf (lost : Lost) (fault : TargetFault) : Type 0 where
+  pub named : string_bytes fault.target ≡ lost.name
+  pub says : IsCause lost.cause fault.reason
+
+-- something in the list is lost, and the error says so
+abbrev pub IsFaultOfOne : List Lost → TargetFault → Type 0
+IsFaultOfOne all fault = (lost : Lost) × Contains all lost × IsFaultOf lost fault
+
+-- The error is about what has this name. That a path can't be used is reported once, perhaps under another name that
+-- leads to it.
+abbrev pub IsAbout : List ℕ → Cause → TargetFault → Type 0
+IsAbout name Absent fault = string_bytes fault.target ≡ name
+IsAbout name IsTemplate fault = string_bytes fault.target ≡ name
+IsAbout name ManyAliases fault = string_bytes fault.target ≡ name
+IsAbout name (UnusableAt path why) fault = ⊤
+
+-- one of the errors says why this is lost
+pub record IsLostIn (faults : List TargetFault) (lost : Lost) : Type 0 where
+  pub fault : TargetFault
+  pub is_in : Contains faults fault
+  pub says : IsCause lost.cause fault.reason
+  pub about : IsAbout lost.name lost.cause fault
+
+-- each error says that something in the list is lost, and everything in the list has its error
+pub record AreFaultsOf (all : List Lost) (faults : List TargetFault) : Type 0 where
+  pub true_of : All (IsFaultOfOne all) faults
+  pub whole : All (IsLostIn faults) all
+
+-- ## Steps
+
+-- the reason says this cause, or there is neither a reason nor a cause
+abbrev pub IsCauseIf : Option Cause → Option TargetReason → Type 0
+IsCauseIf None None = ⊤
+IsCauseIf None (Some reason) = ⊥
+IsCauseIf (Some cause) None = ⊥
+IsCauseIf (Some cause) (Some reason) = IsCause cause reason
+
+-- `new` is `old` with the errors of what is lost in addition
+pub record AreLostAlso (more : List Lost) (old new : List TargetFault) : Type 0 where
+  pub kept : Keeps old new
+  pub true_of : (fault : TargetFault) → Contains new fault → Contains old fault ⊎ IsFaultOfOne more fault
+  pub whole : All (IsLostIn new) more
+
+-- between `old` and `new` these paths were tried, except those that had been tried before, and what is lost was reported
+abbrev pub AreReadAlso : Machine → List (List ℕ) → List Lost → Reading → Reading → Type 0
+AreReadAlso machine more lost old new =
+    (paths : List (List ℕ)) → AreTried machine paths old
+    → AreTried machine (fold with_path paths more) new × AreLostAlso lost old.loaded.faults.items new.loaded.faults.items
+
+-- the same, and it was returned why the unit is lost to which the paths belong, if it is
+abbrev pub AreReadFor : Machine → List (List ℕ) → List Lost → Option Cause → Option TargetReason → Reading → Reading → Type 0
+AreReadFor machine more lost cause reason old new =
+    (paths : List (List ℕ)) → AreTried machine paths old
+    → AreTried machine (fold with_path paths more) new × AreLostAlso lost old.loaded.faults.items new.loaded.faults.items
+    × IsCauseIf cause reason
