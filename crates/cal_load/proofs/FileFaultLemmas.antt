@@ -10,7 +10,7 @@ use Rattle.cal_unit_index.specs.rules.Index.{shown_fault}
 use Rattle.cal_load.specs.declared.target_fault.TargetFault.{TargetFault}
 use Rattle.cal_load.specs.declared.target_fault.TargetReason.{TargetReason}
 use Rattle.cal_load.specs.declared.target_fault.TargetReason.TheVariants.{Path}
-use Rattle.cal_load.specs.rules.AllUnits.{IsPathReason, Keeps, is_absent_reason}
+use Rattle.cal_load.specs.rules.AllUnits.{Keeps, is_absent_reason}
 use Rattle.cal_load.specs.rules.FileFaults.{AreFaultsOf, AreLostAlso, Cause, IsAbout, IsCause, IsCauseIf, IsFaultOf, IsFaultOfOne, IsLostIn, Lost, lost_as, lost_path, unless_absent}
 use Rattle.cal_load.specs.rules.FileFaults.Cause.{Absent, IsTemplate, ManyAliases, UnusableAt}
 use Rattle.cal_load.proofs.UnitLemmas.{keeps_appended, keeps_both, keeps_same}
@@ -60,29 +60,24 @@ lost_pushed lost fault old new e is = record {
       (All-nil (IsLostIn new));
 }
 
-path_known_for : (all : List TargetFault) (place : String Global) (why : Reason) (name : List ℕ) (cause : Cause) → IsCause cause (Path place why)
-    → (fault : TargetFault) → Contains all fault → IsPathReason (string_bytes place) why fault.reason
-    → IsLostIn all (record { name = name; cause = cause })
-path_known_for all place why name Absent is fault has at = absurd (cc)
-path_known_for all place why name IsTemplate is fault has at = absurd (cc)
-path_known_for all place why name ManyAliases is fault has at = absurd (cc)
-path_known_for all place why name (UnusableAt path reason) is fault has at =
-    let e : Path place why ≡ Path is.0 reason = is.2 in
-    let same : place ≡ is.0 = cc in
-    let because : why ≡ reason = cc in
-    record {
-      fault = fault;
-      is_in = has;
-      says = (at.0, at.1 ∙ ap string_bytes same ∙ is.1, at.2 ∙ ap (Path at.0) because);
-      about = tt;
-    }
+same_path_for : (known fault : TargetFault) (place path : String Global) (reason why : Reason) (name : List ℕ) (cause : Cause) → known.reason ≡ Path place reason
+    → string_bytes place ≡ string_bytes path → reason ≡ why → IsCause cause (Path path why)
+    → IsCause cause known.reason × IsAbout name cause known
+same_path_for known fault place path reason why name Absent e same because is = absurd (cc)
+same_path_for known fault place path reason why name IsTemplate e same because is = absurd (cc)
+same_path_for known fault place path reason why name ManyAliases e same because is = absurd (cc)
+same_path_for known fault place path reason why name (UnusableAt at given) e same because is =
+    let f : Path path why ≡ Path is.0 given = is.2 in
+    let is_path : path ≡ is.0 = cc in
+    let is_why : why ≡ given = cc in
+    ((place, same ∙ ap string_bytes is_path ∙ is.1, e ∙ ap (Path place) (because ∙ is_why)), tt)
 
--- one of the errors is about this path, with the same reason
-pub path_known : (all : List TargetFault) (path : List ℕ) (place : String Global) (why : Reason) (lost : Lost) → path ≡ string_bytes place
-    → (fault : TargetFault) × Contains all fault × IsPathReason path why fault.reason
-    → IsCause lost.cause (Path place why) → IsLostIn all lost
-path_known all path place why lost e (fault, has, at) is =
-    path_known_for all place why lost.name lost.cause is fault has (subst (λ path. IsPathReason path why fault.reason) e at)
+-- two errors with the same path and the same reason
+pub same_path : (known fault : TargetFault) (place path : String Global) (reason why : Reason) (lost : Lost) → known.reason ≡ Path place reason → fault.reason ≡ Path path why
+    → string_bytes place ≡ string_bytes path → reason ≡ why → IsFaultOf lost fault
+    → IsCause lost.cause known.reason × IsAbout lost.name lost.cause known
+same_path known fault place path reason why lost e f same because is =
+    same_path_for known fault place path reason why lost.name lost.cause e same because (subst (IsCause lost.cause) f is.says)
 
 -- ## Several errors
 

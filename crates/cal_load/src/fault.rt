@@ -1,11 +1,10 @@
 //! The errors of one target.
 
 ghost use Rattle.std.specs.Prelude.{◌≡◌, ◌∷◌, [], true, OnOk, map, string_bytes};
-ghost use Rattle.std.specs.List.{Contains};
 ghost use Rattle.cal_unit_index.specs.rules.Index.{shown_fault};
 ghost use Rattle.cal_load.specs.declared.fault.TargetLoadFault.TheVariants.{NoMemory};
-ghost use Rattle.cal_load.specs.rules.AllUnits.{HasFault, IsFaultPushed, IsNotUtf8Fault, IsPathFault, IsPathReason, IsTreeFault, Keeps};
-ghost use Rattle.cal_load.specs.rules.FileFaults.{AreLostAlso, IsCause, IsFaultOf, IsLostIn, Lost, lost_path};
+ghost use Rattle.cal_load.specs.rules.AllUnits.{HasFault, IsFaultPushed, IsNotUtf8Fault, IsPathFault, IsTreeFault, Keeps};
+ghost use Rattle.cal_load.specs.rules.FileFaults.{AreLostAlso, IsAbout, IsCause, IsFaultOf, IsLostIn, Lost, lost_path};
 
 use crate::target_fault::{TargetFault, TargetReason};
 use cal_machine::TreeFault;
@@ -121,45 +120,51 @@ pub(crate) fn push_path(
     push_once(faults, TargetFault { target, reason })
 }
 
-/// Adds the error to `faults`, unless it is about a path, and `faults` has this path with the same reason already. The
-/// targets of both errors may differ.
+/// Adds the error to `faults`, unless it has the same error already. Errors about a path are the same even if they have
+/// different targets.
 pub(crate) fn push_once(faults: &mut Vec<TargetFault>, fault: TargetFault) -> Result<(), AllocError>
     ensures kept { OnOk result (Keeps faults.old.items faults.new.items) }
     ensures lost { OnOk result ((lost : Lost) → IsFaultOf lost fault → AreLostAlso (lost ∷ []) faults.old.items faults.new.items) }
 {
-    if is_known(faults.as_slice(), &fault.reason) {
+    if is_known(faults.as_slice(), &fault) {
         return Ok(());
     }
     faults.push(fault)?;
     Ok(())
 }
 
-/// Returns whether the reason is about a path, and one of the errors has the same reason.
-fn is_known(faults: &[TargetFault], reason: &TargetReason) -> bool
-    ensures { result ≡ true → (lost : Lost) → IsCause lost.cause reason.now → IsLostIn faults.now lost }
+fn is_known(faults: &[TargetFault], fault: &TargetFault) -> bool
+    ensures { result ≡ true → (lost : Lost) → IsFaultOf lost fault.now → IsLostIn faults.now lost }
 {
-    match reason {
-        TargetReason::Path(path, why) => has_path(faults, path.as_str(), *why),
-        _ => false,
-    }
-}
-
-fn has_path(faults: &[TargetFault], path: &str, why: Reason) -> bool
-    ensures { result ≡ true → (fault : TargetFault) × Contains faults.now fault × IsPathReason path.now why fault.reason }
-{
-    for fault in faults {
-        if is_at(fault, path, why) {
+    for known in faults {
+        if is_same(known, fault) {
             return true;
         }
     }
     false
 }
 
-fn is_at(fault: &TargetFault, path: &str, why: Reason) -> bool
-    ensures { result ≡ true → IsPathReason path.now why fault.now.reason }
+/// Returns whether both errors say the same about a path, or about a target without a path. Other errors are never the
+/// same.
+fn is_same(known: &TargetFault, fault: &TargetFault) -> bool
+    ensures { result ≡ true → (lost : Lost) → IsFaultOf lost fault.now
+        → IsCause lost.cause known.now.reason × IsAbout lost.name lost.cause known.now }
 {
-    match &fault.reason {
-        TargetReason::Path(place, reason) => place.as_str() == path && *reason == why,
+    match (&known.reason, &fault.reason) {
+        (TargetReason::Path(place, reason), TargetReason::Path(path, why)) => {
+            place.as_str() == path.as_str() && *reason == *why
+        }
+        (TargetReason::NotFound, TargetReason::NotFound) => is_same_target(known, fault),
+        (TargetReason::Template, TargetReason::Template) => is_same_target(known, fault),
+        (TargetReason::TooManyAliases, TargetReason::TooManyAliases) => {
+            is_same_target(known, fault)
+        }
         _ => false,
     }
+}
+
+fn is_same_target(known: &TargetFault, fault: &TargetFault) -> bool
+    ensures { result ≡ true → string_bytes known.now.target ≡ string_bytes fault.now.target }
+{
+    known.target.as_str() == fault.target.as_str()
 }

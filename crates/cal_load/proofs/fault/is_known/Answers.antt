@@ -1,9 +1,7 @@
-use Rattle.std.proofs.Common.{subst}
-use Rattle.cal_load.specs.rules.FileFaults.{IsCause}
-use Rattle.cal_load.proofs.FileFaultLemmas.{path_known}
+use Rattle.std.proofs.Common.{arith, sym}
 use Rattle.cal_load.proofs.fault.is_known.Goals as goal
 
-pub returns-in-Path : goal.returns-in-Path
-returns-in-Path c e lost is =
-    path_known c.args.faults.now _ c.in-Path.path c.in-Path.why lost c.as_str.ensures.value (c.has_path.ensures e)
-    (subst (IsCause lost.cause) c.in-Path.is is)
+pub returns-then-is_same : goal.returns-then-is_same
+returns-then-is_same c e lost is =
+    let same = c.is_same.ensures c.if-is_same.true lost is in
+    record { fault = c.known-item.result; is_in = (c.loop-known.known-index, omega arith, sym c.known-item.is); says = same.0; about = same.1 }
