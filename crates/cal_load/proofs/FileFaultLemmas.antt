@@ -129,11 +129,7 @@ all_faults lost old new e h = record {
 
 -- ## Causes
 
--- a unit that isn't lost has no error
-pub none_named : (name : List ℕ) (cause : Option Cause) (faults : List TargetFault) → IsCauseIf cause None → AreLostAlso (lost_as name cause) faults faults
-none_named name None faults h = lost_none faults
-none_named name (Some cause) faults h = absurd h
-
+-- a listed unit that isn't lost has no error
 pub none_listed : (name : List ℕ) (cause : Option Cause) (faults : List TargetFault) → IsCauseIf cause None
     → AreLostAlso (lost_as name (unless_absent cause)) faults faults
 none_listed name None faults h = lost_none faults

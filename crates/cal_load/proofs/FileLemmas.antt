@@ -2,7 +2,7 @@
 use Rattle.std.proofs.Common.{◌≡◌, ◌⊎◌, ◌∙◌, ◌+◌, ◌<◌, ◌&&◌, ℕ, All, Bool, Bor, List, [], ◌∷◌, ◌++◌, None, Option, Some, Ok, Err, Result, String, true, false, append-nil, append_assoc, arith, cond, filter, if◌then◌else◌, ap, get_or, inl, inr, length, map, not, refl, string_bytes, subst, sym, take}
 use Rattle.std.proofs.lemmas.Bool.{cases_Bool, false≢true}
 use Rattle.std.proofs.lemmas.List.{flat_map_more, map-append, take_more}
-use Rattle.std.proofs.lemmas.List.Elements.{All-append, All-cons, All-head, All-map, All-nil, All-tail}
+use Rattle.std.proofs.lemmas.List.Elements.{All-append, All-cons, All-head, All-nil, All-tail}
 use Rattle.std.proofs.lemmas.List.Folds.{list_any-append}
 use Rattle.std.proofs.lemmas.List.Sums.{fold-append}
 use Rattle.std.proofs.lemmas.Slice.Eq.{bytes_eq-Decides}
@@ -37,7 +37,7 @@ use Rattle.cal_load.specs.declared.files.Taken as taken
 use Rattle.cal_load.specs.declared.names.Wanted.TheVariants.{Texts}
 use Rattle.cal_load.specs.declared.target_fault.TargetReason.{TargetReason}
 use Rattle.cal_load.specs.rules.AllTargets.{IsUnreadReason, is_path, path_in, wanted_at, wanted_in}
-use Rattle.cal_load.specs.rules.AllFiles.{AreTextsAt, AreTried, IsTaken, each_once, is_text, paths_by, paths_if_valid, paths_in, paths_of_unit, remembered_of, unit_paths, taken_of, text_of, with_path}
+use Rattle.cal_load.specs.rules.AllFiles.{AreTextsAt, AreTried, HasTried, IsTaken, each_once, is_text, paths_by, paths_if_valid, paths_in, paths_of_unit, remembered_of, unit_paths, taken_of, text_of, with_path}
 use Rattle.cal_load.specs.rules.Loaded.{IsStoredOn}
 use Rattle.cal_load.specs.rules.FileFaults.{AreFaultsOf, AreLostAlso, AreReadAlso, AreReadFor, Cause, IsCause, IsCauseIf, Lost, cause_at, cause_if_valid, cause_of, cause_of_unit, lost_as, lost_by, lost_drop_in, lost_drop_ins, lost_file, lost_folder, lost_if_valid, lost_named, lost_of_unit, lost_path}
 use Rattle.cal_load.specs.rules.FileFaults.Cause.{Absent, UnusableAt}
@@ -71,7 +71,7 @@ seen_more machine paths path found old new is at changed h other =
     ]
 
 -- one more path was tried
-pub tried_more : (machine : Machine) (paths : List (List ℕ)) (path : List ℕ) (found : FileRead) (old new : Reading)
+tried_more : (machine : Machine) (paths : List (List ℕ)) (path : List ℕ) (found : FileRead) (old new : Reading)
     → found ≡ file_at machine path → get_by_text new.seen path ≡ Some (taken_of found)
     → ((other : List ℕ) → ((other ≡ path) × (get_by_text new.seen other ≡ Some (taken_of found))) ⊎ (get_by_text new.seen other ≡ get_by_text old.seen other))
     → map shown_unit_text new.loaded.files.items ≡ map shown_unit_text old.loaded.files.items ++ text_of path found
@@ -109,6 +109,11 @@ text_stored machine path Mask is = All-nil (IsStored machine)
 text_stored machine path (Unusable reason) is = All-nil (IsStored machine)
 text_stored machine path (Text bytes) is = All-cons (IsStored machine) (record { path = path; bytes = bytes }) [] (sym is) (All-nil (IsStored machine))
 
+texts_stored : (machine : Machine) (paths : List (List ℕ)) → All (IsStored machine) (texts_at machine paths)
+texts_stored machine [] = All-nil (IsStored machine)
+texts_stored machine (path ∷ paths) =
+    All-append (IsStored machine) (text_at machine path) (texts_at machine paths) (text_stored machine path (file_at machine path) refl) (texts_stored machine paths)
+
 stored_files : (machine : Machine) (files : List texts.UnitText) → All (IsStored machine) (map shown_unit_text files) → All (IsStoredOn machine) files
 stored_files machine [] h = All-nil (IsStoredOn machine)
 stored_files machine (file ∷ files) h =
@@ -116,13 +121,9 @@ stored_files machine (file ∷ files) h =
     (All-head (IsStored machine) (shown_unit_text file) (map shown_unit_text files) h)
     (stored_files machine files (All-tail (IsStored machine) (shown_unit_text file) (map shown_unit_text files) h))
 
--- the text that was found at a path is stored there
-pub stored_more : (machine : Machine) (path : List ℕ) (found : FileRead) (old new : List texts.UnitText) → found ≡ file_at machine path
-    → map shown_unit_text new ≡ map shown_unit_text old ++ text_of path found → All (IsStoredOn machine) old → All (IsStoredOn machine) new
-stored_more machine path found old new is e h =
-    stored_files machine new
-    (subst (All (IsStored machine)) (sym e)
-    (All-append (IsStored machine) (map shown_unit_text old) (text_of path found) (All-map (IsStored machine) shown_unit_text old h) (text_stored machine path found is)))
+-- the texts that were read are stored
+pub tried_stored : (machine : Machine) (reading : Reading) → HasTried machine reading → All (IsStoredOn machine) reading.loaded.files.items
+tried_stored machine reading h = stored_files machine reading.loaded.files.items (subst (All (IsStored machine)) (sym h.1.files) (texts_stored machine h.0))
 
 -- ## Each path once
 
@@ -193,12 +194,12 @@ tried_same machine paths old new seen files h = record {
 }
 
 -- nothing was tried, and these errors were added
-pub read_errors : (machine : Machine) (lost : List Lost) (old new : Reading) → new.seen ≡ old.seen → new.loaded.files.items ≡ old.loaded.files.items
+read_errors : (machine : Machine) (lost : List Lost) (old new : Reading) → new.seen ≡ old.seen → new.loaded.files.items ≡ old.loaded.files.items
     → AreLostAlso lost old.loaded.faults.items new.loaded.faults.items → AreReadAlso machine [] lost old new
 read_errors machine lost old new seen files h paths tried = (tried_same machine paths old new seen files tried, h)
 
 -- the paths of `first`, and then those of `second`
-pub read_both : (machine : Machine) (first second : List (List ℕ)) (lost also : List Lost) (old mid new : Reading)
+read_both : (machine : Machine) (first second : List (List ℕ)) (lost also : List Lost) (old mid new : Reading)
     → AreReadAlso machine first lost old mid → AreReadAlso machine second also mid new → AreReadAlso machine (first ++ second) (lost ++ also) old new
 read_both machine first second lost also old mid new h k paths tried =
     let before = h paths tried in
@@ -213,7 +214,7 @@ read_as machine first second lost also old new e f h =
     subst (λ paths. AreReadAlso machine paths also old new) e (subst (λ lost. AreReadAlso machine first lost old new) f h)
 
 -- what one more text stands for
-pub read_flat : (machine : Machine) (f : List ℕ → List (List ℕ)) (g : List ℕ → List Lost) (before : List (List ℕ)) (more : List ℕ) (old mid new : Reading)
+read_flat : (machine : Machine) (f : List ℕ → List (List ℕ)) (g : List ℕ → List Lost) (before : List (List ℕ)) (more : List ℕ) (old mid new : Reading)
     → AreReadAlso machine (flat_map f before) (flat_map g before) old mid → AreReadAlso machine (f more) (g more) mid new
     → AreReadAlso machine (flat_map f (before ++ more ∷ [])) (flat_map g (before ++ more ∷ [])) old new
 read_flat machine f g before more old mid new h k =
@@ -309,7 +310,7 @@ text_read (Unusable reason) = refl
 text_read (Text bytes) = refl
 
 -- why what was tried is lost
-abbrev pub cause_taken : List ℕ → Taken → Option Cause
+abbrev cause_taken : List ℕ → Taken → Option Cause
 cause_taken path taken.TheVariants.Read = None
 cause_taken path taken.TheVariants.Masked = None
 cause_taken path (taken.TheVariants.Unusable reason) = Some (cause_of path reason)
@@ -320,7 +321,7 @@ cause_same path (Unusable reason) = refl
 cause_same path (Text bytes) = refl
 
 -- what is lost of a drop-in that was tried
-abbrev pub drop_in_taken : List ℕ → Taken → List Lost
+abbrev drop_in_taken : List ℕ → Taken → List Lost
 drop_in_taken path taken.TheVariants.Read = []
 drop_in_taken path taken.TheVariants.Masked = []
 drop_in_taken path (taken.TheVariants.Unusable reason) =
@@ -353,7 +354,7 @@ file_read machine path taken old mid new h same seen files k =
     read_one machine path taken (λ taken. lost_as path (cause_taken path taken)) (lost_file machine path) old mid new h
     (ap (lost_as path) (cause_same path (file_at machine path))) same seen files k
 
-pub drop_in_read : (machine : Machine) (path : List ℕ) (taken : Taken) (old mid new : Reading)
+drop_in_read : (machine : Machine) (path : List ℕ) (taken : Taken) (old mid new : Reading)
     → IsTaken machine path taken old mid → mid.loaded.faults.items ≡ old.loaded.faults.items
     → new.seen ≡ mid.seen → new.loaded.files.items ≡ mid.loaded.files.items
     → AreLostAlso (drop_in_taken path taken) mid.loaded.faults.items new.loaded.faults.items
@@ -379,7 +380,7 @@ lost_read machine path place reason tried old mid new named is h same seen files
 -- ## Units
 
 -- the file of a unit was tried, and then its drop-ins if the file is a text
-pub unit_read : (machine : Machine) (path : List ℕ) (taken : Taken) (drop_ins : List (List ℕ)) (lost : List Lost) (reason : Option TargetReason) (old mid new : Reading)
+unit_read : (machine : Machine) (path : List ℕ) (taken : Taken) (drop_ins : List (List ℕ)) (lost : List Lost) (reason : Option TargetReason) (old mid new : Reading)
     → IsTaken machine path taken old mid → mid.loaded.faults.items ≡ old.loaded.faults.items
     → AreReadAlso machine (if is_read taken then drop_ins else []) (if is_read taken then lost else []) mid new
     → IsCauseIf (cause_taken path taken) reason
@@ -394,13 +395,6 @@ unit_read machine path taken drop_ins lost reason old mid new h same k because p
           (subst (λ faults. AreLostAlso (if is_read taken then lost else []) faults new.loaded.faults.items) same after.1),
       subst (λ cause. IsCauseIf cause reason) (ap (cause_taken path) was.1 ∙ cause_same path (file_at machine path)) because,
     )
-
--- nothing was tried, since there is no such unit
-pub none_read : (machine : Machine) (path : List (List ℕ)) (asked : List ℕ) (shown unit : Unit) (reason : TargetReason) (reading : Reading) → shown ≡ unit
-    → AreReadFor machine (paths_of_unit machine path asked shown) (lost_of_unit machine path asked shown) (cause_of_unit machine shown) (Some reason) reading reading
-    → AreReadFor machine (paths_of_unit machine path asked unit) (lost_of_unit machine path asked unit) (cause_of_unit machine unit) (Some reason) reading reading
-none_read machine path asked shown unit reason reading is h =
-    subst (λ unit. AreReadFor machine (paths_of_unit machine path asked unit) (lost_of_unit machine path asked unit) (cause_of_unit machine unit) (Some reason) reading reading) is h
 
 -- nothing more was tried, since the file of a unit can't be used
 pub unusable_read : (machine : Machine) (path : List (List ℕ)) (asked file own_file own : List ℕ) (reason : Reason) (found : TargetReason) (unit : Unit) (old new : Reading)

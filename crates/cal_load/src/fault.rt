@@ -120,8 +120,8 @@ pub(crate) fn push_path(
     push_once(faults, TargetFault { target, reason })
 }
 
-/// Adds the error to `faults`, unless it has the same error already. Errors about a path are the same even if they have
-/// different targets.
+/// Adds the error to `faults`, unless the same error is there already. Two errors about the same path, for the same
+/// reason, are the same even if their targets differ.
 pub(crate) fn push_once(faults: &mut Vec<TargetFault>, fault: TargetFault) -> Result<(), AllocError>
     ensures kept { OnOk result (Keeps faults.old.items faults.new.items) }
     ensures lost { OnOk result ((lost : Lost) → IsFaultOf lost fault → AreLostAlso (lost ∷ []) faults.old.items faults.new.items) }

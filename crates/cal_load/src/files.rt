@@ -11,7 +11,7 @@ ghost use Rattle.cal_unit_index.specs.rules.UnitName.{unit_stem};
 ghost use Rattle.cal_unit_index.specs.rules.Units.{Unit as FoundUnit, unit_on};
 ghost use Rattle.cal_unit_index.specs.rules.Units.Unit.{FoundAt};
 ghost use Rattle.cal_load.specs.declared.names.Wanted.TheVariants.{Texts};
-ghost use Rattle.cal_load.specs.rules.AllFiles.{AreTextsAt, AreTried, IsTaken, all_paths, paths_by, paths_if_valid, paths_in, paths_of_unit, taken_of, text_of, unit_paths};
+ghost use Rattle.cal_load.specs.rules.AllFiles.{AreTextsAt, AreTried, HasTried, IsTaken, all_paths, paths_by, paths_if_valid, paths_in, paths_of_unit, taken_of, text_of, unit_paths};
 ghost use Rattle.cal_load.specs.rules.AllTargets.{wanted_at};
 ghost use Rattle.cal_load.specs.rules.AllUnits.{IsPathReason, is_absent_reason};
 ghost use Rattle.cal_load.specs.rules.FileFaults.{AreFaultsOf, AreLostAlso, AreReadAlso, AreReadFor, Cause, IsCause, all_lost, cause_of, cause_of_unit, lost_as, lost_by, lost_drop_in, lost_drop_ins, lost_file, lost_folder, lost_listed, lost_named, lost_of_unit};
@@ -34,8 +34,8 @@ use std::collections::BTreeMap;
 pub struct LoadedFiles {
     /// The files in the order of the targets, each once. Their bytes needn't be UTF-8.
     pub files: Vec<UnitText>,
-    /// The units, files and folders that couldn't be read, each with the reason. A path that can't be used is here once,
-    /// with the first target that leads to it.
+    /// The units, files and folders that couldn't be read, each with the reason. Each error is here once; one about a
+    /// path has the first target that leads to this path.
     pub faults: Vec<TargetFault>,
 }
 
@@ -115,7 +115,6 @@ struct Reading {
 
 impl Reading {
     fn new(alloc: Global) -> Reading
-        ensures empty { result.loaded.files.items ≡ [] }
         ensures no_faults { result.loaded.faults.items ≡ [] }
         ensures tried { (machine : Machine) → AreTried machine [] result }
     {
@@ -136,8 +135,7 @@ impl Reading {
         index: &UnitIndex,
         stem: &str,
     ) -> Result<(), AllocError>
-        ensures known { OnOk result ((machine : Machine) → T.shows tree.new machine
-            → All (IsStoredOn machine) self.old.loaded.files.items → All (IsStoredOn machine) self.new.loaded.files.items) }
+        ensures tried { OnOk result ((machine : Machine) → T.shows tree.new machine → HasTried machine self.old → HasTried machine self.new) }
         ensures read { OnOk result ((machine : Machine) (path : List (List ℕ)) → T.shows tree.new machine → IsIndexOf machine path index.now
             → AreReadAlso machine (unit_paths machine path stem.now) (lost_listed machine path stem.now) self.old self.new) }
         ensures grows { (machine : Machine) → T.shows tree.new machine → T.shows tree.old machine }
@@ -160,8 +158,7 @@ impl Reading {
         index: &UnitIndex,
         target: &str,
     ) -> Result<(), AllocError>
-        ensures known { OnOk result ((machine : Machine) → T.shows tree.new machine
-            → All (IsStoredOn machine) self.old.loaded.files.items → All (IsStoredOn machine) self.new.loaded.files.items) }
+        ensures tried { OnOk result ((machine : Machine) → T.shows tree.new machine → HasTried machine self.old → HasTried machine self.new) }
         ensures read { OnOk result ((machine : Machine) (path : List (List ℕ)) → T.shows tree.new machine → IsIndexOf machine path index.now
             → AreReadAlso machine (paths_by machine path target.now) (lost_by machine path target.now) self.old self.new) }
         ensures grows { (machine : Machine) → T.shows tree.new machine → T.shows tree.old machine }
@@ -184,8 +181,7 @@ impl Reading {
         index: &UnitIndex,
         name: &str,
     ) -> Result<(), AllocError>
-        ensures known { OnOk result ((machine : Machine) → T.shows tree.new machine
-            → All (IsStoredOn machine) self.old.loaded.files.items → All (IsStoredOn machine) self.new.loaded.files.items) }
+        ensures tried { OnOk result ((machine : Machine) → T.shows tree.new machine → HasTried machine self.old → HasTried machine self.new) }
         ensures read { OnOk result ((machine : Machine) (path : List (List ℕ)) → T.shows tree.new machine → IsIndexOf machine path index.now
             → AreReadAlso machine (paths_if_valid machine path (unit_stem name.now)) (lost_named machine path name.now) self.old self.new) }
         ensures grows { (machine : Machine) → T.shows tree.new machine → T.shows tree.old machine }
@@ -208,8 +204,7 @@ impl Reading {
         index: &UnitIndex,
         asked: &str,
     ) -> Result<Option<TargetReason>, AllocError>
-        ensures known { OnOk result ((machine : Machine) → T.shows tree.new machine
-            → All (IsStoredOn machine) self.old.loaded.files.items → All (IsStoredOn machine) self.new.loaded.files.items) }
+        ensures tried { OnOk result ((machine : Machine) → T.shows tree.new machine → HasTried machine self.old → HasTried machine self.new) }
         ensures read { IfOk result (λ reason. (machine : Machine) (path : List (List ℕ)) → T.shows tree.new machine → IsIndexOf machine path index.now
             → AreReadFor machine (unit_paths machine path asked.now) (lost_of_unit machine path asked.now (unit_on machine path asked.now))
             (cause_of_unit machine (unit_on machine path asked.now)) reason self.old self.new) }
@@ -233,8 +228,7 @@ impl Reading {
         asked: &str,
         file: &UnitFile,
     ) -> Result<Option<TargetReason>, AllocError>
-        ensures known { OnOk result ((machine : Machine) → T.shows tree.new machine
-            → All (IsStoredOn machine) self.old.loaded.files.items → All (IsStoredOn machine) self.new.loaded.files.items) }
+        ensures tried { OnOk result ((machine : Machine) → T.shows tree.new machine → HasTried machine self.old → HasTried machine self.new) }
         ensures read { IfOk result (λ reason. (machine : Machine) (path : List (List ℕ)) (unit : FoundUnit) → T.shows tree.new machine
             → IsIndexOf machine path index.now
             → FoundAt (string_bytes file.now.path) (string_bytes file.now.file) (string_bytes file.now.stem) ≡ unit
@@ -264,8 +258,7 @@ impl Reading {
         asked: &str,
         file: &UnitFile,
     ) -> Result<(), AllocError>
-        ensures known { OnOk result ((machine : Machine) → T.shows tree.new machine
-            → All (IsStoredOn machine) self.old.loaded.files.items → All (IsStoredOn machine) self.new.loaded.files.items) }
+        ensures tried { OnOk result ((machine : Machine) → T.shows tree.new machine → HasTried machine self.old → HasTried machine self.new) }
         ensures read { OnOk result ((machine : Machine) (path : List (List ℕ)) → T.shows tree.new machine
             → IsIndexOf machine path index.now
             → let names = names_on machine path (string_bytes file.now.file) (string_bytes file.now.stem) asked.now in
@@ -288,8 +281,6 @@ impl Reading {
         tree: &mut T,
         path: String,
     ) -> Result<(), AllocError>
-        ensures known { OnOk result ((machine : Machine) → T.shows tree.new machine
-            → All (IsStoredOn machine) self.old.loaded.files.items → All (IsStoredOn machine) self.new.loaded.files.items) }
         ensures read { OnOk result ((machine : Machine) → T.shows tree.new machine
             → AreReadAlso machine (string_bytes path ∷ []) (lost_drop_in machine (string_bytes path)) self.old self.new) }
         ensures grows { (machine : Machine) → T.shows tree.new machine → T.shows tree.old machine }
@@ -315,8 +306,6 @@ impl Reading {
         tree: &mut T,
         folder: &str,
     ) -> Result<(), AllocError>
-        ensures known { OnOk result ((machine : Machine) → T.shows tree.new machine
-            → All (IsStoredOn machine) self.old.loaded.files.items → All (IsStoredOn machine) self.new.loaded.files.items) }
         ensures read { OnOk result ((machine : Machine) → T.shows tree.new machine
             → AreReadAlso machine (paths_in folder.now (wanted_at machine Texts folder.now)) (lost_folder machine folder.now) self.old self.new) }
         ensures grows { (machine : Machine) → T.shows tree.new machine → T.shows tree.old machine }
@@ -342,8 +331,6 @@ impl Reading {
         tree: &mut T,
         path: &str,
     ) -> Result<(), AllocError>
-        ensures known { OnOk result ((machine : Machine) → T.shows tree.new machine
-            → All (IsStoredOn machine) self.old.loaded.files.items → All (IsStoredOn machine) self.new.loaded.files.items) }
         ensures read { OnOk result ((machine : Machine) → T.shows tree.new machine
             → AreReadAlso machine (path.now ∷ []) (lost_file machine path.now) self.old self.new) }
         ensures grows { (machine : Machine) → T.shows tree.new machine → T.shows tree.old machine }
@@ -365,8 +352,6 @@ impl Reading {
         tree: &mut T,
         path: &str,
     ) -> Result<Taken, AllocError>
-        ensures known { OnOk result ((machine : Machine) → T.shows tree.new machine
-            → All (IsStoredOn machine) self.old.loaded.files.items → All (IsStoredOn machine) self.new.loaded.files.items) }
         ensures tried { IfOk result (λ taken. (machine : Machine) → T.shows tree.new machine
             → IsTaken machine path.now taken self.old self.new) }
         ensures faults { OnOk result (self.new.loaded.faults.items ≡ self.old.loaded.faults.items) }
@@ -381,8 +366,6 @@ impl Reading {
 
     /// Adds what was found at a path that hasn't been tried before.
     fn push_file(&mut self, alloc: Global, path: &str, found: FileRead) -> Result<Taken, AllocError>
-        ensures known { OnOk result ((machine : Machine) → shown_file found ≡ file_at machine path.now
-            → All (IsStoredOn machine) self.old.loaded.files.items → All (IsStoredOn machine) self.new.loaded.files.items) }
         ensures taken { IfOk result (λ taken. taken ≡ taken_of (shown_file found)) }
         ensures tried { OnOk result ((machine : Machine) (paths : List (List ℕ)) → shown_file found ≡ file_at machine path.now
             → AreTried machine paths self.old → AreTried machine (paths ++ path.now ∷ []) self.new) }

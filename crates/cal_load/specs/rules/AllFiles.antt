@@ -104,6 +104,10 @@ pub record AreTried (machine : Machine) (paths : List (List ℕ)) (reading : Rea
   pub files : map shown_unit_text reading.loaded.files.items ≡ texts_at machine paths
   pub seen : (path : List ℕ) → get_by_text reading.seen path ≡ remembered_of machine paths path
 
+-- some paths were tried, and no others
+abbrev pub HasTried : Machine → Reading → Type 0
+HasTried machine reading = (paths : List (List ℕ)) × AreTried machine paths reading
+
 -- between `old` and `new` this path was tried, unless it had been tried before; in either case it is known what is there
 abbrev pub IsTaken : Machine → List ℕ → Taken → Reading → Reading → Type 0
 IsTaken machine path taken old new =

@@ -1,15 +1,23 @@
-use Rattle.std.proofs.Common.{◌≡◌, ◌∙◌, ap, map, string_bytes, sym}
+use Rattle.std.proofs.Common.{◌≡◌, ◌∙◌, [], ap, map, string_bytes, sym}
 use Rattle.std.proofs.lemmas.Iterator.Consumers.{YieldsList-end, YieldsList-from_rest}
 use Rattle.std.proofs.lemmas.List.{map-id}
 use Rattle.std.specs.List.{flat_map}
 use Rattle.cal_load.specs.rules.AllFiles.{unit_paths}
 use Rattle.cal_load.specs.rules.FileFaults.{lost_listed}
-use Rattle.cal_load.proofs.FileLemmas.{all_read, read_unit}
+use Rattle.cal_load.proofs.FileFaultLemmas.{lost_none}
+use Rattle.cal_load.proofs.FileLemmas.{all_read, read_unit, tried_stored}
 use Rattle.cal_load.proofs.files.all_files.Goals as goal
+
+pub loop-stem-init : goal.loop-stem-init
+loop-stem-init g c = (
+  λ machine shows. ([], c.new-reading.ensures.tried machine),
+  λ machine shows. shows,
+  λ machine path shows is paths tried. (tried, lost_none c.new-reading.result.loaded.faults.items),
+)
 
 pub loop-stem-preserved : goal.loop-stem-preserved
 loop-stem-preserved g c = (
-  λ machine shows. c.in_ok-take_listed.ensures.known machine shows (c.loop-stem.invariant.0 machine (c.take_listed.ensures.grows machine shows)),
+  λ machine shows. c.in_ok-take_listed.ensures.tried machine shows (c.loop-stem.invariant.0 machine (c.take_listed.ensures.grows machine shows)),
   λ machine shows. c.loop-stem.invariant.1 machine (c.take_listed.ensures.grows machine shows),
   λ machine path shows is. read_unit machine (unit_paths machine path) (lost_listed machine path) c.loop-stem.yielded c.in-Some.stem _ c.new-reading.result c.loop-stem.reading c.take_listed.new.self
       c.as_str.ensures.value (c.loop-stem.invariant.2 machine path (c.take_listed.ensures.grows machine shows) is) (c.in_ok-take_listed.ensures.read machine path shows is),
@@ -24,3 +32,6 @@ returns-clause-whole g c machine path shows is =
     all_read machine _ _ _ _ c.new-reading.result c.loop-stem.reading
     (ap (flat_map (unit_paths machine path)) units) (ap (flat_map (lost_listed machine path)) units)
     (c.new-reading.ensures.tried machine) c.new-reading.ensures.no_faults (c.loop-stem.invariant.2 machine path shows is)
+
+pub returns-clause-known : goal.returns-clause-known
+returns-clause-known g c machine shows = tried_stored machine c.loop-stem.reading (c.loop-stem.invariant.0 machine shows)

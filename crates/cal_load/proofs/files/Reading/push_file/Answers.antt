@@ -1,10 +1,6 @@
 use Rattle.cal_unit_index.specs.rules.Files.{shown_file}
-use Rattle.cal_load.proofs.FileLemmas.{stored_more, tried_at}
+use Rattle.cal_load.proofs.FileLemmas.{tried_at}
 use Rattle.cal_load.proofs.files.Reading.push_file.Goals as goal
-
-pub returns-clause-known : goal.returns-clause-known
-returns-clause-known c machine is held =
-    stored_more machine c.args.path.now (shown_file c.args.found) c.args.self.now.loaded.files.items _ is c.in_ok-push_text.ensures held
 
 pub returns-clause-tried : goal.returns-clause-tried
 returns-clause-tried c machine paths is h =

@@ -1,16 +1,13 @@
-use Rattle.std.proofs.Common.{All, map, string_bytes}
+use Rattle.std.proofs.Common.{map, string_bytes}
 use Rattle.std.specs.List.{flat_map}
 use Rattle.cal_machine.specs.rules.Machine.{Machine}
 use Rattle.cal_load.specs.rules.AllTargets.{path_in}
 use Rattle.cal_load.specs.rules.FileFaults.{AreReadAlso, lost_file}
-use Rattle.cal_load.specs.rules.Loaded.{IsStoredOn}
 use Rattle.cal_load.proofs.files.Reading.take_folder.Given as goal
 
 abbrev pub invariant-loop-name : goal.invariant-loop-name
 invariant-loop-name g l =
-    ((machine : Machine) → g.T.Tree.shows l.tree machine
-    → All (IsStoredOn machine) l.fn.self.loaded.files.items → All (IsStoredOn machine) l.self.loaded.files.items)
-    × ((machine : Machine) → g.T.Tree.shows l.tree machine → g.T.Tree.shows l.fn.tree machine)
+    ((machine : Machine) → g.T.Tree.shows l.tree machine → g.T.Tree.shows l.fn.tree machine)
     × ((machine : Machine) → g.T.Tree.shows l.tree machine → g.T.Tree.shows l.initial.tree machine)
     × ((machine : Machine) → g.T.Tree.shows l.tree machine
     → AreReadAlso machine (map (path_in l.folder) (map string_bytes l.yielded))
