@@ -127,7 +127,8 @@ impl Reading {
         }
     }
 
-    /// Reads the files of the unit with this stem. Skips it if it has no file, as if its file is a link to nothing.
+    /// Reads the files of the unit with this stem. Skips a unit that has no file, for example because its file is a link
+    /// to nothing.
     fn take_listed<T: Tree>(
         &mut self,
         alloc: Global,

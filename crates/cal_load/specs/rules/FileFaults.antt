@@ -27,8 +27,8 @@ use Rattle.cal_load.specs.declared.target_fault.TargetReason.TheVariants as targ
 
 -- ## What is lost
 
--- Why something can't be read: there is no such unit, or nothing is at its path; its name is that of a template; its
--- aliases are more than are followed; or what is at this path can't be used, for this reason.
+-- Why something can't be read: there is no such unit, or nothing is at its path; its name is that of a template; it has
+-- more aliases than are followed; or what is at this path can't be used, for this reason.
 pub data Cause : Type 0 where
   Absent : Cause
   IsTemplate : Cause
@@ -195,13 +195,14 @@ pub record AreLostAlso (more : List Lost) (old new : List TargetFault) : Type 0 
   pub true_of : (fault : TargetFault) → Contains new fault → Contains old fault ⊎ IsFaultOfOne more fault
   pub whole : All (IsLostIn new) more
 
--- between `old` and `new` these paths were tried, except those that had been tried before, and what is lost was reported
+-- between `old` and `new` these paths were tried, except those that had been tried before, and the errors of what is
+-- lost were added
 abbrev pub AreReadAlso : Machine → List (List ℕ) → List Lost → Reading → Reading → Type 0
 AreReadAlso machine more lost old new =
     (paths : List (List ℕ)) → AreTried machine paths old
     → AreTried machine (fold with_path paths more) new × AreLostAlso lost old.loaded.faults.items new.loaded.faults.items
 
--- the same, and it was returned why the unit is lost to which the paths belong, if it is
+-- as `AreReadAlso`, and the reason that was returned says why a unit is lost, or there is none if it isn't lost
 abbrev pub AreReadFor : Machine → List (List ℕ) → List Lost → Option Cause → Option TargetReason → Reading → Reading → Type 0
 AreReadFor machine more lost cause reason old new =
     (paths : List (List ℕ)) → AreTried machine paths old
