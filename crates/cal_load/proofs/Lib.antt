@@ -2,6 +2,7 @@ pub mod ExpressionLemmas
 pub mod FileFaultLemmas
 pub mod FileLemmas
 pub mod NoteLemmas
+mod NoteRows
 pub mod PathLemmas
 pub mod PositionLemmas
 pub mod TextFaultLemmas
