@@ -39,7 +39,7 @@ pub(crate) fn numbered_texts(
 }
 
 /// Returns the text of a file whose first line has the number `first`. Fails with [`Reason::TooLarge`] if `first` plus
-/// the length of the text is 2^32 or more, because its lines might then have numbers above 2^32.
+/// the length of the text is 2^32 or more, because the numbers of its lines might then not fit into 32 bits.
 fn numbered_text(
     alloc: Global,
     file: &UnitText,
