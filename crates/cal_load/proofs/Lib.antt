@@ -1,3 +1,4 @@
+mod FileRows
 pub mod ExpressionLemmas
 pub mod FileFaultLemmas
 pub mod FileLemmas

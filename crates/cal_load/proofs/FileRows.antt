@@ -1,0 +1,60 @@
+-- Examples that check the definitions of the paths that are read, and of what can't be read, on a small machine.
+use Rattle.std.proofs.Common.{◌≡◌, ◌∷◌, [], ℕ, List, None, Ok, Err, codes, map, refl}
+use Rattle.std.specs.Map.{lookup}
+use Rattle.std.specs.Option.{unwrap_or}
+use Rattle.std.specs.Str.{bytes_eq}
+use Rattle.cal_machine.specs.declared.tree.Unreadable.TheVariants.{Failed}
+use Rattle.cal_machine.specs.rules.Machine.{Machine}
+use Rattle.cal_machine.specs.rules.Machine.Entry.{Missing, File, Folder, Link}
+use Rattle.cal_machine.specs.rules.Places.{walk}
+use Rattle.cal_machine.specs.rules.Prefix.{after_prefix}
+use Rattle.cal_unit_index.specs.declared.fault.Reason.TheVariants.{Unreadable}
+use Rattle.cal_unit_index.specs.rules.UnitName.{file_stem, instance_of, is_stem, listed_stem, template_of, unit_kind_of, unit_stem, without_suffix}
+use Rattle.cal_load.specs.rules.AllFiles.{each_once}
+use Rattle.cal_load.specs.rules.FileFaults.{Lost, all_lost, lost_at, lost_named}
+use Rattle.cal_load.specs.rules.FileFaults.Cause.{Absent, IsTemplate, UnusableAt}
+
+three_paths : each_once (codes "a" ∷ codes "b" ∷ codes "a" ∷ codes "c" ∷ codes "b" ∷ codes "a" ∷ []) ≡ codes "a" ∷ codes "b" ∷ codes "c" ∷ []
+three_paths = refl
+
+-- the file of `a` can't be read, that of `b` is a link to nothing, and `t@` is a template
+abbrev machine : Machine
+machine =
+    record {
+      entry = λ path. unwrap_or
+          (lookup (bytes_eq path)
+          ((codes "/etc", Ok Folder) ∷ (codes "/etc/a.timer", Ok File) ∷ (codes "/etc/b.timer", Ok (Link (codes "/opt/none"))) ∷ (codes "/etc/t@.timer", Ok File) ∷ []))
+          (Ok Missing);
+      names = λ folder. unwrap_or
+          (lookup (bytes_eq folder) ((codes "/etc", Ok (record { names = codes "a.timer" ∷ codes "b.timer" ∷ codes "t@.timer" ∷ []; unnamed = 0 })) ∷ []))
+          (Err Failed);
+      file = λ path. Err Failed;
+      variable = λ name. Ok None;
+    }
+
+abbrev path : List (List ℕ)
+path = codes "/etc" ∷ []
+
+abbrev absent : List ℕ → Lost
+absent name = record { name = name; cause = Absent }
+
+abbrev unreadable : List ℕ → List ℕ → Lost
+unreadable name file = record { name = name; cause = UnusableAt file (Unreadable Failed) }
+
+named_units : map (lost_named machine path) (codes "a" ∷ codes "b.timer" ∷ codes "x" ∷ codes "t@" ∷ codes "b.service" ∷ [])
+    ≡ (unreadable (codes "a") (codes "/etc/a.timer") ∷ []) ∷ (absent (codes "b.timer") ∷ []) ∷ (absent (codes "x") ∷ [])
+    ∷ (record { name = codes "t@"; cause = IsTemplate } ∷ []) ∷ (absent (codes "b.service") ∷ []) ∷ []
+unfolding walk after_prefix template_of listed_stem file_stem unit_stem without_suffix is_stem unit_kind_of instance_of
+named_units = refl
+
+-- the link to nothing is skipped if no target is given
+listed_units : all_lost machine path ≡ unreadable (codes "a.timer") (codes "/etc/a.timer") ∷ []
+unfolding walk after_prefix template_of listed_stem file_stem unit_stem without_suffix is_stem unit_kind_of instance_of
+listed_units = refl
+
+-- files that can't be read are reported by their paths, also in a folder, and so is a path to nothing
+paths : map (lost_at machine) (codes "/etc/a.timer" ∷ codes "/etc/b.timer" ∷ codes "/etc" ∷ [])
+    ≡ (unreadable (codes "/etc/a.timer") (codes "/etc/a.timer") ∷ []) ∷ (absent (codes "/etc/b.timer") ∷ [])
+    ∷ (unreadable (codes "/etc/a.timer") (codes "/etc/a.timer") ∷ absent (codes "/etc/b.timer") ∷ unreadable (codes "/etc/t@.timer") (codes "/etc/t@.timer") ∷ []) ∷ []
+unfolding walk after_prefix template_of listed_stem file_stem unit_stem without_suffix is_stem unit_kind_of instance_of
+paths = refl
