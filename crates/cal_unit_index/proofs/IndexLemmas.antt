@@ -57,7 +57,7 @@ one_item f x (Some y) e = rw e refl
 filter_map_more : {X Y : Type 0} (f : X → Option Y) (xs : List X) (x : X) → filter_map f (xs ++ x ∷ []) ≡ filter_map f xs ++ option_to_list (f x)
 filter_map_more f xs x = filter_map-append f xs (x ∷ []) ∙ ap (λ ys. filter_map f xs ++ ys) (one_item f x (f x) refl)
 
-mapped_more : {X Y Z : Type 0} (f : Y → Option Z) (view : X → Y) (xs : List X) (x : X)
+pub mapped_more : {X Y Z : Type 0} (f : Y → Option Z) (view : X → Y) (xs : List X) (x : X)
     → filter_map f (map view xs) ++ option_to_list (f (view x)) ≡ filter_map f (map view (xs ++ x ∷ []))
 mapped_more f view xs x = sym (filter_map_more f (map view xs) (view x)) ∙ ap (filter_map f) (sym (map-append view xs (x ∷ [])))
 

@@ -1,5 +1,6 @@
 mod DropInRows
 mod SearchPathRows
+mod StartRows
 mod UnitRows
 pub mod DropInLemmas
 pub mod FolderLemmas
@@ -7,4 +8,5 @@ pub mod FollowLemmas
 pub mod IndexLemmas
 pub mod SearchFolderLemmas
 pub mod SearchPathLemmas
+pub mod StartLemmas
 pub mod UnitNameLemmas

@@ -7,5 +7,6 @@ pub mod Index
 pub mod Names
 pub mod SearchFolders
 pub mod SearchPath
+pub mod Starts
 pub mod UnitName
 pub mod Units

@@ -69,7 +69,7 @@ fn push_candidate(
     Ok(())
 }
 
-fn file_in(alloc: Global, folder: &str, name: String) -> Result<DropIn, AllocError>
+pub(crate) fn file_in(alloc: Global, folder: &str, name: String) -> Result<DropIn, AllocError>
     ensures { IfOk result (λ file. shown_drop_in file ≡ file_in folder.now (string_bytes name)) }
 {
     let path = format!(in alloc; "{folder}/{name}")?;
@@ -78,7 +78,10 @@ fn file_in(alloc: Global, folder: &str, name: String) -> Result<DropIn, AllocErr
 
 /// Returns a map from the names of the drop-ins to their paths. Of several drop-ins with the same name, the map has the
 /// last.
-fn enter_all(alloc: Global, found: Vec<DropIn>) -> Result<BTreeMap<String, String>, AllocError>
+pub(crate) fn enter_all(
+    alloc: Global,
+    found: Vec<DropIn>,
+) -> Result<BTreeMap<String, String>, AllocError>
     ensures { IfOk result (λ entered. map shown_pair entered.entries ≡ by_name (map shown_drop_in found.items)) }
 {
     let mut entered = BTreeMap::new(alloc);

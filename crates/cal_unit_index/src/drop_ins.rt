@@ -113,7 +113,7 @@ fn push_folder<T: Tree>(
     }
 }
 
-fn push_unread(
+pub(crate) fn push_unread(
     alloc: Global,
     unread: &mut Vec<UnitFault>,
     folder: &str,

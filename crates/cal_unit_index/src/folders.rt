@@ -45,7 +45,7 @@ pub(crate) fn folders_of<T: Tree>(
 
 /// Returns the items from the least important one to the most important one, which is the first of `items`.
 #[tactic(auto, using(crate::proofs::FolderLemmas::map_reverse))]
-fn reversed<T>(alloc: Global, items: &[T]) -> Result<Vec<&T>, AllocError>
+pub(crate) fn reversed<T>(alloc: Global, items: &[T]) -> Result<Vec<&T>, AllocError>
     ensures { IfOk result (λ reversed. map (λ item. item.now) reversed.items ≡ reverse items.now) }
 {
     let mut reversed: Vec<&T> = items.iter().collect(alloc)?;
@@ -109,7 +109,7 @@ fn push_stem_folders<T: Tree>(
 }
 
 /// Appends the drop-in folders with these names that are read, below each of these folders of the search path.
-fn push_folders<T: Tree>(
+pub(crate) fn push_folders<T: Tree>(
     alloc: Global,
     tree: &mut T,
     folders: &mut Vec<String>,

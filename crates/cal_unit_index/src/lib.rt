@@ -16,6 +16,7 @@ mod names;
 mod paths;
 mod read_folder;
 mod search_path;
+mod starts;
 mod unit;
 mod unit_name;
 
@@ -25,5 +26,6 @@ pub use files::{DropInTexts, FileRead, UnitText, read_drop_ins, read_file};
 pub use index::{SearchFolder, UnitIndex};
 pub use names::names_of;
 pub use search_path::{UserVariables, given_path, system_path, user_path};
+pub use starts::{Started, find_started};
 pub use unit::{Unit, UnitFile, find_unit};
 pub use unit_name::{UnitKind, unit_kind_of, unit_stem};
