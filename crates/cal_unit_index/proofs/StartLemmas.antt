@@ -13,7 +13,7 @@ use Rattle.cal_unit_index.specs.declared.index.SearchFolder.{SearchFolder}
 use Rattle.cal_unit_index.specs.rules.Destinations.{listed, with_texts}
 use Rattle.cal_unit_index.specs.rules.SearchFolders.{IsListing, path_of}
 
--- what is made of the names in each folder is made of the names in each folder of the machine
+-- the names listed in the index give the same results as those in the machine's folders
 pub each_listing : {X : Type 0} (machine : Machine) (F : List (List ℕ) → List X) (folders : List SearchFolder) → All (IsListing machine) folders
     → flat_map (λ folder. F (map string_bytes folder.names.keys)) folders ≡ flat_map (λ folder. F (listed machine folder)) (map path_of folders)
 each_listing machine F [] all = refl

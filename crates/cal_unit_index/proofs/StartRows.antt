@@ -14,7 +14,7 @@ use Rattle.cal_machine.specs.rules.Places.{walk}
 use Rattle.cal_unit_index.specs.rules.DropIns.{by_name}
 use Rattle.cal_unit_index.specs.rules.Index.{unreadable_fault}
 use Rattle.cal_unit_index.specs.rules.Starts.{started_in, unreadable_wants}
-use Rattle.cal_unit_index.specs.rules.UnitName.{file_stem, is_stem, listed_stem, unit_kind_of, unit_stem, without_suffix}
+use Rattle.cal_unit_index.specs.rules.UnitName.{file_stem, instance_of, is_stem, listed_stem, unit_kind_of, unit_stem, without_suffix}
 
 -- a folder, a name in it, and what is there
 abbrev Found : Type 0
@@ -66,23 +66,24 @@ starts name = (name, Link (codes "/lib/a.timer"))
 abbrev masks : List ℕ → List ℕ × Entry
 masks name = (name, Link (codes "/dev/null"))
 
--- In the first row, only the name of a link counts, and an instance is started, too. Names of other units and of templates
--- and hidden names are left out. In the second row, what isn't a link starts nothing.
+-- In the first row, only the name of a link counts, and an instance is started, too. A link
+-- with the name of a template starts an instance of it, here `t@timers`. Names of other units and hidden names are left
+-- out. In the second row, what isn't a link starts nothing.
 plain_rows : map started_on
     (in_lib (starts (codes "b.timer") ∷ starts (codes "a@i.timer") ∷ starts (codes "a.service") ∷ starts (codes "t@.timer") ∷ starts (codes ".c.timer") ∷ [])
     ∷ in_lib ((codes "a.timer", File) ∷ (codes "b.timer", Empty) ∷ (codes "c.timer", Folder) ∷ (codes "d.timer", Device) ∷ [])
     ∷ [])
-    ≡ (codes "a@i" ∷ codes "b" ∷ []) ∷ [] ∷ []
-unfolding by_name file_stem is_stem listed_stem unit_kind_of unit_stem without_suffix walk
+    ≡ (codes "a@i" ∷ codes "b" ∷ codes "t@timers" ∷ []) ∷ [] ∷ []
+unfolding by_name file_stem instance_of is_stem listed_stem unit_kind_of unit_stem without_suffix walk
 plain_rows = refl
 
--- A link that leads to nothing, to another link that leads to it, or to something whose path isn't UTF-8, starts a timer.
--- A link that leads to a device or to an empty file doesn't.
+-- A link starts a timer if it leads to nothing or to itself, or if its target isn't UTF-8. A link that leads to a device or
+-- to an empty file doesn't.
 led_rows : started_on (in_lib (
     (codes "a.timer", Link (codes "/none")) ∷ (codes "b.timer", Link (codes "b.timer")) ∷ (codes "c.timer", Link (codes "../e")) ∷ masks (codes "d.timer") ∷ [])
     ++ (codes "/lib/timers.target.wants", (codes "f.timer", Err NotUtf8)) ∷ in_folder (codes "/lib") (codes "e") Empty ∷ [])
     ≡ codes "a" ∷ codes "b" ∷ codes "f" ∷ []
-unfolding by_name file_stem is_stem listed_stem unit_kind_of unit_stem without_suffix walk
+unfolding by_name file_stem instance_of is_stem listed_stem unit_kind_of unit_stem without_suffix walk
 led_rows = refl
 
 -- In the first two rows, what is in `/etc` hides what has the same name in `/lib`; in the second one, it hides a mask. In the
@@ -94,7 +95,7 @@ hidden_rows : map started_on
     ∷ in_folder (codes "/lib/x.target.requires") (codes "a.timer") (Link (codes "/lib/a.timer")) ∷ [])
     ∷ [])
     ≡ (codes "c" ∷ []) ∷ (codes "a" ∷ []) ∷ (codes "a" ∷ []) ∷ []
-unfolding by_name file_stem is_stem listed_stem unit_kind_of unit_stem without_suffix walk
+unfolding by_name file_stem instance_of is_stem listed_stem unit_kind_of unit_stem without_suffix walk
 hidden_rows = refl
 
 -- a wants folder in `/lib` that is a link with this target to the folder `/lib/x`
@@ -105,10 +106,22 @@ linked target =
 
 -- a relative target of a wants folder has to lead from the root folder to a folder, too
 linked_rows : map started_on (linked (codes "/lib/x") ∷ linked (codes "x") ∷ linked (codes "../lib/x") ∷ []) ≡ (codes "a" ∷ []) ∷ [] ∷ (codes "a" ∷ []) ∷ []
-unfolding by_name file_stem is_stem listed_stem unit_kind_of unit_stem without_suffix walk
+unfolding by_name file_stem instance_of is_stem listed_stem unit_kind_of unit_stem without_suffix walk
 linked_rows = refl
 
 unread_row : unreadable_wants (machine (in_etc [] ++ in_lib []) (codes "/etc/timers.target.wants" ∷ [])) search_path
     ≡ unreadable_fault (codes "/etc/timers.target.wants") Failed ∷ []
 unfolding walk
 unread_row = refl
+
+-- the wants folder with this name in `/lib`, with a link that has the name of a template
+abbrev with_template : List ℕ → List Found
+with_template folder =
+    in_folder (codes "/lib") folder Folder ∷ in_folder (codes "/lib/" ++ folder) (codes "t@.timer") (Link (codes "/lib/t@.timer")) ∷ []
+
+-- The instance is that of the unit with the wants folder, or this unit's name without its suffix. The last four folders are
+-- for many units.
+template_rows : map (λ folder. started_on (with_template folder)) (codes "a.b.target.wants" ∷ codes "a@i.target.requires" ∷ codes "a-.target.wants" ∷ codes "a@.target.wants" ∷ codes "target.wants" ∷ codes ".wants" ∷ [])
+    ≡ (codes "t@a.b" ∷ []) ∷ (codes "t@i" ∷ []) ∷ [] ∷ [] ∷ [] ∷ [] ∷ []
+unfolding by_name file_stem instance_of is_stem listed_stem unit_kind_of unit_stem without_suffix walk
+template_rows = refl

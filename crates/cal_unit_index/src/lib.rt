@@ -11,6 +11,7 @@ mod files;
 mod folders;
 mod follow;
 mod index;
+mod linked_stems;
 mod name_sets;
 mod names;
 mod paths;

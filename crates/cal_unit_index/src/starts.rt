@@ -1,5 +1,6 @@
-//! Which timers a machine starts by itself (systemd.unit(5), Description). A stem is a unit's name without its suffix
-//! `.timer`. A wants folder is a folder `NAME.wants` or `NAME.requires` of the search path.
+//! Which timers other units start, whether or not these are started themselves (systemd.unit(5), Description). A stem is
+//! a unit's name without its suffix `.timer`. A wants folder is a folder `NAME.wants` or `NAME.requires` below a folder of
+//! the search path.
 
 ghost use Rattle.std.specs.Prelude.{◌≡◌, ◌++◌, ◌∷◌, [], ℕ, List, All, IfOk, OnOk, filter, map, option_map, string_bytes};
 ghost use Rattle.std.specs.List.{filter_map, flat_map};
@@ -11,20 +12,20 @@ ghost use Rattle.cal_unit_index.specs.rules.DropIns.{file_in, shown_drop_in, sho
 ghost use Rattle.cal_unit_index.specs.rules.Folders.{end_at};
 ghost use Rattle.cal_unit_index.specs.rules.Index.{IsIndexOf, faults_of_listing, shown_fault};
 ghost use Rattle.cal_unit_index.specs.rules.SearchFolders.{IsListing, path_of};
-ghost use Rattle.cal_unit_index.specs.rules.Starts.{files_in, is_start, is_unmasked, is_wants_name, linked_stem, started_by, started_in, stem_started, unreadable_named, unreadable_wants};
+ghost use Rattle.cal_unit_index.specs.rules.Starts.{files_in, is_start, is_unmasked, is_wants_name, started_by, started_in, stem_started, unreadable_named, unreadable_wants};
 
 use crate::drop_in_files::{DropIn, enter_all, file_in};
 use crate::drop_ins::push_unread;
 use crate::fault::UnitFault;
 use crate::folders::{push_folders, reversed};
 use crate::index::{SearchFolder, UnitIndex};
+use crate::linked_stems::linked_stem;
 use crate::name_sets::add_name;
-use crate::unit_name::{is_template, listed_stem};
 use cal_machine::{Entry, Last, Names, Place, Tree, TreeFault, find_place, look_at, names_at};
 use std::alloc::{AllocError, Global};
 use std::collections::{BTreeMap, BTreeSet};
 
-/// The timers that a machine starts by itself.
+/// The timers that other units start.
 #[derive(Debug, Drop)]
 pub struct Started {
     /// The stems of the timers. Whether these timers exist isn't examined.
@@ -34,13 +35,16 @@ pub struct Started {
     pub unreadable: Vec<UnitFault>,
 }
 
-/// Returns the timers that a machine with the search path of this index starts by itself: those with a link of their name
-/// in a folder `NAME.wants` or `NAME.requires` of the search path, whatever unit `NAME` is (systemd.unit(5),
-/// Description).
+/// Returns the timers that other units start, on a machine with the search path of this index: those with a link of their
+/// name in a folder `NAME.wants` or `NAME.requires` below a folder of the search path, whatever unit `NAME` is
+/// (systemd.unit(5), Description).
 ///
 /// Where a link leads doesn't matter, except that a link to an empty file or to a device, such as `/dev/null`, starts
-/// nothing. Of several links with the same name in folders with the same name, only the one in the most important folder
-/// of the search path counts, even if it starts nothing. A link with the name of a template is left out.
+/// nothing. Of several files or links with the same name in folders with the same name, only the one in the most
+/// important folder of the search path counts, even if it starts nothing.
+///
+/// The name of a template starts an instance of it: that of `NAME`, or `NAME` itself without its suffix. It is left out
+/// if `NAME` doesn't stand for one unit, as in `target.wants`, `a-.target.wants` and `a@.target.wants`.
 ///
 /// Fails only if allocation fails.
 pub fn find_started<T: Tree>(
@@ -79,7 +83,7 @@ fn find_below<T: Tree>(
             alloc,
             tree,
             roots.as_slice(),
-            name,
+            name.as_str(),
             &mut stems,
             &mut unreadable,
         )?;
@@ -132,31 +136,31 @@ fn is_wants_name(name: &str) -> bool
     name.ends_with(b".wants") || name.ends_with(b".requires")
 }
 
-/// Adds the timers that are started by the wants folders with this name, and the folders of them that can't be read.
+/// Adds the timers that are started by the wants folders with this name, and those of these folders that can't be read.
 /// `roots` has the folders of the search path, from the least important one to the most important one.
 fn add_named<T: Tree>(
     alloc: Global,
     tree: &mut T,
     roots: &[&SearchFolder],
-    name: String,
+    name: &str,
     stems: &mut BTreeSet<String>,
     unreadable: &mut Vec<UnitFault>,
 ) -> Result<(), AllocError>
     ensures known { OnOk result ((machine : Machine) → T.shows tree.new machine
         → All (IsListing machine) (map (λ root. root.now) roots.now)
         → (map string_bytes stems.new.keys ≡ with_texts (map string_bytes stems.old.keys)
-        (started_by machine (map (λ root. path_of root.now) roots.now) (string_bytes name)))
+        (started_by machine (map (λ root. path_of root.now) roots.now) name.now))
         × (map shown_fault unreadable.new.items ≡ map shown_fault unreadable.old.items
-        ++ unreadable_named machine (map (λ root. path_of root.now) roots.now) (string_bytes name))) }
+        ++ unreadable_named machine (map (λ root. path_of root.now) roots.now) name.now)) }
     ensures grows { (machine : Machine) → T.shows tree.new machine → T.shows tree.old machine }
 {
     let mut folders = Vec::new(alloc);
-    let names = vec![in alloc; name]?;
+    let names = vec![in alloc; String::from_str(alloc, name)?]?;
     push_folders(alloc, tree, &mut folders, roots, names.as_slice())?;
     let mut found = Vec::new(alloc);
     push_all_files(alloc, tree, folders.as_slice(), &mut found, unreadable)?;
     let files = enter_all(alloc, found)?;
-    add_started(alloc, tree, files, stems)
+    add_started(alloc, tree, name, files, stems)
 }
 
 /// Appends the files in the folders to `found`, and the folders that can't be read to `unreadable`.
@@ -217,57 +221,51 @@ fn push_named(
     Ok(())
 }
 
-/// Adds the timers that are started by these files in wants folders, given by their names and paths.
+/// Adds the timers that are started by these files in wants folders with the name `folder`. The files are given by their
+/// names and paths.
 fn add_started<T: Tree>(
     alloc: Global,
     tree: &mut T,
+    folder: &str,
     files: BTreeMap<String, String>,
     stems: &mut BTreeSet<String>,
 ) -> Result<(), AllocError>
     ensures known { OnOk result ((machine : Machine) → T.shows tree.new machine
         → map string_bytes stems.new.keys
-        ≡ with_texts (map string_bytes stems.old.keys) (filter_map (stem_started machine) (map shown_pair files.entries))) }
+        ≡ with_texts (map string_bytes stems.old.keys) (filter_map (stem_started machine folder.now) (map shown_pair files.entries))) }
     ensures grows { (machine : Machine) → T.shows tree.new machine → T.shows tree.old machine }
 {
     for (name, path) in files {
-        add_stem(alloc, tree, name.as_str(), path.as_str(), stems)?;
+        add_stem(alloc, tree, folder, name.as_str(), path.as_str(), stems)?;
     }
     Ok(())
 }
 
-/// Adds the timer that is started by the file with this name and path in a wants folder, if it starts one.
+/// Adds the timer that is started by the file with this name and path, if it starts one, in a wants folder with the name
+/// `folder`.
 fn add_stem<T: Tree>(
     alloc: Global,
     tree: &mut T,
+    folder: &str,
     name: &str,
     path: &str,
     stems: &mut BTreeSet<String>,
 ) -> Result<(), AllocError>
     ensures known { OnOk result ((machine : Machine) → T.shows tree.new machine
         → map string_bytes stems.new.keys
-        ≡ with_texts (map string_bytes stems.old.keys) (option_to_list (stem_started machine (name.now, path.now)))) }
+        ≡ with_texts (map string_bytes stems.old.keys) (option_to_list (stem_started machine folder.now (name.now, path.now)))) }
     ensures grows { (machine : Machine) → T.shows tree.new machine → T.shows tree.old machine }
 {
-    if let Some(stem) = linked_stem(name) {
+    if let Some(stem) = linked_stem(alloc, folder, name)? {
         if is_start(alloc, tree, path)? {
-            add_name(stems, String::from_str(alloc, stem)?)?;
+            add_name(stems, stem)?;
         }
     }
     Ok(())
 }
 
-/// Returns the stem of the timer that a link with this name starts, wherever it leads.
-fn linked_stem(name: &str) -> Option<&str>
-    ensures { option_map (λ stem. stem.now) result ≡ linked_stem name.now }
-{
-    match listed_stem(name) {
-        Some(stem) if !is_template(stem) => Some(stem),
-        _ => None,
-    }
-}
-
-/// Returns whether what is at a path in a wants folder starts a timer, which only links do. It also does if it can't be
-/// looked at, because it is then most likely a link, such as one with a target that isn't UTF-8.
+/// Returns whether what is at a path in a wants folder starts a timer, which only links do. What can't be examined counts
+/// as a link, since it most likely is one, for example with a target that isn't UTF-8.
 fn is_start<T: Tree>(alloc: Global, tree: &mut T, path: &str) -> Result<bool, AllocError>
     ensures known { IfOk result (λ is. (machine : Machine) → T.shows tree.new machine
         → is ≡ is_start machine path.now (entry_at machine path.now)) }
@@ -281,8 +279,8 @@ fn is_start<T: Tree>(alloc: Global, tree: &mut T, path: &str) -> Result<bool, Al
     }
 }
 
-/// Returns whether the link at a path starts a timer: not if it leads to an empty file or a device. Like systemd, it also
-/// does if it can't be followed.
+/// Returns whether the link at a path starts a timer: not if it leads to an empty file or a device. As in systemd, a link
+/// that can't be followed starts the timer.
 fn is_unmasked<T: Tree>(alloc: Global, tree: &mut T, path: &str) -> Result<bool, AllocError>
     ensures known { IfOk result (λ is. (machine : Machine) → T.shows tree.new machine
         → is ≡ is_unmasked (end_at machine path.now)) }

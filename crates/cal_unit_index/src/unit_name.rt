@@ -147,7 +147,7 @@ fn without_suffix(name: &str) -> &str
 }
 
 #[tactic(auto, unfolding(crate::specs::rules::UnitName::is_stem))]
-fn is_stem(stem: &str) -> bool
+pub(crate) fn is_stem(stem: &str) -> bool
     ensures { result ≡ is_stem stem.now }
 {
     stem.len() <= MAX_NAME - SUFFIX.len()

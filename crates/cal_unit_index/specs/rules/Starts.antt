@@ -1,16 +1,20 @@
--- Which timers a machine starts by itself: those in folders `NAME.wants` and `NAME.requires` of the search path
--- (systemd.unit(5), Description). Here, any such folder is called a wants folder, and `NAME` can be any unit.
-use Rattle.std.specs.Prelude.{ℕ, nat_eq, Bool, true, false, ◌||◌, if◌then◌else◌, List, [], ◌∷◌, Option, None, Some, Result, Ok, Err, codes, filter, map, option_and_then, reverse}
+-- Which timers other units start, whether or not these are started themselves: those in folders `NAME.wants` and
+-- `NAME.requires` below the folders of the search path (systemd.unit(5), Description). Here, any such folder is called a
+-- wants folder, and `NAME` can be any unit.
+use Rattle.std.specs.Prelude.{ℕ, nat_eq, Bool, true, false, ◌||◌, if◌then◌else◌, List, [], ◌∷◌, ◌++◌, Option, None, Some, Result, Ok, Err, codes, filter, length, map, option_and_then, option_map, reverse, take}
 use Rattle.std.specs.List.{ends_with, filter_map, flat_map}
+use Rattle.std.specs.Path.{rfind_below}
 use Rattle.cal_machine.specs.declared.tree.Unreadable.{Unreadable}
 use Rattle.cal_machine.specs.rules.Machine.{Entry, Machine}
 use Rattle.cal_machine.specs.rules.Machine.Entry.{Missing, Empty, File, Device, Folder, Link}
 use Rattle.cal_machine.specs.rules.Places.{entry_at, names_at}
+use Rattle.cal_unit_index.specs.declared.unit_name.UnitKind.{UnitKind}
+use Rattle.cal_unit_index.specs.declared.unit_name.UnitKind.TheVariants.{Plain, Template, Instance}
 use Rattle.cal_unit_index.specs.rules.Destinations.{listed, sorted_once}
 use Rattle.cal_unit_index.specs.rules.DropIns.{FolderFile, by_name, file_in, listed_names}
 use Rattle.cal_unit_index.specs.rules.Folders.{end_at, folders_below}
 use Rattle.cal_unit_index.specs.rules.Index.{Fault, faults_of_listing}
-use Rattle.cal_unit_index.specs.rules.UnitName.{is_template, listed_stem}
+use Rattle.cal_unit_index.specs.rules.UnitName.{instance_of, is_stem, is_template, listed_stem, unit_kind_of}
 
 -- ## Wants folders
 
@@ -49,8 +53,8 @@ is_unmasked (Ok Folder) = true
 is_unmasked (Ok (Link target)) = true
 is_unmasked (Err why) = true
 
--- Whether what is at a path in a wants folder starts a timer, which only links do. It also does if it can't be looked at,
--- because it is then most likely a link, such as one with a target that isn't UTF-8.
+-- Whether what is at a path in a wants folder starts a timer, which only links do. What can't be examined counts as a link,
+-- since it most likely is one, for example with a target that isn't UTF-8.
 abbrev pub is_start : Machine → List ℕ → Result Entry Unreadable → Bool
 is_start machine path (Ok Missing) = false
 is_start machine path (Ok Empty) = false
@@ -60,24 +64,52 @@ is_start machine path (Ok Folder) = false
 is_start machine path (Ok (Link target)) = is_unmasked (end_at machine path)
 is_start machine path (Err why) = true
 
-abbrev pub unless_template : List ℕ → Option (List ℕ)
-unless_template stem = if is_template stem then None else Some stem
+abbrev pub dot : ℕ
+dot = 46
 
--- The stem of the timer that a link with this name starts, wherever it leads. The name of a template starts an instance,
--- which depends on `NAME`; this is left out.
-abbrev pub linked_stem : List ℕ → Option (List ℕ)
-linked_stem name = option_and_then unless_template (listed_stem name)
+-- the name before its last dot
+abbrev pub before_dot : List ℕ → Option (List ℕ)
+before_dot name = option_map (λ index. take index name) (rfind_below dot name (length name))
+
+-- The instance that a unit with this name, without its suffix, gives to a template that it wants: the unit's own instance,
+-- or all of the name if the unit isn't an instance. A template and a name that ends with a dash, which is a prefix, stand
+-- for many units, so they give no instance.
+abbrev pub instance_by : UnitKind → List ℕ → Option (List ℕ)
+instance_by Plain unit = if ends_with nat_eq unit (codes "-") then None else Some unit
+instance_by Template unit = None
+instance_by Instance unit = Some (instance_of unit)
+
+-- The instance that links in a wants folder with this name give to templates. The name is `NAME.wants` or
+-- `NAME.requires`, and `NAME` has a suffix, too. If it doesn't, as in `target.wants`, the folder is for many units.
+abbrev pub instance_in : List ℕ → Option (List ℕ)
+instance_in folder = option_and_then (λ unit. instance_by (unit_kind_of unit) unit) (option_and_then before_dot (before_dot folder))
+
+abbrev pub if_stem : List ℕ → Option (List ℕ)
+if_stem stem = if is_stem stem then Some stem else None
+
+-- the stem of a template with this instance
+abbrev pub instantiated : List ℕ → Option (List ℕ) → Option (List ℕ)
+instantiated template None = None
+instantiated template (Some instance) = if_stem (template ++ instance)
+
+abbrev pub stem_in : List ℕ → List ℕ → Option (List ℕ)
+stem_in folder stem = if is_template stem then instantiated stem (instance_in folder) else Some stem
+
+-- The stem of the timer that a link with this name starts, wherever it leads, in a wants folder with the name `folder`. The
+-- name of a template starts an instance of it, unless the folder can belong to several units.
+abbrev pub linked_stem : List ℕ → List ℕ → Option (List ℕ)
+linked_stem folder name = option_and_then (stem_in folder) (listed_stem name)
 
 abbrev pub if_start : Machine → List ℕ → List ℕ → Option (List ℕ)
 if_start machine path stem = if is_start machine path (entry_at machine path) then Some stem else None
 
--- the stem of the timer that a file in a wants folder starts, by its name and path
-abbrev pub stem_started : Machine → List ℕ × List ℕ → Option (List ℕ)
-stem_started machine file = option_and_then (if_start machine file.1) (linked_stem file.0)
+-- the stem of the timer that a file starts, by its name and path, in a wants folder with the name `folder`
+abbrev pub stem_started : Machine → List ℕ → List ℕ × List ℕ → Option (List ℕ)
+stem_started machine folder file = option_and_then (if_start machine file.1) (linked_stem folder file.0)
 
 -- the stems of the timers that are started by wants folders with this name
 abbrev pub started_by : Machine → List (List ℕ) → List ℕ → List (List ℕ)
-started_by machine roots name = filter_map (stem_started machine) (files_wanted machine roots name)
+started_by machine roots name = filter_map (stem_started machine name) (files_wanted machine roots name)
 
 -- the stems of the timers that are started, sorted by their bytes, each once; whether these timers exist isn't examined
 abbrev pub started_in : Machine → List (List ℕ) → List (List ℕ)

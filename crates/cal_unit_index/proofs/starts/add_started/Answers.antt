@@ -15,10 +15,10 @@ loop-name-preserved g c = (
       let before = map string_bytes c.loop-name.stems.keys in
       let after = map string_bytes c.add_stem.new.stems.keys in
       let visited = map shown_pair c.loop-name.yielded in
-      let stem = stem_started machine (string_bytes c.in-Some.name, string_bytes c.in-Some.path) in
+      let stem = stem_started machine c.args.folder.now (string_bytes c.in-Some.name, string_bytes c.in-Some.path) in
       let added : after ≡ with_texts before (option_to_list stem) =
       (rw (c.as_str.ensures.value, c.as_str-in-loop-name.ensures.value) at (c.in_ok-add_stem.ensures.known machine shows)) in
-      texts_more old before after (filter_map (stem_started machine) visited) (option_to_list stem) added (c.loop-name.invariant.0 machine (c.add_stem.ensures.grows machine shows))
-      ∙ ap (with_texts old) (mapped_more (stem_started machine) shown_pair c.loop-name.yielded (c.in-Some.name, c.in-Some.path))),
+      texts_more old before after (filter_map (stem_started machine c.args.folder.now) visited) (option_to_list stem) added (c.loop-name.invariant.0 machine (c.add_stem.ensures.grows machine shows))
+      ∙ ap (with_texts old) (mapped_more (stem_started machine c.args.folder.now) shown_pair c.loop-name.yielded (c.in-Some.name, c.in-Some.path))),
   (λ machine shows. c.loop-name.invariant.1 machine (c.add_stem.ensures.grows machine shows)),
 )

@@ -11,5 +11,5 @@ abbrev pub invariant-loop-name : goal.invariant-loop-name
 invariant-loop-name g l =
     ((machine : Machine) → g.T.Tree.shows l.tree machine
     → map string_bytes l.stems.keys
-    ≡ with_texts (map string_bytes l.fn.stems.keys) (filter_map (stem_started machine) (map shown_pair l.yielded)))
+    ≡ with_texts (map string_bytes l.fn.stems.keys) (filter_map (stem_started machine l.folder) (map shown_pair l.yielded)))
     × ((machine : Machine) → g.T.Tree.shows l.tree machine → g.T.Tree.shows l.fn.tree machine)

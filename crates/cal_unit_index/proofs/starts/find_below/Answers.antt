@@ -20,7 +20,7 @@ loop-name-preserved g c = (
       sym (map-map path_of (λ root. root.now) c.in_ok-roots.roots.items) ∙ ap (map path_of) c.in_ok-roots.ensures ∙ map_reverse path_of c.args.path.now in
       let listed : All (IsListing machine) (map (λ root. root.now) c.in_ok-roots.roots.items) =
       rw c.in_ok-roots.ensures (All_reverse (IsListing machine) c.args.path.now all) in
-      let added = (rw (c.as_slice.ensures.value, roots) at (c.in_ok-add_named.ensures.known machine shows (rw c.as_slice.ensures.value listed))) in (
+      let added = (rw (c.as_slice.ensures.value, c.as_str.ensures.value, roots) at (c.in_ok-add_named.ensures.known machine shows (rw c.as_slice.ensures.value listed))) in (
         texts_of_more (started_by machine below) string_bytes [] (map string_bytes c.loop-name.stems.keys) (map string_bytes c.add_named.new.stems.keys)
             c.loop-name.yielded c.in-Some.name added.0 held.0,
         items_of_more (unreadable_named machine below) string_bytes (map shown_fault c.loop-name.unreadable.items) (map shown_fault c.add_named.new.unreadable.items)
