@@ -1,6 +1,11 @@
 -- Lemmas on what is found when a question is read.
 use Rattle.std.proofs.Common.{◌≡◌, ◌∙◌, ◌<◌, ◌≤◌, ℕ, All, Bool, Bor, true, false, List, [], ◌∷◌, Some, ap, arith, drop, get_or, inl, inr, length, map, option_map, refl, string_bytes, subst, sym}
+use Rattle.cal_machine.specs.declared.raw.Raw.{Ghosts}
+use Rattle.cal_machine.specs.declared.recorder.Recorder.{Recorder}
 use Rattle.cal_machine.specs.rules.Machine.{Machine}
+use Rattle.cal_machine.specs.rules.Recorded.{AgreesWith}
+use Rattle.cal_machine.specs.rules.Recording.{read_by, read_by-given, read_by-shows}
+use Rattle.cal_machine.specs.rules.Seen.{some_machine, some_machine-matches}
 use Rattle.cal_timers_command.specs.declared.question.Question.{Question}
 use Rattle.cal_unit_index.specs.rules.Index.{IsIndexOf}
 use Rattle.cal_zone_files.specs.rules.MachineLocalZone.{machine_local_zone}
@@ -9,18 +14,18 @@ use Rattle.cal_load.specs.rules.AllTargets.{HasAll, IsOutcome, Sought}
 use Rattle.cal_answers.specs.declared.found.Known.{Known}
 use Rattle.cal_answers.specs.declared.found.LoadedByVerb.{LoadedByVerb}
 use Rattle.cal_answers.specs.declared.found.LoadedByVerb.TheVariants as loads
-use Rattle.cal_answers.specs.rules.Found.{AreAll, AreAllOn, AreLoadedOn, AreSidesOn, HasAllFor, HasAllLinted, IsIndexFor, IsKnownOn, IsPathOf, IsSideOn, needs_units, targets_of, verb_of}
+use Rattle.cal_answers.specs.rules.Found.{AreAll, AreAllOn, AreLoadedOn, AreSidesOn, FollowsFromRead, HasAllFor, HasAllLinted, IsIndexFor, IsKnownOn, IsPathOf, IsSideOn, needs_units, targets_of, verb_of}
 use Rattle.cal_answers.specs.rules.LocalClock.{IsLocalZone, clock_zone}
 use Rattle.cal_answers.specs.rules.MachinePath.{machine_path}
 
 -- what was loaded for each of the two targets by itself is what was loaded for `same`
 pub two_sides : (machine : Machine) (path : List (List ℕ)) (targets : List (Bor (List ℕ))) (d : Bor (List ℕ)) (first second : Loaded)
-    → 2 ≤ length targets → length targets < 3 → IsSideOn machine path (get_or targets 0 d).now first
+    → length targets ≡ 2 → IsSideOn machine path (get_or targets 0 d).now first
     → IsSideOn machine path (get_or targets 1 d).now second → AreSidesOn machine path (map (λ text. text.now) targets) first second
-two_sides machine path [] d first second two three one other = absurd (let no : ⊥ = omega (arith, two) in no)
-two_sides machine path (x ∷ []) d first second two three one other = absurd (let no : ⊥ = omega (arith, two) in no)
-two_sides machine path (x ∷ y ∷ []) d first second two three one other = (one, other)
-two_sides machine path (x ∷ y ∷ z ∷ rest) d first second two three one other = absurd (let no : ⊥ = omega (arith, three) in no)
+two_sides machine path [] d first second two one other = absurd (let no : ⊥ = omega (arith, two) in no)
+two_sides machine path (x ∷ []) d first second two one other = absurd (let no : ⊥ = omega (arith, two) in no)
+two_sides machine path (x ∷ y ∷ []) d first second two one other = (one, other)
+two_sides machine path (x ∷ y ∷ z ∷ rest) d first second two one other = absurd (let no : ⊥ = omega (arith, two) in no)
 
 -- if nothing is missing on each machine and search path of which `Knows` is true, then nothing is missing on one of them
 all_at : (Knows : Machine → List (List ℕ) → Type 0) (sought : Machine → List (List ℕ) → List Sought) (machine : Machine) (path : List (List ℕ)) (timers : Loaded)
@@ -56,6 +61,24 @@ loaded_at Knows machine path targets (loads.Between timers) knows all = for_at K
 loaded_at Knows machine path targets (loads.Same first second) knows all = tt
 loaded_at Knows machine path targets (loads.Next timers) knows all = tt
 
+-- what is known is true on a machine if each part of it is; `path` is the search path, or no folder at all
+known_with : (machine : Machine) (question : Question) (known : Known) (path : List (List ℕ)) (needed : Bool)
+    → needs_units question.verb (targets_of question) ≡ needed
+    → IsLocalZone machine (machine_local_zone machine (option_map string_bytes question.zone)) (clock_zone known.local)
+    → IsPathOf machine question.is_user needed path → IsIndexOf machine path known.index → verb_of known.loaded ≡ question.verb
+    → ((folders : List (List ℕ)) → IsIndexOf machine folders known.index → AreLoadedOn machine folders (targets_of question) known.loaded)
+    → ((folders : List (List ℕ)) → IsIndexOf machine folders known.index → AreAllOn machine folders (targets_of question) known.loaded)
+    → IsKnownOn machine question known
+known_with machine question known path needed about zone searched is same loads whole = record {
+  local = zone;
+  path = path;
+  searched = subst (λ needed. IsPathOf machine question.is_user needed path) (sym about) searched;
+  index = is;
+  for_verb = same;
+  loaded = loads path is;
+  whole = whole path is;
+}
+
 -- what is known is true on a machine if each part of it is; `needed` says whether the question can be about units
 pub known_on : (machine : Machine) (question : Question) (known : Known) (path : List (List ℕ)) (needed : Bool)
     → needs_units question.verb (targets_of question) ≡ needed
@@ -66,31 +89,21 @@ pub known_on : (machine : Machine) (question : Question) (known : Known) (path :
     → ((folders : List (List ℕ)) → IsIndexOf machine folders known.index → AreAllOn machine folders (targets_of question) known.loaded)
     → IsKnownOn machine question known
 known_on machine question known path true about zone searched index indexed same loads whole =
-    let is : IsIndexOf machine path known.index = indexed refl in
+    known_with machine question known path true about zone searched (indexed refl) same loads whole
+known_on machine question known path false about zone searched (inl is) indexed same loads whole =
+    known_with machine question known path false about zone (inl searched) is same loads whole
+known_on machine question known path false about zone searched (inr is) indexed same loads whole =
+    known_with machine question known [] false about zone (inr refl) is same loads whole
+
+-- what is true of all machines that a recorder shows follows from what it has read
+pub follows : {R : Type 0} {raw : Ghosts R} (tree : Recorder R raw) (IsTrue : Machine → Type 0)
+    → ((machine : Machine) → AgreesWith tree.entries tree.names tree.files tree.variables machine → IsTrue machine)
+    → FollowsFromRead raw.gives IsTrue
+follows tree IsTrue known =
+    let read = read_by tree in
     record {
-      local = zone;
-      path = path;
-      searched = subst (λ needed. IsPathOf machine question.is_user needed path) (sym about) searched;
-      index = is;
-      for_verb = same;
-      loaded = loads path is;
-      whole = whole path is;
+      read = read;
+      given = read_by-given tree;
+      is_so = λ machine same. known machine (read_by-shows tree machine same);
+      possible = (some_machine read, some_machine-matches read);
     }
-known_on machine question known path false about zone searched (inl is) indexed same loads whole = record {
-  local = zone;
-  path = path;
-  searched = subst (λ needed. IsPathOf machine question.is_user needed path) (sym about) (inl searched);
-  index = is;
-  for_verb = same;
-  loaded = loads path is;
-  whole = whole path is;
-}
-known_on machine question known path false about zone searched (inr is) indexed same loads whole = record {
-  local = zone;
-  path = [];
-  searched = subst (λ needed. IsPathOf machine question.is_user needed []) (sym about) (inr refl);
-  index = is;
-  for_verb = same;
-  loaded = loads [] is;
-  whole = whole [] is;
-}

@@ -1,22 +1,27 @@
 -- Lemmas on the local zone of a machine.
 use Rattle.std.proofs.Common.{◌≡◌, ℕ, List, [], ◌∷◌, map, string_bytes, Bool, true, false, Option, Some, None, Result, Ok, Err, IfOk, refl, subst, sym, arith, ◌∙◌}
-use Rattle.std.specs.Prelude.{◌||◌, IfSome, is_some, String}
-use Rattle.std.specs.List.{list_any}
+use Rattle.std.specs.Prelude.{◌≢◌, ◌||◌, IfErr, IfSome, is_some, String}
+use Rattle.std.specs.List.{Contains, list_any}
 use Rattle.std.specs.Str.{bytes_eq}
 use Rattle.std.specs.declared.alloc.Global.{Global}
 use Rattle.std.proofs.lemmas.Bool.{false≢true}
+use Rattle.std.proofs.lemmas.Grind.{get_or_head}
 use Rattle.std.proofs.lemmas.Slice.Eq.{bytes_eq-Decides}
 use Rattle.jiff.specs.Types.{TimeZone, UTC}
 use Rattle.cal_civil.specs.rules.ZoneName.{is_utc_name}
 use Rattle.cal_machine.specs.rules.Machine.{Machine}
 use Rattle.cal_zone_files.specs.declared.fault.ZonesFault.{ZonesFault}
-use Rattle.cal_zone_files.specs.rules.MachineLocalZone.{MachineLocalZone}
+use Rattle.cal_zone_files.specs.declared.fault.ZonesFault.TheVariants as faults
+use Rattle.cal_zone_files.specs.rules.MachineLocalZone.{IsResultOf, MachineLocalZone}
 use Rattle.cal_zone_files.specs.rules.MachineLocalZone.MachineLocalZone.{ByRule, OfName}
-use Rattle.cal_zone_files.specs.rules.ZoneFiles.{HasZonesOf, IsZoneOn}
+use Rattle.cal_zone_files.specs.rules.ZoneFiles.{HasZonesOf, IsFirstError, IsReasonOn, IsZoneOn}
 use Rattle.cal_zone.specs.rules.Zone.{utc, zone_of}
 use Rattle.cal_zone.specs.rules.ZoneTable.{ZoneMap, zone_named}
+use Rattle.cal_load.specs.rules.TextFaults.{IsZonesError}
+use Rattle.cal_load.proofs.TextFaultLemmas.{first_named}
 use Rattle.cal_answers.specs.declared.local_clock.LocalClock.{LocalClock}
 use Rattle.cal_answers.specs.rules.LocalClock.{IsLocalZone, IsZoneNamed, clock_zone}
+use Rattle.cal_answers.specs.rules.Unanswerable.{IsUnusable}
 
 pub utc_zone : zone_of utc ≡ UTC
 unfolding zone_of
@@ -30,6 +35,15 @@ pub ruled_as : (found : Result LocalClock ZonesFault) (rule : List ℕ) (Shows :
 ruled_as (Ok clock) rule Shows local same is =
     λ machine shows. subst (λ local. IsLocalZone machine local (clock_zone clock)) (same machine shows) (is machine)
 ruled_as (Err fault) rule Shows local same is = tt
+
+-- nor can it be used if the rule can't
+pub ruled_unusable : (found : Result LocalClock ZonesFault) (rule : List ℕ) (Shows : Machine → Type 0) (local : Machine → MachineLocalZone)
+    → ((machine : Machine) → Shows machine → ByRule rule ≡ local machine)
+    → IfErr found (λ fault. fault ≢ faults.NoMemory → (machine : Machine) → IsUnusable machine (ByRule rule))
+    → IfErr found (λ fault. fault ≢ faults.NoMemory → (machine : Machine) → Shows machine → IsUnusable machine (local machine))
+ruled_unusable (Ok clock) rule Shows local same is = tt
+ruled_unusable (Err fault) rule Shows local same is =
+    λ other machine shows. subst (IsUnusable machine) (same machine shows) (is other machine)
 
 -- a table that was loaded for a single name has a zone with this name
 pub has_single : (table : ZoneMap) (name : List ℕ) (names : List (String Global)) → map string_bytes names ≡ name ∷ []
@@ -56,3 +70,31 @@ named_if machine table name has zones false is = some_on machine name is (zone_n
 pub named_zone : (machine : Machine) (table : ZoneMap) (name : List ℕ) → is_some (zone_named table name) ≡ true → HasZonesOf machine table
     → IsLocalZone machine (OfName name) (zone_named table name)
 named_zone machine table name has zones = named_if machine table name has zones (is_utc_name name) refl
+
+-- ## Local zones that can't be used
+
+-- a list of one name contains no other name
+only_name : (name other : List ℕ) → Contains (name ∷ []) other → other ≡ name
+only_name name other (k, below, at) = sym at ∙ get_or_head name [] k other (omega (arith, below))
+
+unusable_by : (machine : Machine) (name : List ℕ) (fault : ZonesFault) → fault ≢ faults.NoMemory → IsZonesError machine (name ∷ []) fault
+    → IsUnusable machine (OfName name)
+unusable_by machine name (faults.Unclear origin) other is = absurd is
+unusable_by machine name (faults.Unread origin) other is = absurd is
+unusable_by machine name (faults.At path reason) other (named, has, at, is) =
+    (reason, subst (λ name. IsReasonOn machine name reason) (only_name name named has) is)
+unusable_by machine name faults.NoMemory other is = absurd (other refl)
+
+-- a zone can't be used if loading a table for its name fails
+pub unusable_name : (machine : Machine) (name : List ℕ) (names : List (String Global)) (fault : ZonesFault) → map string_bytes names ≡ name ∷ []
+    → fault ≢ faults.NoMemory → IsFirstError machine (map string_bytes names) fault → IsUnusable machine (OfName name)
+unusable_name machine name names fault single other is =
+    unusable_by machine name fault other (subst (λ names. IsZonesError machine names fault) single (first_named machine (map string_bytes names) fault is))
+
+-- a local zone can't be used if it can't be found
+pub unusable_unfound : (machine : Machine) (local : MachineLocalZone) (fault : ZonesFault) → fault ≢ faults.NoMemory → IsResultOf local (Err fault)
+    → IsUnusable machine local
+unusable_unfound machine local (faults.Unclear origin) other is = subst (IsUnusable machine) (sym is) tt
+unusable_unfound machine local (faults.Unread origin) other is = subst (IsUnusable machine) (sym is) tt
+unusable_unfound machine local (faults.At path reason) other is = absurd is
+unusable_unfound machine local faults.NoMemory other is = absurd (other refl)

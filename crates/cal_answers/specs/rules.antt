@@ -3,3 +3,4 @@ pub mod Found
 pub mod LocalClock
 pub mod MachinePath
 pub mod Present
+pub mod Unanswerable

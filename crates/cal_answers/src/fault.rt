@@ -1,5 +1,8 @@
 //! Why reading for a question ends early.
 
+ghost use Rattle.std.specs.Prelude.{◌≡◌};
+ghost use Rattle.cal_answers.specs.declared.fault.ReadFault.TheVariants.{NoMemory};
+
 use std::alloc::{AllocError, AllocFailed, Global};
 
 /// Why reading for a question ends early.
@@ -12,12 +15,16 @@ pub(crate) enum ReadFault {
 }
 
 impl From<AllocError> for ReadFault {
+    ghost from_gives = { λ _ fault. fault ≡ NoMemory };
+
     fn from(_refused: AllocError) -> ReadFault {
         ReadFault::NoMemory
     }
 }
 
 impl<T: Drop> From<AllocFailed<T>> for ReadFault {
+    ghost from_gives = { λ _ fault. fault ≡ NoMemory };
+
     fn from(_refused: AllocFailed<T>) -> ReadFault {
         ReadFault::NoMemory
     }

@@ -6,8 +6,8 @@ ghost use Rattle.cal_unit_index.specs.rules.Index.{IsIndexOf};
 ghost use Rattle.cal_load.specs.rules.AllTargets.{HasAllUnits};
 ghost use Rattle.cal_load.specs.rules.Loaded.{IsTimerOn};
 ghost use Rattle.cal_answers.specs.rules.Found.{AreAll, AreLoadedOn, IsSideOn, verb_of};
+ghost use Rattle.cal_timers_command.specs.rules.Questions.{fits_verb};
 
-use crate::fault::ReadFault;
 use crate::found::LoadedByVerb;
 use crate::index::timers_of;
 use cal_load::{Loaded, TargetReason, load_expressions, load_files, load_timers};
@@ -23,7 +23,8 @@ pub(crate) fn load_by_verb<T: Tree>(
     index: &UnitIndex,
     verb: Verb,
     targets: &[&str],
-) -> Result<LoadedByVerb, ReadFault>
+) -> Result<LoadedByVerb, AllocError>
+    requires { fits_verb verb (length targets.now) ≡ true }
     ensures verb { IfOk result (λ loaded. verb_of loaded ≡ verb) }
     ensures known { IfOk result (λ loaded. (machine : Machine) (path : List (List ℕ)) → T.shows tree.new machine
         → IsIndexOf machine path index.now → AreLoadedOn machine path (map (λ text. text.now) targets.now) loaded) }
@@ -85,17 +86,15 @@ fn load_sides<T: Tree>(
     tree: &mut T,
     index: &UnitIndex,
     targets: &[&str],
-) -> Result<LoadedByVerb, ReadFault>
+) -> Result<LoadedByVerb, AllocError>
+    requires { length targets.now ≡ 2 }
     ensures verb { IfOk result (λ loaded. verb_of loaded ≡ Verb.Same) }
     ensures known { IfOk result (λ loaded. (machine : Machine) (path : List (List ℕ)) → T.shows tree.new machine
         → IsIndexOf machine path index.now → AreLoadedOn machine path (map (λ text. text.now) targets.now) loaded) }
     ensures grows { (machine : Machine) → T.shows tree.new machine → T.shows tree.old machine }
 {
-    let [one, other] = targets else {
-        return Err(ReadFault::reason(alloc, "two timers are needed"));
-    };
-    let first = load_side(alloc, tree, index, one)?;
-    let second = load_side(alloc, tree, index, other)?;
+    let first = load_side(alloc, tree, index, targets[0])?;
+    let second = load_side(alloc, tree, index, targets[1])?;
     Ok(LoadedByVerb::Same(first, second))
 }
 

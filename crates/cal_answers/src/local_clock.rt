@@ -1,10 +1,11 @@
 //! The local zone of the machine, with the rules or the zone table that its [`Zone`] borrows.
 
-ghost use Rattle.std.specs.Prelude.{◌≡◌, ◌∷◌, [], IfOk, map, option_map, string_bytes};
+ghost use Rattle.std.specs.Prelude.{◌≡◌, ◌≢◌, ◌∷◌, [], IfErr, IfOk, map, option_map, string_bytes};
 ghost use Rattle.cal_machine.specs.rules.Machine.{Machine};
 ghost use Rattle.cal_zone_files.specs.rules.MachineLocalZone.{ByRule, OfName, machine_local_zone};
 ghost use Rattle.cal_zone.specs.rules.Zone.{zone_of};
 ghost use Rattle.cal_answers.specs.rules.LocalClock.{IsLocalZone, clock_zone};
+ghost use Rattle.cal_answers.specs.rules.Unanswerable.{HasNoLocalZone, IsUnusable};
 
 use cal_machine::Tree;
 use cal_zone::{Rules, Zone, ZoneFault, ZoneTable};
@@ -35,6 +36,8 @@ impl LocalClock {
     ) -> Result<LocalClock, ZonesFault>
         ensures zone { IfOk result (λ clock. (machine : Machine) → T.shows tree.new machine
             → IsLocalZone machine (machine_local_zone machine (option_map (λ text. text.now) option.entry)) (clock_zone clock)) }
+        ensures fault { IfErr result (λ fault. fault ≢ ZonesFault.NoMemory → (machine : Machine) → T.shows tree.new machine
+            → HasNoLocalZone machine (option_map (λ text. text.now) option.entry)) }
         ensures grows { (machine : Machine) → T.shows tree.new machine → T.shows tree.old machine }
     {
         match find_local_zone(alloc, tree, option) {
@@ -59,7 +62,8 @@ impl LocalClock {
 }
 
 fn ruled(alloc: Global, rule: &str) -> Result<LocalClock, ZonesFault>
-    ensures { IfOk result (λ clock. (machine : Machine) → IsLocalZone machine (ByRule rule.now) (clock_zone clock)) }
+    ensures zone { IfOk result (λ clock. (machine : Machine) → IsLocalZone machine (ByRule rule.now) (clock_zone clock)) }
+    ensures fault { IfErr result (λ fault. fault ≢ ZonesFault.NoMemory → (machine : Machine) → IsUnusable machine (ByRule rule.now)) }
 {
     match Rules::posix(alloc, rule) {
         Ok(rules) => Ok(LocalClock::Ruled(rules)),
@@ -71,6 +75,8 @@ fn ruled(alloc: Global, rule: &str) -> Result<LocalClock, ZonesFault>
 fn named<T: Tree>(alloc: Global, tree: &mut T, name: String) -> Result<LocalClock, ZonesFault>
     ensures zone { IfOk result (λ clock. (machine : Machine) → T.shows tree.new machine
         → IsLocalZone machine (OfName (string_bytes name)) (clock_zone clock)) }
+    ensures fault { IfErr result (λ fault. fault ≢ ZonesFault.NoMemory → (machine : Machine) → T.shows tree.new machine
+        → IsUnusable machine (OfName (string_bytes name))) }
     ensures grows { (machine : Machine) → T.shows tree.new machine → T.shows tree.old machine }
 {
     let names = only(alloc, name.as_str())?;

@@ -1,12 +1,13 @@
 //! Reading all that the answer to a question depends on.
 
-ghost use Rattle.std.specs.Prelude.{◌≡◌, IfOk, Some, map, option_map, string_bytes};
+ghost use Rattle.std.specs.Prelude.{◌≡◌, ◌≢◌, IfErr, IfOk, Some, map, option_map, string_bytes};
 ghost use Rattle.std.specs.Option.{option_or};
 ghost use Rattle.cal_machine.specs.rules.Machine.{Machine};
 ghost use Rattle.cal_zone_files.specs.rules.MachineLocalZone.{machine_local_zone};
 ghost use Rattle.cal_answers.specs.rules.Found.{IsFoundBy, IsKnownOn};
 ghost use Rattle.cal_answers.specs.rules.LocalClock.{IsLocalZone, clock_zone};
 ghost use Rattle.cal_answers.specs.rules.Present.{IsPresent};
+ghost use Rattle.cal_answers.specs.rules.Unanswerable.{HasNoLocalZone, HasNoRoot, IsUnanswerableOn};
 
 use crate::fault::ReadFault;
 use crate::found::{Found, Known};
@@ -50,6 +51,8 @@ fn read_known<T: Tree>(
 ) -> Result<Known, ReadFault>
     ensures present { IfOk result (λ known. IsPresent (option_or question.entry.now.now clock) (Some known.now)) }
     ensures known { IfOk result (λ known. (machine : Machine) → T.shows tree.new machine → IsKnownOn machine question.entry.now known) }
+    ensures fault { IfErr result (λ fault. fault ≢ ReadFault.NoMemory → (machine : Machine) → T.shows tree.new machine
+        → IsUnanswerableOn machine question.entry.now clock) }
     ensures grows { (machine : Machine) → T.shows tree.new machine → T.shows tree.old machine }
 {
     let Some(now) = present(question.now, clock) else {
@@ -88,6 +91,7 @@ fn present(given: Option<i64>, clock: Option<i64>) -> Option<Instant>
 /// Elsewhere, the root is the empty path, and counts as a folder without a check. Here it is `/`: if the root that the
 /// question names is a link, the slash makes the system follow this link.
 fn check_root<T: Tree>(alloc: Global, tree: &mut T, root: &str) -> Result<(), ReadFault>
+    ensures fault { IfErr result (λ fault. fault ≢ ReadFault.NoMemory → (machine : Machine) → T.shows tree.new machine → HasNoRoot machine root.now) }
     ensures grows { (machine : Machine) → T.shows tree.new machine → T.shows tree.old machine }
 {
     if root.is_empty() {
@@ -110,6 +114,8 @@ fn find_local<T: Tree>(
 ) -> Result<LocalClock, ReadFault>
     ensures zone { IfOk result (λ clock. (machine : Machine) → T.shows tree.new machine
         → IsLocalZone machine (machine_local_zone machine (option_map (λ text. text.now) option.entry)) (clock_zone clock)) }
+    ensures fault { IfErr result (λ fault. fault ≢ ReadFault.NoMemory → (machine : Machine) → T.shows tree.new machine
+        → HasNoLocalZone machine (option_map (λ text. text.now) option.entry)) }
     ensures grows { (machine : Machine) → T.shows tree.new machine → T.shows tree.old machine }
 {
     match LocalClock::find(alloc, tree, option) {

@@ -1,7 +1,7 @@
 //! The search path for a question, which depends on variables of the environment. A variable that isn't UTF-8 or can't be
 //! read counts as one that isn't set.
 
-ghost use Rattle.std.specs.Prelude.{◌≡◌, IfOk, Some, map, option_map, string_bytes};
+ghost use Rattle.std.specs.Prelude.{◌≡◌, ◌≢◌, IfErr, IfOk, None, Some, map, option_map, string_bytes};
 ghost use Rattle.cal_machine.specs.rules.Machine.{Machine};
 ghost use Rattle.cal_unit_index.specs.rules.SearchPath.{user_path};
 ghost use Rattle.cal_answers.specs.rules.MachinePath.{machine_path, usual_path, variable_on, variables_on};
@@ -21,6 +21,7 @@ pub(crate) fn search_path<T: Tree>(
 ) -> Result<Vec<String>, ReadFault>
     ensures known { IfOk result (λ path. (machine : Machine) → T.shows tree.new machine
         → machine_path machine is_user ≡ Some (map string_bytes path.items)) }
+    ensures fault { IfErr result (λ fault. fault ≢ ReadFault.NoMemory → (machine : Machine) → T.shows tree.new machine → machine_path machine is_user ≡ None) }
     ensures grows { (machine : Machine) → T.shows tree.new machine → T.shows tree.old machine }
 {
     let Some(usual) = usual_path(alloc, tree, is_user)? else {

@@ -21,6 +21,7 @@ use Rattle.cal_answers.specs.declared.found.LoadedByVerb.TheVariants as loads
 use Rattle.cal_answers.specs.rules.LocalClock.{IsLocalZone, clock_zone}
 use Rattle.cal_answers.specs.rules.MachinePath.{machine_path}
 use Rattle.cal_answers.specs.rules.Present.{IsPresent}
+use Rattle.cal_answers.specs.rules.Unanswerable.{IsUnanswerableOn}
 
 -- ## What was loaded
 
@@ -132,17 +133,22 @@ pub record IsKnownOn (machine : Machine) (question : Question) (known : Known) :
   pub loaded : AreLoadedOn machine path (targets_of question) known.loaded
   pub whole : AreAllOn machine path (targets_of question) known.loaded
 
--- What is known for a question follows from what was read. `given`: the system calls gave each answer that was read.
--- `present`: the present is that of the question, or else that of the clock. `is_so`: what is known is true on every
--- machine that matches what was read. `possible`: such a machine exists.
-pub record IsKnownBy (gives : Said → Bool) (question : Question) (clock : Option ℤ) (known : Known) : Type 0 where
+-- `IsTrue` follows from what was read. `given`: the system calls gave each answer that was read. `is_so`: it is true on
+-- every machine that matches what was read. `possible`: such a machine exists.
+pub record FollowsFromRead (gives : Said → Bool) (IsTrue : Machine → Type 0) : Type 0 where
   pub read : Seen
   pub given : AllGiven gives read
-  pub present : IsPresent (option_or question.now clock) (Some known.now)
-  pub is_so : (machine : Machine) → Matches read machine → IsKnownOn machine question known
+  pub is_so : (machine : Machine) → Matches read machine → IsTrue machine
   pub possible : (machine : Machine) × Matches read machine
 
--- nothing is said about a question that can't be answered
+-- What is known for a question follows from what was read, and the present is that of the question, or else that of the
+-- clock.
+abbrev pub IsKnownBy : (Said → Bool) → Question → Option ℤ → Known → Type 0
+IsKnownBy gives question clock known =
+    IsPresent (option_or question.now clock) (Some known.now) × FollowsFromRead gives (λ machine. IsKnownOn machine question known)
+
+-- What was found is known, or it follows from what was read that the question can't be answered.
 abbrev pub IsFoundBy : (Said → Bool) → Question → Option ℤ → founds.Found → Type 0
-IsFoundBy gives question clock (founds.TheVariants.Unanswerable reason) = ⊤
+IsFoundBy gives question clock (founds.TheVariants.Unanswerable reason) =
+    FollowsFromRead gives (λ machine. IsUnanswerableOn machine question clock)
 IsFoundBy gives question clock (founds.TheVariants.Answerable known) = IsKnownBy gives question clock known

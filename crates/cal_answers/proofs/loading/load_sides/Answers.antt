@@ -3,6 +3,6 @@ use Rattle.cal_answers.proofs.loading.load_sides.Goals as goal
 
 pub returns-clause-known : goal.returns-clause-known
 returns-clause-known g c = λ machine path shows is.
-    two_sides machine path c.args.targets.now _ c.in_ok-first.first c.in_ok-second.second c.in-len2.len_at_least c.in-len2.len_below
+    two_sides machine path c.args.targets.now _ c.in_ok-first.first c.in_ok-second.second c.requires
     (c.in_ok-first.ensures.known machine path (c.in_ok-second.ensures.grows machine shows) is)
     (c.in_ok-second.ensures.known machine path shows is)

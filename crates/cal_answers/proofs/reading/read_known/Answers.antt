@@ -1,7 +1,10 @@
-use Rattle.std.proofs.Common.{◌≡◌, ◌∙◌, ℕ, List, ap, map, refl, string_bytes, subst}
+use Rattle.std.proofs.Common.{◌≡◌, ◌∙◌, ℕ, Err, List, ap, inr, length, map, refl, rules, string_bytes, subst, sym}
+use Rattle.std.proofs.lemmas.List.{length-map}
 use Rattle.cal_machine.specs.rules.Machine.{Machine}
+use Rattle.cal_timers_command.specs.rules.Questions.{fits_verb}
 use Rattle.cal_unit_index.specs.rules.Index.{IsIndexOf}
 use Rattle.cal_zone_files.specs.rules.MachineLocalZone.{machine_local_zone}
+use Rattle.cal_answers.specs.declared.fault.ReadFault.TheVariants.{NoMemory}
 use Rattle.cal_answers.specs.rules.Found.{AreAll, AreLoadedOn, IsIndexFor, needs_units, targets_of}
 use Rattle.cal_answers.specs.rules.LocalClock.{IsLocalZone, clock_zone}
 use Rattle.cal_answers.proofs.FoundLemmas.{known_on, loaded_at}
@@ -27,3 +30,21 @@ returns-clause-known g c = λ machine shows.
     (ap (map (λ text. text.now)) c.as_slice-4.ensures.value ∙ texts) (c.in_ok-loaded.ensures.known machine folders shows is))
     (λ folders is. loaded_at Knows machine folders (targets_of question) c.in_ok-loaded.loaded (shows, is)
     (subst (λ targets. AreAll Knows targets c.in_ok-loaded.loaded) (ap (map (λ text. text.now)) c.as_slice-4.ensures.value ∙ texts) c.in_ok-loaded.ensures.whole))
+
+pub returns-in_err-path-clause-fault : goal.returns-in_err-path-clause-fault
+returns-in_err-path-clause-fault g c =
+    let same : c.from_residual-in_err-path.result ≡ Err c.in_err-path.field-0.0 = search rules in
+    rw same (λ other machine shows. inr (inr (inr (c.in_err-path.ensures.fault other machine shows))))
+
+pub returns-in_err-index-clause-fault : goal.returns-in_err-index-clause-fault
+returns-in_err-index-clause-fault g c =
+    let same : c.from_residual-in_err-index.result ≡ Err NoMemory = search rules in
+    rw same (λ other. absurd (other refl))
+
+pub load_by_verb-requires : goal.load_by_verb-requires
+load_by_verb-requires g c =
+    let question = c.args.question.now in
+    let count : length c.as_slice-4.result.now ≡ length c.as_slice.result.now =
+    ap length c.as_slice-4.ensures.value ∙ sym (length-map c.in_ok-targets.targets.items (λ text. text.now))
+    ∙ ap length c.in_ok-targets.ensures ∙ length-map c.as_slice.result.now string_bytes in
+    ap (fits_verb question.verb) (count ∙ c.as_slice.ensures.len) ∙ question.fits

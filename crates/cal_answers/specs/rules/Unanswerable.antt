@@ -1,0 +1,46 @@
+-- When `calendar-timers` can't answer a question: there is no present, no root, no local zone or no search path.
+use Rattle.std.specs.Prelude.{◌≡◌, ◌≢◌, ◌⊎◌, ⊤, ℕ, ℤ, false, List, [], Option, None, codes, option_map, string_bytes}
+use Rattle.std.specs.Option.{option_or}
+use Rattle.jiff.specs.Words.{read_whole}
+use Rattle.cal_machine.specs.rules.Machine.{Machine}
+use Rattle.cal_timers_command.specs.declared.question.Question.{Question}
+use Rattle.cal_zone_files.specs.declared.fault.FileReason.{FileReason}
+use Rattle.cal_zone_files.specs.rules.MachineLocalZone.{MachineLocalZone, machine_local_zone}
+use Rattle.cal_zone_files.specs.rules.MachineLocalZone.MachineLocalZone.{InUtc, Ahead, ByRule, OfName, UnclearIn, UnreadIn}
+use Rattle.cal_zone_files.specs.rules.ZoneFiles.{IsReasonOn}
+use Rattle.cal_load.specs.rules.LoadedTarget.{is_folder}
+use Rattle.cal_answers.specs.rules.MachinePath.{machine_path}
+use Rattle.cal_answers.specs.rules.Present.{IsPresent}
+
+-- A local zone can't be used if its rule isn't valid, if there is a reason against the file of its name, or if nothing
+-- says which zone it is.
+abbrev pub IsUnusable : Machine → MachineLocalZone → Type 0
+IsUnusable machine InUtc = ⊥
+IsUnusable machine (Ahead seconds) = ⊥
+IsUnusable machine (ByRule rule) = read_whole rule ≡ None
+IsUnusable machine (OfName name) = (reason : FileReason) × IsReasonOn machine name reason
+IsUnusable machine (UnclearIn origin) = ⊤
+IsUnusable machine (UnreadIn origin) = ⊤
+
+-- neither the question nor the clock states a present, or it isn't an instant
+abbrev pub HasNoPresent : Question → Option ℤ → Type 0
+HasNoPresent question clock = IsPresent (option_or question.now clock) None
+
+-- the question names a root that isn't a folder; the empty text names no root
+abbrev pub HasNoRoot : Machine → List ℕ → Type 0
+HasNoRoot machine root = (root ≢ []) × (is_folder (machine.entry (codes "/")) ≡ false)
+
+-- the local zone of this machine, or of the option, can't be used
+abbrev pub HasNoLocalZone : Machine → Option (List ℕ) → Type 0
+HasNoLocalZone machine zone = IsUnusable machine (machine_local_zone machine zone)
+
+-- the manager of the machine has no search path
+abbrev pub HasNoPath : Machine → Question → Type 0
+HasNoPath machine question = machine_path machine question.is_user ≡ None
+
+-- a question can't be answered on this machine
+abbrev pub IsUnanswerableOn : Machine → Question → Option ℤ → Type 0
+IsUnanswerableOn machine question clock =
+    HasNoPresent question clock
+    ⊎ (HasNoRoot machine (string_bytes question.root)
+    ⊎ (HasNoLocalZone machine (option_map string_bytes question.zone) ⊎ HasNoPath machine question))
