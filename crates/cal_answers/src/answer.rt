@@ -19,8 +19,9 @@ use std::alloc::{AllocError, Global};
 /// differ.
 pub(crate) const INVALID: u8 = 1;
 
-/// The exit status if the question can't be answered at all, for example because the local zone isn't known.
-const UNUSABLE: u8 = 2;
+/// The exit status if the question can't be answered at all, for example because the local zone isn't known, or because
+/// one of the timers of `same` can't be loaded.
+pub(crate) const UNUSABLE: u8 = 2;
 
 /// The number of elapses to show if the question doesn't say how many.
 const DEFAULT_COUNT: u32 = 5;

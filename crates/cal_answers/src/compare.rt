@@ -2,15 +2,18 @@
 
 ghost use Rattle.std.specs.Prelude.{◌≤◌, IfOk};
 
-use crate::answer::{Answer, Asked, INVALID, fault_lines, push_fault_line, push_masked};
-use cal_load::{Loaded, LoadedTimer};
+use crate::answer::{
+    Answer, Asked, INVALID, UNUSABLE, fault_lines, push_fault_line, push_masked, stopped,
+};
+use cal_load::{Loaded, LoadedTimer, is_path};
 use cal_plan::PlanFault;
-use cal_tasks::difference_of;
+use cal_tasks::{Difference, Side, difference_of, settings_only};
 use cal_timers_json::same_json;
 use cal_timers_text::same_text;
 use std::alloc::{AllocError, Global};
 
-/// Compares the two timers that were loaded.
+/// Compares the two timers for which the targets stand. A target that doesn't stand for a single timer is an error: a
+/// folder, even one with a single timer, and a timer that is masked or can't be loaded.
 pub(crate) fn same(
     alloc: Global,
     asked: Asked<'_>,
@@ -19,12 +22,39 @@ pub(crate) fn same(
 ) -> Result<Answer, PlanFault>
     ensures { IfOk result (λ answer. answer.status ≤ 2) }
 {
+    if let Some(folder) = find_folder(asked.targets, first, second) {
+        let reason = format!(in alloc; "{folder}: a folder, not a timer")?;
+        return stopped(alloc, reason.as_str());
+    }
     match (first.timers.first(), second.timers.first()) {
         (Some(one), Some(other)) => {
             let err = lines_of_both(alloc, first, second)?;
             compared(alloc, asked, one, other, err)
         }
         _ => unloaded(alloc, first, second),
+    }
+}
+
+/// Returns the first of the two targets that was loaded as a folder, if there is one.
+fn find_folder<'t>(targets: &'t [String], first: &Loaded, second: &Loaded) -> Option<&'t str> {
+    let one = targets.first()?.as_str();
+    let other = targets.get(1)?.as_str();
+    if is_folder(one, first) {
+        return Some(one);
+    }
+    if is_folder(other, second) {
+        return Some(other);
+    }
+    None
+}
+
+/// Returns whether a target was loaded as a folder that has a timer or is empty. A file that is a target is named by the
+/// target itself, and a file in a folder by a longer path. Returns `false` if nothing in the folder could be loaded; then
+/// the errors or masked units are reported instead.
+fn is_folder(target: &str, loaded: &Loaded) -> bool {
+    match loaded.timers.first() {
+        Some(timer) => is_path(target) && timer.name.as_str() != target.trim_end_matches('/'),
+        None => loaded.faults.is_empty() && loaded.masked.is_empty(),
     }
 }
 
@@ -38,14 +68,28 @@ fn compared(
 ) -> Result<Answer, PlanFault>
     ensures { IfOk result (λ answer. answer.status ≤ 2) }
 {
-    let difference = difference_of(alloc, asked.at, one, other)?;
-    let (first, second) = (one.name.as_str(), other.name.as_str());
-    let out = if asked.is_json {
-        same_json(alloc, asked.at.local, first, second, difference)?
-    } else {
-        same_text(alloc, asked.at.local, first, second, difference)?
+    let Difference {
+        only_one,
+        only_other,
+    } = difference_of(alloc, asked.at, one, other)?;
+    let settings = settings_only(alloc, one, other)?;
+    let first = Side {
+        name: one.name.as_str(),
+        only: only_one,
+        settings: settings.as_slice(),
     };
-    let is_same = difference.only_one.is_none() && difference.only_other.is_none();
+    let settings = settings_only(alloc, other, one)?;
+    let second = Side {
+        name: other.name.as_str(),
+        only: only_other,
+        settings: settings.as_slice(),
+    };
+    let out = if asked.is_json {
+        same_json(alloc, asked.at.local, first, second)?
+    } else {
+        same_text(alloc, asked.at.local, first, second)?
+    };
+    let is_same = only_one.is_none() && only_other.is_none();
     let status = if is_same && err.is_empty() {
         0
     } else {
@@ -65,7 +109,7 @@ fn unloaded(alloc: Global, first: &Loaded, second: &Loaded) -> Result<Answer, Pl
     Ok(Answer {
         out: String::new(alloc),
         err,
-        status: INVALID,
+        status: UNUSABLE,
     })
 }
 

@@ -134,11 +134,12 @@ Mon 2024-01-01 02:00:00 +01:00  1h    notes.timer
         "same|a|daily",
         "only a.timer: Mon 2024-01-01 12:00:00 +01:00
 only daily: Tue 2024-01-02 00:00:00 +01:00
+only a.timer has RandomizedDelaySec=1h
 ",
     ),
     (
         "same|--json|2024-02-03|2024-2-3",
-        "{\n  \"same\": true,\n  \"only\": []\n}\n",
+        "{\n  \"same\": true,\n  \"only\": [],\n  \"settings\": []\n}\n",
     ),
     (
         "lint|/t/wrong.timer",
@@ -262,6 +263,7 @@ static UNREADABLE: [Row; 13] = [
         Item::Unnamed,
         "same|a|/t/boot.timer",
         "same
+only a.timer has OnStartupSec=1min
 /etc/systemd/system/a.timer.d/x.conf: a link to a path that is not UTF-8
 ",
     ),

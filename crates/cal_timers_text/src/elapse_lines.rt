@@ -1,10 +1,9 @@
-//! The output of `between` and `same`: the elapses of timers in a range, and the first instants at which two timers
-//! differ.
+//! The output of `between` and `same`: the elapses of timers in a range, and what only one of two timers has.
 
 use crate::cells::{push_blanks, push_printable};
 use crate::times::{instant_width, push_instant};
 use cal_load::LoadedTimer;
-use cal_tasks::{Difference, TimerElapse};
+use cal_tasks::{Side, TimerElapse};
 use cal_zone::{Instant, InstantFormatter, Zone};
 use std::alloc::{AllocError, Global};
 
@@ -58,36 +57,49 @@ fn push_timer_elapse(
 }
 
 /// Returns a text that says how two timers differ. For each timer that elapses at an instant at which the other
-/// doesn't, there is a line with the first such instant. If there are no such instants, returns the line `same`.
+/// doesn't, there is a line with the first such instant. If there are no such instants, the first line is `same`. Then
+/// there is a line for each setting that only one of them has.
 pub fn same_text(
     alloc: Global,
     local: Zone<'_>,
-    one: &str,
-    other: &str,
-    difference: Difference,
+    one: Side<'_>,
+    other: Side<'_>,
 ) -> Result<String, AllocError> {
     let mut out = String::new(alloc);
     let mut formatter = InstantFormatter::new(local);
-    push_only(&mut out, &mut formatter, one, difference.only_one)?;
-    push_only(&mut out, &mut formatter, other, difference.only_other)?;
+    push_only(&mut out, &mut formatter, one)?;
+    push_only(&mut out, &mut formatter, other)?;
     if out.is_empty() {
         out.push_str("same\n")?;
     }
+    push_settings(&mut out, one)?;
+    push_settings(&mut out, other)?;
     Ok(out)
 }
 
-/// Appends a line with the first instant at which only the timer with this name elapses, if there is such an instant.
+/// Appends a line for each setting that only this timer has.
+fn push_settings(out: &mut String, side: Side<'_>) -> Result<(), AllocError> {
+    for setting in side.settings {
+        out.push_str("only ")?;
+        push_printable(out, side.name)?;
+        out.push_str(" has ")?;
+        push_printable(out, setting)?;
+        out.push('\n')?;
+    }
+    Ok(())
+}
+
+/// Appends a line with the first instant at which only this timer elapses, if there is such an instant.
 fn push_only(
     out: &mut String,
     formatter: &mut InstantFormatter<'_>,
-    name: &str,
-    only: Option<Instant>,
+    side: Side<'_>,
 ) -> Result<(), AllocError> {
-    let Some(instant) = only else {
+    let Some(instant) = side.only else {
         return Ok(());
     };
     out.push_str("only ")?;
-    push_printable(out, name)?;
+    push_printable(out, side.name)?;
     out.push_str(": ")?;
     push_instant(out, formatter, instant)?;
     out.push('\n')
