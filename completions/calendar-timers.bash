@@ -45,7 +45,7 @@ _calendar_timers_values() {
     local option=$1 value=$2 whole=$3
     local head=${whole%"$value"}
     case $option in
-    --zone)
+    --zone | --in)
         [ "$value" = "${value#posix:}" ] || return
         _calendar_timers_offer "$whole" "$head" < <(compgen -W 'UTC posix:' -- "$value")
         ;;
@@ -104,7 +104,7 @@ _calendar_timers() {
     for word in "${words[@]}"; do
         case $option$ended,$word in
         -*,*) option='' ;;
-        ,--zone | ,--count | ,-n | ,--now | ,--root) option=$word ;;
+        ,--zone | ,--in | ,--count | ,-n | ,--now | ,--root) option=$word ;;
         ,--user) scope=--user ;;
         ,--) ended=yes verb=${verb:-list} ;;
         ,-?*) ;;
@@ -116,10 +116,11 @@ _calendar_timers() {
         esac
     done
     case $verb in
-    show) options='--count= --zone= --utc --now= --root= --user --json --help' ;;
-    next) options='--count= --zone= --utc --now= --root= --json --help' ;;
+    show) options='--count= --zone= --utc --in= --now= --root= --user --json --help' ;;
+    next) options='--count= --zone= --utc --in= --now= --root= --json --help' ;;
+    lint) options='--zone= --utc --now= --root= --user --json --help' ;;
     help) ;;
-    *) options='--zone= --utc --now= --root= --user --json --help' ;;
+    *) options='--zone= --utc --in= --now= --root= --user --json --help' ;;
     esac
     [ -n "$verb" ] || options="$options --version"
     case $option$ended,$whole in

@@ -35,7 +35,7 @@ function __calendar_timers_targets
 end
 
 function __calendar_timers_zones
-    # Prints values of --zone. Prints nothing after `posix:`, because the user types a rule there.
+    # Prints values of --zone and --in. Prints nothing after `posix:`, because the user types a rule there.
     string match -q -- '*posix:*' (commandline -ct); and return
     string join \n UTC posix:
 end
@@ -47,7 +47,7 @@ function __calendar_timers_words
     for word in $words[2..-1]
         if test -n "$option"
             set option
-        else if contains -- $word --zone --count -n --now --root
+        else if contains -- $word --zone --in --count -n --now --root
             set option $word
         else if not string match -q -- '-*' $word
             echo $word
@@ -90,6 +90,8 @@ complete -c calendar-timers -n $none -s V -l version -d 'print the version'
 complete -c calendar-timers -n $all -s h -l help -d 'print help'
 complete -c calendar-timers -n $all -l zone -x -a '(__calendar_timers_zones)' -d 'local zone'
 complete -c calendar-timers -n $all -l utc -d 'use UTC as the local zone'
+complete -c calendar-timers -n '__calendar_timers_verb_is none list show between same next' -l in -x \
+    -a '(__calendar_timers_zones)' -d 'show times in this zone'
 complete -c calendar-timers -n $all -l now -x -a '@' -d 'present time in Unix seconds'
 complete -c calendar-timers -n $all -l root -x -a $folders -d 'look for units and zones below this folder'
 complete -c calendar-timers -n $all -l json -d 'print JSON'

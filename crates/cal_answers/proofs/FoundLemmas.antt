@@ -8,14 +8,13 @@ use Rattle.cal_machine.specs.rules.Recording.{read_by, read_by-given, read_by-sh
 use Rattle.cal_machine.specs.rules.Seen.{some_machine, some_machine-matches}
 use Rattle.cal_timers_command.specs.declared.question.Question.{Question}
 use Rattle.cal_unit_index.specs.rules.Index.{IsIndexOf}
-use Rattle.cal_zone_files.specs.rules.MachineLocalZone.{machine_local_zone}
 use Rattle.cal_load.specs.declared.loaded.Loaded.{Loaded}
 use Rattle.cal_load.specs.rules.AllTargets.{HasAll, IsOutcome, Sought}
 use Rattle.cal_answers.specs.declared.found.Known.{Known}
 use Rattle.cal_answers.specs.declared.found.LoadedByVerb.{LoadedByVerb}
 use Rattle.cal_answers.specs.declared.found.LoadedByVerb.TheVariants as loads
 use Rattle.cal_answers.specs.rules.Found.{AreAll, AreAllOn, AreLoadedOn, AreSidesOn, FollowsFromRead, HasAllFor, HasAllLinted, IsIndexFor, IsKnownOn, IsPathOf, IsSideOn, needs_units, targets_of, verb_of}
-use Rattle.cal_answers.specs.rules.LocalClock.{IsLocalZone, clock_zone}
+use Rattle.cal_answers.specs.rules.LocalClock.{IsLocalZone, clock_zone, local_zone_of, shown_zone_of}
 use Rattle.cal_answers.specs.rules.MachinePath.{machine_path}
 
 -- what was loaded for each of the two targets by itself is what was loaded for `same`
@@ -64,13 +63,15 @@ loaded_at Knows machine path targets (loads.Next timers) knows all = tt
 -- what is known is true on a machine if each part of it is; `path` is the search path, or no folder at all
 known_with : (machine : Machine) (question : Question) (known : Known) (path : List (List ℕ)) (needed : Bool)
     → needs_units question.verb (targets_of question) ≡ needed
-    → IsLocalZone machine (machine_local_zone machine (option_map string_bytes question.zone)) (clock_zone known.local)
+    → IsLocalZone machine (local_zone_of machine question) (clock_zone known.local)
+    → IsLocalZone machine (shown_zone_of machine question) (clock_zone known.shown)
     → IsPathOf machine question.is_user needed path → IsIndexOf machine path known.index → verb_of known.loaded ≡ question.verb
     → ((folders : List (List ℕ)) → IsIndexOf machine folders known.index → AreLoadedOn machine folders (targets_of question) known.loaded)
     → ((folders : List (List ℕ)) → IsIndexOf machine folders known.index → AreAllOn machine folders (targets_of question) known.loaded)
     → IsKnownOn machine question known
-known_with machine question known path needed about zone searched is same loads whole = record {
+known_with machine question known path needed about zone shown searched is same loads whole = record {
   local = zone;
+  shown = shown;
   path = path;
   searched = subst (λ needed. IsPathOf machine question.is_user needed path) (sym about) searched;
   index = is;
@@ -82,24 +83,25 @@ known_with machine question known path needed about zone searched is same loads 
 -- what is known is true on a machine if each part of it is; `needed` says whether the question can be about units
 pub known_on : (machine : Machine) (question : Question) (known : Known) (path : List (List ℕ)) (needed : Bool)
     → needs_units question.verb (targets_of question) ≡ needed
-    → IsLocalZone machine (machine_local_zone machine (option_map string_bytes question.zone)) (clock_zone known.local)
+    → IsLocalZone machine (local_zone_of machine question) (clock_zone known.local)
+    → IsLocalZone machine (shown_zone_of machine question) (clock_zone known.shown)
     → machine_path machine question.is_user ≡ Some path → IsIndexFor machine path known.index
     → (needed ≡ true → IsIndexOf machine path known.index) → verb_of known.loaded ≡ question.verb
     → ((folders : List (List ℕ)) → IsIndexOf machine folders known.index → AreLoadedOn machine folders (targets_of question) known.loaded)
     → ((folders : List (List ℕ)) → IsIndexOf machine folders known.index → AreAllOn machine folders (targets_of question) known.loaded)
     → IsKnownOn machine question known
-known_on machine question known path true about zone searched index indexed same loads whole =
-    known_with machine question known path true about zone searched (indexed refl) same loads whole
-known_on machine question known path false about zone searched (inl is) indexed same loads whole =
-    known_with machine question known path false about zone (inl searched) is same loads whole
-known_on machine question known path false about zone searched (inr is) indexed same loads whole =
-    known_with machine question known [] false about zone (inr refl) is same loads whole
+known_on machine question known path true about zone shown searched index indexed same loads whole =
+    known_with machine question known path true about zone shown searched (indexed refl) same loads whole
+known_on machine question known path false about zone shown searched (inl is) indexed same loads whole =
+    known_with machine question known path false about zone shown (inl searched) is same loads whole
+known_on machine question known path false about zone shown searched (inr is) indexed same loads whole =
+    known_with machine question known [] false about zone shown (inr refl) is same loads whole
 
 -- what is true of all machines that a recorder shows follows from what it has read
-pub follows : {R : Type 0} {raw : Ghosts R} (tree : Recorder R raw) (IsTrue : Machine → Type 0)
-    → ((machine : Machine) → AgreesWith tree.entries tree.names tree.files tree.variables machine → IsTrue machine)
-    → FollowsFromRead raw.gives IsTrue
-follows tree IsTrue known =
+pub follows : {R : Type 0} {raw : Ghosts R} (tree : Recorder R raw) (IsSo : Machine → Type 0)
+    → ((machine : Machine) → AgreesWith tree.entries tree.names tree.files tree.variables machine → IsSo machine)
+    → FollowsFromRead raw.gives IsSo
+follows tree IsSo known =
     let read = read_by tree in
     record {
       read = read;

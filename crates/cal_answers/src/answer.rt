@@ -1,21 +1,22 @@
 //! The answer to a question: the texts for standard output and standard error, and the exit status.
 
-ghost use Rattle.std.specs.Prelude.{◌≤◌, IfOk};
+ghost use Rattle.std.specs.Prelude.{◌≡◌, ◌≤◌, IfOk};
 
 use crate::between::between;
 use crate::compare::same;
 use crate::found::{Found, LoadedByVerb};
 use crate::index::with_unreadable;
 use crate::lint::lint;
+use crate::local_clock::LocalClock;
 use crate::timers::{list, show};
 use cal_load::TargetFault;
 use cal_plan::PlanFault;
 use cal_tasks::Clocked;
-use cal_timers_command::Question;
+use cal_timers_command::{Question, Verb};
 use cal_timers_text::{Style, fault_text};
 use std::alloc::{AllocError, Global};
 
-/// The exit status if a timer can't be loaded, a file or folder can't be read, `lint` finds an error, or two timers
+/// The exit status if a timer can't be loaded (for verbs other than `same`), a file or folder can't be read, `lint` finds an error, or two timers
 /// differ.
 pub(crate) const INVALID: u8 = 1;
 
@@ -39,10 +40,13 @@ pub struct Answer {
     pub status: u8,
 }
 
-/// What a verb needs to know: the present, the local zone, and parts of the question.
+/// What a verb needs to know: the present, the zones, and parts of the question.
 #[derive(Clone, Copy)]
 pub(crate) struct Asked<'a> {
+    /// The present and the local zone.
     pub at: Clocked<'a>,
+    /// The present, and as `local` the zone in which times are shown and FROM and TO are read.
+    pub shown: Clocked<'a>,
     /// The arguments that are neither the verb nor options.
     pub targets: &'a [String],
     /// The number of elapses to show.
@@ -66,14 +70,13 @@ pub fn answer_question(
         Found::Answerable(known) => known,
         Found::Unanswerable(reason) => return stopped(alloc, reason.as_str()),
     };
-    let Some(local) = known.local.zone() else {
+    let (Some(local), Some(shown)) = (known.local.zone(), known.shown.zone()) else {
         return stopped(alloc, "the local zone isn't known");
     };
+    let now = known.now;
     let asked = Asked {
-        at: Clocked {
-            now: known.now,
-            local,
-        },
+        at: Clocked { now, local },
+        shown: Clocked { now, local: shown },
         targets: question.targets.as_slice(),
         count: question.count.unwrap_or(DEFAULT_COUNT),
         is_json: question.is_json,
@@ -81,7 +84,24 @@ pub fn answer_question(
     };
     let answer = answer_loaded(alloc, asked, &known.loaded)?;
     let answer = with_unreadable(alloc, known.index.unreadable(), answer)?;
-    Ok(answer)
+    Ok(with_zone_note(question.verb, &known.local, answer)?)
+}
+
+/// Adds a line to an answer that shows times if the local zone is UTC only because `/etc/localtime` doesn't lead
+/// to a zone file.
+fn with_zone_note(verb: Verb, local: &LocalClock, answer: Answer) -> Result<Answer, AllocError>
+    ensures { IfOk result (λ changed. changed.status ≡ answer.status) }
+{
+    if matches!(verb, Verb::Lint) || !matches!(local, LocalClock::Assumed) {
+        return Ok(answer);
+    }
+    let Answer {
+        out,
+        mut err,
+        status,
+    } = answer;
+    err.push_str("calendar-timers: /etc/localtime: no zone file, so the local zone is UTC\n")?;
+    Ok(Answer { out, err, status })
 }
 
 /// Returns the answer to a question that can't be answered at all: an error line with the reason, and the status

@@ -21,11 +21,11 @@ pub(crate) fn between(alloc: Global, asked: Asked<'_>, loaded: &Loaded) -> Resul
         return stopped(alloc, "FROM and TO are missing");
     };
     let (from, before) = (from.as_str(), before.as_str());
-    let from = match read_when(alloc, asked.at, asked.at.now, from) {
+    let from = match read_when(alloc, asked.shown, asked.shown.now, from) {
         Ok(instant) => instant,
         Err(fault) => return bad_time(alloc, from, fault),
     };
-    let before = match read_when(alloc, asked.at, from, before) {
+    let before = match read_when(alloc, asked.shown, from, before) {
         Ok(instant) => instant,
         Err(fault) => return bad_time(alloc, before, fault),
     };
@@ -58,9 +58,9 @@ fn range_of(
     let timers = loaded.timers.as_slice();
     let elapses = elapses_between(alloc, asked.at, from, before, timers)?;
     let out = if asked.is_json {
-        between_json(alloc, asked.at.local, timers, elapses.as_slice())?
+        between_json(alloc, asked.shown.local, timers, elapses.as_slice())?
     } else {
-        between_text(alloc, asked.at.local, timers, elapses.as_slice())?
+        between_text(alloc, asked.shown.local, timers, elapses.as_slice())?
     };
     Ok(Answer {
         out,

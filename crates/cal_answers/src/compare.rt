@@ -85,9 +85,9 @@ fn compared(
         settings: settings.as_slice(),
     };
     let out = if asked.is_json {
-        same_json(alloc, asked.at.local, first, second)?
+        same_json(alloc, asked.shown.local, first, second)?
     } else {
-        same_text(alloc, asked.at.local, first, second)?
+        same_text(alloc, asked.shown.local, first, second)?
     };
     let is_same = only_one.is_none() && only_other.is_none();
     let status = if is_same && err.is_empty() {

@@ -19,8 +19,10 @@ pub enum Found {
 pub struct Known {
     /// The present.
     pub now: Instant,
-    /// The local zone.
+    /// The local zone: the zone of expressions that name no zone.
     pub local: LocalClock,
+    /// The zone in which times are shown.
+    pub shown: LocalClock,
     /// The index of the search path of units, or of no folder if no unit is needed.
     pub index: UnitIndex,
     /// What the targets of the question stand for.

@@ -1,18 +1,20 @@
-//! The local zone of the machine, with the rules or the zone table that its [`Zone`] borrows.
+//! The zones of a question, with the rules or the zone tables that each [`Zone`] borrows.
 
 ghost use Rattle.std.specs.Prelude.{◌≡◌, ◌≢◌, ◌∷◌, [], IfErr, IfOk, map, option_map, string_bytes};
 ghost use Rattle.cal_machine.specs.rules.Machine.{Machine};
-ghost use Rattle.cal_zone_files.specs.rules.MachineLocalZone.{ByRule, OfName, machine_local_zone};
+ghost use Rattle.cal_zone_files.specs.rules.MachineLocalZone.{ByRule, OfMachine, OfName, machine_local_zone};
 ghost use Rattle.cal_zone.specs.rules.Zone.{zone_of};
 ghost use Rattle.cal_answers.specs.rules.LocalClock.{IsLocalZone, clock_zone};
-ghost use Rattle.cal_answers.specs.rules.Unanswerable.{HasNoLocalZone, IsUnusable};
+ghost use Rattle.cal_answers.specs.rules.Unanswerable.{IsUnusable};
 
 use cal_machine::Tree;
 use cal_zone::{Rules, Zone, ZoneFault, ZoneTable};
-use cal_zone_files::{MachineLocalZone, Origin, ZonesFault, find_local_zone, load_zones};
+use cal_zone_files::{
+    MachineLocalZone, Origin, ZonesFault, find_local_zone, load_machine_zone, load_zones,
+};
 use std::alloc::{AllocError, Global};
 
-/// The local zone of the machine, with the data that its [`Zone`] borrows.
+/// The local zone, or the zone in which times are shown, with the data that its [`Zone`] borrows.
 #[derive(Drop)]
 pub enum LocalClock {
     /// UTC, or a zone with a fixed UTC offset.
@@ -21,30 +23,34 @@ pub enum LocalClock {
     Ruled(Rules),
     /// The zone with this name in this table.
     Named(String, ZoneTable),
+    /// UTC, because `/etc/localtime` doesn't lead to a zone file.
+    Assumed,
 }
 
 impl LocalClock {
-    /// Finds the local zone, and reads its file if the zone has a name. `option` is the value of `--zone`, if the
-    /// option is given.
+    /// Finds which zone to use, and reads its file if it has one. `option` is the value of `--zone` or
+    /// `--in`, if it is given. `by_variable` says whether the variable `TZ` counts.
     ///
-    /// Fails as [`find_local_zone`] and [`load_zones`] do, and with [`ZonesFault::Unclear`] if the rule in `--zone` is
+    /// Fails as [`find_local_zone`] and [`load_zones`] do, and with [`ZonesFault::Unclear`] if the rule in the option is
     /// invalid.
     pub(crate) fn find<T: Tree>(
         alloc: Global,
         tree: &mut T,
         option: Option<&str>,
+        by_variable: bool,
     ) -> Result<LocalClock, ZonesFault>
-        ensures zone { IfOk result (λ clock. (machine : Machine) → T.shows tree.new machine
-            → IsLocalZone machine (machine_local_zone machine (option_map (λ text. text.now) option.entry)) (clock_zone clock)) }
+        ensures zone { IfOk result (λ clock. (machine : Machine) → T.shows tree.new machine → IsLocalZone machine
+            (machine_local_zone machine (option_map (λ text. text.now) option.entry) by_variable) (clock_zone clock)) }
         ensures fault { IfErr result (λ fault. fault ≢ ZonesFault.NoMemory → (machine : Machine) → T.shows tree.new machine
-            → HasNoLocalZone machine (option_map (λ text. text.now) option.entry)) }
+            → IsUnusable machine (machine_local_zone machine (option_map (λ text. text.now) option.entry) by_variable)) }
         ensures grows { (machine : Machine) → T.shows tree.new machine → T.shows tree.old machine }
     {
-        match find_local_zone(alloc, tree, option) {
+        match find_local_zone(alloc, tree, option, by_variable) {
             Ok(MachineLocalZone::Utc) => Ok(LocalClock::Fixed(Zone::utc())),
             Ok(MachineLocalZone::Offset(seconds)) => Ok(LocalClock::Fixed(Zone::offset(seconds))),
             Ok(MachineLocalZone::Rule(rule)) => ruled(alloc, rule.as_str()),
             Ok(MachineLocalZone::Named(name)) => named(alloc, tree, name),
+            Ok(MachineLocalZone::OfMachine) => of_machine(alloc, tree),
             Err(fault) => Err(fault),
         }
     }
@@ -57,6 +63,7 @@ impl LocalClock {
             LocalClock::Fixed(zone) => Some(*zone),
             LocalClock::Ruled(rules) => Some(Zone::rules(rules)),
             LocalClock::Named(name, table) => table.find(name.as_str()),
+            LocalClock::Assumed => Some(Zone::utc()),
         }
     }
 }
@@ -82,6 +89,19 @@ fn named<T: Tree>(alloc: Global, tree: &mut T, name: String) -> Result<LocalCloc
     let names = only(alloc, name.as_str())?;
     let table = load_zones(alloc, tree, names.as_slice())?;
     Ok(LocalClock::Named(name, table))
+}
+
+/// Loads the machine's own zone.
+fn of_machine<T: Tree>(alloc: Global, tree: &mut T) -> Result<LocalClock, ZonesFault>
+    ensures zone { IfOk result (λ clock. (machine : Machine) → T.shows tree.new machine
+        → IsLocalZone machine OfMachine (clock_zone clock)) }
+    ensures fault { IfErr result (λ fault. fault ≡ ZonesFault.NoMemory) }
+    ensures grows { (machine : Machine) → T.shows tree.new machine → T.shows tree.old machine }
+{
+    match load_machine_zone(alloc, tree)? {
+        Some(rules) => Ok(LocalClock::Ruled(rules)),
+        None => Ok(LocalClock::Assumed),
+    }
 }
 
 fn only(alloc: Global, name: &str) -> Result<Vec<String>, AllocError>

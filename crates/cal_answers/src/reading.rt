@@ -3,11 +3,10 @@
 ghost use Rattle.std.specs.Prelude.{◌≡◌, ◌≢◌, IfErr, IfOk, Some, map, option_map, string_bytes};
 ghost use Rattle.std.specs.Option.{option_or};
 ghost use Rattle.cal_machine.specs.rules.Machine.{Machine};
-ghost use Rattle.cal_zone_files.specs.rules.MachineLocalZone.{machine_local_zone};
 ghost use Rattle.cal_answers.specs.rules.Found.{IsFoundBy, IsKnownOn};
-ghost use Rattle.cal_answers.specs.rules.LocalClock.{IsLocalZone, clock_zone};
+ghost use Rattle.cal_answers.specs.rules.LocalClock.{IsLocalZone, clock_zone, is_next, local_zone_of, shown_option, shown_zone_of, shows_times};
 ghost use Rattle.cal_answers.specs.rules.Present.{IsPresent};
-ghost use Rattle.cal_answers.specs.rules.Unanswerable.{HasNoLocalZone, HasNoRoot, IsUnanswerableOn};
+ghost use Rattle.cal_answers.specs.rules.Unanswerable.{HasNoRoot, IsUnanswerableOn, IsUnusable};
 
 use crate::fault::ReadFault;
 use crate::found::{Found, Known};
@@ -16,14 +15,14 @@ use crate::loading::load_by_verb;
 use crate::local_clock::LocalClock;
 use crate::search_path::search_path;
 use cal_machine::{Entry, Raw, Recorder, Tree, TreeFault};
-use cal_timers_command::Question;
+use cal_timers_command::{Question, Verb};
 use cal_timers_text::zones_text;
 use cal_zone::Instant;
-use cal_zone_files::ZonesFault;
+use cal_zone_files::{Origin, ZonesFault};
 use std::alloc::{AllocError, Global};
 
-/// Reads all that the answer to a question depends on: the local zone, the search path, and the timers and files that
-/// the targets stand for. Each question about the machine is asked of `raw` at most once.
+/// Reads all that the answer to a question depends on: the zones, the search path, and the timers and files that the
+/// targets stand for. Each question about the machine is asked of `raw` at most once.
 ///
 /// `clock` is the time that the machine's clock shows, in seconds of Unix time, or `None` if the clock can't be read.
 /// If the question names a present, `clock` isn't used. Fails only if allocation fails.
@@ -59,7 +58,8 @@ fn read_known<T: Tree>(
         return Err(ReadFault::reason(alloc, "the clock shows a time before 1970 or after 2199"));
     };
     check_root(alloc, tree, question.root.as_str())?;
-    let local = find_local(alloc, tree, question.zone.as_deref())?;
+    let local = find_local(alloc, tree, question)?;
+    let shown = find_shown(alloc, tree, question)?;
     let path = search_path(alloc, tree, question.is_user)?;
     let targets = texts_of(alloc, question.targets.as_slice())?;
     let index = index_for(
@@ -73,6 +73,7 @@ fn read_known<T: Tree>(
     Ok(Known {
         now,
         local,
+        shown,
         index,
         loaded,
     })
@@ -106,25 +107,89 @@ fn check_root<T: Tree>(alloc: Global, tree: &mut T, root: &str) -> Result<(), Re
     }
 }
 
-/// Finds the local zone. `option` is the value of `--zone`, if the option is given.
+/// Finds the local zone of a question.
 fn find_local<T: Tree>(
     alloc: Global,
     tree: &mut T,
-    option: Option<&str>,
+    question: &Question,
 ) -> Result<LocalClock, ReadFault>
     ensures zone { IfOk result (λ clock. (machine : Machine) → T.shows tree.new machine
-        → IsLocalZone machine (machine_local_zone machine (option_map (λ text. text.now) option.entry)) (clock_zone clock)) }
+        → IsLocalZone machine (local_zone_of machine question.entry.now) (clock_zone clock)) }
     ensures fault { IfErr result (λ fault. fault ≢ ReadFault.NoMemory → (machine : Machine) → T.shows tree.new machine
-        → HasNoLocalZone machine (option_map (λ text. text.now) option.entry)) }
+        → IsUnusable machine (local_zone_of machine question.entry.now)) }
     ensures grows { (machine : Machine) → T.shows tree.new machine → T.shows tree.old machine }
 {
-    match LocalClock::find(alloc, tree, option) {
+    match LocalClock::find(
+        alloc,
+        tree,
+        question.zone.as_deref(),
+        is_next(question.verb),
+    ) {
         Ok(local) => Ok(local),
         Err(ZonesFault::NoMemory) => Err(ReadFault::NoMemory),
         Err(fault) => {
             let reason = zones_text(alloc, &fault)?;
             Err(ReadFault::Unanswerable(reason))
         }
+    }
+}
+
+fn is_next(verb: Verb) -> bool
+    ensures { result ≡ is_next verb }
+{
+    match verb {
+        Verb::Next => true,
+        Verb::List | Verb::Show | Verb::Lint | Verb::Between | Verb::Same => false,
+    }
+}
+
+/// Finds the zone in which the answer shows times. The caller has already found the zone of `--zone`, so if the option is
+/// unclear, it is `--in`.
+fn find_shown<T: Tree>(
+    alloc: Global,
+    tree: &mut T,
+    question: &Question,
+) -> Result<LocalClock, ReadFault>
+    ensures zone { IfOk result (λ clock. (machine : Machine) → T.shows tree.new machine
+        → IsLocalZone machine (shown_zone_of machine question.entry.now) (clock_zone clock)) }
+    ensures fault { IfErr result (λ fault. fault ≢ ReadFault.NoMemory → (machine : Machine) → T.shows tree.new machine
+        → IsUnusable machine (shown_zone_of machine question.entry.now)) }
+    ensures grows { (machine : Machine) → T.shows tree.new machine → T.shows tree.old machine }
+{
+    match LocalClock::find(
+        alloc,
+        tree,
+        shown_option(question),
+        shows_times(question.verb),
+    ) {
+        Ok(shown) => Ok(shown),
+        Err(ZonesFault::NoMemory) => Err(ReadFault::NoMemory),
+        Err(ZonesFault::Unclear(Origin::Argument)) => {
+            Err(ReadFault::reason(alloc, "--in: not a zone"))
+        }
+        Err(fault) => {
+            let reason = zones_text(alloc, &fault)?;
+            Err(ReadFault::Unanswerable(reason))
+        }
+    }
+}
+
+fn shown_option(question: &Question) -> Option<&str>
+    ensures { option_map (λ text. text.now) result ≡ shown_option question.entry.now }
+{
+    match question.shown_in.as_deref() {
+        Some(zone) => Some(zone),
+        None => question.zone.as_deref(),
+    }
+}
+
+/// Returns whether the answers of a verb have times.
+fn shows_times(verb: Verb) -> bool
+    ensures { result ≡ shows_times verb }
+{
+    match verb {
+        Verb::Lint => false,
+        Verb::List | Verb::Show | Verb::Between | Verb::Same | Verb::Next => true,
     }
 }
 

@@ -24,9 +24,9 @@ pub(crate) fn list(alloc: Global, asked: Asked<'_>, loaded: &Loaded) -> Result<A
 {
     let next = next_of_timers(alloc, asked.at, loaded.timers.as_slice())?;
     let out = if asked.is_json {
-        list_json(alloc, asked.at, loaded, &next)?
+        list_json(alloc, asked.shown, loaded, &next)?
     } else {
-        list_text(alloc, asked.at, loaded, &next, asked.style)?
+        list_text(alloc, asked.shown, loaded, &next, asked.style)?
     };
     with_faults(alloc, loaded, out)
 }
@@ -73,7 +73,7 @@ fn show_loaded_as_json(
             clock: found.clock.as_slice(),
         })?;
     }
-    show_json(alloc, asked.at, shown.as_slice())
+    show_json(alloc, asked.shown, shown.as_slice())
 }
 
 /// Returns the text about each timer, with an empty line between two texts, and then a line for each masked unit.
@@ -89,7 +89,7 @@ fn show_loaded_as_text(
             text.push('\n')?;
         }
         let (elapses, clock) = (found.elapses.as_slice(), found.clock.as_slice());
-        let shown = show_text(alloc, asked.at, timer, elapses, clock, asked.style)?;
+        let shown = show_text(alloc, asked.shown, timer, elapses, clock, asked.style)?;
         text.push_str(shown.as_str())?;
     }
     push_masked(&mut text, loaded.masked.as_slice())?;

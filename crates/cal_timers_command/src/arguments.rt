@@ -45,7 +45,14 @@ pub(crate) const ZONE: Argument = Argument {
     name: "zone",
     form: ArgumentForm::Value,
     value_name: "ZONE",
-    help: "Local zone: UTC, +hh:mm, -hh:mm, posix:RULE or a zone name{n}[default: TZ, or the machine's zone]",
+    help: "Local zone: UTC, +hh:mm, -hh:mm, posix:RULE or a zone name{n}[default: the machine's zone; for 'next', first TZ]",
+};
+
+pub(crate) const IN: Argument = Argument {
+    name: "in",
+    form: ArgumentForm::Value,
+    value_name: "ZONE",
+    help: "Show times in this zone{n}[default: that of --zone, TZ or the machine, in this order]",
 };
 
 pub(crate) const UTC: Argument = Argument {
@@ -84,7 +91,7 @@ pub(crate) const JSON: Argument = Argument {
 };
 
 /// The options that most verbs share, which the help of the program lists.
-pub(crate) const SHARED: [Argument; 6] = [ZONE, UTC, NOW, ROOT, USER, JSON];
+pub(crate) const SHARED: [Argument; 7] = [ZONE, UTC, IN, NOW, ROOT, USER, JSON];
 
 /// The name under which `clap` stores the first argument of `between` or `same`.
 pub(crate) const FIRST: &str = "first";
@@ -144,25 +151,30 @@ const OTHER_SIDE: Argument = Argument {
     help: "Unit, timer file or calendar expression",
 };
 
-static LIST_ARGUMENTS: [Argument; 7] = [ZONE, UTC, NOW, ROOT, USER, JSON, ANY_TIMERS];
+static LIST_ARGUMENTS: [Argument; 8] = [ZONE, UTC, IN, NOW, ROOT, USER, JSON, ANY_TIMERS];
 
-static SHOW_ARGUMENTS: [Argument; 8] = [COUNT, ZONE, UTC, NOW, ROOT, USER, JSON, TIMERS];
+static LINT_ARGUMENTS: [Argument; 7] = [ZONE, UTC, NOW, ROOT, USER, JSON, ANY_TIMERS];
 
-static BETWEEN_ARGUMENTS: [Argument; 9] = [FROM, TO, ZONE, UTC, NOW, ROOT, USER, JSON, ANY_TIMERS];
+static SHOW_ARGUMENTS: [Argument; 9] = [COUNT, ZONE, UTC, IN, NOW, ROOT, USER, JSON, TIMERS];
 
-static SAME_ARGUMENTS: [Argument; 8] = [ONE_SIDE, OTHER_SIDE, ZONE, UTC, NOW, ROOT, USER, JSON];
+static BETWEEN_ARGUMENTS: [Argument; 10] = [
+    FROM, TO, ZONE, UTC, IN, NOW, ROOT, USER, JSON, ANY_TIMERS,
+];
 
-static NEXT_ARGUMENTS: [Argument; 7] = [COUNT, ZONE, UTC, NOW, ROOT, JSON, EXPRESSIONS];
+static SAME_ARGUMENTS: [Argument; 9] = [ONE_SIDE, OTHER_SIDE, ZONE, UTC, IN, NOW, ROOT, USER, JSON];
+
+static NEXT_ARGUMENTS: [Argument; 8] = [COUNT, ZONE, UTC, IN, NOW, ROOT, JSON, EXPRESSIONS];
 
 /// Returns whether the option of this name has a value.
 pub(crate) fn has_value(name: &str) -> bool {
-    matches!(name, "count" | "zone" | "now" | "root")
+    matches!(name, "count" | "zone" | "in" | "now" | "root")
 }
 
 /// Returns the arguments of a verb, in the order in which the help lists them.
 pub(crate) fn arguments_of(verb: Verb) -> &'static [Argument] {
     match verb {
-        Verb::List | Verb::Lint => &LIST_ARGUMENTS,
+        Verb::List => &LIST_ARGUMENTS,
+        Verb::Lint => &LINT_ARGUMENTS,
         Verb::Show => &SHOW_ARGUMENTS,
         Verb::Between => &BETWEEN_ARGUMENTS,
         Verb::Same => &SAME_ARGUMENTS,

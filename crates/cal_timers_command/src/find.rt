@@ -7,7 +7,7 @@ use crate::arguments::{FIRST, JSON, SECOND, TARGET, USER};
 use crate::command_fault::CommandFault;
 use crate::command_line::parse;
 use crate::question::{Question, Verb};
-use crate::values::{count_of, now_of, root_of, zone_value};
+use crate::values::{count_of, now_of, root_of, shown_in_value, zone_value};
 use crate::verb_first::with_verb_first;
 use clap::ArgMatches;
 use std::alloc::{AllocError, Global};
@@ -36,6 +36,7 @@ impl Question {
     ///
     /// - `--count=N` or `-n N`, for `show` and `next`: a number from 1 to 1,000,000, in digits only.
     /// - `--zone=ZONE`: a zone, whose form isn't checked here. `--utc` is the same as `--zone=UTC`.
+    /// - `--in=ZONE`, for all verbs except `lint`: likewise.
     /// - `--now=@N`: `@` and a number from 0 to 7,258,211,998, in digits only.
     /// - `--root=DIR`: the path of a folder.
     /// - `--user`, for all verbs except `next`: the user's units instead of the system's.
@@ -73,6 +74,7 @@ fn question_of(alloc: Global, verb: Verb, values: &ArgMatches<'_>) -> Result<Que
         verb,
         targets,
         zone: zone_value(alloc, values)?,
+        shown_in: shown_in_value(alloc, values)?,
         count,
         now,
         root: root_of(alloc, values)?,

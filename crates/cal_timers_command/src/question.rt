@@ -35,8 +35,11 @@ pub struct Question {
     /// - `next`: one or more calendar expressions.
     pub targets: Vec<String>,
     /// The value of `--zone`, or `UTC` if `--utc` is given. The value isn't empty, and its form isn't checked. If
-    /// neither option is given, this is `None`, which stands for the machine's zone.
+    /// neither option is given, this is `None`: the local zone is the machine's or, for `next`, first that of `TZ`.
     pub zone: Option<String>,
+    /// The value of `--in`: the zone in which times are shown. The value isn't empty, and its form isn't checked. If the
+    /// option isn't given, this is `None`. `lint` doesn't have this option.
+    pub shown_in: Option<String>,
     /// The value of `--count`: a number of elapses, from 1 to 1,000,000. `None` if the option isn't given. Only `show`
     /// and `next` have this option.
     pub count: Option<u32>,

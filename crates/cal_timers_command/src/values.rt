@@ -5,7 +5,7 @@ ghost use Rattle.std.specs.Option.{ForSome};
 ghost use Rattle.cal_zone.specs.rules.Instant.{IsInstant};
 ghost use Rattle.cal_timers_command.specs.rules.Questions.{HasText, IsElapseCount};
 
-use crate::arguments::{Argument, COUNT, NOW, ROOT, UTC, ZONE};
+use crate::arguments::{Argument, COUNT, IN, NOW, ROOT, UTC, ZONE};
 use crate::command_fault::CommandFault;
 use cal_zone::Instant;
 use clap::ArgMatches;
@@ -56,6 +56,16 @@ pub(crate) fn zone_value(
         return Ok(Some(String::from_str(alloc, "UTC")?));
     }
     text_of(alloc, values, ZONE)
+}
+
+/// Returns the value of `--in`, or `None` if the option isn't given.
+pub(crate) fn shown_in_value(
+    alloc: Global,
+    values: &ArgMatches<'_>,
+) -> Result<Option<String>, CommandFault>
+    ensures { IfErr result HasText }
+{
+    text_of(alloc, values, IN)
 }
 
 /// Returns the value of `--root`, or an empty string if the option isn't given.

@@ -237,7 +237,7 @@ static UNREADABLE: [Row; 13] = [
     (
         "/etc/systemd/system/a.timer.d",
         Item::Closed,
-        "show|a",
+        "show|a|--utc",
         "\x1b[1ma.timer\x1b[0m
   File:      /usr/lib/systemd/system/a.timer
              /run/systemd/system/b.timer.d/y.conf
@@ -249,7 +249,7 @@ static UNREADABLE: [Row; 13] = [
     (
         "/etc/systemd/system/a.timer.d/x.conf",
         Item::Locked,
-        "show|b",
+        "show|b|--utc",
         "\x1b[1ma.timer\x1b[0m
   File:      /usr/lib/systemd/system/a.timer
              /run/systemd/system/b.timer.d/y.conf
@@ -261,7 +261,7 @@ static UNREADABLE: [Row; 13] = [
     (
         "/etc/systemd/system/a.timer.d/x.conf",
         Item::Unnamed,
-        "same|a|/t/boot.timer",
+        "same|a|/t/boot.timer|--utc",
         "same
 only a.timer has OnStartupSec=1min
 /etc/systemd/system/a.timer.d/x.conf: a link to a path that is not UTF-8
@@ -278,7 +278,7 @@ only a.timer has OnStartupSec=1min
     (
         "/etc/systemd/system",
         Item::Closed,
-        "show|a",
+        "show|a|--utc",
         "\x1b[1ma.timer\x1b[0m
   File:      /usr/lib/systemd/system/a.timer
              /run/systemd/system/b.timer.d/y.conf
@@ -290,7 +290,7 @@ only a.timer has OnStartupSec=1min
     (
         "/etc/systemd/system",
         Item::Closed,
-        "list",
+        "list|--utc",
         "\x1b[1mNEXT  LEFT  UNIT     NOTES\x1b[0m
 -     -     a.timer  OnBootSec=1min  OnStartupSec=1min
 /etc/systemd/system: cannot be read
@@ -299,7 +299,7 @@ only a.timer has OnStartupSec=1min
     (
         "/etc/systemd/system/a.timer",
         Item::Hidden,
-        "list|b",
+        "list|b|--utc",
         "\x1b[1mNEXT  LEFT  UNIT     NOTES\x1b[0m
 -     -     a.timer  OnBootSec=1min  OnStartupSec=1min
 /etc/systemd/system/a.timer: cannot be read
@@ -315,32 +315,35 @@ only a.timer has OnStartupSec=1min
     (
         "/etc/systemd/system/a.timer",
         Item::Locked,
-        "show|a",
+        "show|a|--utc",
         "/etc/systemd/system/a.timer: cannot be read\n",
     ),
     (
         "/t/locked.timer",
         Item::Locked,
-        "show|/t/locked.timer",
+        "show|/t/locked.timer|--utc",
         "/t/locked.timer: cannot be read\n",
     ),
     (
         "/usr/share/zoneinfo/X",
         Item::Locked,
-        "show|/t/zone.timer",
+        "show|/t/zone.timer|--utc",
         "/t/zone.timer:2: /usr/share/zoneinfo/X: cannot be read\n",
     ),
     (
         "/usr/share/zoneinfo/X",
         Item::Locked,
-        "next|12:00 X",
+        "next|12:00 X|--utc",
         "12:00 X: /usr/share/zoneinfo/X: cannot be read\n",
     ),
     (
         "/etc/localtime",
         Item::Hidden,
-        "next|12:00",
-        "calendar-timers: /etc/localtime: cannot be read\n",
+        "list|/t/boot.timer",
+        "\x1b[1mNEXT  LEFT  UNIT           NOTES\x1b[0m
+-     -     /t/boot.timer  OnBootSec=1min
+calendar-timers: /etc/localtime: no zone file, so the local zone is UTC
+",
     ),
 ];
 

@@ -1,4 +1,4 @@
-//! Error lines about timers that can't be loaded, and about a local zone that can't be used.
+//! Error lines about timers that can't be loaded, and about a zone that can't be used.
 
 use crate::cells::push_printable;
 use cal_load::{TargetFault, TargetReason};
@@ -50,7 +50,7 @@ pub fn fault_text(alloc: Global, fault: &TargetFault) -> Result<String, AllocErr
     Ok(out)
 }
 
-/// Returns the error line about a local zone that can't be used, without a line feed.
+/// Returns the error line about a zone that can't be used, without a line feed.
 pub fn zones_text(alloc: Global, fault: &ZonesFault) -> Result<String, AllocError> {
     let mut out = String::new(alloc);
     match fault {
@@ -66,7 +66,6 @@ fn origin_name(origin: Origin) -> &'static str {
     match origin {
         Origin::Argument => "--zone",
         Origin::Variable => "TZ",
-        Origin::Link => "/etc/localtime",
     }
 }
 

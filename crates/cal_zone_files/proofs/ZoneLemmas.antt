@@ -15,6 +15,7 @@ use Rattle.cal_civil.specs.rules.ZoneName.{is_utc_name}
 use Rattle.cal_machine.specs.declared.tree.TreeFault as trees
 use Rattle.cal_machine.specs.declared.tree.Unreadable.{Unreadable}
 use Rattle.cal_machine.specs.rules.Machine.{Machine, Tells}
+use Rattle.cal_machine.specs.rules.Places.{content_at}
 use Rattle.cal_zone.specs.rules.ZoneFile.{IsFileFault, IsFileZone}
 use Rattle.cal_zone.specs.declared.zone_fault.ZoneFault.{ZoneFault}
 use Rattle.cal_zone.specs.declared.zone_fault.ZoneFault.TheVariants as zones
@@ -23,8 +24,8 @@ use Rattle.cal_zone_files.specs.declared.fault.FileReason.TheVariants as reasons
 use Rattle.cal_zone.specs.rules.AddedZones.{is_taken}
 use Rattle.cal_zone.specs.rules.ZoneTable.{ZoneMap, zone_named}
 use Rattle.cal_zone.proofs.ZoneMapLemmas.{zone_named-here, zone_named-elsewhere}
-use Rattle.cal_zone_files.specs.rules.ZoneFiles.{HasZonesOf, IsFirstError, IsLoadError, IsReasonOn, IsZoneAdded, IsZoneOn, rejection, zone_file, zone_path}
-use Rattle.cal_zone_files.specs.rules.MachineLocalZone.{IsResultOf, MachineLocalZone, unread_fault}
+use Rattle.cal_zone_files.specs.rules.ZoneFiles.{HasZonesOf, IsFirstError, IsLoadError, IsMachineZone, IsReasonOn, IsZoneAdded, IsZoneIn, IsZoneOn, bytes_in, rejection, zone_file, zone_path}
+use Rattle.cal_zone_files.specs.rules.MachineLocalZone.{IsResultOf, MachineLocalZone, localtime, unread_fault}
 use Rattle.cal_zone_files.specs.rules.MachineLocalZone.MachineLocalZone.{UnreadIn}
 use Rattle.cal_zone_files.specs.declared.fault.FileReason.{FileReason}
 use Rattle.cal_zone_files.specs.declared.fault.Origin.{Origin}
@@ -84,6 +85,15 @@ pub unread_is : {X Y : Type 0} (view : X → Y) (zone_of : Result Y Unreadable �
     → Tells view (Err fault) answer → IsResultOf (zone_of answer) (Err (unread_fault origin fault))
 unread_is view zone_of origin unread (trees.TheVariants.Unreadable why) answer known = ap zone_of known ∙ unread why
 unread_is view zone_of origin unread trees.TheVariants.NoMemory answer known = tt
+
+-- the machine's own zone is the one in the bytes of its file
+pub machine_zone_in : (machine : Machine) (bytes : List ℕ) (found : Option TimeZone) → bytes_in (content_at machine localtime) ≡ Ok bytes
+    → IsZoneIn bytes found → IsMachineZone machine found
+machine_zone_in machine bytes found read is = rw read is
+
+-- without such a file, there is none
+pub no_machine_zone : (machine : Machine) (reason : FileReason) → bytes_in (content_at machine localtime) ≡ Err reason → IsMachineZone machine None
+no_machine_zone machine reason read = rw read refl
 
 or_true : (b : Bool) → (b || true) ≡ true
 or_true true = refl

@@ -1,16 +1,15 @@
-//! The local zone of a machine.
+//! Which zone is meant by the option, by the variable `TZ`, or without either.
 
 ghost use Rattle.std.specs.Prelude.{◌≡◌, IfOk, option_map};
 ghost use Rattle.cal_machine.specs.rules.Machine.{Machine};
-ghost use Rattle.cal_machine.specs.rules.Places.{entry_at};
-ghost use Rattle.cal_zone_files.specs.rules.MachineLocalZone.{HasOffset, HasZoneOffset, IsResultOf, entry_zone, localtime, machine_local_zone, machine_zone, shown_zone_text, unread_fault};
+ghost use Rattle.cal_zone_files.specs.rules.MachineLocalZone.{HasOffset, HasZoneOffset, IsResultOf, machine_local_zone, shown_zone_text, unread_fault, zone_by_variable};
 
 use crate::fault::{Origin, ZonesFault};
-use crate::texts::{LOCALTIME, ZoneText, argument_zone, link_zone, variable_zone};
-use cal_machine::{Tree, TreeFault, look_at};
+use crate::texts::{ZoneText, argument_zone, variable_zone};
+use cal_machine::{Tree, TreeFault};
 use std::alloc::Global;
 
-/// The local zone of a machine.
+/// The zone of local times, or the zone in which times are shown.
 #[derive(Debug, Drop)]
 pub enum MachineLocalZone {
     /// UTC.
@@ -21,42 +20,45 @@ pub enum MachineLocalZone {
     Rule(String),
     /// The name of a zone. Its file is below `/usr/share/zoneinfo`, but may be missing.
     Named(String),
+    /// The machine's own zone. [`load_machine_zone`](crate::load_machine_zone) loads it.
+    OfMachine,
 }
 
-/// Finds the local zone of a machine, without reading the file of this zone.
+/// Finds which zone to use, without reading the file of this zone.
 ///
-/// If the option for the local zone is given, its value `argument` decides. It can be `UTC`, ignoring case; an offset,
+/// If the option for the zone is given, its value `argument` decides. It can be `UTC`, ignoring case; an offset,
 /// `+hh:mm` or `-hh:mm`; `posix:` and a POSIX rule; or the name of a zone.
 ///
-/// Otherwise, if the variable `TZ` is set, its value decides (tzset(3)). It can be a POSIX rule; or, with or without a
-/// `:` in front, the name of a zone or the path of a file below `/usr/share/zoneinfo`. If the value is empty or only
-/// `:`, the local zone is UTC.
+/// Otherwise, if `by_variable` is `true` and the variable `TZ` is set, its value decides (tzset(3)). It can be a POSIX
+/// rule; or, with or without a `:` in front, the name of a zone or the path of a file below `/usr/share/zoneinfo`. If
+/// the value is empty or only `:`, the zone is UTC. If it is `/etc/localtime`, with or without a `:` in front, the zone
+/// is the machine's.
 ///
-/// If the variable isn't set, or if its value is `/etc/localtime`, with or without a `:` in front, the link at
-/// `/etc/localtime` decides (localtime(5)): the local zone is the one to whose file the link leads. If nothing is at
-/// this path, the local zone is UTC.
+/// Otherwise, the zone is the machine's.
 ///
-/// Fails with [`ZonesFault::Unclear`] if the option, variable or link that decides doesn't say which zone is the local
-/// zone, with [`ZonesFault::Unread`] if the variable or the link can't be read or is not UTF-8, and with
-/// [`ZonesFault::NoMemory`] if allocation fails.
+/// Fails with [`ZonesFault::Unclear`] if the option or the variable decides and doesn't say which zone to use, with
+/// [`ZonesFault::Unread`] if the variable can't be read or is not UTF-8, and with [`ZonesFault::NoMemory`] if allocation
+/// fails.
 pub fn find_local_zone<T: Tree>(
     alloc: Global,
     tree: &mut T,
     argument: Option<&str>,
+    by_variable: bool,
 ) -> Result<MachineLocalZone, ZonesFault>
     ensures zone { (machine : Machine) → T.shows tree.new machine
-        → IsResultOf (machine_local_zone machine (option_map (λ text. text.now) argument.entry)) result }
+        → IsResultOf (machine_local_zone machine (option_map (λ text. text.now) argument.entry) by_variable) result }
     ensures offset { IfOk result HasZoneOffset }
     ensures grows { (machine : Machine) → T.shows tree.new machine → T.shows tree.old machine }
 {
     match argument {
         Some(text) => to_owned(alloc, argument_zone(text)),
-        None => find_machine_zone(alloc, tree),
+        None if by_variable => find_variable_zone(alloc, tree),
+        None => Ok(MachineLocalZone::OfMachine),
     }
 }
 
-fn find_machine_zone<T: Tree>(alloc: Global, tree: &mut T) -> Result<MachineLocalZone, ZonesFault>
-    ensures zone { (machine : Machine) → T.shows tree.new machine → IsResultOf (machine_zone machine) result }
+fn find_variable_zone<T: Tree>(alloc: Global, tree: &mut T) -> Result<MachineLocalZone, ZonesFault>
+    ensures zone { (machine : Machine) → T.shows tree.new machine → IsResultOf (zone_by_variable machine) result }
     ensures offset { IfOk result HasZoneOffset }
     ensures grows { (machine : Machine) → T.shows tree.new machine → T.shows tree.old machine }
 {
@@ -64,24 +66,9 @@ fn find_machine_zone<T: Tree>(alloc: Global, tree: &mut T) -> Result<MachineLoca
         Ok(value) => value,
         Err(fault) => return Err(unread(Origin::Variable, fault)),
     };
-    let Some(text) = value else {
-        return find_link_zone(alloc, tree);
-    };
-    match variable_zone(alloc, text.as_str()) {
-        Some(zone) => to_owned(alloc, zone),
-        None => find_link_zone(alloc, tree),
-    }
-}
-
-fn find_link_zone<T: Tree>(alloc: Global, tree: &mut T) -> Result<MachineLocalZone, ZonesFault>
-    ensures zone { (machine : Machine) → T.shows tree.new machine
-        → IsResultOf (entry_zone (entry_at machine localtime)) result }
-    ensures offset { IfOk result HasZoneOffset }
-    ensures grows { (machine : Machine) → T.shows tree.new machine → T.shows tree.old machine }
-{
-    match look_at(alloc, tree, LOCALTIME) {
-        Ok(entry) => to_owned(alloc, link_zone(&entry)),
-        Err(fault) => Err(unread(Origin::Link, fault)),
+    match value {
+        Some(text) => to_owned(alloc, variable_zone(alloc, text.as_str())),
+        None => Ok(MachineLocalZone::OfMachine),
     }
 }
 
@@ -109,6 +96,7 @@ fn to_owned(alloc: Global, zone: ZoneText<'_>) -> Result<MachineLocalZone, Zones
             alloc,
             name.as_str(),
         )?)),
+        ZoneText::OfMachine => Ok(MachineLocalZone::OfMachine),
         ZoneText::Unclear(origin) => Err(ZonesFault::Unclear(origin)),
     }
 }

@@ -1,4 +1,4 @@
-//! The errors in finding the local zone of a machine and in loading its zone files.
+//! The errors in finding which zone to use, and in loading zone files.
 
 ghost use Rattle.std.specs.Prelude.{◌≡◌};
 ghost use Rattle.cal_zone_files.specs.declared.fault.ZonesFault.TheVariants.{NoMemory};
@@ -6,15 +6,13 @@ ghost use Rattle.cal_zone_files.specs.declared.fault.ZonesFault.TheVariants.{NoM
 use cal_zone::LoadFault;
 use std::alloc::{AllocError, AllocFailed};
 
-/// What decides which zone is the local zone.
+/// What decides which zone to use.
 #[derive(Clone, Copy, PartialEq, Eq, Debug)]
 pub enum Origin {
-    /// The option of the command line.
+    /// The option `--zone` or `--in`.
     Argument,
     /// The variable `TZ`.
     Variable,
-    /// The link `/etc/localtime`.
-    Link,
 }
 
 /// Why the file of a zone can't be used.
@@ -26,10 +24,10 @@ pub enum FileReason {
     Load(LoadFault),
 }
 
-/// Why the local zone of a machine can't be found, or its zone files can't be loaded.
+/// Why the zone to use can't be determined, or why a zone file can't be loaded.
 #[derive(Debug, Drop)]
 pub enum ZonesFault {
-    /// This origin doesn't say which zone is the local zone.
+    /// This origin doesn't say which zone to use.
     Unclear(Origin),
     /// This origin can't be read, or its text is not UTF-8.
     Unread(Origin),

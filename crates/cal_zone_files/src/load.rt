@@ -1,4 +1,4 @@
-//! Loading the zones that expressions name.
+//! Loading the machine's own zone, and the zones that expressions name.
 
 ghost use Rattle.std.specs.Prelude.{◌≡◌, ◌||◌, ℕ, List, IfErr, IfOk, OnOk, false, is_some, map, string_bytes};
 ghost use Rattle.std.specs.List.{list_any};
@@ -8,9 +8,10 @@ ghost use Rattle.cal_machine.specs.rules.Machine.{Machine};
 ghost use Rattle.cal_machine.specs.rules.Places.{content_at};
 ghost use Rattle.cal_zone.specs.rules.ZoneFile.{IsFileFault, IsFileZone};
 ghost use Rattle.cal_zone.specs.rules.ZoneTable.{zone_named};
-ghost use Rattle.cal_zone_files.specs.rules.ZoneFiles.{HasZonesOf, IsFirstError, IsLoadError, IsZoneAdded, IsZoneOn, bytes_in, rejection, shown_file, zone_path};
+ghost use Rattle.cal_zone_files.specs.rules.ZoneFiles.{HasZonesOf, IsFirstError, IsLoadError, IsMachineZone, IsZoneAdded, IsZoneIn, IsZoneOn, bytes_in, rejection, shown_file, zone_path};
 
 use crate::fault::{FileReason, ZonesFault};
+use crate::texts::LOCALTIME;
 use cal_machine::{Content, Tree, TreeFault, read_at};
 use cal_zone::{LoadFault, Rules, ZoneFault, ZoneName, ZoneTable};
 use std::alloc::{AllocError, Global};
@@ -42,6 +43,32 @@ pub fn load_zones<T: Tree>(
         }
     }
     Ok(table)
+}
+
+/// Returns the machine's own zone: the one in the zone file to which `/etc/localtime` leads (localtime(5), RFC 8536).
+/// Returns `None`, which stands for UTC, if it leads to no zone file: nothing or a folder is there, the path can't be
+/// followed or read, or [`Rules::file`] rejects the bytes; a device counts as an empty file.
+///
+/// Fails only if allocation fails.
+pub fn load_machine_zone<T: Tree>(alloc: Global, tree: &mut T) -> Result<Option<Rules>, AllocError>
+    ensures zone { IfOk result (λ zone. (machine : Machine) → T.shows tree.new machine → IsMachineZone machine zone) }
+    ensures grows { (machine : Machine) → T.shows tree.new machine → T.shows tree.old machine }
+{
+    match zone_file(alloc, tree, LOCALTIME)? {
+        Ok(bytes) => zone_in(alloc, bytes.as_slice()),
+        Err(_) => Ok(None),
+    }
+}
+
+/// Returns the zone of a zone file with these bytes, or `None` if this isn't a zone file.
+fn zone_in(alloc: Global, bytes: &[u8]) -> Result<Option<Rules>, AllocError>
+    ensures { IfOk result (IsZoneIn bytes.now) }
+{
+    match Rules::file(alloc, "localtime", bytes) {
+        Ok(rules) => Ok(Some(rules)),
+        Err(ZoneFault::NoMemory) => Err(AllocError),
+        Err(_) => Ok(None),
+    }
 }
 
 /// Loads the zone of this name into the table, unless the table already has it.

@@ -1,21 +1,19 @@
-//! The zones that the option, the variable `TZ` and the link `/etc/localtime` name.
+//! The zones that the option and the variable `TZ` name.
 
-ghost use Rattle.std.specs.Prelude.{◌≡◌, IfSome, is_some, option_map};
+ghost use Rattle.std.specs.Prelude.{◌≡◌, is_some};
 ghost use Rattle.jiff.specs.Words.{read_whole};
-ghost use Rattle.cal_machine.specs.rules.Machine.{shown_entry};
-ghost use Rattle.cal_machine.specs.rules.Prefix.{after_prefix};
-ghost use Rattle.cal_zone_files.specs.rules.MachineLocalZone.{HasOffset, argument_zone, file_zone, link_name, link_zone, name_or_offset, name_zone, offset_zone, shown_zone_text, target_zone, variable_zone, without_folder};
+ghost use Rattle.cal_zone_files.specs.rules.MachineLocalZone.{HasOffset, argument_zone, file_zone, name_or_offset, name_zone, offset_zone, shown_zone_text, variable_zone, without_folder};
 
 use crate::fault::Origin;
 use cal_civil::{is_utc_name, read_offset};
-use cal_machine::{Entry, after_prefix};
+use cal_machine::after_prefix;
 use cal_zone::{Rules, ZoneName};
 use std::alloc::Global;
 
-/// The path of the link to the file of the local zone.
+/// The path that leads to the file of the machine's zone (localtime(5)).
 pub(crate) const LOCALTIME: &str = "/etc/localtime";
 
-/// What an origin says about the local zone. Rules and names are parts of the origin's text.
+/// What an origin says about the zone. Rules and names are parts of the origin's text.
 #[derive(Clone, Copy, Debug)]
 pub(crate) enum ZoneText<'t> {
     Utc,
@@ -25,7 +23,9 @@ pub(crate) enum ZoneText<'t> {
     Rule(&'t str),
     /// A name below `/usr/share/zoneinfo`.
     Named(ZoneName<'t>),
-    /// This origin doesn't say which zone is the local zone.
+    /// The machine's own zone.
+    OfMachine,
+    /// This origin doesn't say which zone to use.
     Unclear(Origin),
 }
 
@@ -64,17 +64,17 @@ fn offset_zone(text: &str) -> ZoneText<'_>
     }
 }
 
-/// Returns the zone that the value of `TZ` names (tzset(3)). Returns `None` if the value is `/etc/localtime` or
-/// `:/etc/localtime`, because then the link at this path says which zone is the local zone.
-pub(crate) fn variable_zone(alloc: Global, text: &str) -> Option<ZoneText<'_>>
-    ensures zone { option_map shown_zone_text result ≡ variable_zone text.now }
-    ensures offset { IfSome result HasOffset }
+/// Returns the zone that the value of `TZ` names (tzset(3)). `/etc/localtime` and `:/etc/localtime` stand for the
+/// machine's own zone.
+pub(crate) fn variable_zone(alloc: Global, text: &str) -> ZoneText<'_>
+    ensures zone { shown_zone_text result ≡ variable_zone text.now }
+    ensures offset { HasOffset result }
 {
     if let Some(file) = after_prefix(":", text) {
         return file_zone(file);
     }
     if is_rule(alloc, text) {
-        return Some(ZoneText::Rule(text));
+        return ZoneText::Rule(text);
     }
     file_zone(text)
 }
@@ -85,17 +85,17 @@ fn is_rule(alloc: Global, text: &str) -> bool
     Rules::posix(alloc, text).is_ok()
 }
 
-fn file_zone(file: &str) -> Option<ZoneText<'_>>
-    ensures zone { option_map shown_zone_text result ≡ file_zone file.now }
-    ensures offset { IfSome result HasOffset }
+fn file_zone(file: &str) -> ZoneText<'_>
+    ensures zone { shown_zone_text result ≡ file_zone file.now }
+    ensures offset { HasOffset result }
 {
     if file == LOCALTIME {
-        return None;
+        return ZoneText::OfMachine;
     }
     if file.is_empty() {
-        return Some(ZoneText::Utc);
+        return ZoneText::Utc;
     }
-    Some(name_zone(Origin::Variable, without_folder(file)))
+    name_zone(without_folder(file))
 }
 
 /// Returns the name of the zone whose file is at the path `file`, if the path begins with `/usr/share/zoneinfo/`.
@@ -109,8 +109,8 @@ fn without_folder(file: &str) -> &str
     }
 }
 
-fn name_zone(origin: Origin, name: &str) -> ZoneText<'_>
-    ensures zone { shown_zone_text result ≡ name_zone origin name.now }
+fn name_zone(name: &str) -> ZoneText<'_>
+    ensures zone { shown_zone_text result ≡ name_zone name.now }
     ensures offset { HasOffset result }
 {
     if is_utc_name(name) {
@@ -118,38 +118,6 @@ fn name_zone(origin: Origin, name: &str) -> ZoneText<'_>
     }
     match ZoneName::new(name) {
         Some(name) => ZoneText::Named(name),
-        None => ZoneText::Unclear(origin),
+        None => ZoneText::Unclear(Origin::Variable),
     }
-}
-
-/// Returns the zone for what is at `/etc/localtime` (localtime(5)): UTC if nothing is there, or the zone to whose file
-/// a link leads. Returns [`ZoneText::Unclear`] for anything else.
-pub(crate) fn link_zone(entry: &Entry) -> ZoneText<'_>
-    ensures zone { shown_zone_text result ≡ link_zone (shown_entry entry.now) }
-    ensures offset { HasOffset result }
-{
-    match entry {
-        Entry::Missing => ZoneText::Utc,
-        Entry::Link(target) => target_zone(target.as_str()),
-        _ => ZoneText::Unclear(Origin::Link),
-    }
-}
-
-fn target_zone(target: &str) -> ZoneText<'_>
-    ensures zone { shown_zone_text result ≡ target_zone target.now }
-    ensures offset { HasOffset result }
-{
-    match link_name(target) {
-        Some(name) => name_zone(Origin::Link, name),
-        None => ZoneText::Unclear(Origin::Link),
-    }
-}
-
-fn link_name(target: &str) -> Option<&str>
-    ensures { option_map (λ name. name.now) result ≡ link_name target.now }
-{
-    if let Some(name) = after_prefix("/usr/share/zoneinfo/", target) {
-        return Some(name);
-    }
-    after_prefix("../usr/share/zoneinfo/", target)
 }

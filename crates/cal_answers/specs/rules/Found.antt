@@ -1,5 +1,5 @@
 -- What is found when a question is read: the contract of `read_question`, which `calendar-timers` calls once per run.
-use Rattle.std.specs.Prelude.{◌≡◌, ◌⊎◌, ◌==◌, ◌||◌, ⊤, ℕ, ℤ, Bool, true, false, not, All, List, [], ◌∷◌, Option, Some, drop, length, map, option_map, string_bytes}
+use Rattle.std.specs.Prelude.{◌≡◌, ◌⊎◌, ◌==◌, ◌||◌, ⊤, ℕ, ℤ, Bool, true, false, not, All, List, [], ◌∷◌, Option, Some, drop, length, map, string_bytes}
 use Rattle.std.specs.List.{list_any}
 use Rattle.std.specs.Option.{option_or}
 use Rattle.cal_machine.specs.rules.Machine.{Machine}
@@ -9,7 +9,6 @@ use Rattle.cal_timers_command.specs.declared.question.Verb.{Verb}
 use Rattle.cal_timers_command.specs.declared.question.Verb.TheVariants as verbs
 use Rattle.cal_unit_index.specs.declared.index.UnitIndex.{UnitIndex}
 use Rattle.cal_unit_index.specs.rules.Index.{IsIndexOf}
-use Rattle.cal_zone_files.specs.rules.MachineLocalZone.{machine_local_zone}
 use Rattle.cal_load.specs.declared.loaded.Loaded.{Loaded}
 use Rattle.cal_load.specs.rules.AllTargets.{HasAllTargets, HasAllUnits, is_path}
 use Rattle.cal_load.specs.rules.Expressions.{IsMadeOf}
@@ -18,7 +17,7 @@ use Rattle.cal_answers.specs.declared.found.Found as founds
 use Rattle.cal_answers.specs.declared.found.Known.{Known}
 use Rattle.cal_answers.specs.declared.found.LoadedByVerb.{LoadedByVerb}
 use Rattle.cal_answers.specs.declared.found.LoadedByVerb.TheVariants as loads
-use Rattle.cal_answers.specs.rules.LocalClock.{IsLocalZone, clock_zone}
+use Rattle.cal_answers.specs.rules.LocalClock.{IsLocalZone, clock_zone, local_zone_of, shown_zone_of}
 use Rattle.cal_answers.specs.rules.MachinePath.{machine_path}
 use Rattle.cal_answers.specs.rules.Present.{IsPresent}
 use Rattle.cal_answers.specs.rules.Unanswerable.{IsUnanswerableOn}
@@ -122,10 +121,11 @@ IsPathOf machine is_user false path = (machine_path machine is_user ≡ Some pat
 abbrev pub targets_of : Question → List (List ℕ)
 targets_of question = map string_bytes question.targets.items
 
--- What is known for a question is true on this machine: the local zone, the index of the search path, and the timers
--- and files that the targets stand for, of which none is missing.
+-- What is known for a question is true on this machine: the local zone, the zone in which times are shown, the index of
+-- the search path, and the timers and files that the targets stand for, of which none is missing.
 pub record IsKnownOn (machine : Machine) (question : Question) (known : Known) : Type 0 where
-  pub local : IsLocalZone machine (machine_local_zone machine (option_map string_bytes question.zone)) (clock_zone known.local)
+  pub local : IsLocalZone machine (local_zone_of machine question) (clock_zone known.local)
+  pub shown : IsLocalZone machine (shown_zone_of machine question) (clock_zone known.shown)
   pub path : List (List ℕ)
   pub searched : IsPathOf machine question.is_user (needs_units question.verb (targets_of question)) path
   pub index : IsIndexOf machine path known.index
@@ -133,12 +133,12 @@ pub record IsKnownOn (machine : Machine) (question : Question) (known : Known) :
   pub loaded : AreLoadedOn machine path (targets_of question) known.loaded
   pub whole : AreAllOn machine path (targets_of question) known.loaded
 
--- `IsTrue` follows from what was read. `given`: the system calls gave each answer that was read. `is_so`: it is true on
+-- `IsSo` follows from what was read. `given`: the system calls returned everything that was read. `is_so`: it is true on
 -- every machine that matches what was read. `possible`: such a machine exists.
-pub record FollowsFromRead (gives : Said → Bool) (IsTrue : Machine → Type 0) : Type 0 where
+pub record FollowsFromRead (gives : Said → Bool) (IsSo : Machine → Type 0) : Type 0 where
   pub read : Seen
   pub given : AllGiven gives read
-  pub is_so : (machine : Machine) → Matches read machine → IsTrue machine
+  pub is_so : (machine : Machine) → Matches read machine → IsSo machine
   pub possible : (machine : Machine) × Matches read machine
 
 -- What is known for a question follows from what was read, and the present is that of the question, or else that of the

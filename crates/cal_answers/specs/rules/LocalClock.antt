@@ -1,28 +1,37 @@
--- The local zone of a machine, as a zone of `jiff`. `cal_zone_files` defines which zone is the local zone.
-use Rattle.std.specs.Prelude.{◌≡◌, ℕ, Bool, true, false, List, Option, None, Some, string_bytes}
+-- The local zone of a question and the zone in which its answer shows times, as zones of `jiff`. Without `--zone`, the
+-- expressions of units are in the machine's zone, and those of `next` in the zone of `TZ`, as in
+-- `systemd-analyze calendar`. `cal_zone_files` defines which zones these are.
+use Rattle.std.specs.Prelude.{◌≡◌, ℕ, Bool, true, false, List, Option, None, Some, option_map, string_bytes}
+use Rattle.std.specs.Option.{option_or, unwrap_or}
 use Rattle.jiff.specs.Placed.{IsPosixZone}
 use Rattle.jiff.specs.Types.{TimeZone, UTC}
 use Rattle.cal_civil.specs.rules.ZoneName.{is_utc_name}
 use Rattle.cal_machine.specs.rules.Machine.{Machine}
-use Rattle.cal_zone_files.specs.rules.MachineLocalZone.{MachineLocalZone, InUtc, Ahead, ByRule, OfName, UnclearIn, UnreadIn}
-use Rattle.cal_zone_files.specs.rules.ZoneFiles.{IsZoneOn}
+use Rattle.cal_timers_command.specs.declared.question.Question.{Question}
+use Rattle.cal_timers_command.specs.declared.question.Verb.{Verb}
+use Rattle.cal_timers_command.specs.declared.question.Verb.TheVariants as verbs
+use Rattle.cal_zone_files.specs.rules.MachineLocalZone.{MachineLocalZone, InUtc, Ahead, ByRule, OfName, OfMachine, UnclearIn, UnreadIn, machine_local_zone}
+use Rattle.cal_zone_files.specs.rules.ZoneFiles.{IsMachineZone, IsZoneOn}
 use Rattle.cal_zone.specs.rules.FixedOffsetZone.{fixed_offset_zone}
 use Rattle.cal_zone.specs.rules.Zone.{zone_of}
 use Rattle.cal_zone.specs.rules.ZoneTable.{zone_named}
 use Rattle.cal_answers.specs.declared.local_clock.LocalClock.{LocalClock}
-use Rattle.cal_answers.specs.declared.local_clock.LocalClock.TheVariants.{Fixed, Ruled, Named}
+use Rattle.cal_answers.specs.declared.local_clock.LocalClock.TheVariants.{Fixed, Ruled, Named, Assumed}
 
 -- whether the zone is the one with this name; the flag says whether the name is `UTC`, ignoring case
 abbrev pub IsZoneNamed : Machine → List ℕ → Bool → TimeZone → Type 0
 IsZoneNamed machine name true zone = zone ≡ UTC
 IsZoneNamed machine name false zone = IsZoneOn machine name zone
 
--- whether the zone of `jiff` is this local zone; no zone is if the local zone is unclear or can't be read
+-- Whether the zone of `jiff` is this local zone. The machine's own zone is UTC if
+-- /etc/localtime doesn't lead to a zone file. No zone is the
+-- local zone if it is unclear or can't be read.
 abbrev pub IsThisZone : Machine → MachineLocalZone → TimeZone → Type 0
 IsThisZone machine InUtc zone = zone ≡ UTC
 IsThisZone machine (Ahead seconds) zone = zone ≡ fixed_offset_zone seconds
 IsThisZone machine (ByRule rule) zone = IsPosixZone rule zone
 IsThisZone machine (OfName name) zone = IsZoneNamed machine name (is_utc_name name) zone
+IsThisZone machine OfMachine zone = (found : Option TimeZone) × IsMachineZone machine found × (zone ≡ unwrap_or found UTC)
 IsThisZone machine (UnclearIn origin) zone = ⊥
 IsThisZone machine (UnreadIn origin) zone = ⊥
 
@@ -36,3 +45,37 @@ abbrev pub clock_zone : LocalClock → Option TimeZone
 clock_zone (Fixed zone) = Some (zone_of zone)
 clock_zone (Ruled rules) = Some rules
 clock_zone (Named name table) = zone_named table (string_bytes name)
+clock_zone Assumed = Some UTC
+
+-- ## Questions
+
+abbrev pub is_next : Verb → Bool
+is_next verbs.List = false
+is_next verbs.Show = false
+is_next verbs.Lint = false
+is_next verbs.Between = false
+is_next verbs.Same = false
+is_next verbs.Next = true
+
+-- whether the answers of a verb have times
+abbrev pub shows_times : Verb → Bool
+shows_times verbs.List = true
+shows_times verbs.Show = true
+shows_times verbs.Lint = false
+shows_times verbs.Between = true
+shows_times verbs.Same = true
+shows_times verbs.Next = true
+
+-- the zone of expressions that name no zone: that of `--zone`, or else, for `next`, that of `TZ`, or else the machine's
+abbrev pub local_zone_of : Machine → Question → MachineLocalZone
+local_zone_of machine question =
+    machine_local_zone machine (option_map string_bytes question.zone) (is_next question.verb)
+
+-- the options that say in which zone times are shown: `--in`, or else `--zone`
+abbrev pub shown_option : Question → Option (List ℕ)
+shown_option question = option_or (option_map string_bytes question.shown_in) (option_map string_bytes question.zone)
+
+-- the zone in which times are shown: that of these options, or else that of `TZ`, or else the machine's; `TZ` doesn't
+-- count for `lint`, which shows no times
+abbrev pub shown_zone_of : Machine → Question → MachineLocalZone
+shown_zone_of machine question = machine_local_zone machine (shown_option question) (shows_times question.verb)

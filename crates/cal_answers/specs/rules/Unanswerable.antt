@@ -1,24 +1,26 @@
--- When `calendar-timers` can't answer a question: there is no present, no root, no local zone or no search path.
-use Rattle.std.specs.Prelude.{◌≡◌, ◌≢◌, ◌⊎◌, ⊤, ℕ, ℤ, false, List, [], Option, None, codes, option_map, string_bytes}
+-- Why `read_question` can't answer a question: there is no present, no root or no search path, or a zone can't be used.
+use Rattle.std.specs.Prelude.{◌≡◌, ◌≢◌, ◌⊎◌, ⊤, ℕ, ℤ, false, List, [], Option, None, codes, string_bytes}
 use Rattle.std.specs.Option.{option_or}
 use Rattle.jiff.specs.Words.{read_whole}
 use Rattle.cal_machine.specs.rules.Machine.{Machine}
 use Rattle.cal_timers_command.specs.declared.question.Question.{Question}
 use Rattle.cal_zone_files.specs.declared.fault.FileReason.{FileReason}
-use Rattle.cal_zone_files.specs.rules.MachineLocalZone.{MachineLocalZone, machine_local_zone}
-use Rattle.cal_zone_files.specs.rules.MachineLocalZone.MachineLocalZone.{InUtc, Ahead, ByRule, OfName, UnclearIn, UnreadIn}
+use Rattle.cal_zone_files.specs.rules.MachineLocalZone.{MachineLocalZone}
+use Rattle.cal_zone_files.specs.rules.MachineLocalZone.MachineLocalZone.{InUtc, Ahead, ByRule, OfName, OfMachine, UnclearIn, UnreadIn}
 use Rattle.cal_zone_files.specs.rules.ZoneFiles.{IsReasonOn}
 use Rattle.cal_load.specs.rules.LoadedTarget.{is_folder}
+use Rattle.cal_answers.specs.rules.LocalClock.{local_zone_of, shown_zone_of}
 use Rattle.cal_answers.specs.rules.MachinePath.{machine_path}
 use Rattle.cal_answers.specs.rules.Present.{IsPresent}
 
--- A local zone can't be used if its rule isn't valid, if there is a reason against the file of its name, or if nothing
--- says which zone it is.
+-- A zone can't be used if its rule isn't valid, if the file for its name can't be used, or if the option or `TZ` is unclear
+-- or can't be read. The machine's own zone is UTC if /etc/localtime doesn't lead to a zone file.
 abbrev pub IsUnusable : Machine → MachineLocalZone → Type 0
 IsUnusable machine InUtc = ⊥
 IsUnusable machine (Ahead seconds) = ⊥
 IsUnusable machine (ByRule rule) = read_whole rule ≡ None
 IsUnusable machine (OfName name) = (reason : FileReason) × IsReasonOn machine name reason
+IsUnusable machine OfMachine = ⊥
 IsUnusable machine (UnclearIn origin) = ⊤
 IsUnusable machine (UnreadIn origin) = ⊤
 
@@ -30,9 +32,10 @@ HasNoPresent question clock = IsPresent (option_or question.now clock) None
 abbrev pub HasNoRoot : Machine → List ℕ → Type 0
 HasNoRoot machine root = (root ≢ []) × (is_folder (machine.entry (codes "/")) ≡ false)
 
--- the local zone of this machine, or of the option, can't be used
-abbrev pub HasNoLocalZone : Machine → Option (List ℕ) → Type 0
-HasNoLocalZone machine zone = IsUnusable machine (machine_local_zone machine zone)
+-- the local zone, or the zone in which times are shown, can't be used
+abbrev pub HasNoZone : Machine → Question → Type 0
+HasNoZone machine question =
+    IsUnusable machine (local_zone_of machine question) ⊎ IsUnusable machine (shown_zone_of machine question)
 
 -- the manager of the machine has no search path
 abbrev pub HasNoPath : Machine → Question → Type 0
@@ -43,4 +46,4 @@ abbrev pub IsUnanswerableOn : Machine → Question → Option ℤ → Type 0
 IsUnanswerableOn machine question clock =
     HasNoPresent question clock
     ⊎ (HasNoRoot machine (string_bytes question.root)
-    ⊎ (HasNoLocalZone machine (option_map string_bytes question.zone) ⊎ HasNoPath machine question))
+    ⊎ (HasNoZone machine question ⊎ HasNoPath machine question))

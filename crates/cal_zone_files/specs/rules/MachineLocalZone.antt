@@ -1,18 +1,16 @@
--- The local zone of a machine. If the option for the local zone is given, it decides. Otherwise, if the variable TZ is
--- set, the variable decides (tzset(3)). Otherwise, the link /etc/localtime decides (localtime(5)). Without any of
--- these, the local zone is UTC. If the option's value is the name of a zone, the name is as in systemd.time(7),
--- Calendar Events. The other forms of the option's value are this project's own.
-use Rattle.std.specs.Prelude.{◌≡◌, ⊤, ℕ, ℤ, List, [], Option, None, Some, Result, Ok, Err, codes, if◌then◌else◌, is_some, string_bytes}
-use Rattle.std.specs.Option.{option_or, unwrap_or}
+-- Which zone to use. If the option for the zone is given, it decides. Otherwise, if the variable TZ counts and is set,
+-- the variable decides (tzset(3)). Otherwise, it is the machine's own zone, to whose file /etc/localtime leads
+-- (localtime(5)). If the option's value is the name of a zone, the name is as in systemd.time(7), Calendar Events. The
+-- other forms of the option's value are this project's own.
+use Rattle.std.specs.Prelude.{◌≡◌, ⊤, ℕ, ℤ, Bool, true, false, List, [], Option, None, Some, Result, Ok, Err, codes, if◌then◌else◌, is_some, string_bytes}
+use Rattle.std.specs.Option.{unwrap_or}
 use Rattle.std.specs.Str.{bytes_eq}
 use Rattle.jiff.specs.Words.{read_whole}
 use Rattle.jiff_core.specs.Timestamp.{IsOffsetSeconds}
 use Rattle.cal_civil.specs.computed.ReadOffset.{offset_in}
 use Rattle.cal_civil.specs.rules.ZoneName.{is_utc_name, is_zone_name}
-use Rattle.cal_machine.specs.rules.Machine.{Entry, Machine}
-use Rattle.cal_machine.specs.rules.Machine.Entry.{Missing, Empty, File, Device, Folder, Link}
+use Rattle.cal_machine.specs.rules.Machine.{Machine}
 use Rattle.cal_machine.specs.rules.Prefix.{after_prefix}
-use Rattle.cal_machine.specs.rules.Places.{entry_at}
 use Rattle.cal_machine.specs.declared.tree.TreeFault as trees
 use Rattle.cal_machine.specs.declared.tree.Unreadable.{Unreadable}
 use Rattle.cal_zone_files.specs.declared.clock.MachineLocalZone as zones
@@ -22,13 +20,14 @@ use Rattle.cal_zone_files.specs.declared.fault.ZonesFault.{ZonesFault}
 use Rattle.cal_zone_files.specs.declared.fault.ZonesFault.TheVariants as faults
 use Rattle.cal_zone_files.specs.declared.texts.ZoneText as zone_texts
 
--- A local zone: UTC, an offset in seconds east of UTC, a POSIX rule, or the name of a zone. Or the origin (the option,
--- the variable or the link) doesn't say which zone is the local zone, or can't be read.
+-- A zone: UTC, an offset in seconds east of UTC, a POSIX rule, the name of a zone, or the machine's own zone. Or the
+-- origin (the option or the variable) doesn't say which zone to use, or can't be read.
 pub data MachineLocalZone : Type 0 where
   InUtc : MachineLocalZone
   Ahead : (seconds : ℤ) → MachineLocalZone
   ByRule : (rule : List ℕ) → MachineLocalZone
   OfName : (name : List ℕ) → MachineLocalZone
+  OfMachine : MachineLocalZone
   UnclearIn : (origin : Origin) → MachineLocalZone
   UnreadIn : (origin : Origin) → MachineLocalZone
 
@@ -50,10 +49,10 @@ rule_or_other text (Some rule) = ByRule rule
 abbrev pub argument_zone : List ℕ → MachineLocalZone
 argument_zone text = if is_utc_name text then InUtc else rule_or_other text (after_prefix (codes "posix:") text)
 
--- the zone with the name `name`, which comes from the variable or the link; `UnclearIn` if `name` doesn't have the form
--- of a zone's name
-abbrev pub name_zone : Origin → List ℕ → MachineLocalZone
-name_zone origin name = if is_utc_name name then InUtc else if is_zone_name name then OfName name else UnclearIn origin
+-- the zone with this name, which comes from the variable; `UnclearIn` if it doesn't have the form of a zone's name
+abbrev pub name_zone : List ℕ → MachineLocalZone
+name_zone name =
+    if is_utc_name name then InUtc else if is_zone_name name then OfName name else UnclearIn origins.Variable
 
 abbrev pub zone_folder : List ℕ
 zone_folder = codes "/usr/share/zoneinfo/"
@@ -65,67 +64,43 @@ abbrev pub without_folder : List ℕ → List ℕ
 without_folder file = unwrap_or (after_prefix zone_folder file) file
 
 -- The zone of a file that the variable names (tzset(3)). The file's path is absolute, or relative to the folder of zone
--- files. An empty path stands for UTC. The result is None for the path /etc/localtime, because then the link there
--- names the zone.
-abbrev pub file_zone : List ℕ → Option MachineLocalZone
+-- files. An empty path stands for UTC, and the path /etc/localtime for the machine's own zone.
+abbrev pub file_zone : List ℕ → MachineLocalZone
 file_zone file =
-    if bytes_eq file localtime then None
-    else if bytes_eq file [] then Some InUtc
-    else Some (name_zone origins.Variable (without_folder file))
+    if bytes_eq file localtime then OfMachine
+    else if bytes_eq file [] then InUtc
+    else name_zone (without_folder file)
 
-abbrev pub value_zone : List ℕ → Option (List ℕ) → Option MachineLocalZone
-value_zone text None = if is_some (read_whole text) then Some (ByRule text) else file_zone text
+abbrev pub value_zone : List ℕ → Option (List ℕ) → MachineLocalZone
+value_zone text None = if is_some (read_whole text) then ByRule text else file_zone text
 value_zone text (Some file) = file_zone file
 
 -- The zone that the variable's value names (tzset(3)). If the value begins with a colon, the path of a file follows the
--- colon. Otherwise, the value is a POSIX rule or, if it isn't a valid rule, the path of a file. The result is None for
--- the path /etc/localtime.
-abbrev pub variable_zone : List ℕ → Option MachineLocalZone
+-- colon. Otherwise, the value is a POSIX rule or, if it isn't a valid rule, the path of a file.
+abbrev pub variable_zone : List ℕ → MachineLocalZone
 variable_zone text = value_zone text (after_prefix (codes ":") text)
 
--- the name of the zone to whose file the link leads (localtime(5)); the link's target is absolute, or relative to /etc
-abbrev pub link_name : List ℕ → Option (List ℕ)
-link_name target = option_or (after_prefix zone_folder target) (after_prefix (codes "../usr/share/zoneinfo/") target)
+-- the zone if the variable has this value; without a value, it is the machine's own
+abbrev pub set_zone : Result (Option (List ℕ)) Unreadable → MachineLocalZone
+set_zone (Ok None) = OfMachine
+set_zone (Ok (Some text)) = variable_zone text
+set_zone (Err why) = UnreadIn origins.Variable
 
-abbrev pub named_link : Option (List ℕ) → MachineLocalZone
-named_link None = UnclearIn origins.Link
-named_link (Some name) = name_zone origins.Link name
+abbrev pub zone_by_variable : Machine → MachineLocalZone
+zone_by_variable machine = set_zone (machine.variable (codes "TZ"))
 
-abbrev pub target_zone : List ℕ → MachineLocalZone
-target_zone target = named_link (link_name target)
-
--- the zone for what is at /etc/localtime (localtime(5)): UTC if nothing is there, the zone to whose file a link leads,
--- and `UnclearIn` for anything else
-abbrev pub link_zone : Entry → MachineLocalZone
-link_zone Missing = InUtc
-link_zone Empty = UnclearIn origins.Link
-link_zone File = UnclearIn origins.Link
-link_zone Device = UnclearIn origins.Link
-link_zone Folder = UnclearIn origins.Link
-link_zone (Link target) = target_zone target
-
-abbrev pub entry_zone : Result Entry Unreadable → MachineLocalZone
-entry_zone (Ok entry) = link_zone entry
-entry_zone (Err why) = UnreadIn origins.Link
-
--- the zone of the variable, or `linked` if the variable isn't set or leaves the decision to the link
-abbrev pub set_zone : MachineLocalZone → Result (Option (List ℕ)) Unreadable → MachineLocalZone
-set_zone linked (Ok None) = linked
-set_zone linked (Ok (Some text)) = unwrap_or (variable_zone text) linked
-set_zone linked (Err why) = UnreadIn origins.Variable
-
-abbrev pub machine_zone : Machine → MachineLocalZone
-machine_zone machine = set_zone (entry_zone (entry_at machine localtime)) (machine.variable (codes "TZ"))
-
-abbrev pub machine_local_zone : Machine → Option (List ℕ) → MachineLocalZone
-machine_local_zone machine None = machine_zone machine
-machine_local_zone machine (Some text) = argument_zone text
+-- the zone to use: that of the option, or else, if the flag is true, that of the variable, or else the machine's
+abbrev pub machine_local_zone : Machine → Option (List ℕ) → Bool → MachineLocalZone
+machine_local_zone machine (Some text) by_variable = argument_zone text
+machine_local_zone machine None true = zone_by_variable machine
+machine_local_zone machine None false = OfMachine
 
 abbrev pub shown_zone_text : zone_texts.ZoneText → MachineLocalZone
 shown_zone_text zone_texts.TheVariants.Utc = InUtc
 shown_zone_text (zone_texts.TheVariants.Offset seconds) = Ahead seconds
 shown_zone_text (zone_texts.TheVariants.Rule rule) = ByRule rule.now
 shown_zone_text (zone_texts.TheVariants.Named name) = OfName name.text.now
+shown_zone_text zone_texts.TheVariants.OfMachine = OfMachine
 shown_zone_text (zone_texts.TheVariants.Unclear origin) = UnclearIn origin
 
 abbrev pub shown_zone : zones.MachineLocalZone → MachineLocalZone
@@ -133,6 +108,7 @@ shown_zone zones.TheVariants.Utc = InUtc
 shown_zone (zones.TheVariants.Offset seconds) = Ahead seconds
 shown_zone (zones.TheVariants.Rule rule) = ByRule (string_bytes rule)
 shown_zone (zones.TheVariants.Named name) = OfName (string_bytes name)
+shown_zone zones.TheVariants.OfMachine = OfMachine
 
 -- if the zone is given as an offset, the library `jiff` accepts this offset
 abbrev pub HasOffset : zone_texts.ZoneText → Type 0
@@ -140,6 +116,7 @@ HasOffset zone_texts.TheVariants.Utc = ⊤
 HasOffset (zone_texts.TheVariants.Offset seconds) = IsOffsetSeconds seconds
 HasOffset (zone_texts.TheVariants.Rule rule) = ⊤
 HasOffset (zone_texts.TheVariants.Named name) = ⊤
+HasOffset zone_texts.TheVariants.OfMachine = ⊤
 HasOffset (zone_texts.TheVariants.Unclear origin) = ⊤
 
 abbrev pub HasZoneOffset : zones.MachineLocalZone → Type 0
@@ -147,6 +124,7 @@ HasZoneOffset zones.TheVariants.Utc = ⊤
 HasZoneOffset (zones.TheVariants.Offset seconds) = IsOffsetSeconds seconds
 HasZoneOffset (zones.TheVariants.Rule rule) = ⊤
 HasZoneOffset (zones.TheVariants.Named name) = ⊤
+HasZoneOffset zones.TheVariants.OfMachine = ⊤
 
 -- Whether `zone` is the result: found, or the error that it is. Nothing is known of `zone` if memory ran out.
 abbrev pub IsResultOf : MachineLocalZone → Result zones.MachineLocalZone ZonesFault → Type 0

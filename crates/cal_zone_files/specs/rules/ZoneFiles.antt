@@ -1,5 +1,5 @@
 -- The zone files of a machine, in /usr/share/zoneinfo (tzset(3), localtime(5)).
-use Rattle.std.specs.Prelude.{◌≡◌, ◌≢◌, ⊤, ℕ, true, false, List, [], ◌∷◌, ◌++◌, IfSome, MatchResult, Result, Ok, Err, drop, string_bytes, take, String, Vec}
+use Rattle.std.specs.Prelude.{◌≡◌, ◌≢◌, ⊤, ℕ, true, false, List, [], ◌∷◌, ◌++◌, IfSome, MatchResult, Option, None, Some, Result, Ok, Err, codes, drop, string_bytes, take, String, Vec}
 use Rattle.std.specs.List.{list_any}
 use Rattle.std.specs.Str.{bytes_eq}
 use Rattle.std.specs.declared.alloc.Global.{Global}
@@ -15,7 +15,7 @@ use Rattle.cal_zone.specs.rules.ZoneTable.{ZoneMap, zone_named}
 use Rattle.cal_zone.specs.declared.zone_fault.ZoneFault.{ZoneFault}
 use Rattle.cal_zone.specs.declared.zone_fault.ZoneFault.TheVariants as zones
 use Rattle.cal_zone.specs.declared.zone_files.LoadFault.TheVariants as loads
-use Rattle.cal_zone_files.specs.rules.MachineLocalZone.{zone_folder}
+use Rattle.cal_zone_files.specs.rules.MachineLocalZone.{localtime, zone_folder}
 use Rattle.cal_zone_files.specs.declared.fault.FileReason.{FileReason}
 use Rattle.cal_zone_files.specs.declared.fault.FileReason.TheVariants as reasons
 use Rattle.cal_zone_files.specs.declared.fault.ZonesFault.{ZonesFault}
@@ -66,6 +66,17 @@ IsRejected name bytes (reasons.Load (loads.Zone fault)) = (fault ≢ zones.NoMem
 -- whether the machine's zone file for this name can't be used for this reason: it can't be read, or it is rejected
 abbrev pub IsReasonOn : Machine → List ℕ → FileReason → Type 0
 IsReasonOn machine name reason = MatchResult (zone_file machine name) (λ bytes. IsRejected name bytes reason) (λ why. reason ≡ why)
+
+-- whether these bytes are a zone file with this zone or, if the zone is None, aren't a valid zone file
+abbrev pub IsZoneIn : List ℕ → Option TimeZone → Type 0
+IsZoneIn bytes (Some zone) = IsFileZone (codes "localtime") bytes zone
+IsZoneIn bytes None = (fault : ZoneFault) × (fault ≢ zones.NoMemory) × IsFileFault (codes "localtime") bytes fault
+
+-- Whether this is the machine's own zone: the one in the zone file to which /etc/localtime leads (localtime(5)). None if
+-- it leads to no file that can be read, or to one that isn't a zone file.
+abbrev pub IsMachineZone : Machine → Option TimeZone → Type 0
+IsMachineZone machine zone =
+    MatchResult (bytes_in (content_at machine localtime)) (λ bytes. IsZoneIn bytes zone) (λ reason. zone ≡ None)
 
 -- whether loading the zone of this name fails with this error, unless memory runs out
 abbrev pub IsLoadError : Machine → List ℕ → ZonesFault → Type 0

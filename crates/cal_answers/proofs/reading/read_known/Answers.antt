@@ -3,10 +3,8 @@ use Rattle.std.proofs.lemmas.List.{length-map}
 use Rattle.cal_machine.specs.rules.Machine.{Machine}
 use Rattle.cal_timers_command.specs.rules.Questions.{fits_verb}
 use Rattle.cal_unit_index.specs.rules.Index.{IsIndexOf}
-use Rattle.cal_zone_files.specs.rules.MachineLocalZone.{machine_local_zone}
 use Rattle.cal_answers.specs.declared.fault.ReadFault.TheVariants.{NoMemory}
 use Rattle.cal_answers.specs.rules.Found.{AreAll, AreLoadedOn, IsIndexFor, needs_units, targets_of}
-use Rattle.cal_answers.specs.rules.LocalClock.{IsLocalZone, clock_zone}
 use Rattle.cal_answers.proofs.FoundLemmas.{known_on, loaded_at}
 use Rattle.cal_answers.proofs.reading.read_known.Goals as goal
 
@@ -20,7 +18,8 @@ returns-clause-known g c = λ machine shows.
     c.in_ok-targets.ensures ∙ ap (map string_bytes) c.as_slice.ensures.value in
     let Knows : Machine → List (List ℕ) → Type 0 = λ other path. g.T.Tree.shows c.load_by_verb.new.tree other × IsIndexOf other path c.in_ok-index.index in
     known_on machine question _ (map string_bytes c.in_ok-path.path.items) (needs_units question.verb (targets_of question)) refl
-    (subst (λ option. IsLocalZone machine (machine_local_zone machine option) (clock_zone c.in_ok-local.local)) c.as_deref.ensures.value (c.in_ok-local.ensures.zone machine found))
+    (c.in_ok-local.ensures.zone machine (c.in_ok-shown.ensures.grows machine found))
+    (c.in_ok-shown.ensures.zone machine found)
     (c.in_ok-path.ensures.known machine searched)
     (subst (λ path. IsIndexFor machine (map string_bytes path) c.in_ok-index.index) c.as_slice-2.ensures.value (c.in_ok-index.ensures.known machine indexed))
     (λ needed. subst (λ path. IsIndexOf machine (map string_bytes path) c.in_ok-index.index) c.as_slice-2.ensures.value

@@ -15,11 +15,11 @@ returns-in-Ok-Utc-clause-zone g c =
 pub returns-in-Ok-Rule-clause-zone : goal.returns-in-Ok-Rule-clause-zone
 returns-in-Ok-Rule-clause-zone g c =
     ruled_as c.ruled.result c.as_str.result.now (g.T.Tree.shows c.find_local_zone.new.tree)
-    (λ machine. machine_local_zone machine (option_map (λ text. text.now) c.args.option))
+    (λ machine. machine_local_zone machine (option_map (λ text. text.now) c.args.option) c.args.by_variable)
     (λ machine shows. ap ByRule c.as_str.ensures.value ∙ sym (ap shown_zone c.in-Ok-Rule.field-0-is) ∙ c.in-Ok-Rule.ensures.zone machine shows) c.ruled.ensures.zone
 
 pub returns-in-Ok-Rule-clause-fault : goal.returns-in-Ok-Rule-clause-fault
 returns-in-Ok-Rule-clause-fault g c =
     ruled_unusable c.ruled.result c.as_str.result.now (g.T.Tree.shows c.find_local_zone.new.tree)
-    (λ machine. machine_local_zone machine (option_map (λ text. text.now) c.args.option))
+    (λ machine. machine_local_zone machine (option_map (λ text. text.now) c.args.option) c.args.by_variable)
     (λ machine shows. ap ByRule c.as_str.ensures.value ∙ sym (ap shown_zone c.in-Ok-Rule.field-0-is) ∙ c.in-Ok-Rule.ensures.zone machine shows) c.ruled.ensures.fault
