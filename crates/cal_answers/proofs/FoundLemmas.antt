@@ -10,10 +10,11 @@ use Rattle.cal_timers_command.specs.declared.question.Question.{Question}
 use Rattle.cal_unit_index.specs.rules.Index.{IsIndexOf}
 use Rattle.cal_load.specs.declared.loaded.Loaded.{Loaded}
 use Rattle.cal_load.specs.rules.AllTargets.{HasAll, IsOutcome, Sought}
+use Rattle.cal_load.specs.rules.AllUnits.{started_if_all}
 use Rattle.cal_answers.specs.declared.found.Known.{Known}
 use Rattle.cal_answers.specs.declared.found.LoadedByVerb.{LoadedByVerb}
 use Rattle.cal_answers.specs.declared.found.LoadedByVerb.TheVariants as loads
-use Rattle.cal_answers.specs.rules.Found.{AreAll, AreAllOn, AreLoadedOn, AreSidesOn, FollowsFromRead, HasAllFor, HasAllLinted, IsIndexFor, IsKnownOn, IsPathOf, IsSideOn, needs_units, targets_of, verb_of}
+use Rattle.cal_answers.specs.rules.Found.{AreAll, AreAllOn, AreLoadedOn, AreSidesOn, FollowsFromRead, HasAllFor, HasAllLinted, HasUnits, IsIndexFor, IsKnownOn, IsPathOf, IsSideOn, needs_units, targets_of, verb_of}
 use Rattle.cal_answers.specs.rules.LocalClock.{IsLocalZone, clock_zone, local_zone_of, shown_zone_of}
 use Rattle.cal_answers.specs.rules.MachinePath.{machine_path}
 
@@ -41,24 +42,33 @@ all_at Knows sought machine path timers knows all = record {
   };
 }
 
-for_at : (Knows : Machine → List (List ℕ) → Type 0) (machine : Machine) (path targets : List (List ℕ)) (timers : Loaded) → Knows machine path
-    → HasAllFor Knows targets timers → HasAllFor (λ other folders. (other ≡ machine) × (folders ≡ path)) targets timers
-for_at Knows machine path [] timers knows all = all_at Knows _ machine path timers knows all
-for_at Knows machine path (one ∷ rest) timers knows all = all_at Knows _ machine path timers knows all
+units_at : (Knows : Machine → List (List ℕ) → Type 0) (machine : Machine) (path : List (List ℕ)) (is_all : Bool) (timers : Loaded) → Knows machine path
+    → HasUnits Knows is_all timers → HasUnits (λ other folders. (other ≡ machine) × (folders ≡ path)) is_all timers
+units_at Knows machine path is_all timers knows all = (
+  all_at Knows _ machine path timers knows all.0,
+  λ other folders same.
+      all.1 machine path knows
+      ∙ ap (λ folders. started_if_all machine folders is_all) (sym same.1) ∙ ap (λ other. started_if_all other folders is_all) (sym same.0),
+)
 
-linted_at : (Knows : Machine → List (List ℕ) → Type 0) (machine : Machine) (path targets : List (List ℕ)) (timers : Loaded) → Knows machine path
-    → HasAllLinted Knows targets timers → HasAllLinted (λ other folders. (other ≡ machine) × (folders ≡ path)) targets timers
-linted_at Knows machine path [] timers knows all = all_at Knows _ machine path timers knows all
-linted_at Knows machine path (one ∷ rest) timers knows all = tt
+for_at : (Knows : Machine → List (List ℕ) → Type 0) (machine : Machine) (path : List (List ℕ)) (is_all : Bool) (targets : List (List ℕ)) (timers : Loaded) → Knows machine path
+    → HasAllFor Knows is_all targets timers → HasAllFor (λ other folders. (other ≡ machine) × (folders ≡ path)) is_all targets timers
+for_at Knows machine path is_all [] timers knows all = units_at Knows machine path is_all timers knows all
+for_at Knows machine path is_all (one ∷ rest) timers knows all = all_at Knows _ machine path timers knows all
 
-pub loaded_at : (Knows : Machine → List (List ℕ) → Type 0) (machine : Machine) (path targets : List (List ℕ)) (loaded : LoadedByVerb) → Knows machine path
-    → AreAll Knows targets loaded → AreAllOn machine path targets loaded
-loaded_at Knows machine path targets (loads.List timers) knows all = for_at Knows machine path targets timers knows all
-loaded_at Knows machine path targets (loads.Show timers) knows all = for_at Knows machine path targets timers knows all
-loaded_at Knows machine path targets (loads.Lint files timers) knows all = linted_at Knows machine path targets timers knows all
-loaded_at Knows machine path targets (loads.Between timers) knows all = for_at Knows machine path (drop 2 targets) timers knows all
-loaded_at Knows machine path targets (loads.Same first second) knows all = tt
-loaded_at Knows machine path targets (loads.Next timers) knows all = tt
+linted_at : (Knows : Machine → List (List ℕ) → Type 0) (machine : Machine) (path : List (List ℕ)) (is_all : Bool) (targets : List (List ℕ)) (timers : Loaded) → Knows machine path
+    → HasAllLinted Knows is_all targets timers → HasAllLinted (λ other folders. (other ≡ machine) × (folders ≡ path)) is_all targets timers
+linted_at Knows machine path is_all [] timers knows all = units_at Knows machine path is_all timers knows all
+linted_at Knows machine path is_all (one ∷ rest) timers knows all = tt
+
+pub loaded_at : (Knows : Machine → List (List ℕ) → Type 0) (machine : Machine) (path : List (List ℕ)) (is_all : Bool) (targets : List (List ℕ)) (loaded : LoadedByVerb) → Knows machine path
+    → AreAll Knows is_all targets loaded → AreAllOn machine path is_all targets loaded
+loaded_at Knows machine path is_all targets (loads.List timers) knows all = for_at Knows machine path is_all targets timers knows all
+loaded_at Knows machine path is_all targets (loads.Show timers) knows all = for_at Knows machine path is_all targets timers knows all
+loaded_at Knows machine path is_all targets (loads.Lint files timers) knows all = linted_at Knows machine path is_all targets timers knows all
+loaded_at Knows machine path is_all targets (loads.Between timers) knows all = for_at Knows machine path is_all (drop 2 targets) timers knows all
+loaded_at Knows machine path is_all targets (loads.Same first second) knows all = tt
+loaded_at Knows machine path is_all targets (loads.Next timers) knows all = tt
 
 -- what is known is true on a machine if each part of it is; `path` is the search path, or no folder at all
 known_with : (machine : Machine) (question : Question) (known : Known) (path : List (List ℕ)) (needed : Bool)
@@ -67,7 +77,7 @@ known_with : (machine : Machine) (question : Question) (known : Known) (path : L
     → IsLocalZone machine (shown_zone_of machine question) (clock_zone known.shown)
     → IsPathOf machine question.is_user needed path → IsIndexOf machine path known.index → verb_of known.loaded ≡ question.verb
     → ((folders : List (List ℕ)) → IsIndexOf machine folders known.index → AreLoadedOn machine folders (targets_of question) known.loaded)
-    → ((folders : List (List ℕ)) → IsIndexOf machine folders known.index → AreAllOn machine folders (targets_of question) known.loaded)
+    → ((folders : List (List ℕ)) → IsIndexOf machine folders known.index → AreAllOn machine folders question.is_all (targets_of question) known.loaded)
     → IsKnownOn machine question known
 known_with machine question known path needed about zone shown searched is same loads whole = record {
   local = zone;
@@ -88,7 +98,7 @@ pub known_on : (machine : Machine) (question : Question) (known : Known) (path :
     → machine_path machine question.is_user ≡ Some path → IsIndexFor machine path known.index
     → (needed ≡ true → IsIndexOf machine path known.index) → verb_of known.loaded ≡ question.verb
     → ((folders : List (List ℕ)) → IsIndexOf machine folders known.index → AreLoadedOn machine folders (targets_of question) known.loaded)
-    → ((folders : List (List ℕ)) → IsIndexOf machine folders known.index → AreAllOn machine folders (targets_of question) known.loaded)
+    → ((folders : List (List ℕ)) → IsIndexOf machine folders known.index → AreAllOn machine folders question.is_all (targets_of question) known.loaded)
     → IsKnownOn machine question known
 known_on machine question known path true about zone shown searched index indexed same loads whole =
     known_with machine question known path true about zone shown searched (indexed refl) same loads whole

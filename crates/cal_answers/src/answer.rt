@@ -51,6 +51,8 @@ pub(crate) struct Asked<'a> {
     pub targets: &'a [String],
     /// The number of elapses to show.
     pub count: u32,
+    /// Whether a question without targets is about all units, not only about those that other units start.
+    pub is_all: bool,
     pub is_json: bool,
     pub style: Style,
 }
@@ -79,6 +81,7 @@ pub fn answer_question(
         shown: Clocked { now, local: shown },
         targets: question.targets.as_slice(),
         count: question.count.unwrap_or(DEFAULT_COUNT),
+        is_all: question.is_all,
         is_json: question.is_json,
         style,
     };

@@ -69,7 +69,14 @@ fn read_known<T: Tree>(
         path.as_slice(),
         targets.as_slice(),
     )?;
-    let loaded = load_by_verb(alloc, tree, &index, question.verb, targets.as_slice())?;
+    let loaded = load_by_verb(
+        alloc,
+        tree,
+        &index,
+        question.verb,
+        targets.as_slice(),
+        question.is_all,
+    )?;
     Ok(Known {
         now,
         local,

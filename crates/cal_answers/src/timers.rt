@@ -18,17 +18,28 @@ struct Elapsing {
     clock: Vec<ClockNote>,
 }
 
-/// Lists the next elapse of each timer, soonest first.
+/// Lists the next elapse of each timer, soonest first. Masked units are left out if the question is only about units that
+/// other units start, since no unit starts a masked one.
 pub(crate) fn list(alloc: Global, asked: Asked<'_>, loaded: &Loaded) -> Result<Answer, PlanFault>
     ensures { IfOk result (λ answer. answer.status ≤ 2) }
 {
     let next = next_of_timers(alloc, asked.at, loaded.timers.as_slice())?;
+    let masked = listed_masked(asked, loaded);
     let out = if asked.is_json {
-        list_json(alloc, asked.shown, loaded, &next)?
+        list_json(alloc, asked.shown, loaded, masked, &next)?
     } else {
-        list_text(alloc, asked.shown, loaded, &next, asked.style)?
+        list_text(alloc, asked.shown, loaded, masked, &next, asked.style)?
     };
     with_faults(alloc, loaded, out)
+}
+
+/// Returns the names of the masked units that `list` lists.
+fn listed_masked<'l>(asked: Asked<'_>, loaded: &'l Loaded) -> &'l [String] {
+    if asked.is_all || !asked.targets.is_empty() {
+        loaded.masked.as_slice()
+    } else {
+        &[]
+    }
 }
 
 /// Shows each timer with its files and its next elapses.

@@ -288,6 +288,20 @@ read_target machine f g targets i target other old mid new within is h k =
     (ap (flat_map f) all) (ap (flat_map g) all)
     (read_flat machine f g before target.now old mid new h k)
 
+-- what was lost besides was added to the errors afterwards
+pub read_besides : (machine : Machine) (tried : List (List ℕ)) (lost more : List Lost) (old mid new : Reading)
+    → new.seen ≡ mid.seen → new.loaded.files ≡ mid.loaded.files
+    → AreReadAlso machine tried lost old mid → AreLostAlso more mid.loaded.faults.items new.loaded.faults.items
+    → AreReadAlso machine tried (lost ++ more) old new
+read_besides machine tried lost more old mid new seen files h k paths before =
+    let read = h paths before in (
+      record {
+        files = ap (λ list. map shown_unit_text list.items) files ∙ read.0.files;
+        seen = λ path. ap (λ known. get_by_text known path) seen ∙ read.0.seen path;
+      },
+      lost_both lost more old.loaded.faults.items mid.loaded.faults.items new.loaded.faults.items read.1 k,
+    )
+
 -- if no path had been tried before, then all texts that were read are those at these paths, each path once, and all
 -- errors are of what is lost
 pub all_read : (machine : Machine) (tried paths : List (List ℕ)) (lost all : List Lost) (old new : Reading) → tried ≡ paths → lost ≡ all

@@ -2,7 +2,7 @@
 use Rattle.std.proofs.Common.{◌≡◌, ◌+◌, ◌<◌, get_or, length, take, Bool, filter, ◌∙◌, append_assoc, ℕ, List, [], ◌∷◌, ◌++◌, Ok, Err, Option, Result, ap, append-nil, inl, inr, map, refl, string_bytes, subst, false, sym, true}
 use Rattle.std.proofs.lemmas.List.{flat_map_more, map-append, take_more}
 use Rattle.std.proofs.lemmas.Grind.{flat_map-append}
-use Rattle.std.proofs.lemmas.List.Elements.{All-append, All-cons, All-nil, All-weaker, filter-append, Contains-append_left, Contains-push}
+use Rattle.std.proofs.lemmas.List.Elements.{All-append, All-cons, All-nil, All-weaker, filter-append, filter_map-append, Contains-append_left, Contains-push}
 use Rattle.std.proofs.lemmas.List.Sums.{fold-append}
 use Rattle.std.specs.BTreeSet.{insert_key}
 use Rattle.std.specs.Cmp.Lexicographic.{slice_cmp}
@@ -104,16 +104,22 @@ pushed_kept name found old mid new timers masked pushed keeps = record {
 
 -- ## Sets of stems
 
--- If `before` is the sorted set of what `f` returns for the views of `xs`, and `after` also has what it returns for the
--- view of `x`, then `after` is this set for `xs` followed by `x`.
-pub set_pushed : {X Y : Type 0} (f : Y → Option (List ℕ)) (view : X → Y) (before after : List (List ℕ)) (xs : List X) (x : X)
-    → after ≡ with_texts before (option_to_list (f (view x))) → before ≡ sorted_once (filter_map f (map view xs))
-    → after ≡ sorted_once (filter_map f (map view (xs ++ x ∷ [])))
-set_pushed f view before after xs x added held =
+-- If `before` is `start` with what `f` returns for the views of `xs` in addition, and `after` also has what it returns for
+-- the view of `x`, then `after` is `start` with what it returns for the views of `xs` followed by `x`.
+pub set_added : {X Y : Type 0} (f : Y → Option (List ℕ)) (view : X → Y) (start before after : List (List ℕ)) (xs : List X) (x : X)
+    → after ≡ with_texts before (option_to_list (f (view x))) → before ≡ with_texts start (filter_map f (map view xs))
+    → after ≡ with_texts start (filter_map f (map view (xs ++ x ∷ [])))
+set_added f view start before after xs x added held =
     added
     ∙ ap (λ names. with_texts names (option_to_list (f (view x)))) held
-    ∙ sym (fold-append (insert_key (slice_cmp nat_cmp)) [] (filter_map f (map view xs)) (option_to_list (f (view x))))
-    ∙ ap sorted_once (appended_more f view [] (filter_map f (map view xs)) (filter_map f (map view xs) ++ option_to_list (f (view x))) xs x refl refl)
+    ∙ sym (fold-append (insert_key (slice_cmp nat_cmp)) start (filter_map f (map view xs)) (option_to_list (f (view x))))
+    ∙ ap (with_texts start) (appended_more f view [] (filter_map f (map view xs)) (filter_map f (map view xs) ++ option_to_list (f (view x))) xs x refl refl)
+
+-- the set of what `f` returns for `xs`, with what it returns for `ys` in addition
+pub set_of_both : (f : List ℕ → Option (List ℕ)) (xs ys : List (List ℕ)) → with_texts (sorted_once (filter_map f xs)) (filter_map f ys) ≡ sorted_once (filter_map f (xs ++ ys))
+set_of_both f xs ys =
+    sym (fold-append (insert_key (slice_cmp nat_cmp)) [] (filter_map f xs) (filter_map f ys))
+    ∙ ap sorted_once (sym (filter_map-append f xs ys))
 
 -- a set of the names that pass a test, with one more name if it passes
 pub wanted_pushed : {X : Type 0} (test : List ℕ → Bool) (view : X → List ℕ) (before after : List (List ℕ)) (xs : List X) (x : X)
@@ -156,6 +162,21 @@ more_as Knows Now first second old new known same h = record {
     true_of = λ machine path now. h.are.true_of machine path (known machine path now);
     are_all = λ machine path now. h.are.are_all machine path (known machine path now) ∙ same machine path now;
   };
+}
+
+-- only faults were added afterwards
+pub more_kept : (Knows : Machine → List (List ℕ) → Type 0) (sought : Machine → List (List ℕ) → List Sought) (old mid new : Loaded)
+    → new.timers ≡ mid.timers → new.masked ≡ mid.masked → Keeps mid.faults.items new.faults.items → IsMore Knows sought old mid → IsMore Knows sought old new
+more_kept Knows sought old mid new timers masked keeps h = record {
+  outcomes = h.outcomes;
+  added = record {
+    timers = ap (λ list. list.items) timers ∙ h.added.timers;
+    masked = ap (λ list. map string_bytes list.items) masked ∙ h.added.masked;
+    accounted = All-weaker (IsAccounted mid.faults.items) (IsAccounted new.faults.items)
+        (λ outcome. account_kept mid.faults.items new.faults.items outcome keeps) h.outcomes h.added.accounted;
+    kept = keeps_both old.faults.items mid.faults.items new.faults.items h.added.kept keeps;
+  };
+  are = h.are;
 }
 
 pub none_more : (Knows : Machine → List (List ℕ) → Type 0) (loaded : Loaded) → IsMore Knows (λ machine path. []) loaded loaded

@@ -18,7 +18,7 @@ ghost use Rattle.cal_load.specs.rules.FileFaults.{AreFaultsOf, AreLostAlso, AreR
 ghost use Rattle.cal_load.specs.rules.Loaded.{IsStoredOn};
 
 use crate::fault::{TargetLoadFault, push_lost, push_once, push_path};
-use crate::names::{Wanted, files_in, units_in};
+use crate::names::{Units, Wanted, files_in, units_in};
 use crate::paths::{is_folder, is_path, path_in, without_slashes};
 use crate::target_fault::{TargetFault, TargetReason};
 use cal_machine::Tree;
@@ -39,25 +39,27 @@ pub struct LoadedFiles {
     pub faults: Vec<TargetFault>,
 }
 
-/// Reads the files that the targets stand for, in their order, each once. Without a target, these are the files of all
-/// timers in the search path.
+/// Reads the files that the targets stand for, in their order, each once. Without a target, these are the files of the
+/// timers that other units start, or, if `is_all`, also of all others in the search path.
 ///
 /// `index` is the index of the search path. A target is a path or the name of a timer, as for [`crate::load_timers`]. A
 /// timer stands for its file and its drop-ins, a folder for all its files with the suffix `.timer` or `.conf`, and any
 /// other file for itself. A masked unit has no files. What can't be read is in [`LoadedFiles::faults`], and all other
 /// files are still read. A drop-in that is a folder, or a link to nothing, is skipped, and so is a unit that has no file
-/// if there is no target. Fails only if allocation fails.
+/// if there is no target. Without a target, a folder `NAME.wants` or `NAME.requires` that can't be read is an error, too.
+/// Fails only if allocation fails.
 pub fn load_files<T: Tree>(
     alloc: Global,
     tree: &mut T,
     index: &UnitIndex,
     targets: &[&str],
+    is_all: bool,
 ) -> Result<LoadedFiles, AllocError>
     ensures known { IfOk result (λ loaded. (machine : Machine) → T.shows tree.new machine
         → All (IsStoredOn machine) loaded.files.items) }
     ensures whole { targets.now ≡ [] → IfOk result (λ loaded. (machine : Machine) (path : List (List ℕ)) → T.shows tree.new machine
-        → IsIndexOf machine path index.now → AreTextsAt machine (all_paths machine path) loaded.files.items
-        × AreFaultsOf (all_lost machine path) loaded.faults.items) }
+        → IsIndexOf machine path index.now → AreTextsAt machine (all_paths machine path is_all) loaded.files.items
+        × AreFaultsOf (all_lost machine path is_all) loaded.faults.items) }
     ensures targets { targets.now ≢ [] → IfOk result (λ loaded. (machine : Machine) (path : List (List ℕ)) → T.shows tree.new machine
         → IsIndexOf machine path index.now
         → AreTextsAt machine (flat_map (paths_by machine path) (map (λ target. target.now) targets.now)) loaded.files.items
@@ -65,7 +67,7 @@ pub fn load_files<T: Tree>(
     ensures grows { (machine : Machine) → T.shows tree.new machine → T.shows tree.old machine }
 {
     if targets.is_empty() {
-        return all_files(alloc, tree, index);
+        return all_files(alloc, tree, index, is_all);
     }
     let mut reading = Reading::new(alloc);
     for target in targets {
@@ -74,23 +76,30 @@ pub fn load_files<T: Tree>(
     Ok(reading.loaded)
 }
 
-/// Reads the files of all timers in the search path.
+/// Reads the files of the timers that are taken without a target.
 fn all_files<T: Tree>(
     alloc: Global,
     tree: &mut T,
     index: &UnitIndex,
+    is_all: bool,
 ) -> Result<LoadedFiles, AllocError>
     ensures known { IfOk result (λ loaded. (machine : Machine) → T.shows tree.new machine
         → All (IsStoredOn machine) loaded.files.items) }
     ensures whole { IfOk result (λ loaded. (machine : Machine) (path : List (List ℕ)) → T.shows tree.new machine
-        → IsIndexOf machine path index.now → AreTextsAt machine (all_paths machine path) loaded.files.items
-        × AreFaultsOf (all_lost machine path) loaded.faults.items) }
+        → IsIndexOf machine path index.now → AreTextsAt machine (all_paths machine path is_all) loaded.files.items
+        × AreFaultsOf (all_lost machine path is_all) loaded.faults.items) }
     ensures grows { (machine : Machine) → T.shows tree.new machine → T.shows tree.old machine }
 {
+    let Units {
+        stems,
+        started: _,
+        unreadable,
+    } = units_in(alloc, tree, index, is_all)?;
     let mut reading = Reading::new(alloc);
-    for stem in units_in(alloc, index)? {
+    for stem in stems {
         reading.take_listed(alloc, tree, index, stem.as_str())?;
     }
+    push_lost(&mut reading.loaded.faults, unreadable)?;
     Ok(reading.loaded)
 }
 

@@ -3,16 +3,18 @@
 ghost use Rattle.std.specs.Prelude.{◌≡◌, ◌+◌, ◌<◌, ◌≤◌, ◌^◌, ◌++◌, [], ℕ, List, MatchOption, OnOk, length, map, slice_get, slice_index};
 ghost use Rattle.cal_timer.specs.rules.TimerView.{shown};
 ghost use Rattle.cal_load.specs.rules.Loaded.{exceptions_in, expressions_in};
-ghost use Rattle.cal_load.specs.rules.AllUnits.{IsPushed};
+ghost use Rattle.cal_load.specs.rules.AllUnits.{IsPushed, is_disabled, shown_stems};
 ghost use Rattle.cal_load.specs.rules.Position.{IsLastUntil, IsPosition};
 
 use crate::calendar::Calendar;
 use crate::fault::{TargetLoadFault, push_fault};
+use crate::names::has_unit;
 use crate::target_fault::TargetFault;
 use cal_timer::TimerLine;
 use cal_unit_index::UnitText;
 use cal_zone::ZoneTable;
 use std::alloc::{AllocError, Global};
+use std::collections::BTreeSet;
 
 /// A timer, and everything that its elapses depend on except the local zone.
 #[derive(Drop)]
@@ -117,6 +119,9 @@ pub struct Loaded {
     pub masked: Vec<String>,
     /// The units, files, folders and expressions that couldn't be loaded, each with the reason.
     pub faults: Vec<TargetFault>,
+    /// If all units were asked for, the stems of the own names of those that other units start. A stem is a name without
+    /// its suffix `.timer`.
+    pub started: Option<BTreeSet<String>>,
 }
 
 /// What was found for the name of a unit or the path of a file.
@@ -136,6 +141,17 @@ impl Loaded {
             timers: Vec::new(alloc),
             masked: Vec::new(alloc),
             faults: Vec::new(alloc),
+            started: None,
+        }
+    }
+
+    /// Returns whether the timer with this name is disabled: all units were asked for, and no other unit starts this one.
+    pub fn is_disabled(&self, name: &str) -> bool
+        ensures { result ≡ is_disabled (shown_stems self.now.started) name.now }
+    {
+        match &self.started {
+            Some(started) => !has_unit(started, name),
+            None => false,
         }
     }
 

@@ -3,34 +3,101 @@
 ghost use Rattle.std.specs.Prelude.{◌≡◌, ◌∷◌, [], ℕ, List, Ok, IfOk, OnOk, filter, map, string_bytes};
 ghost use Rattle.std.specs.BTreeSet.{insert_key};
 ghost use Rattle.std.specs.Cmp.Lexicographic.{slice_cmp};
+ghost use Rattle.std.specs.List.{filter_map};
 ghost use Rattle.std.specs.Option.{option_to_list};
 ghost use Rattle.std.specs.Ordering.{nat_cmp};
 ghost use Rattle.std.specs.Result.{IfErr};
-ghost use Rattle.cal_unit_index.specs.rules.Destinations.{sorted_once, with_texts};
-ghost use Rattle.cal_unit_index.specs.rules.Index.{IsIndexOf};
+ghost use Rattle.cal_unit_index.specs.rules.Destinations.{is_among, sorted_once, with_texts};
+ghost use Rattle.cal_unit_index.specs.rules.Index.{IsIndexOf, shown_fault};
+ghost use Rattle.cal_unit_index.specs.rules.Starts.{unreadable_wants};
+ghost use Rattle.cal_unit_index.specs.rules.UnitName.{unit_stem};
 ghost use Rattle.cal_load.specs.rules.AllTargets.{IsUnreadFault, is_template_file, is_visible, is_wanted, wanted_at};
-ghost use Rattle.cal_load.specs.rules.AllUnits.{main_stem, units_on};
+ghost use Rattle.cal_load.specs.rules.AllUnits.{is_among_started, main_stem, own_stems, shown_stems, started_if_all, units_on};
 ghost use Rattle.cal_machine.specs.rules.Machine.{Machine};
 ghost use Rattle.cal_machine.specs.rules.Places.{names_at};
 ghost use Rattle.cal_machine.specs.rules.Seen.{seen};
 
 use crate::fault::TargetLoadFault;
 use cal_machine::{Names, Tree, names_at};
-use cal_unit_index::{Unit, UnitIndex, UnitKind, find_unit, unit_kind_of, unit_stem};
+use cal_unit_index::{
+    Started, Unit, UnitFault, UnitIndex, UnitKind, find_started, find_unit, unit_kind_of, unit_stem,
+};
 use std::alloc::{AllocError, Global};
 use std::collections::BTreeSet;
 
-/// Returns the stems of the units in a search path, sorted by their bytes. A unit that has aliases is there once, with
-/// the stem of its own name. Templates are left out, and so are names under which no file is found.
-pub(crate) fn units_in(alloc: Global, index: &UnitIndex) -> Result<BTreeSet<String>, AllocError>
+/// The units that are taken without a target.
+pub(crate) struct Units {
+    /// The stems of the units' own names.
+    pub(crate) stems: BTreeSet<String>,
+    /// If these are all units, the stems of those that other units start.
+    pub(crate) started: Option<BTreeSet<String>>,
+    /// The folders `NAME.wants` and `NAME.requires` that can't be read.
+    pub(crate) unreadable: Vec<UnitFault>,
+}
+
+/// Finds the units that other units start, or, if `is_all`, also all others in the search path. A unit that has aliases
+/// is there once. Templates are left out, and so are names under which no file is found.
+pub(crate) fn units_in<T: Tree>(
+    alloc: Global,
+    tree: &mut T,
+    index: &UnitIndex,
+    is_all: bool,
+) -> Result<Units, AllocError>
+    ensures stems { IfOk result (λ units. (machine : Machine) (path : List (List ℕ)) → T.shows tree.new machine
+        → IsIndexOf machine path index.now → map string_bytes units.stems.keys ≡ units_on machine path is_all) }
+    ensures started { IfOk result (λ units. (machine : Machine) (path : List (List ℕ)) → T.shows tree.new machine
+        → IsIndexOf machine path index.now → shown_stems units.started ≡ started_if_all machine path is_all) }
+    ensures unreadable { IfOk result (λ units. (machine : Machine) (path : List (List ℕ)) → T.shows tree.new machine
+        → IsIndexOf machine path index.now → map shown_fault units.unreadable.items ≡ unreadable_wants machine path) }
+    ensures grows { (machine : Machine) → T.shows tree.new machine → T.shows tree.old machine }
+{
+    let Started { stems, unreadable } = find_started(alloc, tree, index)?;
+    let started = own_stems(alloc, index, &stems)?;
+    if !is_all {
+        return Ok(Units {
+            stems: started,
+            started: None,
+            unreadable,
+        });
+    }
+    let mut all = own_stems(alloc, index, &index.unit_names(alloc)?)?;
+    add_all_own(alloc, &mut all, index, &stems)?;
+    Ok(Units {
+        stems: all,
+        started: Some(started),
+        unreadable,
+    })
+}
+
+/// Returns the stems of the own names of the units that are found for `stems`.
+fn own_stems(
+    alloc: Global,
+    index: &UnitIndex,
+    stems: &BTreeSet<String>,
+) -> Result<BTreeSet<String>, AllocError>
     ensures known { IfOk result (λ found. (machine : Machine) (path : List (List ℕ)) → IsIndexOf machine path index.now
-        → map string_bytes found.keys ≡ units_on machine path) }
+        → map string_bytes found.keys ≡ own_stems machine path (map string_bytes stems.now.keys)) }
 {
     let mut found = BTreeSet::new(alloc);
-    for stem in index.unit_names(alloc)? {
-        add_own(alloc, &mut found, index, stem.as_str())?;
-    }
+    add_all_own(alloc, &mut found, index, stems)?;
     Ok(found)
+}
+
+/// Adds the stems of the own names of the units that are found for `stems`.
+fn add_all_own(
+    alloc: Global,
+    found: &mut BTreeSet<String>,
+    index: &UnitIndex,
+    stems: &BTreeSet<String>,
+) -> Result<(), AllocError>
+    ensures known { OnOk result ((machine : Machine) (path : List (List ℕ)) → IsIndexOf machine path index.now
+        → map string_bytes found.new.keys
+        ≡ with_texts (map string_bytes found.old.keys) (filter_map (main_stem machine path) (map string_bytes stems.now.keys))) }
+{
+    for stem in stems.iter() {
+        add_own(alloc, found, index, stem.as_str())?;
+    }
+    Ok(())
 }
 
 /// Adds the stem of the unit's own name, if a unit is found for `stem`.
@@ -56,6 +123,22 @@ fn add_stem(found: &mut BTreeSet<String>, stem: String) -> Result<(), AllocError
 {
     found.insert(stem)?;
     Ok(())
+}
+
+/// Returns whether the unit with this name is among those with these stems.
+pub(crate) fn has_unit(stems: &BTreeSet<String>, name: &str) -> bool
+    ensures { result ≡ is_among_started (map string_bytes stems.now.keys) (unit_stem name.now) }
+{
+    match unit_stem(name) {
+        Some(stem) => has_stem(stems, stem),
+        None => false,
+    }
+}
+
+fn has_stem(stems: &BTreeSet<String>, stem: &str) -> bool
+    ensures { result ≡ is_among (map string_bytes stems.now.keys) stem.now }
+{
+    stems.contains(stem)
 }
 
 /// Returns those names in a folder that are `wanted`, sorted by their bytes. Names that are not UTF-8 are left out.

@@ -7,13 +7,14 @@ ghost use Rattle.cal_load.specs.declared.names.Wanted.TheVariants.{Timers};
 ghost use Rattle.cal_unit_index.specs.rules.UnitName.{unit_stem};
 ghost use Rattle.cal_load.specs.rules.AllTargets.Sought.{ListedUnit, SingleFile};
 ghost use Rattle.cal_load.specs.rules.AllTargets.{HasAllTargets, HasAllUnits, IsFoundIfValid, IsMore, sought_at, sought_by, sought_in, wanted_at};
-ghost use Rattle.cal_load.specs.rules.AllUnits.{IsPushed, is_absent};
+ghost use Rattle.cal_load.specs.rules.AllUnits.{IsPushed, is_absent, shown_stems, started_if_all};
+ghost use Rattle.cal_load.specs.rules.FileFaults.{IsLostIn, lost_starts};
 ghost use Rattle.cal_load.specs.rules.Loaded.{IsTimerOn};
 ghost use Rattle.cal_load.specs.rules.LoadedTarget.{IsLoadedTarget};
 
 use crate::fault::{TargetLoadFault, push_lost};
 use crate::loaded::{Loaded, LoadedTarget};
-use crate::names::{Wanted, files_in, units_in};
+use crate::names::{Units, Wanted, files_in, units_in};
 use crate::paths::{is_folder, is_path, path_in, without_slashes};
 use crate::target_fault::TargetReason;
 use crate::unit::{read_timer_file, read_unit};
@@ -21,8 +22,9 @@ use cal_machine::Tree;
 use cal_unit_index::{UnitFault, UnitIndex, unit_stem};
 use std::alloc::{AllocError, Global};
 
-/// Loads the timers that the targets stand for, in their order. Without a target, these are all timers in the search
-/// path, each once, sorted by name.
+/// Loads the timers that the targets stand for, in their order. Without a target, these are the timers that other units
+/// start, each once, sorted by name; if `is_all`, also all others in the search path, and [`Loaded::started`] says which
+/// are started.
 ///
 /// `index` is the index of the search path. It has no effect if all targets are paths. A target is
 ///
@@ -33,22 +35,28 @@ use std::alloc::{AllocError, Global};
 ///
 /// Templates in folders are left out. A template can be loaded by its path, but its name as a target is an error. What
 /// can't be loaded is in [`Loaded::faults`], and units that are masked are in [`Loaded::masked`]; all the others are
-/// still loaded. Fails only if allocation fails.
+/// still loaded. Without a target, a folder `NAME.wants` or `NAME.requires` that can't be read is an error, too. Fails
+/// only if allocation fails.
 pub fn load_timers<T: Tree>(
     alloc: Global,
     tree: &mut T,
     index: &UnitIndex,
     targets: &[&str],
+    is_all: bool,
 ) -> Result<Loaded, AllocError>
     ensures known { IfOk result (λ loaded. (machine : Machine) (path : List (List ℕ)) → T.shows tree.new machine
         → IsIndexOf machine path index.now → All (IsTimerOn machine path) loaded.timers.items) }
-    ensures whole { targets.now ≡ [] → IfOk result (HasAllUnits (λ machine path. T.shows tree.new machine × IsIndexOf machine path index.now)) }
+    ensures whole { targets.now ≡ [] → IfOk result (HasAllUnits (λ machine path. T.shows tree.new machine × IsIndexOf machine path index.now) is_all) }
+    ensures started { targets.now ≡ [] → IfOk result (λ loaded. (machine : Machine) (path : List (List ℕ)) → T.shows tree.new machine
+        → IsIndexOf machine path index.now → shown_stems loaded.started ≡ started_if_all machine path is_all) }
+    ensures unreadable { targets.now ≡ [] → IfOk result (λ loaded. (machine : Machine) (path : List (List ℕ)) → T.shows tree.new machine
+        → IsIndexOf machine path index.now → All (IsLostIn loaded.faults.items) (lost_starts machine path)) }
     ensures targets { targets.now ≢ [] → IfOk result (HasAllTargets (λ machine path. T.shows tree.new machine × IsIndexOf machine path index.now)
         (map (λ target. target.now) targets.now)) }
     ensures grows { (machine : Machine) → T.shows tree.new machine → T.shows tree.old machine }
 {
     if targets.is_empty() {
-        return load_all(alloc, tree, index);
+        return load_all(alloc, tree, index, is_all);
     }
     let mut loaded = Loaded::new(alloc);
     for target in targets {
@@ -57,17 +65,33 @@ pub fn load_timers<T: Tree>(
     Ok(loaded)
 }
 
-/// Loads all timers in the search path.
-fn load_all<T: Tree>(alloc: Global, tree: &mut T, index: &UnitIndex) -> Result<Loaded, AllocError>
-    ensures whole { IfOk result (HasAllUnits (λ machine path. T.shows tree.new machine × IsIndexOf machine path index.now)) }
+/// Loads the timers that are taken without a target.
+fn load_all<T: Tree>(
+    alloc: Global,
+    tree: &mut T,
+    index: &UnitIndex,
+    is_all: bool,
+) -> Result<Loaded, AllocError>
+    ensures whole { IfOk result (HasAllUnits (λ machine path. T.shows tree.new machine × IsIndexOf machine path index.now) is_all) }
+    ensures started { IfOk result (λ loaded. (machine : Machine) (path : List (List ℕ)) → T.shows tree.new machine
+        → IsIndexOf machine path index.now → shown_stems loaded.started ≡ started_if_all machine path is_all) }
+    ensures unreadable { IfOk result (λ loaded. (machine : Machine) (path : List (List ℕ)) → T.shows tree.new machine
+        → IsIndexOf machine path index.now → All (IsLostIn loaded.faults.items) (lost_starts machine path)) }
     ensures known { IfOk result (λ loaded. (machine : Machine) (path : List (List ℕ)) → T.shows tree.new machine
         → IsIndexOf machine path index.now → All (IsTimerOn machine path) loaded.timers.items) }
     ensures grows { (machine : Machine) → T.shows tree.new machine → T.shows tree.old machine }
 {
+    let Units {
+        stems,
+        started,
+        unreadable,
+    } = units_in(alloc, tree, index, is_all)?;
     let mut loaded = Loaded::new(alloc);
-    for stem in units_in(alloc, index)? {
+    for stem in stems {
         load_listed(alloc, tree, index, stem.as_str(), &mut loaded)?;
     }
+    loaded.started = started;
+    push_lost(&mut loaded.faults, unreadable)?;
     Ok(loaded)
 }
 

@@ -24,6 +24,8 @@ pub(crate) enum ArgumentForm {
     ShortValue(char),
     /// As an option without a value.
     Flag,
+    /// Like `Flag`; the option also has a short form, as in `-a`.
+    ShortFlag(char),
     /// Like `Flag`, but not together with the option of this name.
     FlagWithout(&'static str),
     /// As one positional argument, which is required.
@@ -81,6 +83,13 @@ pub(crate) const USER: Argument = Argument {
     form: ArgumentForm::Flag,
     value_name: "",
     help: "Look for the units of the user, not of the system",
+};
+
+pub(crate) const ALL: Argument = Argument {
+    name: "all",
+    form: ArgumentForm::ShortFlag('a'),
+    value_name: "",
+    help: "Without UNIT, FILE and DIR,{n}also take timers that no other unit starts",
 };
 
 pub(crate) const JSON: Argument = Argument {
@@ -151,14 +160,14 @@ const OTHER_SIDE: Argument = Argument {
     help: "Unit, timer file or calendar expression",
 };
 
-static LIST_ARGUMENTS: [Argument; 8] = [ZONE, UTC, IN, NOW, ROOT, USER, JSON, ANY_TIMERS];
+static LIST_ARGUMENTS: [Argument; 9] = [ALL, ZONE, UTC, IN, NOW, ROOT, USER, JSON, ANY_TIMERS];
 
-static LINT_ARGUMENTS: [Argument; 7] = [ZONE, UTC, NOW, ROOT, USER, JSON, ANY_TIMERS];
+static LINT_ARGUMENTS: [Argument; 8] = [ALL, ZONE, UTC, NOW, ROOT, USER, JSON, ANY_TIMERS];
 
 static SHOW_ARGUMENTS: [Argument; 9] = [COUNT, ZONE, UTC, IN, NOW, ROOT, USER, JSON, TIMERS];
 
-static BETWEEN_ARGUMENTS: [Argument; 10] = [
-    FROM, TO, ZONE, UTC, IN, NOW, ROOT, USER, JSON, ANY_TIMERS,
+static BETWEEN_ARGUMENTS: [Argument; 11] = [
+    FROM, TO, ALL, ZONE, UTC, IN, NOW, ROOT, USER, JSON, ANY_TIMERS,
 ];
 
 static SAME_ARGUMENTS: [Argument; 9] = [ONE_SIDE, OTHER_SIDE, ZONE, UTC, IN, NOW, ROOT, USER, JSON];

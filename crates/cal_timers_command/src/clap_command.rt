@@ -57,6 +57,7 @@ fn build_argument<'a>(alloc: Global, argument: Argument) -> Result<Arg<'a>, Allo
         ArgumentForm::Value => value_arg(arg, argument),
         ArgumentForm::ShortValue(short) => value_arg(arg, argument).short(short),
         ArgumentForm::Flag => flag_arg(arg, argument),
+        ArgumentForm::ShortFlag(short) => flag_arg(arg, argument).short(short),
         ArgumentForm::FlagWithout(other) => flag_arg(arg, argument).conflicts_with(other)?,
         ArgumentForm::One => positional_arg(arg, argument, ArgAction::Set).required(true),
         ArgumentForm::Any => positional_arg(arg, argument, ArgAction::Append),

@@ -28,7 +28,8 @@ pub struct Question {
     pub verb: Verb,
     /// The arguments that are neither the verb nor options nor the values of options, in the order given.
     ///
-    /// - `list` and `lint`: any number of units, files and folders. Without any, the question is about all units.
+    /// - `list` and `lint`: any number of units, files and folders. Without any, the question is about the units that other
+    ///   units start, or about all units if `is_all`.
     /// - `show`: one or more units and files.
     /// - `between`: the start and the end of the range, and then any number of units, files and folders, as for `list`.
     /// - `same`: two units, files or calendar expressions.
@@ -52,6 +53,9 @@ pub struct Question {
     /// Whether `--user` is given, so that the units are those of the user instead of those of the system. `next`
     /// doesn't have this option.
     pub is_user: bool,
+    /// Whether `--all` is given, so that a question without units, files and folders is about all units. Only `list`,
+    /// `lint` and `between` have this option.
+    pub is_all: bool,
     /// Whether to print JSON.
     pub is_json: bool,
     ghost fits: { fits_verb verb (vec_len targets) ≡ true },

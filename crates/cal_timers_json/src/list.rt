@@ -25,22 +25,23 @@ pub(crate) struct ListRow<'a> {
 }
 
 /// Returns the document of `list`: an array with an object for each timer and each masked unit. First come the timers
-/// that elapse again, soonest first, then the other timers, and then the masked units.
+/// that elapse again, soonest first, then the other timers, and then the units with the names `masked`.
 ///
-/// The notes of a timer are those in `loaded`. If a timer has calendar expressions, but no next elapse, the note
-/// `never` comes first. A masked unit has only the note `masked`. The indices in `next` are those of the timers in
-/// `loaded`.
+/// The notes of a timer are those in `loaded`. If the timer is disabled, the note `disabled` comes first. If it has
+/// calendar expressions, but no next elapse, the note `never` comes before those in `loaded`. A masked unit has only the
+/// note `masked`. The indices in `next` are those of the timers in `loaded`.
 ///
 /// Fails only if allocation fails.
 pub fn list_json(
     alloc: Global,
     at: Clocked<'_>,
     loaded: &Loaded,
+    masked: &[String],
     next: &NextOfAll,
 ) -> Result<String, AllocError>
     ensures { IfOk result (λ text. IsDocument (string_bytes text)) }
 {
-    let rows = list_rows(alloc, at, loaded, next)?;
+    let rows = list_rows(alloc, at, loaded, masked, next)?;
     document(alloc, &rows)
 }
 
@@ -49,16 +50,17 @@ fn list_rows<'a>(
     alloc: Global,
     at: Clocked<'_>,
     loaded: &'a Loaded,
+    masked: &'a [String],
     next: &NextOfAll,
 ) -> Result<Vec<ListRow<'a>>, AllocError>
     ensures { IfOk result (λ rows. map (λ row. row.unix) rows.items
         ≡ map (λ elapse. Some elapse.instant.secs) next.now.soonest.items
-        ++ map (λ _. None) next.now.never.items ++ map (λ _. None) loaded.now.masked.items) }
+        ++ map (λ _. None) next.now.never.items ++ map (λ _. None) masked.now) }
 {
     let mut rows: Vec<ListRow<'a>> = Vec::new(alloc);
-    push_soonest(alloc, &mut rows, at, &loaded.timers, &next.soonest)?;
-    push_never(alloc, &mut rows, &loaded.timers, &next.never)?;
-    push_masked(alloc, &mut rows, &loaded.masked)?;
+    push_soonest(alloc, &mut rows, at, loaded, &next.soonest)?;
+    push_never(alloc, &mut rows, loaded, &next.never)?;
+    push_masked(alloc, &mut rows, masked)?;
     Ok(rows)
 }
 
@@ -67,14 +69,14 @@ fn push_soonest<'a>(
     alloc: Global,
     rows: &mut Vec<ListRow<'a>>,
     at: Clocked<'_>,
-    timers: &'a [LoadedTimer],
+    loaded: &'a Loaded,
     soonest: &[TimerElapse],
 ) -> Result<(), AllocError>
     ensures { OnOk result (map (λ row. row.unix) rows.new.items
         ≡ map (λ row. row.unix) rows.old.items ++ map (λ elapse. Some elapse.instant.secs) soonest.now) }
 {
     for elapse in soonest {
-        rows.push(row_of_elapse(alloc, at, timers, *elapse)?)?;
+        rows.push(row_of_elapse(alloc, at, loaded, *elapse)?)?;
     }
     Ok(())
 }
@@ -83,14 +85,14 @@ fn push_soonest<'a>(
 fn push_never<'a>(
     alloc: Global,
     rows: &mut Vec<ListRow<'a>>,
-    timers: &'a [LoadedTimer],
+    loaded: &'a Loaded,
     never: &[usize],
 ) -> Result<(), AllocError>
     ensures { OnOk result (map (λ row. row.unix) rows.new.items
         ≡ map (λ row. row.unix) rows.old.items ++ map (λ _. None) never.now) }
 {
     for index in never {
-        rows.push(row_of_ended(alloc, timers, *index)?)?;
+        rows.push(row_of_ended(alloc, loaded, *index)?)?;
     }
     Ok(())
 }
@@ -105,7 +107,7 @@ fn push_masked<'a>(
         ≡ map (λ row. row.unix) rows.old.items ++ map (λ _. None) masked.now) }
 {
     for unit in masked {
-        rows.push(row_without(unit.as_str(), notes_after(alloc, Some("masked"), &[])?))?;
+        rows.push(row_without(unit.as_str(), vec![in alloc; "masked"]?))?;
     }
     Ok(())
 }
@@ -114,17 +116,16 @@ fn push_masked<'a>(
 fn row_of_elapse<'a>(
     alloc: Global,
     at: Clocked<'_>,
-    timers: &'a [LoadedTimer],
+    loaded: &'a Loaded,
     elapse: TimerElapse,
 ) -> Result<ListRow<'a>, AllocError>
     ensures { IfOk result (λ row. row.unix ≡ Some elapse.instant.secs) }
 {
-    let (unit, notes) = name_and_notes(timers, elapse.timer);
     let next = local_text(alloc, at.local, elapse.instant)?;
     let left = left_text(alloc, at.now, elapse.instant)?;
-    let notes = notes_after(alloc, None, notes)?;
+    let notes = notes_of(alloc, loaded, elapse.timer, None)?;
     Ok(ListRow {
-        unit,
+        unit: name_of(&loaded.timers, elapse.timer),
         next: Some(next),
         unix: Some(elapse.instant.secs()),
         left: Some(left),
@@ -135,14 +136,13 @@ fn row_of_elapse<'a>(
 /// Returns the row of a timer without a next elapse.
 fn row_of_ended<'a>(
     alloc: Global,
-    timers: &'a [LoadedTimer],
+    loaded: &'a Loaded,
     index: usize,
 ) -> Result<ListRow<'a>, AllocError>
     ensures { IfOk result (λ row. row.unix ≡ None) }
 {
-    let (unit, notes) = name_and_notes(timers, index);
-    let notes = notes_after(alloc, note_of_ended(timers, index), notes)?;
-    Ok(row_without(unit, notes))
+    let notes = notes_of(alloc, loaded, index, note_of_ended(&loaded.timers, index))?;
+    Ok(row_without(name_of(&loaded.timers, index), notes))
 }
 
 /// Returns the note `never` for a timer that has calendar expressions, but no next elapse. Returns `None` if the timer
@@ -167,27 +167,35 @@ fn row_without<'a>(unit: &'a str, notes: Vec<&'a str>) -> ListRow<'a>
     }
 }
 
-/// Returns the name and the notes of the timer with this index. Callers pass only indices of timers; for any other
-/// index, the name is empty and there are no notes.
-fn name_and_notes(timers: &[LoadedTimer], index: usize) -> (&str, &[String]) {
+/// Returns the name of the timer with this index. Callers pass only indices of timers; for any other index, the name is
+/// empty.
+fn name_of(timers: &[LoadedTimer], index: usize) -> &str {
     match timers.get(index) {
-        Some(timer) => (timer.name.as_str(), timer.notes.as_slice()),
-        None => ("", &[]),
+        Some(timer) => timer.name.as_str(),
+        None => "",
     }
 }
 
-/// Returns `first`, if there is one, followed by `notes`.
-fn notes_after<'a>(
+/// Returns the notes of the timer with this index: `disabled` if the timer is disabled, then `ended` if there is such a
+/// note, and then those in `loaded`.
+fn notes_of<'a>(
     alloc: Global,
-    first: Option<&'a str>,
-    notes: &'a [String],
+    loaded: &'a Loaded,
+    index: usize,
+    ended: Option<&'a str>,
 ) -> Result<Vec<&'a str>, AllocError> {
-    let mut all = Vec::new(alloc);
-    if let Some(first) = first {
-        all.push(first)?;
+    let mut notes: Vec<&'a str> = Vec::new(alloc);
+    let Some(timer) = loaded.timers.get(index) else {
+        return Ok(notes);
+    };
+    if loaded.is_disabled(timer.name.as_str()) {
+        notes.push("disabled")?;
     }
-    for note in notes {
-        all.push(note.as_str())?;
+    if let Some(ended) = ended {
+        notes.push(ended)?;
     }
-    Ok(all)
+    for note in &timer.notes {
+        notes.push(note.as_str())?;
+    }
+    Ok(notes)
 }

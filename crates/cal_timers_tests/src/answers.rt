@@ -67,9 +67,9 @@ Mon 2024-01-01 12:00:00 +01:00  11h   a.timer  RandomizedDelaySec=1h
 "#,
     ),
     (
-        "list|--user",
-        "\x1b[1mNEXT                            LEFT  UNIT\x1b[0m
-Mon 2024-01-01 02:00:00 +01:00  1h    notes.timer
+        "list|--user|-a",
+        "\x1b[1mNEXT                            LEFT  UNIT         NOTES\x1b[0m
+Mon 2024-01-01 02:00:00 +01:00  1h    notes.timer  disabled
 ",
     ),
     (
@@ -208,6 +208,10 @@ fn answers(rt: HostRuntime) -> Result<(), Fail> {
             Item::File(b"[Timer]\nOnCalendar=12:00 Test/Fixed\n"),
         ),
         (
+            "/run/systemd/system/timers.target.wants/b.timer",
+            Item::Link("../b.timer"),
+        ),
+        (
             "/home/ann/.config/systemd/user/notes.timer",
             Item::File(b"[Timer]\nOnCalendar=hourly\n"),
         ),
@@ -232,7 +236,7 @@ fn answers(rt: HostRuntime) -> Result<(), Fail> {
 /// besides a file that names a zone.
 type Row = (&'static str, Item<'static>, &'static str, &'static str);
 
-static UNREADABLE: [Row; 13] = [
+static UNREADABLE: [Row; 14] = [
     // A drop-in, or a folder of drop-ins, is missing from its unit, and nothing else is.
     (
         "/etc/systemd/system/a.timer.d",
@@ -290,9 +294,9 @@ only a.timer has OnStartupSec=1min
     (
         "/etc/systemd/system",
         Item::Closed,
-        "list|--utc",
+        "list|-a|--utc",
         "\x1b[1mNEXT  LEFT  UNIT     NOTES\x1b[0m
--     -     a.timer  OnBootSec=1min  OnStartupSec=1min
+-     -     a.timer  disabled  OnBootSec=1min  OnStartupSec=1min
 /etc/systemd/system: cannot be read
 ",
     ),
@@ -310,6 +314,12 @@ only a.timer has OnStartupSec=1min
         Item::Unnamed,
         "lint",
         "/etc/systemd/system/b.timer: a link to a path that is not UTF-8\n",
+    ),
+    (
+        "/etc/systemd/system/timers.target.wants",
+        Item::Closed,
+        "lint",
+        "/etc/systemd/system/timers.target.wants: cannot be read\n",
     ),
     // The unit's own file.
     (

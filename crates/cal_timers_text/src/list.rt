@@ -11,8 +11,8 @@ use std::alloc::{AllocError, Global};
 /// The number of blanks between columns.
 const GAP: usize = 2;
 
-/// The minimum width of the notes: the width of `masked`, the longest note that isn't a setting.
-const NOTES_WIDTH: usize = 6;
+/// The minimum width of the notes: the width of `disabled`, the longest note that isn't a setting.
+const NOTES_WIDTH: usize = 8;
 
 /// What is printed in place of a next elapse that is missing, and in place of the time until then.
 const NO_ELAPSE: &str = "-";
@@ -38,21 +38,22 @@ struct Widths {
     terminal: usize,
 }
 
-/// Returns a table: first the timers with a next elapse, soonest first, then the timers without one, and last the
-/// masked units. Each row has the next elapse, how long it is until then, the name of the unit and its notes. Notes
-/// that don't fit into the width of the terminal are cut. If there are neither timers nor masked units, returns the
-/// line `no timers`.
+/// Returns a table: first the timers with a next elapse, soonest first, then the timers without one, and last the units
+/// with the names `masked`. Each row has the next elapse, how long it is until then, the name of the unit and its notes,
+/// the first of which is `disabled` if the timer is. Notes that don't fit into the width of the terminal are cut. If
+/// there are neither timers nor masked units, returns the line `no timers`.
 pub fn list_text(
     alloc: Global,
     at: Clocked<'_>,
     loaded: &Loaded,
+    masked: &[String],
     next: &NextOfAll,
     style: Style,
 ) -> Result<String, AllocError> {
     let mut rows = Vec::new(alloc);
-    push_soonest(alloc, &mut rows, at, &loaded.timers, &next.soonest)?;
-    push_never(alloc, &mut rows, &loaded.timers, &next.never)?;
-    push_masked(alloc, &mut rows, &loaded.masked)?;
+    push_soonest(alloc, &mut rows, at, loaded, &next.soonest)?;
+    push_never(alloc, &mut rows, loaded, &next.never)?;
+    push_masked(alloc, &mut rows, masked)?;
     table_text(alloc, &rows, style)
 }
 
@@ -60,13 +61,13 @@ fn push_soonest(
     alloc: Global,
     rows: &mut Vec<Row>,
     at: Clocked<'_>,
-    timers: &[LoadedTimer],
+    loaded: &Loaded,
     soonest: &[TimerElapse],
 ) -> Result<(), AllocError> {
     let mut formatter = InstantFormatter::new(at.local);
     for elapse in soonest {
-        if let Some(timer) = timers.get(elapse.timer) {
-            let row = elapse_row(alloc, at, &mut formatter, timer, elapse.instant)?;
+        if let Some(timer) = loaded.timers.get(elapse.timer) {
+            let row = elapse_row(alloc, at, &mut formatter, loaded, timer, elapse.instant)?;
             rows.push(row)?;
         }
     }
@@ -84,12 +85,12 @@ fn push_masked(alloc: Global, rows: &mut Vec<Row>, masked: &[String]) -> Result<
 fn push_never(
     alloc: Global,
     rows: &mut Vec<Row>,
-    timers: &[LoadedTimer],
+    loaded: &Loaded,
     never: &[usize],
 ) -> Result<(), AllocError> {
     for index in never {
-        if let Some(timer) = timers.get(*index) {
-            let row = never_row(alloc, timer)?;
+        if let Some(timer) = loaded.timers.get(*index) {
+            let row = never_row(alloc, loaded, timer)?;
             rows.push(row)?;
         }
     }
@@ -101,10 +102,11 @@ fn elapse_row(
     alloc: Global,
     at: Clocked<'_>,
     formatter: &mut InstantFormatter<'_>,
+    loaded: &Loaded,
     timer: &LoadedTimer,
     instant: Instant,
 ) -> Result<Row, AllocError> {
-    let mut row = plain_row(alloc, timer.name.as_str(), "")?;
+    let mut row = timer_row(alloc, loaded, timer)?;
     row.next = String::new(alloc);
     row.left = String::new(alloc);
     push_instant(&mut row.next, formatter, instant)?;
@@ -115,14 +117,20 @@ fn elapse_row(
 
 /// Returns the row of a timer without a next elapse. The row has the note `never`, unless the timer has no calendar
 /// expressions: then its other notes say what starts its unit.
-fn never_row(alloc: Global, timer: &LoadedTimer) -> Result<Row, AllocError> {
-    let note = match &timer.calendar {
-        Calendar::Nothing => "",
-        _ => "never",
-    };
-    let mut row = plain_row(alloc, timer.name.as_str(), note)?;
+fn never_row(alloc: Global, loaded: &Loaded, timer: &LoadedTimer) -> Result<Row, AllocError> {
+    let mut row = timer_row(alloc, loaded, timer)?;
+    if !matches!(&timer.calendar, Calendar::Nothing) {
+        push_note(&mut row.notes, "never")?;
+    }
     push_notes(&mut row.notes, &timer.notes)?;
     Ok(row)
+}
+
+/// Returns a row with the name of a timer, and with the note `disabled` if the timer is disabled.
+fn timer_row(alloc: Global, loaded: &Loaded, timer: &LoadedTimer) -> Result<Row, AllocError> {
+    let name = timer.name.as_str();
+    let is_disabled = loaded.is_disabled(name);
+    plain_row(alloc, name, if is_disabled { "disabled" } else { "" })
 }
 
 /// Returns a row with the name of a unit and a note, but without a next elapse.
@@ -140,12 +148,17 @@ fn plain_row(alloc: Global, unit: &str, note: &str) -> Result<Row, AllocError> {
 /// Appends notes, with two blanks between them.
 fn push_notes(out: &mut String, notes: &[String]) -> Result<(), AllocError> {
     for note in notes {
-        if !out.is_empty() {
-            out.push_str("  ")?;
-        }
-        push_printable(out, note.as_str())?;
+        push_note(out, note.as_str())?;
     }
     Ok(())
+}
+
+/// Appends a note, with two blanks before it unless it is the first one.
+fn push_note(out: &mut String, note: &str) -> Result<(), AllocError> {
+    if !out.is_empty() {
+        out.push_str("  ")?;
+    }
+    push_printable(out, note)
 }
 
 fn table_text(alloc: Global, rows: &[Row], style: Style) -> Result<String, AllocError> {

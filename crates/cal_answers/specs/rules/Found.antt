@@ -11,6 +11,7 @@ use Rattle.cal_unit_index.specs.declared.index.UnitIndex.{UnitIndex}
 use Rattle.cal_unit_index.specs.rules.Index.{IsIndexOf}
 use Rattle.cal_load.specs.declared.loaded.Loaded.{Loaded}
 use Rattle.cal_load.specs.rules.AllTargets.{HasAllTargets, HasAllUnits, is_path}
+use Rattle.cal_load.specs.rules.AllUnits.{shown_stems, started_if_all}
 use Rattle.cal_load.specs.rules.Expressions.{IsMadeOf}
 use Rattle.cal_load.specs.rules.Loaded.{IsStoredOn, IsTimerOn}
 use Rattle.cal_answers.specs.declared.found.Found as founds
@@ -70,7 +71,7 @@ timer_targets verbs.Between targets = drop 2 targets
 timer_targets verbs.Same targets = targets
 timer_targets verbs.Next targets = targets
 
--- whether these targets can be about units: there are none, which stands for all units, or one of them is not a path
+-- whether these targets can be about units: there are none, which stands for units, or one of them is not a path
 abbrev pub name_units : List (List ℕ) → Bool
 name_units targets = length targets == 0 || list_any (λ target. not (is_path target)) targets
 
@@ -83,29 +84,37 @@ needs_units verbs.Between targets = name_units (drop 2 targets)
 needs_units verbs.Same targets = name_units targets
 needs_units verbs.Next targets = false
 
--- everything that these targets stand for was looked for, and nothing else was loaded; no target stands for all units
-abbrev pub HasAllFor : (Machine → List (List ℕ) → Type 0) → List (List ℕ) → Loaded → Type 0
-HasAllFor Knows [] timers = HasAllUnits Knows timers
-HasAllFor Knows (one ∷ rest) timers = HasAllTargets Knows (one ∷ rest) timers
+-- All units that are taken without a target were looked for, and nothing else was loaded; if these are all units of the
+-- search path, it is known which of them are started.
+abbrev pub HasUnits : (Machine → List (List ℕ) → Type 0) → Bool → Loaded → Type 0
+HasUnits Knows is_all timers =
+    HasAllUnits Knows is_all timers
+    × ((machine : Machine) (path : List (List ℕ)) → Knows machine path → shown_stems timers.started ≡ started_if_all machine path is_all)
 
--- `lint` loads no timers for targets that are drop-ins, so this only says that no target stands for all units
-abbrev pub HasAllLinted : (Machine → List (List ℕ) → Type 0) → List (List ℕ) → Loaded → Type 0
-HasAllLinted Knows [] timers = HasAllUnits Knows timers
-HasAllLinted Knows (one ∷ rest) timers = ⊤
+-- Everything that these targets stand for was looked for, and nothing else was loaded. Without a target, that is the units
+-- that other units start, or, if `is_all`, all units.
+abbrev pub HasAllFor : (Machine → List (List ℕ) → Type 0) → Bool → List (List ℕ) → Loaded → Type 0
+HasAllFor Knows is_all [] timers = HasUnits Knows is_all timers
+HasAllFor Knows is_all (one ∷ rest) timers = HasAllTargets Knows (one ∷ rest) timers
+
+-- `lint` loads no timers for targets that are drop-ins, so this only says which units are taken without a target
+abbrev pub HasAllLinted : (Machine → List (List ℕ) → Type 0) → Bool → List (List ℕ) → Loaded → Type 0
+HasAllLinted Knows is_all [] timers = HasUnits Knows is_all timers
+HasAllLinted Knows is_all (one ∷ rest) timers = ⊤
 
 -- No timer is missing that the targets stand for on a machine and search path of which `Knows` is true. Of `same` and
 -- `next`, `AreLoadedOn` says all that is said.
-abbrev pub AreAll : (Machine → List (List ℕ) → Type 0) → List (List ℕ) → LoadedByVerb → Type 0
-AreAll Knows targets (loads.List timers) = HasAllFor Knows targets timers
-AreAll Knows targets (loads.Show timers) = HasAllFor Knows targets timers
-AreAll Knows targets (loads.Lint files timers) = HasAllLinted Knows targets timers
-AreAll Knows targets (loads.Between timers) = HasAllFor Knows (drop 2 targets) timers
-AreAll Knows targets (loads.Same first second) = ⊤
-AreAll Knows targets (loads.Next timers) = ⊤
+abbrev pub AreAll : (Machine → List (List ℕ) → Type 0) → Bool → List (List ℕ) → LoadedByVerb → Type 0
+AreAll Knows is_all targets (loads.List timers) = HasAllFor Knows is_all targets timers
+AreAll Knows is_all targets (loads.Show timers) = HasAllFor Knows is_all targets timers
+AreAll Knows is_all targets (loads.Lint files timers) = HasAllLinted Knows is_all targets timers
+AreAll Knows is_all targets (loads.Between timers) = HasAllFor Knows is_all (drop 2 targets) timers
+AreAll Knows is_all targets (loads.Same first second) = ⊤
+AreAll Knows is_all targets (loads.Next timers) = ⊤
 
 -- no timer is missing that the targets stand for on this machine and search path
-abbrev pub AreAllOn : Machine → List (List ℕ) → List (List ℕ) → LoadedByVerb → Type 0
-AreAllOn machine path targets loaded = AreAll (λ other folders. (other ≡ machine) × (folders ≡ path)) targets loaded
+abbrev pub AreAllOn : Machine → List (List ℕ) → Bool → List (List ℕ) → LoadedByVerb → Type 0
+AreAllOn machine path is_all targets loaded = AreAll (λ other folders. (other ≡ machine) × (folders ≡ path)) is_all targets loaded
 
 -- ## What was found
 
@@ -131,7 +140,7 @@ pub record IsKnownOn (machine : Machine) (question : Question) (known : Known) :
   pub index : IsIndexOf machine path known.index
   pub for_verb : verb_of known.loaded ≡ question.verb
   pub loaded : AreLoadedOn machine path (targets_of question) known.loaded
-  pub whole : AreAllOn machine path (targets_of question) known.loaded
+  pub whole : AreAllOn machine path question.is_all (targets_of question) known.loaded
 
 -- `IsSo` follows from what was read. `given`: the system calls returned everything that was read. `is_so`: it is true on
 -- every machine that matches what was read. `possible`: such a machine exists.

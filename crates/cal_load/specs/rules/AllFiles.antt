@@ -64,9 +64,9 @@ abbrev pub paths_by : Machine → List (List ℕ) → List ℕ → List (List �
 paths_by machine path target =
     if is_path target then paths_at machine (without_slashes target) else paths_if_valid machine path (unit_stem target)
 
--- the paths of all units in the search path
-abbrev pub all_paths : Machine → List (List ℕ) → List (List ℕ)
-all_paths machine path = flat_map (unit_paths machine path) (units_on machine path)
+-- the paths of all units that are taken without a target
+abbrev pub all_paths : Machine → List (List ℕ) → Bool → List (List ℕ)
+all_paths machine path is_all = flat_map (unit_paths machine path) (units_on machine path is_all)
 
 -- ## The files at these paths
 

@@ -203,9 +203,9 @@ pub record HasAll (Knows : Machine → List (List ℕ) → Type 0) (sought : Mac
   pub loaded_from : AreLoadedFrom outcomes loaded
   pub are : AreOutcomes Knows sought outcomes
 
--- all units in the search path were looked for, and nothing else was loaded
-abbrev pub HasAllUnits : (Machine → List (List ℕ) → Type 0) → Loaded → Type 0
-HasAllUnits Knows loaded = HasAll Knows (λ machine path. map ListedUnit (units_on machine path)) loaded
+-- all units that are taken without a target were looked for, and nothing else was loaded
+abbrev pub HasAllUnits : (Machine → List (List ℕ) → Type 0) → Bool → Loaded → Type 0
+HasAllUnits Knows is_all loaded = HasAll Knows (λ machine path. map ListedUnit (units_on machine path is_all)) loaded
 
 -- everything that the targets stand for was looked for, in their order, and nothing else was loaded
 abbrev pub HasAllTargets : (Machine → List (List ℕ) → Type 0) → List (List ℕ) → Loaded → Type 0

@@ -1,15 +1,18 @@
--- All units in the search path, and what was found of one: systemd.unit(5), Unit File Load Path. A stem is a unit's name
--- without its suffix `.timer`.
-use Rattle.std.specs.Prelude.{◌≡◌, ⊤, ℕ, Bool, true, false, List, [], ◌∷◌, ◌++◌, Option, None, Some, Result, Ok, Err, String, codes, map, string_bytes}
+-- Which units are taken without a target, and what was found of one: systemd.unit(5), Description and Unit File Load
+-- Path. A stem is a unit's name without its suffix `.timer`.
+use Rattle.std.specs.Prelude.{◌≡◌, ⊤, ℕ, Bool, true, false, not, if◌then◌else◌, List, [], ◌∷◌, ◌++◌, Option, None, Some, Result, Ok, Err, String, codes, map, option_map, string_bytes}
+use Rattle.std.specs.BTreeSet.{BTreeSet}
 use Rattle.std.specs.List.{Contains, filter_map}
 use Rattle.std.specs.declared.alloc.Global.{Global}
 use Rattle.cal_machine.specs.declared.tree.TreeFault as tree_faults
 use Rattle.cal_machine.specs.rules.Machine.{Machine}
 use Rattle.cal_unit_index.specs.declared.fault.Reason as reasons
-use Rattle.cal_unit_index.specs.rules.Destinations.{sorted_once}
+use Rattle.cal_unit_index.specs.rules.Destinations.{is_among, sorted_once}
 use Rattle.cal_unit_index.specs.rules.Files.{FileRead, UnitText, file_at, text_at}
 use Rattle.cal_unit_index.specs.rules.Files.FileRead.{Mask, Unusable, Text}
 use Rattle.cal_unit_index.specs.rules.Index.{unit_stems_in}
+use Rattle.cal_unit_index.specs.rules.Starts.{started_in}
+use Rattle.cal_unit_index.specs.rules.UnitName.{unit_stem}
 use Rattle.cal_unit_index.specs.rules.Units.{Unit, unit_on}
 use Rattle.cal_unit_index.specs.rules.Units.Unit.{Unfound, TemplateOnly, TooManyAliases, FoundAt}
 use Rattle.cal_load.specs.rules.Loaded.{unit_texts}
@@ -37,9 +40,39 @@ found_stem (FoundAt file own_file own) = Some own
 abbrev pub main_stem : Machine → List (List ℕ) → List ℕ → Option (List ℕ)
 main_stem machine path stem = found_stem (unit_on machine path stem)
 
--- the own stems of all units in the search path, sorted by their bytes, each once
-abbrev pub units_on : Machine → List (List ℕ) → List (List ℕ)
-units_on machine path = sorted_once (filter_map (main_stem machine path) (unit_stems_in machine path))
+-- the own stems of the units that are found for these stems, sorted by their bytes, each once
+abbrev pub own_stems : Machine → List (List ℕ) → List (List ℕ) → List (List ℕ)
+own_stems machine path stems = sorted_once (filter_map (main_stem machine path) stems)
+
+-- the own stems of the units that other units start
+abbrev pub started_units : Machine → List (List ℕ) → List (List ℕ)
+started_units machine path = own_stems machine path (started_in machine path)
+
+-- the own stems of all units in the search path, and of the instances of its templates that other units start
+abbrev pub all_units : Machine → List (List ℕ) → List (List ℕ)
+all_units machine path = own_stems machine path (unit_stems_in machine path ++ started_in machine path)
+
+-- the own stems of the units that are taken without a target: of all units, or only of those that other units start
+abbrev pub units_on : Machine → List (List ℕ) → Bool → List (List ℕ)
+units_on machine path is_all = if is_all then all_units machine path else started_units machine path
+
+-- ## Which units are disabled
+
+abbrev pub shown_stems : Option (BTreeSet (String Global)) → Option (List (List ℕ))
+shown_stems stems = option_map (λ set. map string_bytes set.keys) stems
+
+-- the own stems of the units that other units start, if all units are asked for; otherwise, no unit is called disabled
+abbrev pub started_if_all : Machine → List (List ℕ) → Bool → Option (List (List ℕ))
+started_if_all machine path is_all = if is_all then Some (started_units machine path) else None
+
+abbrev pub is_among_started : List (List ℕ) → Option (List ℕ) → Bool
+is_among_started started None = false
+is_among_started started (Some stem) = is_among started stem
+
+-- whether the unit with this name is called disabled: it isn't among those that other units start
+abbrev pub is_disabled : Option (List (List ℕ)) → List ℕ → Bool
+is_disabled None name = false
+is_disabled (Some started) name = not (is_among_started started (unit_stem name))
 
 -- ## Why a unit can't be loaded
 

@@ -1,6 +1,6 @@
 -- What can't be read of the files that targets stand for, and which errors say so: systemd.unit(5), Description and Unit
 -- File Load Path. A target is how a user names timers, as in `AllTargets`, and its paths are those of `AllFiles`.
-use Rattle.std.specs.Prelude.{◌≡◌, ⊤, ◌⊎◌, ℕ, if◌then◌else◌, List, [], ◌∷◌, ◌++◌, All, Option, None, Some, map, string_bytes}
+use Rattle.std.specs.Prelude.{◌≡◌, ⊤, ◌⊎◌, ℕ, Bool, if◌then◌else◌, List, [], ◌∷◌, ◌++◌, All, Option, None, Some, map, string_bytes}
 use Rattle.std.specs.List.{Contains, flat_map, fold}
 use Rattle.cal_machine.specs.rules.Machine.{Machine}
 use Rattle.cal_machine.specs.rules.Places.{names_at}
@@ -12,6 +12,7 @@ use Rattle.cal_unit_index.specs.rules.Files.FileRead.{Mask, Unusable, Text}
 use Rattle.cal_unit_index.specs.rules.Folders.{end_at}
 use Rattle.cal_unit_index.specs.rules.Index.{Fault, faults_of_listing}
 use Rattle.cal_unit_index.specs.rules.Names.{names_on}
+use Rattle.cal_unit_index.specs.rules.Starts.{unreadable_wants}
 use Rattle.cal_unit_index.specs.rules.UnitName.{unit_stem}
 use Rattle.cal_unit_index.specs.rules.Units.{Unit, unit_on}
 use Rattle.cal_unit_index.specs.rules.Units.Unit.{Unfound, TemplateOnly, TooManyAliases, FoundAt}
@@ -138,9 +139,14 @@ abbrev pub lost_by : Machine → List (List ℕ) → List ℕ → List Lost
 lost_by machine path target =
     if is_path target then lost_at machine (without_slashes target) else lost_named machine path target
 
--- what can't be read of all units in the search path
-abbrev pub all_lost : Machine → List (List ℕ) → List Lost
-all_lost machine path = flat_map (lost_listed machine path) (units_on machine path)
+-- what can't be read of the folders that say which units are started
+abbrev pub lost_starts : Machine → List (List ℕ) → List Lost
+lost_starts machine path = map lost_path (unreadable_wants machine path)
+
+-- what can't be read if there is no target: of the units that are taken then, and of the folders that say which units are
+-- started
+abbrev pub all_lost : Machine → List (List ℕ) → Bool → List Lost
+all_lost machine path is_all = flat_map (lost_listed machine path) (units_on machine path is_all) ++ lost_starts machine path
 
 -- ## The errors
 

@@ -27,8 +27,8 @@ returns-clause-known g c = λ machine shows.
     c.in_ok-loaded.ensures.verb
     (λ folders is. subst (λ targets. AreLoadedOn machine folders targets c.in_ok-loaded.loaded)
     (ap (map (λ text. text.now)) c.as_slice-4.ensures.value ∙ texts) (c.in_ok-loaded.ensures.known machine folders shows is))
-    (λ folders is. loaded_at Knows machine folders (targets_of question) c.in_ok-loaded.loaded (shows, is)
-    (subst (λ targets. AreAll Knows targets c.in_ok-loaded.loaded) (ap (map (λ text. text.now)) c.as_slice-4.ensures.value ∙ texts) c.in_ok-loaded.ensures.whole))
+    (λ folders is. loaded_at Knows machine folders question.is_all (targets_of question) c.in_ok-loaded.loaded (shows, is)
+    (subst (λ targets. AreAll Knows question.is_all targets c.in_ok-loaded.loaded) (ap (map (λ text. text.now)) c.as_slice-4.ensures.value ∙ texts) c.in_ok-loaded.ensures.whole))
 
 pub returns-in_err-path-clause-fault : goal.returns-in_err-path-clause-fault
 returns-in_err-path-clause-fault g c =

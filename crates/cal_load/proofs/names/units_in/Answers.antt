@@ -1,13 +1,19 @@
-use Rattle.std.proofs.Common.{◌≡◌, ◌∙◌, ap, map, string_bytes}
-use Rattle.std.specs.Option.{option_to_list}
+use Rattle.std.proofs.Common.{◌≡◌, ◌∙◌, ap, map, string_bytes, sym}
+use Rattle.std.specs.List.{filter_map}
 use Rattle.cal_unit_index.specs.rules.Destinations.{with_texts}
-use Rattle.cal_load.specs.rules.AllUnits.{main_stem}
-use Rattle.cal_load.proofs.UnitLemmas.{set_pushed}
+use Rattle.cal_unit_index.specs.rules.Index.{unit_stems_in}
+use Rattle.cal_unit_index.specs.rules.Starts.{started_in}
+use Rattle.cal_load.specs.rules.AllUnits.{main_stem, own_stems, units_on}
+use Rattle.cal_load.proofs.UnitLemmas.{set_of_both}
 use Rattle.cal_load.proofs.names.units_in.Goals as goal
 
-pub loop-stem-preserved : goal.loop-stem-preserved
-loop-stem-preserved c machine path is =
-    let before = map string_bytes c.loop-stem.found.keys in
-    let added : map string_bytes c.add_own.new.found.keys ≡ with_texts before (option_to_list (main_stem machine path (string_bytes c.in-Some.stem))) =
-    c.in_ok-add_own.ensures.known machine path is ∙ ap (λ stem. with_texts before (option_to_list (main_stem machine path stem))) c.as_str.ensures.value in
-    set_pushed (main_stem machine path) string_bytes before _ c.loop-stem.yielded c.in-Some.stem added (c.loop-stem.invariant machine path is)
+pub returns-clause-stems : goal.returns-clause-stems
+returns-clause-stems g c machine path shows is =
+    let main = main_stem machine path in
+    let listed : map string_bytes c.in_ok-all.all.keys ≡ own_stems machine path (unit_stems_in machine path) =
+    c.in_ok-all.ensures.known machine path is ∙ ap (own_stems machine path) (c.in_ok-unit_names.ensures.known machine path is) in
+    c.in_ok-add_all_own.ensures.known machine path is
+    ∙ ap (λ stems. with_texts (map string_bytes c.in_ok-all.all.keys) (filter_map main stems)) (c.in_ok-stems.ensures.known machine path shows is)
+    ∙ ap (λ before. with_texts before (filter_map main (started_in machine path))) listed
+    ∙ set_of_both main (unit_stems_in machine path) (started_in machine path)
+    ∙ ap (units_on machine path) (sym c.if-not-is_all.false)

@@ -1,4 +1,4 @@
-use Rattle.std.proofs.Common.{ℕ, List, All, map, string_bytes}
+use Rattle.std.proofs.Common.{◌≡◌, ℕ, List, All, map, string_bytes}
 use Rattle.cal_machine.specs.rules.Machine.{Machine}
 use Rattle.cal_unit_index.specs.rules.Index.{IsIndexOf}
 use Rattle.cal_load.specs.rules.AllTargets.{IsMore}
@@ -11,5 +11,7 @@ invariant-loop-stem g l =
     ((machine : Machine) (path : List (List ℕ)) → g.T.Tree.shows l.tree machine → IsIndexOf machine path l.index
     → All (IsTimerOn machine path) l.loaded.timers.items)
     × ((machine : Machine) → g.T.Tree.shows l.tree machine → g.T.Tree.shows l.fn.tree machine)
+    × ((machine : Machine) → g.T.Tree.shows l.tree machine → g.T.Tree.shows l.initial.tree machine)
     × IsMore (λ machine path. g.T.Tree.shows l.tree machine × IsIndexOf machine path l.index)
     (λ machine path. map ListedUnit (map string_bytes l.yielded)) l.initial.loaded l.loaded
+    × (l.started ≡ l.initial.started)

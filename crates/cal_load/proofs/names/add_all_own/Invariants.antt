@@ -1,13 +1,14 @@
 use Rattle.std.proofs.Common.{◌≡◌, ℕ, List, map, string_bytes}
 use Rattle.std.specs.List.{filter_map}
 use Rattle.cal_machine.specs.rules.Machine.{Machine}
-use Rattle.cal_unit_index.specs.rules.Destinations.{sorted_once}
+use Rattle.cal_unit_index.specs.rules.Destinations.{with_texts}
 use Rattle.cal_unit_index.specs.rules.Index.{IsIndexOf}
 use Rattle.cal_load.specs.rules.AllUnits.{main_stem}
-use Rattle.cal_load.proofs.names.units_in.Given as goal
+use Rattle.cal_load.proofs.names.add_all_own.Given as goal
 
--- the stems so far are the own stems of the units that were found so far
+-- the own stems of the units that were found so far have been added
 abbrev pub invariant-loop-stem : goal.invariant-loop-stem
 invariant-loop-stem l =
     (machine : Machine) (path : List (List ℕ)) → IsIndexOf machine path l.index
-    → map string_bytes l.found.keys ≡ sorted_once (filter_map (main_stem machine path) (map string_bytes l.yielded))
+    → map string_bytes l.found.keys
+    ≡ with_texts (map string_bytes l.fn.found.keys) (filter_map (main_stem machine path) (map string_bytes (map (λ stem. stem.now) l.yielded)))
