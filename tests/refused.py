@@ -186,13 +186,13 @@ def timers_row(about, arguments, status=0):
 
 
 TIMERS_ROWS = [
-    timers_row("all timers of a machine", [ROOT, NOW], 1),
-    timers_row("all timers as JSON", ["list", ROOT, NOW, "--json"], 1),
+    timers_row("all timers of a machine", ["-a", ROOT, NOW], 1),
+    timers_row("all timers as JSON", ["list", "--all", ROOT, NOW, "--json"], 1),
     timers_row("the timers of a folder", ["list", ROOT, NOW, "./own"]),
     timers_row("a timer with drop-ins of both its names", ["show", ROOT, NOW, "-n2", "backup"]),
     timers_row("a timer as JSON", ["show", ROOT, NOW, "--json", "save"]),
     timers_row("what is wrong with a timer", ["lint", ROOT, "wrong"], 1),
-    timers_row("what is wrong with all, as JSON", ["lint", ROOT, "--json"], 1),
+    timers_row("what is wrong with all, as JSON", ["lint", "--all", ROOT, "--json"], 1),
     timers_row("a weekend", ["between", ROOT, NOW, "Fri 18:00", "Mon 06:00", "backup"]),
     timers_row("a range as JSON", ["between", ROOT, NOW, "--json", "2024-01-02", "2024-01-03", "own/nightly.timer"]),
     timers_row("two timers that differ", ["same", ROOT, NOW, "backup", "own/nightly.timer"], 1),

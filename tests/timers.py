@@ -163,7 +163,7 @@ class Tests:
                 write(f"{root}/etc/systemd/system/{place}", texts[-1])
             write(f"{root}/joined.timer", "".join(texts))
             engine = run([self.engine, "timer", f"--now=@{NOW}", f"{root}/joined.timer"])
-            rows = json.loads(run([self.timers, "--json", "--utc", f"--root={root}", f"--now=@{NOW}"]).stdout)
+            rows = json.loads(run([self.timers, "--all", "--json", "--utc", f"--root={root}", f"--now=@{NOW}"]).stdout)
             wanted = [elapse if elapse != "never" else None for elapse in ELAPSE.findall(engine.stdout)]
             self.expect(f"the unit in {root}", [row["next"] for row in rows], wanted)
 
@@ -194,7 +194,7 @@ class Tests:
             folders = run(["systemd-analyze", *scope, "unit-paths"], env=env, cwd="/").stdout.splitlines()
             root = f"{self.scratch}/path{number}"
             wanted = self.plant_in(root, folders)
-            ended = run([self.timers, "list", *scope, "--json", "--utc", f"--now=@{NOW}", f"--root={root}"], env=env)
+            ended = run([self.timers, "list", "--all", *scope, "--json", "--utc", f"--now=@{NOW}", f"--root={root}"], env=env)
             found = {row["unit"]: row["unix"] - FAR for row in json.loads(ended.stdout or "[]")}
             self.expect(f"units by {scope} and {variables}", (found, ended.stderr), (wanted, ""))
 
@@ -223,7 +223,7 @@ class Tests:
             times = []
             for _ in range(5):
                 start = time.monotonic()
-                ended = run([self.timers, f"--root={root}", "--utc", f"--now=@{NOW}"])
+                ended = run([self.timers, "--all", f"--root={root}", "--utc", f"--now=@{NOW}"])
                 times.append(time.monotonic() - start)
             # The least time is the one that other work disturbed least.
             took[count] = min(times)
