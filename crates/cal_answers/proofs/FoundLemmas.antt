@@ -17,6 +17,7 @@ use Rattle.cal_answers.specs.declared.found.LoadedByVerb.TheVariants as loads
 use Rattle.cal_answers.specs.rules.Found.{AreAll, AreAllOn, AreLoadedOn, AreSidesOn, FollowsFromRead, HasAllFor, HasAllLinted, HasUnits, IsIndexFor, IsKnownOn, IsPathOf, IsSideOn, needs_units, targets_of, verb_of}
 use Rattle.cal_answers.specs.rules.LocalClock.{IsLocalZone, clock_zone, local_zone_of, shown_zone_of}
 use Rattle.cal_answers.specs.rules.MachinePath.{machine_path}
+use Rattle.cal_answers.specs.rules.RangeZones.{AreRangeZones}
 
 -- what was loaded for each of the two targets by itself is what was loaded for `same`
 pub two_sides : (machine : Machine) (path : List (List ℕ)) (targets : List (Bor (List ℕ))) (d : Bor (List ℕ)) (first second : Loaded)
@@ -75,13 +76,15 @@ known_with : (machine : Machine) (question : Question) (known : Known) (path : L
     → needs_units question.verb (targets_of question) ≡ needed
     → IsLocalZone machine (local_zone_of machine question) (clock_zone known.local)
     → IsLocalZone machine (shown_zone_of machine question) (clock_zone known.shown)
+    → AreRangeZones machine question.verb (targets_of question) known.range
     → IsPathOf machine question.is_user needed path → IsIndexOf machine path known.index → verb_of known.loaded ≡ question.verb
     → ((folders : List (List ℕ)) → IsIndexOf machine folders known.index → AreLoadedOn machine folders (targets_of question) known.loaded)
     → ((folders : List (List ℕ)) → IsIndexOf machine folders known.index → AreAllOn machine folders question.is_all (targets_of question) known.loaded)
     → IsKnownOn machine question known
-known_with machine question known path needed about zone shown searched is same loads whole = record {
+known_with machine question known path needed about zone shown range searched is same loads whole = record {
   local = zone;
   shown = shown;
+  range = range;
   path = path;
   searched = subst (λ needed. IsPathOf machine question.is_user needed path) (sym about) searched;
   index = is;
@@ -95,17 +98,18 @@ pub known_on : (machine : Machine) (question : Question) (known : Known) (path :
     → needs_units question.verb (targets_of question) ≡ needed
     → IsLocalZone machine (local_zone_of machine question) (clock_zone known.local)
     → IsLocalZone machine (shown_zone_of machine question) (clock_zone known.shown)
+    → AreRangeZones machine question.verb (targets_of question) known.range
     → machine_path machine question.is_user ≡ Some path → IsIndexFor machine path known.index
     → (needed ≡ true → IsIndexOf machine path known.index) → verb_of known.loaded ≡ question.verb
     → ((folders : List (List ℕ)) → IsIndexOf machine folders known.index → AreLoadedOn machine folders (targets_of question) known.loaded)
     → ((folders : List (List ℕ)) → IsIndexOf machine folders known.index → AreAllOn machine folders question.is_all (targets_of question) known.loaded)
     → IsKnownOn machine question known
-known_on machine question known path true about zone shown searched index indexed same loads whole =
-    known_with machine question known path true about zone shown searched (indexed refl) same loads whole
-known_on machine question known path false about zone shown searched (inl is) indexed same loads whole =
-    known_with machine question known path false about zone shown (inl searched) is same loads whole
-known_on machine question known path false about zone shown searched (inr is) indexed same loads whole =
-    known_with machine question known [] false about zone shown (inr refl) is same loads whole
+known_on machine question known path true about zone shown range searched index indexed same loads whole =
+    known_with machine question known path true about zone shown range searched (indexed refl) same loads whole
+known_on machine question known path false about zone shown range searched (inl is) indexed same loads whole =
+    known_with machine question known path false about zone shown range (inl searched) is same loads whole
+known_on machine question known path false about zone shown range searched (inr is) indexed same loads whole =
+    known_with machine question known [] false about zone shown range (inr refl) is same loads whole
 
 -- what is true of all machines that a recorder shows follows from what it has read
 pub follows : {R : Type 0} {raw : Ghosts R} (tree : Recorder R raw) (IsSo : Machine → Type 0)

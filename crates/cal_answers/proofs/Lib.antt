@@ -1,3 +1,4 @@
 pub mod FoundLemmas
 mod LocalClockLemmas
+mod RangeZoneLemmas
 pub mod MachinePathLemmas

@@ -3,4 +3,5 @@ pub mod Found
 pub mod LocalClock
 pub mod MachinePath
 pub mod Present
+pub mod RangeZones
 pub mod Unanswerable

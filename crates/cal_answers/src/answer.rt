@@ -1,23 +1,24 @@
 //! The answer to a question: the texts for standard output and standard error, and the exit status.
 
-ghost use Rattle.std.specs.Prelude.{◌≡◌, ◌≤◌, IfOk};
+ghost use Rattle.std.specs.Prelude.{◌≤◌, IfOk};
 
 use crate::between::between;
 use crate::compare::same;
 use crate::found::{Found, LoadedByVerb};
 use crate::index::with_unreadable;
 use crate::lint::lint;
-use crate::local_clock::LocalClock;
+use crate::range_zones::RangeZones;
+use crate::remarks::{with_empty_folders, with_verb_hint, with_zone_note};
 use crate::timers::{list, show};
 use cal_load::TargetFault;
 use cal_plan::PlanFault;
 use cal_tasks::Clocked;
-use cal_timers_command::{Question, Verb};
+use cal_timers_command::Question;
 use cal_timers_text::{Style, fault_text};
 use std::alloc::{AllocError, Global};
 
-/// The exit status if a timer can't be loaded (for verbs other than `same`), a file or folder can't be read, `lint` finds an error, or two timers
-/// differ.
+/// The exit status if a timer can't be loaded (except by `same`), a file or folder can't be read, folders have no timers,
+/// `lint` finds an error, or two timers differ.
 pub(crate) const INVALID: u8 = 1;
 
 /// The exit status if the question can't be answered at all, for example because the local zone isn't known, or because
@@ -34,9 +35,9 @@ pub struct Answer {
     pub out: String,
     /// The error lines, for standard error.
     pub err: String,
-    /// The exit status: 0 for success; 1 if a timer can't be loaded, a file or folder can't be read, `lint` finds an
-    /// error, or two timers differ; 2 if the question can't be answered at all, for example because the local zone isn't
-    /// known.
+    /// The exit status: 0 for success; 1 if a timer can't be loaded, a file or folder can't be read, folders have no
+    /// timers, `lint` finds an error, or two timers differ; 2 if the question can't be answered at all, for example because
+    /// the local zone isn't known.
     pub status: u8,
 }
 
@@ -47,6 +48,8 @@ pub(crate) struct Asked<'a> {
     pub at: Clocked<'a>,
     /// The present, and as `local` the zone in which times are shown and FROM and TO are read.
     pub shown: Clocked<'a>,
+    /// The zones that FROM and TO can name.
+    pub range: &'a RangeZones,
     /// The arguments that are neither the verb nor options.
     pub targets: &'a [String],
     /// The number of elapses to show.
@@ -79,6 +82,7 @@ pub fn answer_question(
     let asked = Asked {
         at: Clocked { now, local },
         shown: Clocked { now, local: shown },
+        range: &known.range,
         targets: question.targets.as_slice(),
         count: question.count.unwrap_or(DEFAULT_COUNT),
         is_all: question.is_all,
@@ -87,24 +91,9 @@ pub fn answer_question(
     };
     let answer = answer_loaded(alloc, asked, &known.loaded)?;
     let answer = with_unreadable(alloc, known.index.unreadable(), answer)?;
+    let answer = with_verb_hint(alloc, question, &known.loaded, answer)?;
+    let answer = with_empty_folders(question, &known.loaded, answer)?;
     Ok(with_zone_note(question.verb, &known.local, answer)?)
-}
-
-/// Adds a line to an answer that shows times if the local zone is UTC only because `/etc/localtime` doesn't lead
-/// to a zone file.
-fn with_zone_note(verb: Verb, local: &LocalClock, answer: Answer) -> Result<Answer, AllocError>
-    ensures { IfOk result (λ changed. changed.status ≡ answer.status) }
-{
-    if matches!(verb, Verb::Lint) || !matches!(local, LocalClock::Assumed) {
-        return Ok(answer);
-    }
-    let Answer {
-        out,
-        mut err,
-        status,
-    } = answer;
-    err.push_str("calendar-timers: /etc/localtime: no zone file, so the local zone is UTC\n")?;
-    Ok(Answer { out, err, status })
 }
 
 /// Returns the answer to a question that can't be answered at all: an error line with the reason, and the status

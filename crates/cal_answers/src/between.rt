@@ -21,11 +21,11 @@ pub(crate) fn between(alloc: Global, asked: Asked<'_>, loaded: &Loaded) -> Resul
         return stopped(alloc, "FROM and TO are missing");
     };
     let (from, before) = (from.as_str(), before.as_str());
-    let from = match read_when(alloc, asked.shown, asked.shown.now, from) {
+    let from = match read_when(alloc, asked.shown, &asked.range.from, asked.shown.now, from) {
         Ok(instant) => instant,
         Err(fault) => return bad_time(alloc, from, fault),
     };
-    let before = match read_when(alloc, asked.shown, from, before) {
+    let before = match read_when(alloc, asked.shown, &asked.range.before, from, before) {
         Ok(instant) => instant,
         Err(fault) => return bad_time(alloc, before, fault),
     };

@@ -1,6 +1,7 @@
 //! What is read to answer a question.
 
 use crate::local_clock::LocalClock;
+use crate::range_zones::RangeZones;
 use cal_load::{Loaded, LoadedFiles};
 use cal_unit_index::UnitIndex;
 use cal_zone::Instant;
@@ -23,6 +24,8 @@ pub struct Known {
     pub local: LocalClock,
     /// The zone in which times are shown.
     pub shown: LocalClock,
+    /// The zones that the start and the end of a range can name.
+    pub range: RangeZones,
     /// The index of the search path of units, or of no folder if no unit is needed.
     pub index: UnitIndex,
     /// What the targets of the question stand for.

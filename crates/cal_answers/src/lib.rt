@@ -11,11 +11,14 @@ mod index;
 mod lint;
 mod loading;
 mod local_clock;
+mod range_zones;
 mod reading;
+mod remarks;
 mod search_path;
 mod timers;
 
 pub use answer::{Answer, answer_question};
 pub use found::{Found, Known, LoadedByVerb};
 pub use local_clock::LocalClock;
+pub use range_zones::RangeZones;
 pub use reading::read_question;

@@ -15,8 +15,9 @@ use cal_timers_command::Verb;
 use cal_unit_index::UnitIndex;
 use std::alloc::{AllocError, Global};
 
-/// Loads what the targets of a question stand for. If none is a timer, loads the timers that other units start, or, if
-/// `is_all`, all timers in the search path. `index` is the index of the search path.
+/// Loads what the targets of a question stand for. If `list`, `lint` or `between` has no targets besides the two times of
+/// `between`, loads the timers that other units start or, if `is_all`, all timers in the search path. `index` is the
+/// index of the search path.
 pub(crate) fn load_by_verb<T: Tree>(
     alloc: Global,
     tree: &mut T,

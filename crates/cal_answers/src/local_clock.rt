@@ -104,7 +104,8 @@ fn of_machine<T: Tree>(alloc: Global, tree: &mut T) -> Result<LocalClock, ZonesF
     }
 }
 
-fn only(alloc: Global, name: &str) -> Result<Vec<String>, AllocError>
+/// Returns a list with only this name.
+pub(crate) fn only(alloc: Global, name: &str) -> Result<Vec<String>, AllocError>
     ensures { IfOk result (λ names. map string_bytes names.items ≡ name.now ∷ []) }
 {
     let mut names = Vec::new(alloc);

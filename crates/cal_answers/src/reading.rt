@@ -13,6 +13,7 @@ use crate::found::{Found, Known};
 use crate::index::index_for;
 use crate::loading::load_by_verb;
 use crate::local_clock::LocalClock;
+use crate::range_zones::RangeZones;
 use crate::search_path::search_path;
 use cal_machine::{Entry, Raw, Recorder, Tree, TreeFault};
 use cal_timers_command::{Question, Verb};
@@ -62,6 +63,7 @@ fn read_known<T: Tree>(
     let shown = find_shown(alloc, tree, question)?;
     let path = search_path(alloc, tree, question.is_user)?;
     let targets = texts_of(alloc, question.targets.as_slice())?;
+    let range = RangeZones::load(alloc, tree, question.verb, targets.as_slice())?;
     let index = index_for(
         alloc,
         tree,
@@ -81,6 +83,7 @@ fn read_known<T: Tree>(
         now,
         local,
         shown,
+        range,
         index,
         loaded,
     })

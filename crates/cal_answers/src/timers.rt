@@ -19,7 +19,7 @@ struct Elapsing {
 }
 
 /// Lists the next elapse of each timer, soonest first. Masked units are left out if the question is only about units that
-/// other units start, since no unit starts a masked one.
+/// other units start, since systemd doesn't start a masked unit.
 pub(crate) fn list(alloc: Global, asked: Asked<'_>, loaded: &Loaded) -> Result<Answer, PlanFault>
     ensures { IfOk result (λ answer. answer.status ≤ 2) }
 {

@@ -57,7 +57,7 @@ impl TargetLoadFault {
         }
     }
 
-    /// Converts the error with which reading at this path failed.
+    /// Converts an error from reading this path.
     pub(crate) fn of_tree(alloc: Global, path: &str, fault: TreeFault) -> TargetLoadFault
         ensures { IsTreeFault path.now fault result }
     {
@@ -92,7 +92,7 @@ pub(crate) fn push_fault(
     }
 }
 
-/// Adds the drop-ins and drop-in folders that can't be read to `faults`, as [`push_once`] does.
+/// Adds an error to `faults` for each of these paths that can't be read, as [`push_once`] does.
 pub(crate) fn push_lost(
     faults: &mut Vec<TargetFault>,
     lost: Vec<UnitFault>,
@@ -106,7 +106,7 @@ pub(crate) fn push_lost(
     Ok(())
 }
 
-/// Adds that a path can't be used, for this reason, as [`push_once`] does.
+/// Adds an error saying that the path can't be used for this reason, as [`push_once`] does.
 pub(crate) fn push_path(
     faults: &mut Vec<TargetFault>,
     path: String,

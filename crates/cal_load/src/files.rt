@@ -34,8 +34,9 @@ use std::collections::BTreeMap;
 pub struct LoadedFiles {
     /// The files in the order of the targets, each once. Their bytes needn't be UTF-8.
     pub files: Vec<UnitText>,
-    /// The units, files and folders that couldn't be read, each with the reason. Each error is here once; one about a
-    /// path has the first target that leads to this path.
+    /// The units, files and folders that couldn't be read, each with the reason. No error is here twice: if several
+    /// targets lead to the same file that can't be used, its error has the first of them as its target. For a drop-in or
+    /// a folder that can't be read, the target is its own path.
     pub faults: Vec<TargetFault>,
 }
 
@@ -205,8 +206,8 @@ impl Reading {
         }
     }
 
-    /// Reads the files of the unit that is found for the stem `asked`. Returns the reason if there is no such unit, or
-    /// its own file can't be used.
+    /// Reads the files of the unit that is found for the stem `asked`. Returns why the unit can't be
+    /// read, or `None` if it was read or is masked.
     fn take_unit<T: Tree>(
         &mut self,
         alloc: Global,

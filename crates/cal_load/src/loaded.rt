@@ -50,8 +50,8 @@ impl LoadedTimer {
     }
 
     /// Returns the path of the file that has the line with this continued number, and the line's number in that file,
-    /// counted from 1. Returns `None` if no file begins at or before the line, or if the line's number in its file is
-    /// 2^32.
+    /// counted from 1. Returns `None` if no file begins at or before the line, or if the line's number in its file
+    /// doesn't fit into 32 bits.
     pub fn position(&self, number: u32) -> Option<(&str, u32)>
         ensures { MatchOption result
             ((path : List ℕ) (line : ℕ) → IsPosition self.now.files.items self.now.first_lines.items number path line → 2 ^ 32 ≤ line)
@@ -113,14 +113,15 @@ fn last_until(numbers: &[u32], number: u32) -> Option<usize>
 /// What was loaded.
 #[derive(Drop)]
 pub struct Loaded {
-    /// The timers in the order of the targets. Timers of one folder, or of the whole search path, are sorted by name.
+    /// The timers in the order of the targets. Timers of a folder are sorted by the names of their files, and those that
+    /// are taken without a target by their stems.
     pub timers: Vec<LoadedTimer>,
     /// The names of masked units and the paths of masked files.
     pub masked: Vec<String>,
     /// The units, files, folders and expressions that couldn't be loaded, each with the reason.
     pub faults: Vec<TargetFault>,
-    /// If all units were asked for, the stems of the own names of those that other units start. A stem is a name without
-    /// its suffix `.timer`.
+    /// The stems of the units that other units start. `None` unless all units were asked for. A stem is a unit's own name
+    /// without its suffix `.timer`.
     pub started: Option<BTreeSet<String>>,
 }
 
@@ -145,7 +146,7 @@ impl Loaded {
         }
     }
 
-    /// Returns whether the timer with this name is disabled: all units were asked for, and no other unit starts this one.
+    /// Returns whether no other unit starts the timer with this name. Always `false` unless all units were asked for.
     pub fn is_disabled(&self, name: &str) -> bool
         ensures { result ≡ is_disabled (shown_stems self.now.started) name.now }
     {

@@ -29,7 +29,7 @@ use std::collections::BTreeSet;
 pub(crate) struct Units {
     /// The stems of the units' own names.
     pub(crate) stems: BTreeSet<String>,
-    /// If these are all units, the stems of those that other units start.
+    /// The stems of the units that other units start. `None` unless all units were asked for.
     pub(crate) started: Option<BTreeSet<String>>,
     /// The folders `NAME.wants` and `NAME.requires` that can't be read.
     pub(crate) unreadable: Vec<UnitFault>,

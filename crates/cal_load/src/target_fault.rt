@@ -36,8 +36,9 @@ pub enum TargetReason {
 #[derive(Debug, Drop)]
 pub struct TargetFault {
     /// The unit or expression as it was given, or the path without slashes at its end. If a folder was given, this can
-    /// also be the path of a file in it. If all timers were asked for, it is the name of a unit. For a drop-in or a
-    /// folder of drop-ins that can't be read, it is the path of this drop-in or folder; the timer is loaded without it.
+    /// also be the path of a file in it. Without a target, it is the name of a unit. For a drop-in that can't be read, or a
+    /// folder of drop-ins or of links that start units, it is the path of this drop-in or folder; timers are loaded
+    /// without it.
     pub target: String,
     pub reason: TargetReason,
 }

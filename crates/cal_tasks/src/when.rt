@@ -4,7 +4,7 @@ ghost use Rattle.std.specs.Prelude.{◌≡◌, IfOk, option_map};
 ghost use Rattle.cal_zone.specs.rules.Setting.{setting_seen};
 ghost use Rattle.cal_spec.specs.rules.WeekdayNames.{leading_letters};
 ghost use Rattle.cal_bytes.specs.rules.Separators.{words};
-ghost use Rattle.cal_tasks.specs.rules.When.{IsUnlessNoMemory, begin_with_weekday, fields_unless_dated, first_elapse, first_if_some, is_dated, next_weekday_time, setting_without_names, weekday_time_in, when_in};
+ghost use Rattle.cal_tasks.specs.rules.When.{IsUnlessNoMemory, begin_with_weekday, fields_unless_dated, first_elapse, first_if_some, is_dated, next_weekday_time, setting_with, weekday_time_in, when_in};
 
 use crate::clocked::Clocked;
 use cal_bytes::first_word;
@@ -40,39 +40,39 @@ impl From<AllocError> for WhenFault {
 ///
 /// A weekday with a time, such as `Fri 18:00`, is a calendar expression that begins with the name of a weekday and has
 /// no date other than `*-*-*`. It resolves to its first elapse after `after`. It may name several weekdays, as in
-/// `Mon..Fri 9:00`, and it may end in `UTC` or a UTC offset. Without a time, it stands for midnight. As a timestamp,
+/// `Mon..Fri 9:00`, and it may end in a zone or a UTC offset. Without a time, it stands for midnight. As a timestamp,
 /// such a text would be accepted only if the present day is the weekday that it names.
 ///
 /// All other texts are parsed as timestamps, and so is a weekday with a time that doesn't elapse after `after`. The
-/// moment of a timestamp is rounded down to a whole second. The only zone that can be named is `UTC`.
+/// moment of a timestamp is rounded down to a whole second. The zones that can be named are `UTC` and those of `zones`.
 ///
 /// Fails with [`WhenFault::NoInstant`] and the error of the timestamp if the text is neither, and with
 /// [`WhenFault::NoMemory`] if allocation fails; this error doesn't say whether the text is valid.
 pub fn read_when(
     alloc: Global,
     at: Clocked<'_>,
+    zones: &ZoneTable,
     after: Instant,
     text: &str,
 ) -> Result<Instant, WhenFault>
-    ensures { IsUnlessNoMemory (when_in at.entry.now.secs (setting_without_names at.entry) after.secs text.now) result }
+    ensures { IsUnlessNoMemory (when_in at.entry.now.secs (setting_with at.entry zones.now) after.secs text.now) result }
 {
-    let zones = ZoneTable::new(alloc);
     let setting = Setting {
         now: at.now,
         local: at.local,
-        zones: &zones,
+        zones,
     };
     if let Some(instant) = next_weekday_time(alloc, setting, after, text)? {
         return Ok(instant);
     }
-    match read_stamp(text, at.now, at.local, &zones) {
+    match read_stamp(text, at.now, at.local, zones) {
         Ok(moment) => Ok(moment.instant()),
         Err(fault) => Err(WhenFault::NoInstant(fault)),
     }
 }
 
 /// Parses a weekday with a time, and returns its first elapse after `after`. Returns `None` if the text isn't a weekday
-/// with a time, if it names a zone other than `UTC`, or if it doesn't elapse after `after`.
+/// with a time, if it names a zone that isn't known, or if it doesn't elapse after `after`.
 fn next_weekday_time(
     alloc: Global,
     setting: Setting<'_>,

@@ -114,15 +114,14 @@ fn width_of(rt: &HostRuntime) -> usize {
     }
 }
 
-/// Prints the texts for both outputs, and returns the exit status. If printing to standard output fails, prints an
-/// error line and returns [`FAILED`], unless standard output is a pipe that nobody reads any more.
+/// Prints the texts for both outputs, and returns the exit status. If printing to standard output fails, for example
+/// because it is a pipe that nobody reads any more, prints an error line and returns [`FAILED`].
 fn end(rt: &HostRuntime, out: &str, err: &str, status: u8) -> ExitCode {
     let written = print!(rt; "{out}");
     // If printing to standard error fails, only the exit status is left to report anything.
     let _ = eprint!(rt; "{err}");
     match written {
         Ok(()) => ExitCode::from(status),
-        Err(error) if error.kind() == ErrorKind::BrokenPipe => ExitCode::from(status),
         Err(_) => {
             let _ = eprintln!(rt; "calendar-timers: output failed");
             ExitCode::from(FAILED)

@@ -121,8 +121,8 @@ const ANY_TIMERS: Argument = Argument {
 const TIMERS: Argument = Argument {
     name: TARGET,
     form: ArgumentForm::AtLeastOne,
-    value_name: "UNIT|FILE",
-    help: "Unit or timer file",
+    value_name: "UNIT|FILE|DIR",
+    help: "Unit, timer file or folder of timer files",
 };
 
 const EXPRESSIONS: Argument = Argument {

@@ -27,7 +27,7 @@ impl Question {
     /// The targets of each verb are:
     ///
     /// - `list`, `lint`: any number of units, files and folders.
-    /// - `show`: one or more units and files.
+    /// - `show`: one or more units, files and folders.
     /// - `between`: two times, and then any number of units, files and folders.
     /// - `same`: two units, files or expressions.
     /// - `next`: one or more expressions.

@@ -5,6 +5,9 @@ ghost use Rattle.std.specs.Option.{ForSome};
 ghost use Rattle.cal_zone.specs.rules.Instant.{IsInstant};
 ghost use Rattle.cal_timers_command.specs.rules.Questions.{IsElapseCount, fits_verb};
 
+use std::alloc::{AllocError, Global};
+use strsim::osa_distance;
+
 /// A verb: what a question asks for.
 #[derive(Clone, Copy, PartialEq, Eq, Debug)]
 pub enum Verb {
@@ -30,7 +33,7 @@ pub struct Question {
     ///
     /// - `list` and `lint`: any number of units, files and folders. Without any, the question is about the units that other
     ///   units start, or about all units if `is_all`.
-    /// - `show`: one or more units and files.
+    /// - `show`: one or more units, files and folders.
     /// - `between`: the start and the end of the range, and then any number of units, files and folders, as for `list`.
     /// - `same`: two units, files or calendar expressions.
     /// - `next`: one or more calendar expressions.
@@ -75,7 +78,7 @@ impl Verb {
     ];
 
     /// Returns the name of the verb. The caller chooses the lifetime, since the prover can't shorten `'static`.
-    pub(crate) fn name<'a>(self) -> &'a str {
+    pub fn name<'a>(self) -> &'a str {
         match self {
             Verb::List => "list",
             Verb::Show => "show",
@@ -89,6 +92,17 @@ impl Verb {
     /// Returns the verb with this name, or `None` if there is no such verb.
     pub(crate) fn named(name: &str) -> Option<Verb> {
         Verb::ALL.into_iter().find(|verb| verb.name() == name)
+    }
+
+    /// Returns a verb whose name differs from the word by a single edit: a letter is left out, added, replaced, or swapped
+    /// with the next one. Returns `None` if there is no such verb. Fails only if allocation fails.
+    pub fn similar(alloc: Global, word: &str) -> Result<Option<Verb>, AllocError> {
+        for verb in Verb::ALL {
+            if osa_distance(alloc, word, verb.name())? == 1 {
+                return Ok(Some(verb));
+            }
+        }
+        Ok(None)
     }
 
     /// Returns whether the verb accepts this number of targets.

@@ -21,6 +21,7 @@ use Rattle.cal_answers.specs.declared.found.LoadedByVerb.TheVariants as loads
 use Rattle.cal_answers.specs.rules.LocalClock.{IsLocalZone, clock_zone, local_zone_of, shown_zone_of}
 use Rattle.cal_answers.specs.rules.MachinePath.{machine_path}
 use Rattle.cal_answers.specs.rules.Present.{IsPresent}
+use Rattle.cal_answers.specs.rules.RangeZones.{AreRangeZones}
 use Rattle.cal_answers.specs.rules.Unanswerable.{IsUnanswerableOn}
 
 -- ## What was loaded
@@ -62,7 +63,7 @@ AreLoadedOn machine path targets (loads.Between timers) = AreTimersOn machine pa
 AreLoadedOn machine path targets (loads.Same first second) = AreSidesOn machine path targets first second
 AreLoadedOn machine path targets (loads.Next timers) = AreMadeOf machine targets timers
 
--- the targets after those that say when: the first two of `between` are instants
+-- the targets without the start and the end of the range, which are the first two of `between`
 abbrev pub timer_targets : {X : Type 0} → Verb → List X → List X
 timer_targets verbs.List targets = targets
 timer_targets verbs.Show targets = targets
@@ -97,13 +98,14 @@ abbrev pub HasAllFor : (Machine → List (List ℕ) → Type 0) → Bool → Lis
 HasAllFor Knows is_all [] timers = HasUnits Knows is_all timers
 HasAllFor Knows is_all (one ∷ rest) timers = HasAllTargets Knows (one ∷ rest) timers
 
--- `lint` loads no timers for targets that are drop-ins, so this only says which units are taken without a target
+-- Which units `lint` takes without a target. Nothing is said about its targets, since those that end in `.conf` aren't
+-- loaded as timers.
 abbrev pub HasAllLinted : (Machine → List (List ℕ) → Type 0) → Bool → List (List ℕ) → Loaded → Type 0
 HasAllLinted Knows is_all [] timers = HasUnits Knows is_all timers
 HasAllLinted Knows is_all (one ∷ rest) timers = ⊤
 
--- No timer is missing that the targets stand for on a machine and search path of which `Knows` is true. Of `same` and
--- `next`, `AreLoadedOn` says all that is said.
+-- For `list`, `show` and `between`, and for `lint` without targets, no timer is missing on a machine and search path for
+-- which `Knows` holds. About the others, only `AreLoadedOn` says something.
 abbrev pub AreAll : (Machine → List (List ℕ) → Type 0) → Bool → List (List ℕ) → LoadedByVerb → Type 0
 AreAll Knows is_all targets (loads.List timers) = HasAllFor Knows is_all targets timers
 AreAll Knows is_all targets (loads.Show timers) = HasAllFor Knows is_all targets timers
@@ -112,7 +114,7 @@ AreAll Knows is_all targets (loads.Between timers) = HasAllFor Knows is_all (dro
 AreAll Knows is_all targets (loads.Same first second) = ⊤
 AreAll Knows is_all targets (loads.Next timers) = ⊤
 
--- no timer is missing that the targets stand for on this machine and search path
+-- no timer is missing (`AreAll`) on this machine and search path
 abbrev pub AreAllOn : Machine → List (List ℕ) → Bool → List (List ℕ) → LoadedByVerb → Type 0
 AreAllOn machine path is_all targets loaded = AreAll (λ other folders. (other ≡ machine) × (folders ≡ path)) is_all targets loaded
 
@@ -130,11 +132,13 @@ IsPathOf machine is_user false path = (machine_path machine is_user ≡ Some pat
 abbrev pub targets_of : Question → List (List ℕ)
 targets_of question = map string_bytes question.targets.items
 
--- What is known for a question is true on this machine: the local zone, the zone in which times are shown, the index of
--- the search path, and the timers and files that the targets stand for, of which none is missing.
+-- What is known for a question is true on this machine: the local zone, the zone in which times are shown, the zones that
+-- a range names, the index of the search path, and the timers and files that the targets stand for, of which none is
+-- missing.
 pub record IsKnownOn (machine : Machine) (question : Question) (known : Known) : Type 0 where
   pub local : IsLocalZone machine (local_zone_of machine question) (clock_zone known.local)
   pub shown : IsLocalZone machine (shown_zone_of machine question) (clock_zone known.shown)
+  pub range : AreRangeZones machine question.verb (targets_of question) known.range
   pub path : List (List ℕ)
   pub searched : IsPathOf machine question.is_user (needs_units question.verb (targets_of question)) path
   pub index : IsIndexOf machine path known.index

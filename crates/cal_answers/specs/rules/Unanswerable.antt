@@ -24,7 +24,7 @@ IsUnusable machine OfMachine = ⊥
 IsUnusable machine (UnclearIn origin) = ⊤
 IsUnusable machine (UnreadIn origin) = ⊤
 
--- neither the question nor the clock states a present, or it isn't an instant
+-- neither the question nor the clock has a present, or what they have isn't an instant
 abbrev pub HasNoPresent : Question → Option ℤ → Type 0
 HasNoPresent question clock = IsPresent (option_or question.now clock) None
 

@@ -46,7 +46,7 @@ unless_empty path = if length path == 0 then root else path
 abbrev pub without_slashes : List ℕ → List ℕ
 without_slashes path = unless_empty (trim_end_matches is_slash path)
 
--- what stands before the slash and the name in the path of a file in this folder: nothing in the root
+-- what comes before `/NAME` in the path of a file in this folder: the folder's path, or nothing for the root
 abbrev pub before_slash : List ℕ → List ℕ
 before_slash folder = if bytes_eq folder root then [] else folder
 
@@ -83,7 +83,7 @@ wanted_in wanted listing = sorted_once (filter (is_wanted wanted) listing.names)
 abbrev pub wanted_at : Machine → Wanted → List ℕ → Result (List (List ℕ)) Unreadable
 wanted_at machine wanted folder = seen (wanted_in wanted) (names_at machine folder)
 
--- the error is that the names in a folder can't be read, if `names` is what reading them gives
+-- the error says that the names in a folder can't be read; `names` is the result of reading them
 abbrev pub IsUnreadReason : {X : Type 0} → List ℕ → Result X Unreadable → TargetReason → Type 0
 IsUnreadReason folder (Ok names) reason = ⊥
 IsUnreadReason folder (Err why) reason = IsPathReason folder (reasons.Unreadable why) reason
@@ -95,7 +95,7 @@ IsUnreadFault folder names faults.TheVariants.NoMemory = ⊤
 -- ## What is looked for
 
 -- Something that is looked for: a unit of the search path, by its stem; the unit with the name that a user gave; a
--- single file, without drop-ins; or the names in a folder that can't be read.
+-- single file, without drop-ins; or a folder whose names can't be read.
 pub data Sought : Type 0 where
   ListedUnit : (stem : List ℕ) → Sought
   NamedUnit : (name : List ℕ) → Sought
@@ -129,7 +129,7 @@ name_of (NamesIn folder) = folder
 
 -- ## What became of it
 
--- What was found is true of the unit with this stem. A name that isn't valid has no stem, so no unit is found for it.
+-- This is a correct result for the unit with this stem. A name that isn't valid has no stem, so no unit is found for it.
 abbrev pub IsFoundIfValid : Machine → List (List ℕ) → Option (List ℕ) → Result targets.LoadedTarget TargetLoadFault → Type 0
 IsFoundIfValid machine path None found = found ≡ Err (faults.TheVariants.Target NotFound)
 IsFoundIfValid machine path (Some stem) found = IsFoundOf machine path stem found
@@ -139,7 +139,7 @@ abbrev pub IsReadAt : Machine → List ℕ → targets.LoadedTarget → Type 0
 IsReadAt machine path (targets.TheVariants.Timer timer) = (string_bytes timer.name ≡ path) × IsTimerReadFrom machine (text_at machine path) timer
 IsReadAt machine path targets.TheVariants.Masked = file_at machine path ≡ Mask
 
--- what was found is true of the file at this path
+-- this is a correct result for the file at this path
 abbrev pub IsFoundAt : Machine → List ℕ → Result targets.LoadedTarget TargetLoadFault → Type 0
 IsFoundAt machine path (Ok found) = IsReadAt machine path found
 IsFoundAt machine path (Err fault) = IsTimerFileFault machine path fault
@@ -149,7 +149,7 @@ abbrev pub IsUnread : Machine → List ℕ → Result targets.LoadedTarget Targe
 IsUnread machine folder (Ok found) = ⊥
 IsUnread machine folder (Err fault) = IsUnreadFault folder (names_at machine folder) fault
 
--- what was found is true of the machine
+-- this is a correct result for what was looked for
 abbrev pub IsFound : Machine → List (List ℕ) → Sought → Result targets.LoadedTarget TargetLoadFault → Type 0
 IsFound machine path (ListedUnit stem) found = IsFoundOf machine path stem found
 IsFound machine path (NamedUnit name) found = IsFoundIfValid machine path (unit_stem name) found
@@ -164,8 +164,8 @@ pub record Outcome : Type 0 where
 abbrev pub IsOutcome : Machine → List (List ℕ) → Outcome → Type 0
 IsOutcome machine path outcome = IsFound machine path outcome.sought outcome.found
 
--- Whether nothing is reported if no file is found. This is only so for a unit of the search path, such as a link to
--- nothing, that the user didn't ask for.
+-- Whether it goes unreported if there is no file. It does only for a unit that no target named, whose name in the search
+-- path may be a link to nothing.
 abbrev pub may_be_absent : Sought → Bool
 may_be_absent (ListedUnit stem) = true
 may_be_absent (NamedUnit name) = false
@@ -184,14 +184,15 @@ IsAccounted all outcome =
     IsTrue (may_be_absent outcome.sought && is_absent outcome.found) ⊎ IsReported all (name_of outcome.sought) outcome.found
 
 -- Everything that was loaded comes from these outcomes: the timers are those that were found, in this order; what is
--- masked was found to be masked, in this order; and each error is among the faults.
+-- masked was found to be masked, in this order; and each error is among the faults, unless it goes unreported. There may
+-- be other faults, such as those of drop-ins.
 pub record AreLoadedFrom (outcomes : List Outcome) (loaded : Loaded) : Type 0 where
   pub timers : loaded.timers.items ≡ flat_map timers_of outcomes
   pub masked : map string_bytes loaded.masked.items ≡ flat_map masked_of outcomes
   pub accounted : All (IsAccounted loaded.faults.items) outcomes
 
--- On each machine and search path of which `Knows` is true, the outcomes are true, and they are the outcomes of
--- everything that is to be looked for there, in this order.
+-- On each machine and search path for which `Knows` holds, each outcome is correct, and there is exactly one for each
+-- element of `sought`, in this order.
 pub record AreOutcomes (Knows : Machine → List (List ℕ) → Type 0) (sought : Machine → List (List ℕ) → List Sought) (outcomes : List Outcome) : Type 0 where
   pub true_of : (machine : Machine) (path : List (List ℕ)) → Knows machine path → All (IsOutcome machine path) outcomes
   pub are_all : (machine : Machine) (path : List (List ℕ)) → Knows machine path

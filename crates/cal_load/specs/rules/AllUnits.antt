@@ -1,5 +1,5 @@
--- Which units are taken without a target, and what was found of one: systemd.unit(5), Description and Unit File Load
--- Path. A stem is a unit's name without its suffix `.timer`.
+-- Which units are taken without a target, and the result of loading one: systemd.unit(5), Description and Unit File Load
+-- Path. A stem is a unit's name without its suffix `.timer`; the own stem is that of its own name, not of an alias.
 use Rattle.std.specs.Prelude.{◌≡◌, ⊤, ℕ, Bool, true, false, not, if◌then◌else◌, List, [], ◌∷◌, ◌++◌, Option, None, Some, Result, Ok, Err, String, codes, map, option_map, string_bytes}
 use Rattle.std.specs.BTreeSet.{BTreeSet}
 use Rattle.std.specs.List.{Contains, filter_map}
@@ -61,7 +61,8 @@ units_on machine path is_all = if is_all then all_units machine path else starte
 abbrev pub shown_stems : Option (BTreeSet (String Global)) → Option (List (List ℕ))
 shown_stems stems = option_map (λ set. map string_bytes set.keys) stems
 
--- the own stems of the units that other units start, if all units are asked for; otherwise, no unit is called disabled
+-- the own stems of the units that other units start, if all units are asked for; otherwise None, and then no unit counts
+-- as disabled
 abbrev pub started_if_all : Machine → List (List ℕ) → Bool → Option (List (List ℕ))
 started_if_all machine path is_all = if is_all then Some (started_units machine path) else None
 
@@ -89,7 +90,7 @@ abbrev pub IsNotUtf8Fault : List ℕ → TargetLoadFault → Type 0
 IsNotUtf8Fault path (faults.TheVariants.Target reason) = (place : String Global) × (string_bytes place ≡ path) × (reason ≡ target_reasons.TheVariants.NotUtf8 place)
 IsNotUtf8Fault path faults.TheVariants.NoMemory = ⊤
 
--- the error for what a path leads to, if looking at it failed
+-- the error for a path that can't be followed or read
 abbrev pub IsTreeFault : List ℕ → tree_faults.TreeFault → TargetLoadFault → Type 0
 IsTreeFault path (tree_faults.TheVariants.Unreadable why) fault = IsPathFault path (reasons.TheVariants.Unreadable why) fault
 IsTreeFault path tree_faults.TheVariants.NoMemory fault = fault ≡ faults.TheVariants.NoMemory
@@ -133,12 +134,12 @@ IsUnitFault machine path asked unit faults.TheVariants.NoMemory = ⊤
 
 -- ## What was found
 
--- what was found for the stem `asked` is true of the machine
+-- this is a correct result of loading the unit that is asked for by the stem `asked`
 abbrev pub IsFoundOf : Machine → List (List ℕ) → List ℕ → Result targets.LoadedTarget TargetLoadFault → Type 0
 IsFoundOf machine path asked (Ok found) = IsLoadedUnit machine path asked found
 IsFoundOf machine path asked (Err fault) = IsUnitFault machine path asked (unit_on machine path asked) fault
 
--- the name under which something masked is listed
+-- the name, if what was found is masked
 abbrev pub masked_in : List ℕ → Result targets.LoadedTarget TargetLoadFault → List (List ℕ)
 masked_in name (Ok (targets.TheVariants.Timer timer)) = []
 masked_in name (Ok targets.TheVariants.Masked) = name ∷ []

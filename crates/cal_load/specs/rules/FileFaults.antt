@@ -28,8 +28,8 @@ use Rattle.cal_load.specs.declared.target_fault.TargetReason.TheVariants as targ
 
 -- ## What is lost
 
--- Why something can't be read: there is no such unit, or nothing is at its path; its name is that of a template; it has
--- more aliases than are followed; or what is at this path can't be used, for this reason.
+-- Why something can't be read: there is no such unit, or nothing is at its path; its name is that of a template; more
+-- than 7 aliases lead from its name, one to the next; or what is at this path can't be used, for this reason.
 pub data Cause : Type 0 where
   Absent : Cause
   IsTemplate : Cause
@@ -47,7 +47,7 @@ lost_as name (Some cause) = record { name = name; cause = cause } ∷ []
 
 -- ## Files
 
--- why the file at a path is lost, if what is there can't be used for this reason
+-- the cause that a file is lost, given the reason why what is at its path can't be used
 abbrev pub cause_of : List ℕ → Reason → Cause
 cause_of path (reasons.Unreadable why) = UnusableAt path (reasons.Unreadable why)
 cause_of path reasons.IsFolder = UnusableAt path reasons.IsFolder
@@ -134,7 +134,7 @@ lost_folder machine folder =
 abbrev pub lost_at : Machine → List ℕ → List Lost
 lost_at machine path = if is_folder (end_at machine path) then lost_folder machine path else lost_file machine path
 
--- what can't be read of that for which a target stands
+-- the part that can't be read of what a target stands for
 abbrev pub lost_by : Machine → List (List ℕ) → List ℕ → List Lost
 lost_by machine path target =
     if is_path target then lost_at machine (without_slashes target) else lost_named machine path target
@@ -143,14 +143,14 @@ lost_by machine path target =
 abbrev pub lost_starts : Machine → List (List ℕ) → List Lost
 lost_starts machine path = map lost_path (unreadable_wants machine path)
 
--- what can't be read if there is no target: of the units that are taken then, and of the folders that say which units are
--- started
+-- without a target: what can't be read of the units that are taken, and which of the folders that say which units are
+-- started can't be read
 abbrev pub all_lost : Machine → List (List ℕ) → Bool → List Lost
 all_lost machine path is_all = flat_map (lost_listed machine path) (units_on machine path is_all) ++ lost_starts machine path
 
 -- ## The errors
 
--- the reason in an error says this cause
+-- the reason in an error states this cause
 abbrev pub IsCause : Cause → TargetReason → Type 0
 IsCause Absent reason = reason ≡ target_reasons.NotFound
 IsCause IsTemplate reason = reason ≡ target_reasons.Template
@@ -166,8 +166,8 @@ pub record IsFaultOf (lost : Lost) (fault : TargetFault) : Type 0 where
 abbrev pub IsFaultOfOne : List Lost → TargetFault → Type 0
 IsFaultOfOne all fault = (lost : Lost) × Contains all lost × IsFaultOf lost fault
 
--- The error is about what has this name. That a path can't be used is reported once, perhaps under another name that
--- leads to it.
+-- The error's target is `name`, except if a path can't be used: that is reported once, and the target may be another one
+-- that leads to the same path.
 abbrev pub IsAbout : List ℕ → Cause → TargetFault → Type 0
 IsAbout name Absent fault = string_bytes fault.target ≡ name
 IsAbout name IsTemplate fault = string_bytes fault.target ≡ name
@@ -195,7 +195,7 @@ IsCauseIf None (Some reason) = ⊥
 IsCauseIf (Some cause) None = ⊥
 IsCauseIf (Some cause) (Some reason) = IsCause cause reason
 
--- `new` is `old` with the errors of what is lost in addition
+-- `new` is `old` with the errors of what is lost
 pub record AreLostAlso (more : List Lost) (old new : List TargetFault) : Type 0 where
   pub kept : Keeps old new
   pub true_of : (fault : TargetFault) → Contains new fault → Contains old fault ⊎ IsFaultOfOne more fault
@@ -208,7 +208,7 @@ AreReadAlso machine more lost old new =
     (paths : List (List ℕ)) → AreTried machine paths old
     → AreTried machine (fold with_path paths more) new × AreLostAlso lost old.loaded.faults.items new.loaded.faults.items
 
--- as `AreReadAlso`, and the reason that was returned says why a unit is lost, or there is none if it isn't lost
+-- as `AreReadAlso`, and the returned reason states the cause; there is no reason if there is no cause
 abbrev pub AreReadFor : Machine → List (List ℕ) → List Lost → Option Cause → Option TargetReason → Reading → Reading → Type 0
 AreReadFor machine more lost cause reason old new =
     (paths : List (List ℕ)) → AreTried machine paths old

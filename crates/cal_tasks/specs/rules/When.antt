@@ -1,13 +1,12 @@
 -- The two ways to write the start or the end of a range of instants: as a weekday with a time, or as a timestamp
 -- (systemd.time(7), Parsing Timestamps).
 use Rattle.std.specs.Prelude.{◌≡◌, ℕ, ◌/◌, Bool, false, ◌||◌, if◌then◌else◌, List, [], ◌∷◌, Option, None, Some, is_some, Result, Ok, Err, ⊤, ℤ, pos, slice_get, unsigned_abs}
-use Rattle.std.specs.FinMap as map
 use Rattle.jiff.specs.Types.{TimeZone}
 use Rattle.cal_zone.specs.rules.Setting.{Setting}
 use Rattle.cal_zone.specs.declared.instant.Instant.{Instant}
 use Rattle.cal_zone.specs.rules.Instant.{micros_per_second}
 use Rattle.cal_zone.specs.rules.Zone.{zone_of}
-use Rattle.cal_zone.specs.rules.ZoneTable.{zone_named}
+use Rattle.cal_zone.specs.rules.ZoneTable.{ZoneMap, zone_named}
 use Rattle.cal_spec.specs.computed.Expr.{expr_in}
 use Rattle.cal_spec.specs.rules.WeekdayNames.{day_named, leading_letters}
 use Rattle.cal_spec.specs.declared.spec_fault.SpecFault.{SpecFault}
@@ -22,10 +21,9 @@ use Rattle.cal_tasks.specs.declared.clocked.Clocked.{Clocked}
 use Rattle.cal_tasks.specs.declared.when.WhenFault.{WhenFault}
 use Rattle.cal_tasks.specs.declared.when.WhenFault.TheVariants.{NoInstant, NoMemory}
 
--- the zones that the start or the end of a range can refer to: the local zone by default, and `UTC`, the only zone that
--- can be named
-abbrev pub setting_without_names : Clocked → Setting
-setting_without_names at = record { local = zone_of at.local; find = zone_named map.empty }
+-- the zones that the start or the end of a range can refer to: the local zone by default, and by name those of a table
+abbrev pub setting_with : Clocked → ZoneMap → Setting
+setting_with at table = record { local = zone_of at.local; find = zone_named table }
 
 -- whether the letters at the beginning of the first word are the name of a weekday
 abbrev pub begin_with_weekday : List (List ℕ) → Bool

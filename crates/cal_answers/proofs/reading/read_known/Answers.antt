@@ -5,6 +5,7 @@ use Rattle.cal_timers_command.specs.rules.Questions.{fits_verb}
 use Rattle.cal_unit_index.specs.rules.Index.{IsIndexOf}
 use Rattle.cal_answers.specs.declared.fault.ReadFault.TheVariants.{NoMemory}
 use Rattle.cal_answers.specs.rules.Found.{AreAll, AreLoadedOn, IsIndexFor, needs_units, targets_of}
+use Rattle.cal_answers.specs.rules.RangeZones.{AreRangeZones}
 use Rattle.cal_answers.proofs.FoundLemmas.{known_on, loaded_at}
 use Rattle.cal_answers.proofs.reading.read_known.Goals as goal
 
@@ -12,7 +13,8 @@ pub returns-clause-known : goal.returns-clause-known
 returns-clause-known g c = λ machine shows.
     let question = c.args.question.now in
     let indexed = c.in_ok-loaded.ensures.grows machine shows in
-    let searched = c.in_ok-index.ensures.grows machine indexed in
+    let ranged = c.in_ok-index.ensures.grows machine indexed in
+    let searched = c.in_ok-range.ensures.grows machine ranged in
     let found = c.in_ok-path.ensures.grows machine searched in
     let texts : map (λ text. text.now) c.in_ok-targets.targets.items ≡ map string_bytes question.targets.items =
     c.in_ok-targets.ensures ∙ ap (map string_bytes) c.as_slice.ensures.value in
@@ -20,15 +22,17 @@ returns-clause-known g c = λ machine shows.
     known_on machine question _ (map string_bytes c.in_ok-path.path.items) (needs_units question.verb (targets_of question)) refl
     (c.in_ok-local.ensures.zone machine (c.in_ok-shown.ensures.grows machine found))
     (c.in_ok-shown.ensures.zone machine found)
+    (subst (λ targets. AreRangeZones machine question.verb targets c.in_ok-range.range)
+    (ap (map (λ text. text.now)) c.as_slice-2.ensures.value ∙ texts) (c.in_ok-range.ensures.zones machine ranged))
     (c.in_ok-path.ensures.known machine searched)
-    (subst (λ path. IsIndexFor machine (map string_bytes path) c.in_ok-index.index) c.as_slice-2.ensures.value (c.in_ok-index.ensures.known machine indexed))
-    (λ needed. subst (λ path. IsIndexOf machine (map string_bytes path) c.in_ok-index.index) c.as_slice-2.ensures.value
-    (c.in_ok-index.ensures.whole (ap (needs_units question.verb) (ap (map (λ text. text.now)) c.as_slice-3.ensures.value ∙ texts) ∙ needed) machine indexed))
+    (subst (λ path. IsIndexFor machine (map string_bytes path) c.in_ok-index.index) c.as_slice-3.ensures.value (c.in_ok-index.ensures.known machine indexed))
+    (λ needed. subst (λ path. IsIndexOf machine (map string_bytes path) c.in_ok-index.index) c.as_slice-3.ensures.value
+    (c.in_ok-index.ensures.whole (ap (needs_units question.verb) (ap (map (λ text. text.now)) c.as_slice-4.ensures.value ∙ texts) ∙ needed) machine indexed))
     c.in_ok-loaded.ensures.verb
     (λ folders is. subst (λ targets. AreLoadedOn machine folders targets c.in_ok-loaded.loaded)
-    (ap (map (λ text. text.now)) c.as_slice-4.ensures.value ∙ texts) (c.in_ok-loaded.ensures.known machine folders shows is))
+    (ap (map (λ text. text.now)) c.as_slice-5.ensures.value ∙ texts) (c.in_ok-loaded.ensures.known machine folders shows is))
     (λ folders is. loaded_at Knows machine folders question.is_all (targets_of question) c.in_ok-loaded.loaded (shows, is)
-    (subst (λ targets. AreAll Knows question.is_all targets c.in_ok-loaded.loaded) (ap (map (λ text. text.now)) c.as_slice-4.ensures.value ∙ texts) c.in_ok-loaded.ensures.whole))
+    (subst (λ targets. AreAll Knows question.is_all targets c.in_ok-loaded.loaded) (ap (map (λ text. text.now)) c.as_slice-5.ensures.value ∙ texts) c.in_ok-loaded.ensures.whole))
 
 pub returns-in_err-path-clause-fault : goal.returns-in_err-path-clause-fault
 returns-in_err-path-clause-fault g c =
@@ -43,7 +47,7 @@ returns-in_err-index-clause-fault g c =
 pub load_by_verb-requires : goal.load_by_verb-requires
 load_by_verb-requires g c =
     let question = c.args.question.now in
-    let count : length c.as_slice-4.result.now ≡ length c.as_slice.result.now =
-    ap length c.as_slice-4.ensures.value ∙ sym (length-map c.in_ok-targets.targets.items (λ text. text.now))
+    let count : length c.as_slice-5.result.now ≡ length c.as_slice.result.now =
+    ap length c.as_slice-5.ensures.value ∙ sym (length-map c.in_ok-targets.targets.items (λ text. text.now))
     ∙ ap length c.in_ok-targets.ensures ∙ length-map c.as_slice.result.now string_bytes in
     ap (fits_verb question.verb) (count ∙ c.as_slice.ensures.len) ∙ question.fits

@@ -1,0 +1,104 @@
+//! The zones that the start and the end of a range name.
+
+ghost use Rattle.std.specs.Prelude.{◌≡◌, IfOk, MatchOption, false, is_some, map, slice_get};
+ghost use Rattle.cal_civil.specs.rules.ZoneName.{is_zone_name};
+ghost use Rattle.cal_machine.specs.rules.Machine.{Machine};
+ghost use Rattle.cal_zone.specs.rules.ZoneTable.{zone_named};
+ghost use Rattle.cal_zone_files.specs.declared.fault.FileReason.{FileReason};
+ghost use Rattle.cal_zone_files.specs.rules.ZoneFiles.{HasZonesOf, IsReasonOn};
+ghost use Rattle.cal_answers.specs.rules.RangeZones.{AreRangeZones, HasZoneAtEnd, last_part, range_text, text_or_none};
+
+use crate::local_clock::only;
+use cal_bytes::last_word;
+use cal_machine::Tree;
+use cal_timers_command::Verb;
+use cal_zone::{ZoneName, ZoneTable};
+use cal_zone_files::{ZonesFault, load_zones};
+use std::alloc::{AllocError, Global};
+
+/// The zones that the start and the end of a range of `between` can name, besides UTC.
+#[derive(Drop)]
+pub struct RangeZones {
+    /// The zones for the start of the range.
+    pub from: ZoneTable,
+    /// The zones for the end of the range.
+    pub before: ZoneTable,
+}
+
+impl RangeZones {
+    /// Loads the zones that the first two targets of `between` name. There are none for other verbs. A zone whose file
+    /// can't be used is left out, and so isn't known when the text is parsed.
+    pub(crate) fn load<T: Tree>(
+        alloc: Global,
+        tree: &mut T,
+        verb: Verb,
+        targets: &[&str],
+    ) -> Result<RangeZones, AllocError>
+        ensures zones { IfOk result (λ zones. (machine : Machine) → T.shows tree.new machine
+            → AreRangeZones machine verb (map (λ text. text.now) targets.now) zones) }
+        ensures grows { (machine : Machine) → T.shows tree.new machine → T.shows tree.old machine }
+    {
+        let from = zone_at_end(alloc, tree, range_text(verb, targets, 0))?;
+        let before = zone_at_end(alloc, tree, range_text(verb, targets, 1))?;
+        Ok(RangeZones { from, before })
+    }
+}
+
+/// Returns the start of the range (0) or its end (1), or an empty text if the targets aren't those of `between`.
+fn range_text<'t>(verb: Verb, targets: &'t [&'t str], index: usize) -> &'t str
+    ensures { result.now ≡ range_text verb (map (λ text. text.now) targets.now) index }
+{
+    match verb {
+        Verb::Between => text_at(targets, index),
+        Verb::List | Verb::Show | Verb::Lint | Verb::Same | Verb::Next => "",
+    }
+}
+
+fn text_at<'t>(texts: &'t [&'t str], index: usize) -> &'t str
+    ensures { result.now ≡ text_or_none (slice_get (map (λ text. text.now) texts.now) index) }
+{
+    match texts.get(index) {
+        Some(text) => text,
+        None => "",
+    }
+}
+
+/// If the last word of the text is the name of a zone, loads this zone.
+fn zone_at_end<T: Tree>(alloc: Global, tree: &mut T, text: &str) -> Result<ZoneTable, AllocError>
+    ensures zone { IfOk result (λ table. (machine : Machine) → T.shows tree.new machine → HasZoneAtEnd machine text.now table) }
+    ensures grows { (machine : Machine) → T.shows tree.new machine → T.shows tree.old machine }
+{
+    let Some(name) = name_at_end(text) else {
+        return Ok(ZoneTable::new(alloc));
+    };
+    zone_if_usable(alloc, tree, name.as_str())
+}
+
+/// Returns the last word of the text if it has the form of a zone's name and isn't the only word.
+fn name_at_end(text: &str) -> Option<ZoneName<'_>>
+    ensures { MatchOption result
+        (is_zone_name (last_part text.now) ≡ false)
+        (λ name. name.text.now ≡ last_part text.now) }
+{
+    let (_, word) = last_word(text)?;
+    ZoneName::new(word)
+}
+
+/// Loads the zone of this name, unless its file can't be used.
+fn zone_if_usable<T: Tree>(
+    alloc: Global,
+    tree: &mut T,
+    name: &str,
+) -> Result<ZoneTable, AllocError>
+    ensures known { IfOk result (λ table. (machine : Machine) → T.shows tree.new machine → HasZonesOf machine table) }
+    ensures zone { IfOk result (λ table. (machine : Machine) → T.shows tree.new machine
+        → is_some (zone_named table name.now) ≡ false → (reason : FileReason) × IsReasonOn machine name.now reason) }
+    ensures grows { (machine : Machine) → T.shows tree.new machine → T.shows tree.old machine }
+{
+    let names = only(alloc, name)?;
+    match load_zones(alloc, tree, names.as_slice()) {
+        Ok(table) => Ok(table),
+        Err(ZonesFault::NoMemory) => Err(AllocError),
+        Err(_) => Ok(ZoneTable::new(alloc)),
+    }
+}
