@@ -10,15 +10,15 @@ use crate::lint::lint;
 use crate::range_zones::RangeZones;
 use crate::remarks::{with_empty_folders, with_verb_hint, with_zone_note};
 use crate::timers::{list, show};
-use cal_load::TargetFault;
+use cal_load::{Loaded, LoadedTimer, TargetFault};
 use cal_plan::PlanFault;
 use cal_tasks::Clocked;
 use cal_timers_command::Question;
-use cal_timers_text::{Style, fault_text};
+use cal_timers_text::{Style, fault_text, ignored_text};
 use std::alloc::{AllocError, Global};
 
-/// The exit status if a timer can't be loaded (except by `same`), a file or folder can't be read, folders have no timers,
-/// `lint` finds an error, or two timers differ.
+/// The exit status if a timer can't be loaded (except by `same`), a line of its files is ignored, a file or folder can't be
+/// read, folders have no timers, `lint` finds an error, or two timers differ.
 pub(crate) const INVALID: u8 = 1;
 
 /// The exit status if the question can't be answered at all, for example because the local zone isn't known, or because
@@ -35,9 +35,9 @@ pub struct Answer {
     pub out: String,
     /// The error lines, for standard error.
     pub err: String,
-    /// The exit status: 0 for success; 1 if a timer can't be loaded, a file or folder can't be read, folders have no
-    /// timers, `lint` finds an error, or two timers differ; 2 if the question can't be answered at all, for example because
-    /// the local zone isn't known.
+    /// The exit status: 0 for success; 1 if a timer can't be loaded, a line of its files is ignored, a file or folder
+    /// can't be read, folders have no timers, `lint` finds an error, or two timers differ; 2 if the question can't be
+    /// answered at all, for example because the local zone isn't known.
     pub status: u8,
 }
 
@@ -145,12 +145,47 @@ pub(crate) fn push_fault_line(
     Ok(())
 }
 
-/// Returns the exit status of a verb that fails only if a timer can't be loaded: [`INVALID`] if there are errors, and
-/// otherwise 0.
-pub(crate) fn status_of(faults: &[TargetFault]) -> u8
-    ensures { result ≤ 1 }
+/// Returns the answer with the text `out` and with the error lines about what was loaded. The status is [`INVALID`] if
+/// there are error lines, and otherwise 0.
+pub(crate) fn with_error_lines(
+    alloc: Global,
+    loaded: &Loaded,
+    out: String,
+) -> Result<Answer, PlanFault>
+    ensures { IfOk result (λ answer. answer.status ≤ 2) }
 {
-    if faults.is_empty() { 0 } else { INVALID }
+    let mut err = fault_lines(alloc, loaded.faults.as_slice())?;
+    push_ignored_lines(alloc, &mut err, loaded.timers.as_slice())?;
+    let status = if err.is_empty() { 0 } else { INVALID };
+    Ok(Answer { out, err, status })
+}
+
+/// Appends an error line about each line of the timers' files that is ignored. If several timers have this line, as in
+/// a drop-in for all of them, it has only one error line.
+pub(crate) fn push_ignored_lines(
+    alloc: Global,
+    lines: &mut String,
+    timers: &[LoadedTimer],
+) -> Result<(), AllocError> {
+    for timer in timers {
+        push_ignored_of(alloc, lines, timer)?;
+    }
+    Ok(())
+}
+
+fn push_ignored_of(
+    alloc: Global,
+    lines: &mut String,
+    timer: &LoadedTimer,
+) -> Result<(), AllocError> {
+    for ignored in &timer.ignored {
+        let line = ignored_text(alloc, timer, ignored)?;
+        if !lines.lines().any(|known| known == line.as_str()) {
+            lines.push_str(line.as_str())?;
+            lines.push('\n')?;
+        }
+    }
+    Ok(())
 }
 
 /// Appends a line for each masked unit.

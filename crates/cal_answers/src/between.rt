@@ -2,7 +2,7 @@
 
 ghost use Rattle.std.specs.Prelude.{◌≤◌, IfOk};
 
-use crate::answer::{Answer, Asked, fault_lines, status_of, stopped};
+use crate::answer::{Answer, Asked, stopped, with_error_lines};
 use cal_load::Loaded;
 use cal_plan::PlanFault;
 use cal_tasks::{WhenFault, elapses_between, read_when};
@@ -62,9 +62,5 @@ fn range_of(
     } else {
         between_text(alloc, asked.shown.local, timers, elapses.as_slice())?
     };
-    Ok(Answer {
-        out,
-        err: fault_lines(alloc, loaded.faults.as_slice())?,
-        status: status_of(loaded.faults.as_slice()),
-    })
+    with_error_lines(alloc, loaded, out)
 }

@@ -3,7 +3,8 @@
 ghost use Rattle.std.specs.Prelude.{◌≤◌, IfOk};
 
 use crate::answer::{
-    Answer, Asked, INVALID, UNUSABLE, fault_lines, push_fault_line, push_masked, stopped,
+    Answer, Asked, INVALID, UNUSABLE, fault_lines, push_fault_line, push_ignored_lines,
+    push_masked, stopped,
 };
 use cal_load::{Loaded, LoadedTimer, is_path};
 use cal_plan::PlanFault;
@@ -58,7 +59,8 @@ fn is_folder(target: &str, loaded: &Loaded) -> bool {
     }
 }
 
-/// Returns the answer for two timers that were loaded. `err` has the error lines about their drop-ins.
+/// Returns the answer for two timers that were loaded. `err` has the error lines about their drop-ins, and about lines
+/// of their files that are ignored.
 fn compared(
     alloc: Global,
     asked: Asked<'_>,
@@ -113,8 +115,8 @@ fn unloaded(alloc: Global, first: &Loaded, second: &Loaded) -> Result<Answer, Pl
     })
 }
 
-/// Returns the error lines about two timers. An error about something that both timers have, for example a folder of
-/// drop-ins, has only one line.
+/// Returns the error lines about two timers, also about lines of their files that are ignored. An error about something
+/// that both timers have, for example a folder of drop-ins, has only one line.
 fn lines_of_both(alloc: Global, first: &Loaded, second: &Loaded) -> Result<String, AllocError> {
     let mut lines = fault_lines(alloc, first.faults.as_slice())?;
     for fault in &second.faults {
@@ -126,5 +128,7 @@ fn lines_of_both(alloc: Global, first: &Loaded, second: &Loaded) -> Result<Strin
             push_fault_line(alloc, &mut lines, fault)?;
         }
     }
+    push_ignored_lines(alloc, &mut lines, first.timers.as_slice())?;
+    push_ignored_lines(alloc, &mut lines, second.timers.as_slice())?;
     Ok(lines)
 }

@@ -6,7 +6,6 @@ use crate::answer::{Answer, Asked, INVALID, fault_lines, push_fault_line};
 use cal_lint::{Finding, ProblemKind, findings};
 use cal_load::{Loaded, LoadedFiles, LoadedTimer, TargetFault, TargetReason};
 use cal_plan::PlanFault;
-use cal_read::TimerFault;
 use cal_tasks::{IdleLine, idle_lines};
 use cal_timers_json::{LintRow, lint_json};
 use cal_timers_text::{Style, finding_text, idle_text, idle_words, message_of};
@@ -45,7 +44,7 @@ pub(crate) fn lint(
     add_idle(alloc, asked, timers.timers.as_slice(), &mut problems)?;
     let mut err = fault_lines(alloc, of_files)?;
     for fault in &timers.faults {
-        if is_of_timer(fault, of_files, problems.as_slice()) {
+        if is_of_timer(fault, of_files) {
             push_fault_line(alloc, &mut err, fault)?;
         }
     }
@@ -152,20 +151,14 @@ fn idle_problem(
 }
 
 /// Returns whether an error is about the timer as a whole, and so isn't among the problems of its files. Such an error
-/// says that the timer names a zone that can't be loaded, that it has no setting that starts its unit, that all its
-/// files together have too many expressions, or that its file is a link to nothing. `of_files` are the errors about units,
-/// files and folders that can't be read.
+/// says that the timer names a zone that can't be loaded, that it has no setting that starts its unit, or that its file
+/// is a link to nothing. `of_files` are the errors about units, files and folders that can't be read.
 ///
 /// All other errors are left to [`add_files`], which accepts more than loading a timer does, for example comments that
-/// aren't UTF-8.
-fn is_of_timer(fault: &TargetFault, of_files: &[TargetFault], problems: &[FileProblem]) -> bool {
+/// aren't UTF-8. It also reports the invalid lines that loading a timer ignores.
+fn is_of_timer(fault: &TargetFault, of_files: &[TargetFault]) -> bool {
     match &fault.reason {
         TargetReason::Zone(..) | TargetReason::NothingToDo => true,
-        TargetReason::Line(path, _, TimerFault::TooMany(_)) => {
-            !problems
-                .iter()
-                .any(|problem| problem.is_error && problem.file == *path)
-        }
         TargetReason::NotFound => !of_files.iter().any(|other| other.target == fault.target),
         _ => false,
     }

@@ -2,7 +2,7 @@
 
 ghost use Rattle.std.specs.Prelude.{◌≤◌, IfOk};
 
-use crate::answer::{Answer, Asked, fault_lines, push_masked, status_of};
+use crate::answer::{Answer, Asked, push_masked, with_error_lines};
 use cal_load::{Loaded, LoadedTimer};
 use cal_plan::PlanFault;
 use cal_tasks::{ClockNote, clock_notes, first_elapses, next_of_timers};
@@ -30,7 +30,7 @@ pub(crate) fn list(alloc: Global, asked: Asked<'_>, loaded: &Loaded) -> Result<A
     } else {
         list_text(alloc, asked.shown, loaded, masked, &next, asked.style)?
     };
-    with_faults(alloc, loaded, out)
+    with_error_lines(alloc, loaded, out)
 }
 
 /// Returns the names of the masked units that `list` lists.
@@ -52,7 +52,7 @@ pub(crate) fn show(alloc: Global, asked: Asked<'_>, loaded: &Loaded) -> Result<A
     } else {
         show_loaded_as_text(alloc, asked, loaded, elapsing.as_slice())?
     };
-    with_faults(alloc, loaded, out)
+    with_error_lines(alloc, loaded, out)
 }
 
 /// Returns for each timer its next elapses, and the notes that [`clock_notes`] returns for these elapses.
@@ -105,15 +105,4 @@ fn show_loaded_as_text(
     }
     push_masked(&mut text, loaded.masked.as_slice())?;
     Ok(text)
-}
-
-/// Returns the answer with the text `out`, and with the error lines about timers that couldn't be loaded.
-fn with_faults(alloc: Global, loaded: &Loaded, out: String) -> Result<Answer, PlanFault>
-    ensures { IfOk result (λ answer. answer.status ≤ 2) }
-{
-    Ok(Answer {
-        out,
-        err: fault_lines(alloc, loaded.faults.as_slice())?,
-        status: status_of(loaded.faults.as_slice()),
-    })
 }

@@ -1,3 +1,5 @@
+pub mod CalendarLemmas
+mod CalendarRows
 mod FileRows
 pub mod ExpressionLemmas
 pub mod FileFaultLemmas

@@ -1,5 +1,5 @@
 -- Lemmas on lines whose numbers continue from file to file.
-use Rattle.std.proofs.Common.{◌≡◌, ◌≢◌, ◌∙◌, ◌+◌, ◌-◌, ◌<◌, ◌≤◌, ◌==◌, ℕ, Bool, true, false, All, List, [], ◌∷◌, ◌++◌, Option, None, Some, Result, Ok, Err, add-one, append-nil, arith, ap, drop, drop-cons, get_or, inl, inr, length, map, refl, string_bytes, subst, suc, sym, take, zero}
+use Rattle.std.proofs.Common.{◌≡◌, ◌∙◌, ◌+◌, ◌-◌, ◌<◌, ◌≤◌, ◌==◌, ℕ, Bool, true, false, All, List, [], ◌∷◌, ◌++◌, None, Some, Result, Ok, Err, add-one, append-nil, arith, ap, drop, drop-cons, get_or, inl, inr, length, map, refl, string_bytes, subst, suc, sym, take, zero}
 use Rattle.std.proofs.lemmas.Bool.{cases_lt, cases_order}
 use Rattle.std.proofs.lemmas.Bool.Decides.{nat_tests}
 use Rattle.std.proofs.lemmas.List.{get_or-map, get_or_append_left, get_or_push, length-append, length-map, take-append-drop, take_all, take_more}
@@ -8,22 +8,19 @@ use Rattle.std.proofs.lemmas.List.Elements.{All-append, All-cons, All-drop, All-
 use Rattle.std.proofs.lemmas.List.Splits.{length-slice_split}
 use Rattle.std.proofs.lemmas.Option.{get_or_from_slice_get, slice_get-get_or, slice_get_within}
 use Rattle.std.specs.List.{cons_option, filter_map, flat_map, list_any, onto_first, slice_split}
-use Rattle.std.specs.Option.{option_or}
-use Rattle.std.specs.Prelude.{if◌then◌else◌, nat_le, not}
+use Rattle.std.specs.Prelude.{◌||◌, if◌then◌else◌, not}
 use Rattle.std.specs.Str.Lines.{lines, lines_of_parts}
 use Rattle.cal_bytes.specs.rules.Separators.{is_equals}
 use Rattle.cal_bytes.specs.rules.Trim.{trim_start_matches}
 use Rattle.cal_spec.specs.declared.spec_fault.SpecFault.{SpecFault}
-use Rattle.cal_timer.specs.declared.fault.TimerFault.{TimerFault}
-use Rattle.cal_timer.specs.declared.fault.TimerFault.TheVariants.{BadLine, NothingToDo, TooMany}
 use Rattle.cal_timer.specs.rules.Assignments.{Assignment, assignment_of, assignments_in, is_header, timer_lines, trimmed}
 use Rattle.cal_timer.specs.rules.Lines.{Group, Line, continued_by, groups, is_blank_or_return, is_comment, is_continued, joined_line, logical_lines, numbered_lines, physical_lines, plain_lines}
-use Rattle.cal_timer.specs.rules.TimerEntries.{Timer, TimerLine, bad_line, entries, entries_of, entry_of, fault_following, fault_joining, first_fault, lists_of, some_expressions, unless_fault}
-use Rattle.cal_timer.specs.rules.TimerFault.{line_of}
-use Rattle.cal_timer.specs.rules.TimerText.{excepted, is_exception, is_expression, listed, max_expressions, without_mark}
+use Rattle.cal_timer.specs.rules.TimerEntries.{TimerLine, entries_of, entry_of}
+use Rattle.cal_timer.specs.rules.TimerText.{excepted, is_exception, is_expression, listed, without_mark}
 use Rattle.cal_unit_index.specs.declared.files.UnitText as texts
 use Rattle.cal_unit_index.specs.rules.Files.{UnitText, shown_unit_text}
-use Rattle.cal_load.specs.rules.Loaded.{assignments_from, assignments_of_files, bytes_in}
+use Rattle.cal_load.specs.declared.calendar.IgnoredLine.{IgnoredLine}
+use Rattle.cal_load.specs.rules.Loaded.{assignments_from, assignments_of_files, bytes_in, ignored_in, ignored_line}
 use Rattle.cal_load.specs.rules.Position.{AreFirstLines, HasLine, IsLastUntil, IsLineIn, IsPosition, total_lines}
 
 -- ## How many lines a text has
@@ -174,55 +171,9 @@ pub assignments_numbered : (files : List UnitText) → All (λ a. HasLine files 
 assignments_numbered files =
     All-weaker (λ (a : Assignment). IsOneFrom 1 (total_lines files) a.number) (λ (a : Assignment). HasLine files a.number) (λ a h. (h.0, omega arith)) _ (numbers_from 1 files)
 
--- ## The numbers of errors and of entries
-
--- the error is about a line with a number of this kind
-abbrev pub IsAbout : (ℕ → Type 0) → TimerFault → Type 0
-IsAbout P fault = (number : ℕ) × (line_of fault ≡ Some number) × P number
+-- ## The numbers of entries and of ignored lines
 
 module _ {E : Type 0} (read : List ℕ → Result E SpecFault) (P : ℕ → Type 0) where
-  bad_about : (number : ℕ) (r : Result E SpecFault) (fault : TimerFault) → P number → bad_line number r ≡ Some fault → IsAbout P fault
-  bad_about number (Ok expr) fault h e = absurd (cc)
-  bad_about number (Err f) fault h e = let same : BadLine number f ≡ fault = cc in (number, ap line_of (sym same), h)
-
-  joining_about : (c : Bool) (a : Assignment) (fault : TimerFault) → P a.number
-      → (if c then Some (TooMany a.number) else bad_line a.number (read a.value)) ≡ Some fault → IsAbout P fault
-  joining_about true a fault h e = let same : TooMany a.number ≡ fault = cc in (a.number, ap line_of (sym same), h)
-  joining_about false a fault h e = bad_about a.number (read a.value) fault h e
-
-  list_about : (list : List Assignment) (a : Assignment) (fault : TimerFault) → P a.number → fault_joining read list a ≡ Some fault → IsAbout P fault
-  unfolding fault_joining
-  list_about list a fault h e = joining_about (nat_le max_expressions (length list)) a fault h e
-
-  either_about : (c d : Bool) (before : List Assignment) (a : Assignment) (fault : TimerFault) → P a.number
-      → (if c then fault_joining read (listed before) a else (if d then fault_joining read (excepted before) a else None)) ≡ Some fault → IsAbout P fault
-  either_about true d before a fault h e = list_about (listed before) a fault h e
-  either_about false true before a fault h e = list_about (excepted before) a fault h e
-  either_about false false before a fault h e = absurd (cc)
-
-  following_about : (before : List Assignment) (a : Assignment) (fault : TimerFault) → P a.number → fault_following read before a ≡ Some fault → IsAbout P fault
-  unfolding fault_following
-  following_about before a fault h e = either_about (is_expression a) (is_exception a) before a fault h e
-
-  one_about : (o p : Option TimerFault) (fault : TimerFault) → (o ≡ Some fault → IsAbout P fault) → (p ≡ Some fault → IsAbout P fault)
-      → option_or o p ≡ Some fault → IsAbout P fault
-  one_about None p fault first rest h = rest h
-  one_about (Some f) p fault first rest h = first h
-
-  pub first_about : (before after : List Assignment) (fault : TimerFault) → All (λ a. P a.number) after → first_fault read before after ≡ Some fault → IsAbout P fault
-  unfolding first_fault
-  first_about before [] fault all e = absurd (cc)
-  first_about before (a ∷ after) fault all e =
-      one_about (fault_following read before a) (first_fault read (before ++ a ∷ []) after) fault
-      (following_about before a fault (All-head (λ (a : Assignment). P a.number) a after all))
-      (first_about (before ++ a ∷ []) after fault (All-tail (λ (a : Assignment). P a.number) a after all)) e
-
-  lists_about : (found : Option TimerFault) (es xs : List (TimerLine E)) (fault : TimerFault) → fault ≢ NothingToDo
-      → ((f : TimerFault) → found ≡ Some f → IsAbout P f) → unless_fault found (some_expressions es xs) ≡ Err fault → IsAbout P fault
-  lists_about None [] xs fault other about e = absurd (other cc)
-  lists_about None (entry ∷ es) xs fault other about e = absurd (cc)
-  lists_about (Some f) es xs fault other about e = about fault cc
-
   entry_about : (number : ℕ) (value : List ℕ) (r : Result E SpecFault) (all : List (TimerLine E)) → P number → All (λ entry. P entry.number) all
       → (a : Assignment) → a.number ≡ number → All (λ entry. P entry.number) (cons_option (entry_of a r) all)
   entry_about number value (Ok expr) all h k a e = All-cons (λ (entry : TimerLine E). P entry.number) _ all (subst P (sym e) h) k
@@ -234,29 +185,33 @@ module _ {E : Type 0} (read : List ℕ → Result E SpecFault) (P : ℕ → Type
       entry_about a.number a.value (read a.value) (entries_of read list) (All-head (λ (a : Assignment). P a.number) a list h)
       (entries_about list (All-tail (λ (a : Assignment). P a.number) a list h)) a refl
 
-  timer_about : (found : Option TimerFault) (es xs : List (TimerLine E)) (timer : Timer E) → All (λ entry. P entry.number) es → All (λ entry. P entry.number) xs
-      → unless_fault found (some_expressions es xs) ≡ Ok timer → All (λ entry. P entry.number) (timer.expressions ++ timer.exceptions)
-  timer_about None [] xs timer h k e = absurd (cc)
-  timer_about None (entry ∷ es) xs timer h k e =
-      let same : timer ≡ record { expressions = entry ∷ es; exceptions = xs } = cc in
-      rw same (All-append (λ (entry : TimerLine E). P entry.number) (entry ∷ es) xs h k)
-  timer_about (Some fault) es xs timer h k e = absurd (cc)
+  ignored_about : (a : Assignment) (r : Result E SpecFault) (all : List IgnoredLine) → P a.number → All (λ line. P line.number) all
+      → All (λ line. P line.number) (cons_option (ignored_line a r) all)
+  ignored_about a (Ok expr) all h k = k
+  ignored_about a (Err fault) all h k = All-cons (λ (line : IgnoredLine). P line.number) _ all h k
 
--- an error in assignments other than `NothingToDo` is about the line of one of them
-pub fault_numbered : {E : Type 0} (read : List ℕ → Result E SpecFault) (P : ℕ → Type 0) (assignments : List Assignment) (fault : TimerFault)
-    → All (λ a. P a.number) assignments → fault ≢ NothingToDo → lists_of read assignments ≡ Err fault → IsAbout P fault
-unfolding lists_of entries
-fault_numbered read P assignments fault all other e =
-    lists_about read P (first_fault read [] assignments) _ _ fault other (λ f is. first_about read P [] assignments f all is) e
+  lines_about : (list : List Assignment) → All (λ a. P a.number) list
+      → All (λ line. P line.number) (filter_map (λ a. ignored_line a (read a.value)) list)
+  lines_about [] h = All-nil (λ (line : IgnoredLine). P line.number)
+  lines_about (a ∷ list) h =
+      ignored_about a (read a.value) (filter_map (λ a. ignored_line a (read a.value)) list) (All-head (λ (a : Assignment). P a.number) a list h)
+      (lines_about list (All-tail (λ (a : Assignment). P a.number) a list h))
 
--- the entries of a timer are in the lines of its assignments
-pub entries_numbered : {E : Type 0} (read : List ℕ → Result E SpecFault) (P : ℕ → Type 0) (assignments : List Assignment) (timer : Timer E)
-    → All (λ a. P a.number) assignments → lists_of read assignments ≡ Ok timer → All (λ entry. P entry.number) (timer.expressions ++ timer.exceptions)
-unfolding lists_of entries listed excepted
-entries_numbered read P assignments timer all e =
-    timer_about read P (first_fault read [] assignments) _ _ timer
+-- the entries of both lists are in the lines of the assignments
+pub entries_numbered : {E : Type 0} (read : List ℕ → Result E SpecFault) (P : ℕ → Type 0) (assignments : List Assignment)
+    → All (λ a. P a.number) assignments → All (λ entry. P entry.number) (entries_of read (listed assignments) ++ entries_of read (excepted assignments))
+unfolding listed excepted
+entries_numbered {E} read P assignments all =
+    All-append (λ (entry : TimerLine E). P entry.number) (entries_of read (listed assignments)) (entries_of read (excepted assignments))
     (entries_about read P (listed assignments) (All-filter is_expression (λ (a : Assignment). P a.number) _ (All-drop (λ (a : Assignment). P a.number) _ assignments all)))
-    (entries_about read P (excepted assignments) (All-filter is_exception (λ (a : Assignment). P a.number) _ (All-drop (λ (a : Assignment). P a.number) _ assignments all))) e
+    (entries_about read P (excepted assignments) (All-filter is_exception (λ (a : Assignment). P a.number) _ (All-drop (λ (a : Assignment). P a.number) _ assignments all)))
+
+-- the lines that are ignored are lines of the assignments
+pub ignored_numbered : {E : Type 0} (read : List ℕ → Result E SpecFault) (P : ℕ → Type 0) (assignments : List Assignment)
+    → All (λ a. P a.number) assignments → All (λ line. P line.number) (ignored_in read assignments)
+unfolding ignored_in
+ignored_numbered read P assignments all =
+    lines_about read P _ (All-filter (λ a. is_expression a || is_exception a) (λ (a : Assignment). P a.number) assignments all)
 
 -- ## The files that have lines
 

@@ -1,24 +1,22 @@
 -- Lemmas on why the files of a timer can't be loaded.
-use Rattle.std.proofs.Common.{◌≡◌, ◌≢◌, ◌∙◌, ◌+◌, ◌≤◌, ◌^◌, ℕ, All, Bool, Bor, true, false, List, [], ◌∷◌, ◌++◌, Option, None, Some, Err, arith, take, ap, cond, drop, length, map, refl, subst, sym}
+use Rattle.std.proofs.Common.{◌≡◌, ◌∙◌, ◌+◌, ◌≤◌, ◌^◌, ℕ, All, Bool, Bor, true, false, List, [], ◌∷◌, ◌++◌, Option, None, Some, arith, take, ap, cond, drop, length, map, refl, subst, sym}
 use Rattle.std.proofs.lemmas.List.{take-append-drop}
 use Rattle.std.proofs.lemmas.List.Concat.{flat_map-append}
-use Rattle.std.proofs.lemmas.List.Elements.{All-head, All-nil, All-tail, Contains-append_right}
+use Rattle.std.proofs.lemmas.List.Elements.{All-head, All-tail, Contains-append_right}
 use Rattle.std.proofs.lemmas.List.Folds.{find-append, list_any-from_Any}
 use Rattle.std.proofs.lemmas.Option.{same_Some}
 use Rattle.std.proofs.lemmas.Slice.Eq.{bytes_eq-Decides}
 use Rattle.std.specs.List.{Contains, find}
 use Rattle.std.specs.Option.{option_or, option_to_list}
-use Rattle.std.specs.Prelude.{option_copied, option_map}
+use Rattle.std.specs.Prelude.{option_copied, option_map, slice_get}
 use Rattle.std.specs.Str.{IsUtf8, bytes_eq}
 use Rattle.cal_machine.specs.rules.Machine.{Machine}
 use Rattle.cal_spec.specs.computed.Expr.{expr_in}
 use Rattle.cal_spec.specs.rules.Fields.{Fields}
 use Rattle.cal_spec.specs.rules.ZoneSuffix.{name_in}
-use Rattle.cal_timer.specs.declared.fault.TimerFault.{TimerFault}
 use Rattle.cal_timer.specs.declared.fault.TimerFault.TheVariants as timer_faults
 use Rattle.cal_timer.specs.declared.timer.TimerLine as declared_line
-use Rattle.cal_timer.specs.rules.TimerEntries.{TimerLine, lists_of}
-use Rattle.cal_timer.specs.rules.TimerFault.{line_of}
+use Rattle.cal_timer.specs.rules.TimerEntries.{TimerLine}
 use Rattle.cal_timer.specs.rules.TimerView.{shown}
 use Rattle.cal_unit_index.specs.declared.fault.Reason as reasons
 use Rattle.cal_unit_index.specs.rules.Files.{FileRead, UnitText, drop_in_bytes}
@@ -28,6 +26,7 @@ use Rattle.cal_zone_files.specs.declared.fault.ZonesFault.{ZonesFault}
 use Rattle.cal_zone_files.specs.declared.fault.ZonesFault.TheVariants as zone_faults
 use Rattle.cal_zone_files.specs.rules.ZoneFiles.{IsFirstError, IsLoadError, IsReasonOn, zone_path}
 use Rattle.cal_load.specs.declared.calendar.Calendar as calendars
+use Rattle.cal_load.specs.declared.calendar.IgnoredLine.{IgnoredLine}
 use Rattle.cal_load.specs.declared.fault.TargetLoadFault.{TargetLoadFault}
 use Rattle.cal_load.specs.declared.fault.TargetLoadFault as faults
 use Rattle.cal_load.specs.declared.target_fault.TargetReason.{TargetReason}
@@ -36,9 +35,9 @@ use Rattle.cal_load.specs.rules.AllUnits.{IsNotUtf8Fault, IsPathFault}
 use Rattle.cal_load.specs.rules.Expressions.{names_zone}
 use Rattle.cal_load.specs.rules.Loaded.{IsCalendarOf, assignments_of_files, exceptions_in, expressions_in, zone_names_in}
 use Rattle.cal_load.specs.rules.Position.{HasLine, IsLineIn, total_lines}
-use Rattle.cal_load.specs.rules.TextFaults.{IsAssignmentFault, IsAssignmentReason, IsFirstWithZone, IsLineFault, IsNumberFault, IsNumberReason, IsTextFault, HasUnusableZone, IsZonesError, at_line, zone_names_of}
+use Rattle.cal_load.specs.rules.TextFaults.{IsAssignmentFault, IsAssignmentReason, IsFirstWithZone, IsLineFault, IsNumberFault, IsNumberReason, IsTextFault, HasUnusableZone, IsZonesError, StartNothing, ignored_of_files, zone_names_of}
 use Rattle.cal_load.proofs.ExpressionLemmas.{find_map, zone_found}
-use Rattle.cal_load.proofs.PositionLemmas.{assignments_numbered, entries_numbered, fault_numbered}
+use Rattle.cal_load.proofs.PositionLemmas.{assignments_numbered, entries_numbered, ignored_numbered}
 
 -- ## Texts
 
@@ -93,14 +92,18 @@ pub assignment_text : (machine : Machine) (files : List UnitText) (fault : Targe
 assignment_text machine files (faults.TheVariants.Target reason) h = assignment_reason machine files reason h
 assignment_text machine files faults.TheVariants.NoMemory h = tt
 
--- an error in the assignments of files is about a line of one of the files
-pub line_text : (files : List UnitText) (path : List ℕ) (line number : ℕ) (found fault : TimerFault) → found ≢ timer_faults.NothingToDo
-    → lists_of expr_in (assignments_of_files files) ≡ Err found → ((n : ℕ) → line_of found ≡ Some n → number ≡ n)
-    → (HasLine files number → IsLineIn files number path line) → fault ≡ at_line found line → IsLineFault files path line fault
-line_text files path line number found fault other error numbered is_in same =
-    let about = fault_numbered expr_in (HasLine files) (assignments_of_files files) found (assignments_numbered files) other error in
-    let is : number ≡ about.0 = numbered about.0 about.1 in
-    (found, error, (number, about.1 ∙ ap Some (sym is), is_in (subst (HasLine files) (sym is) about.2), same))
+first_has : {X : Type 0} (P : X → Type 0) (xs : List X) (x : X) → All P xs → slice_get xs 0 ≡ Some x → P x
+first_has P [] x all e = absurd (cc)
+first_has P (first ∷ xs) x all e = subst P (same_Some first x e) (All-head P first xs all)
+
+-- if nothing starts the unit of files, the first ignored line, which is a line of one of the files, is the reason
+pub ignored_text : (files : List UnitText) (path : List ℕ) (line : ℕ) (first : IgnoredLine) → StartNothing files
+    → slice_get (ignored_of_files files) 0 ≡ Some first → (HasLine files first.number → IsLineIn files first.number path line)
+    → IsLineFault files path line (timer_faults.BadLine line first.fault)
+ignored_text files path line first nothing is is_in =
+    let has = first_has (λ (line : IgnoredLine). HasLine files line.number) (ignored_of_files files) first
+    (ignored_numbered expr_in (HasLine files) (assignments_of_files files) (assignments_numbered files)) is in
+    (nothing, (first, is, is_in has, refl))
 
 -- ## Zones
 
@@ -157,9 +160,8 @@ found_by P test (first ∷ xs) x all e = one_found P (test first) first x (find 
 
 calendar_lines : (files : List UnitText) (calendar : calendars.Calendar) → IsCalendarOf files calendar
     → All (λ entry. HasLine files entry.number) (expressions_in calendar ++ exceptions_in calendar)
-calendar_lines files calendars.TheVariants.Nothing h = All-nil (λ (entry : TimerLine Fields). HasLine files entry.number)
-calendar_lines files (calendars.TheVariants.Timer timer) h = entries_numbered expr_in (HasLine files) (assignments_of_files files) timer (assignments_numbered files) h
-calendar_lines files (calendars.TheVariants.Expressions list) h = absurd h
+calendar_lines files calendar h =
+    rw (h.0, h.1) (entries_numbered expr_in (HasLine files) (assignments_of_files files) (assignments_numbered files))
 
 -- if the files name this zone, a line of one of them has the first expression or exception that names it
 first_entry : (files : List UnitText) (calendar : calendars.Calendar) (name : List ℕ) → IsCalendarOf files calendar → Contains (zone_names_of calendar) name

@@ -1,41 +1,187 @@
-//! The calendar of a timer.
+//! The calendar of a timer, and reading it from texts.
 
-ghost use Rattle.std.specs.Prelude.{◌≡◌, map};
-ghost use Rattle.cal_timer.specs.rules.TimerView.{shown};
-ghost use Rattle.cal_load.specs.rules.Loaded.{exceptions_in, expressions_in};
+ghost use Rattle.std.specs.Prelude.{◌≡◌, ◌+◌, ◌<◌, ◌^◌, ◌∷◌, ◌++◌, [], List, All, IfOk, OnOk, false, length, map, true};
+ghost use Rattle.cal_timer.specs.rules.Assignments as assignments;
+ghost use Rattle.cal_timer.specs.rules.TimerView.{shown, shown_assignment};
+ghost use Rattle.cal_read.specs.rules.SectionAssignments.{shown_owned_assignment};
+ghost use Rattle.cal_read.specs.rules.TimerTexts.{assignments_at, assignments_of};
+ghost use Rattle.cal_load.specs.rules.Loaded.{AreReadFrom, entries_after, exceptions_in, expressions_in, ignored_more};
 
-use cal_timer::{Timer, TimerLine};
+use cal_read::{Assignment, Assignments, NumberedText, OwnedAssignment, without_mark};
+use cal_spec::{SpecFault, read_expr};
+use cal_timer::TimerLine;
+use std::alloc::{AllocError, Global};
 
 /// The calendar expressions of a timer, and its exceptions.
 #[derive(Debug, Drop)]
-pub enum Calendar {
-    /// The timer has no expressions: other settings start its unit.
-    Nothing,
-    /// The expressions and exceptions in a unit's files.
-    Timer(Timer),
-    /// Expressions that were given by themselves. Each has its index, counted from 1, as its line number.
-    Expressions(Vec<TimerLine>),
+pub struct Calendar {
+    lines: Vec<TimerLine>,
+    exceptions: Vec<TimerLine>,
+}
+
+/// A line with an expression or an exception that is ignored because it is invalid.
+#[derive(Clone, Copy, Debug)]
+pub struct IgnoredLine {
+    /// The number of the line. Line numbers continue from file to file.
+    pub number: u32,
+    /// Why the expression or exception is invalid.
+    pub fault: SpecFault,
+}
+
+/// The calendar of a timer, and the lines that are ignored.
+#[derive(Debug, Drop)]
+pub(crate) struct CalendarLines {
+    pub(crate) calendar: Calendar,
+    pub(crate) ignored: Vec<IgnoredLine>,
 }
 
 impl Calendar {
+    /// Creates the calendar with these expressions and no exceptions.
+    pub(crate) fn of_expressions(alloc: Global, lines: Vec<TimerLine>) -> Calendar
+        ensures expressions { expressions_in result ≡ map shown lines.items }
+        ensures exceptions { exceptions_in result ≡ [] }
+    {
+        Calendar {
+            lines,
+            exceptions: Vec::new(alloc),
+        }
+    }
+
     /// Returns the expressions.
     pub(crate) fn lines(&self) -> &[TimerLine]
         ensures { map shown result.now ≡ expressions_in self.now }
     {
-        match self {
-            Calendar::Nothing => &[],
-            Calendar::Timer(timer) => timer.lines(),
-            Calendar::Expressions(lines) => lines.as_slice(),
-        }
+        self.lines.as_slice()
     }
 
     /// Returns the exceptions. Expressions that were given by themselves have none.
     pub(crate) fn exceptions(&self) -> &[TimerLine]
         ensures { map shown result.now ≡ exceptions_in self.now }
     {
-        match self {
-            Calendar::Timer(timer) => timer.exceptions(),
-            Calendar::Nothing | Calendar::Expressions(_) => &[],
-        }
+        self.exceptions.as_slice()
     }
+}
+
+/// Reads the expressions and exceptions in the sections `Timer` of these texts. As in systemd, a line with an invalid
+/// expression is ignored, and so is a line with an invalid exception. Fails only if allocation fails.
+pub(crate) fn read_calendar(
+    alloc: Global,
+    texts: &[NumberedText<'_>],
+) -> Result<CalendarLines, AllocError>
+    requires { All (λ text. text.first + length text.text.now < 2 ^ 32) texts.now }
+    ensures { IfOk result (AreReadFrom (assignments_of texts.now)) }
+{
+    let mut read = CalendarLines {
+        calendar: Calendar::of_expressions(alloc, Vec::new(alloc)),
+        ignored: Vec::new(alloc),
+    };
+    for text in texts {
+        read_text(alloc, &mut read, text)?;
+    }
+    Ok(read)
+}
+
+/// Reads the expressions and exceptions of one more text.
+fn read_text(
+    alloc: Global,
+    read: &mut CalendarLines,
+    text: &NumberedText<'_>,
+) -> Result<(), AllocError>
+    requires { text.now.first + length text.now.text.now < 2 ^ 32 }
+    ensures { OnOk result ((before : List assignments.Assignment) → AreReadFrom before read.old
+        → AreReadFrom (before ++ assignments_at text.now) read.new) }
+{
+    let mut assignments = Assignments::new("Timer", text.first, without_mark(text.text));
+    while let Some(assignment) = assignments.next(alloc)? {
+        read_assignment(alloc, read, &assignment)?;
+    }
+    Ok(())
+}
+
+/// Applies one more assignment, which can add to one of the lists, clear one of them, or be ignored.
+fn read_assignment(
+    alloc: Global,
+    read: &mut CalendarLines,
+    assignment: &OwnedAssignment,
+) -> Result<(), AllocError>
+    ensures { OnOk result ((before : List assignments.Assignment) → AreReadFrom before read.old
+        → AreReadFrom (before ++ shown_owned_assignment assignment.now ∷ []) read.new) }
+{
+    let assignment = borrowed(assignment);
+    change(
+        alloc,
+        &mut read.calendar.lines,
+        &mut read.ignored,
+        assignment,
+        assignment.is_expression(),
+        assignment.is_reset(),
+    )?;
+    change(
+        alloc,
+        &mut read.calendar.exceptions,
+        &mut read.ignored,
+        assignment,
+        assignment.is_exception(),
+        assignment.is_exception_reset(),
+    )?;
+    Ok(())
+}
+
+/// Returns the same assignment, which borrows its key and value.
+fn borrowed(owned: &OwnedAssignment) -> Assignment<'_>
+    ensures { shown_assignment result ≡ shown_owned_assignment owned.now }
+{
+    Assignment {
+        number: owned.number,
+        key: owned.key.as_str(),
+        value: owned.value.as_str(),
+    }
+}
+
+/// Adds the expression of the assignment to the list if `adds` is `true`, or to the ignored lines if it is invalid.
+/// Otherwise clears the list if `empties` is `true`.
+fn change(
+    alloc: Global,
+    list: &mut Vec<TimerLine>,
+    ignored: &mut Vec<IgnoredLine>,
+    assignment: Assignment<'_>,
+    adds: bool,
+    empties: bool,
+) -> Result<(), AllocError>
+    ensures list { OnOk result (map shown list.new.items
+        ≡ entries_after adds empties (map shown list.old.items) (shown_assignment assignment.entry)) }
+    ensures ignored { OnOk result (ignored.new.items
+        ≡ ignored.old.items ++ ignored_more adds (shown_assignment assignment.entry)) }
+{
+    if adds {
+        return add_line(alloc, list, ignored, assignment);
+    }
+    if empties {
+        list.clear();
+    }
+    Ok(())
+}
+
+/// Adds the expression of the assignment to the list, or to the ignored lines if it is invalid.
+fn add_line(
+    alloc: Global,
+    list: &mut Vec<TimerLine>,
+    ignored: &mut Vec<IgnoredLine>,
+    assignment: Assignment<'_>,
+) -> Result<(), AllocError>
+    ensures list { OnOk result (map shown list.new.items
+        ≡ entries_after true false (map shown list.old.items) (shown_assignment assignment.entry)) }
+    ensures ignored { OnOk result (ignored.new.items
+        ≡ ignored.old.items ++ ignored_more true (shown_assignment assignment.entry)) }
+{
+    let number = assignment.number;
+    match read_expr(alloc, assignment.value) {
+        Ok(expr) => {
+            let text = String::from_str(alloc, assignment.value)?;
+            list.push(TimerLine { number, text, expr })?;
+        }
+        Err(SpecFault::NoMemory) => return Err(AllocError),
+        Err(fault) => ignored.push(IgnoredLine { number, fault })?,
+    }
+    Ok(())
 }

@@ -113,7 +113,8 @@ fn only_timer(
         name,
         files: Vec::new(alloc),
         first_lines: Vec::new(alloc),
-        calendar: Calendar::Expressions(lines),
+        calendar: Calendar::of_expressions(alloc, lines),
+        ignored: Vec::new(alloc),
         zones,
         notes: Vec::new(alloc),
     })?;

@@ -16,7 +16,7 @@ mod timers;
 mod unit;
 mod zones;
 
-pub use calendar::Calendar;
+pub use calendar::{Calendar, IgnoredLine};
 pub use expressions::load_expressions;
 pub use files::{LoadedFiles, load_files};
 pub use loaded::{Loaded, LoadedTimer};

@@ -6,7 +6,7 @@ ghost use Rattle.cal_load.specs.rules.Loaded.{exceptions_in, expressions_in};
 ghost use Rattle.cal_load.specs.rules.AllUnits.{IsPushed, is_disabled, shown_stems};
 ghost use Rattle.cal_load.specs.rules.Position.{IsLastUntil, IsPosition};
 
-use crate::calendar::Calendar;
+use crate::calendar::{Calendar, IgnoredLine};
 use crate::fault::{TargetLoadFault, push_fault};
 use crate::names::has_unit;
 use crate::target_fault::TargetFault;
@@ -26,8 +26,11 @@ pub struct LoadedTimer {
     pub files: Vec<UnitText>,
     /// The number of each file's first line. Line numbers continue from file to file.
     pub first_lines: Vec<u32>,
-    /// The expressions and exceptions in these files, or the expressions that were given by themselves.
+    /// The valid expressions and exceptions in these files, or the expressions that were given by themselves. Each of
+    /// the latter has its index, counted from 1, as its line number.
     pub calendar: Calendar,
+    /// The lines with the invalid expressions and exceptions in these files, in order. They are ignored.
+    pub ignored: Vec<IgnoredLine>,
     /// The zones that the expressions and exceptions name.
     pub zones: ZoneTable,
     /// The other settings that start or delay the timer's unit, each as `KEY=VALUE`, in the order of the files.

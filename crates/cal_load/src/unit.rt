@@ -1,27 +1,25 @@
 //! Reading a timer from its files.
 
-ghost use Rattle.std.specs.Prelude.{◌≡◌, ◌≢◌, Err, ◌+◌, ◌<◌, ◌^◌, ◌∷◌, ◌++◌, ℕ, false, List, All, IfOk, MatchResult, OnOk, length, map, string_bytes};
+ghost use Rattle.std.specs.Prelude.{◌≡◌, ◌∷◌, ◌++◌, ℕ, List, IfOk, OnOk, map, string_bytes};
 ghost use Rattle.cal_machine.specs.rules.Machine.{Machine};
-ghost use Rattle.cal_read.specs.rules.TimerTexts.{assignments_of};
 ghost use Rattle.std.specs.Result.{IfErr};
 ghost use Rattle.cal_unit_index.specs.rules.DropIns.{drop_ins};
-ghost use Rattle.cal_spec.specs.computed.Expr.{expr_in};
 ghost use Rattle.cal_spec.specs.rules.Fields.{Fields};
-ghost use Rattle.cal_timer.specs.rules.TimerEntries.{TimerLine, lists_of};
+ghost use Rattle.cal_timer.specs.rules.TimerEntries.{TimerLine};
 ghost use Rattle.cal_unit_index.specs.rules.Files.{UnitText as FileText, file_at, shown_unit_text, texts_at};
 ghost use Rattle.cal_unit_index.specs.rules.Index.{IsIndexOf};
 ghost use Rattle.cal_unit_index.specs.rules.Names.{names_on};
 ghost use Rattle.cal_unit_index.specs.rules.Units.{unit_on};
 ghost use Rattle.cal_zone_files.specs.rules.ZoneFiles.{zone_path};
-ghost use Rattle.cal_load.specs.rules.Notes.{note_text, notes_in, starts_unit};
+ghost use Rattle.cal_load.specs.rules.Notes.{note_text, notes_in};
 ghost use Rattle.cal_load.specs.rules.Position.{AreFirstLines, HasLine, IsLineIn};
-ghost use Rattle.cal_load.specs.rules.TextFaults.{IsAssignmentFault, IsFirstWithZone, IsTextFault, IsZonesError, at_line, zone_names_of};
+ghost use Rattle.cal_load.specs.rules.TextFaults.{IsAssignmentFault, IsFirstWithZone, IsTextFault, IsZonesError, StartNothing, ignored_of_files, zone_names_of};
 ghost use Rattle.cal_load.specs.rules.AllTargets.{IsReadAt};
 ghost use Rattle.cal_load.specs.rules.AllUnits.{IsFileFault, IsTimerFileFault, IsUnitFault, IsUnusableFault};
-ghost use Rattle.cal_load.specs.rules.Loaded.{IsCalendarBy, IsCalendarOf, IsTimerReadFrom, assignments_of_files, unit_texts};
+ghost use Rattle.cal_load.specs.rules.Loaded.{IsCalendarOf, IsStarted, IsTimerReadFrom, assignments_of_files, unit_texts};
 ghost use Rattle.cal_load.specs.rules.LoadedTarget.{IsFoundTarget, IsLoadedFile, IsLoadedUnit, IsOwnFile};
 
-use crate::calendar::Calendar;
+use crate::calendar::{Calendar, CalendarLines, IgnoredLine, read_calendar};
 use crate::fault::TargetLoadFault;
 use crate::loaded::{LoadedTarget, LoadedTimer, position_in};
 use crate::notes::{can_start, notes_of, shown_notes};
@@ -29,7 +27,7 @@ use crate::target_fault::TargetReason;
 use crate::texts::{first_lines, numbered_texts};
 use crate::zones::{first_with_zone, load_named_zones};
 use cal_machine::Tree;
-use cal_read::{FileFault, NumberedText, TimerFault, read_texts};
+use cal_read::TimerFault;
 use cal_unit_index::{
     DropInTexts, DropIns, FileRead, Reason, Unit, UnitFault, UnitFile, UnitIndex, UnitText,
     find_drop_ins, find_unit, names_of, read_drop_ins, read_file,
@@ -42,6 +40,7 @@ use std::alloc::{AllocError, Global};
 struct ParsedFiles {
     first_lines: Vec<u32>,
     calendar: Calendar,
+    ignored: Vec<IgnoredLine>,
     notes: Vec<String>,
 }
 
@@ -217,6 +216,7 @@ fn timer_from_files<T: Tree>(
     let ParsedFiles {
         first_lines,
         calendar,
+        ignored,
         notes,
     } = parsed;
     Ok(LoadedTimer {
@@ -224,13 +224,17 @@ fn timer_from_files<T: Tree>(
         files,
         first_lines,
         calendar,
+        ignored,
         zones,
         notes,
     })
 }
 
+/// Parses the files of a timer. Fails if nothing starts its unit.
 fn parse_files(alloc: Global, files: &[UnitText]) -> Result<ParsedFiles, TargetLoadFault>
     ensures calendar { IfOk result (λ parsed. IsCalendarOf (map shown_unit_text files.now) parsed.calendar) }
+    ensures starts { OnOk result (IsStarted (assignments_of_files (map shown_unit_text files.now))) }
+    ensures ignored { IfOk result (λ parsed. parsed.ignored.items ≡ ignored_of_files (map shown_unit_text files.now)) }
     ensures numbered { IfOk result (λ parsed. AreFirstLines (map shown_unit_text files.now) parsed.first_lines.items) }
     ensures notes { IfOk result (λ parsed. map string_bytes parsed.notes.items
         ≡ map note_text (notes_in (assignments_of_files (map shown_unit_text files.now)))) }
@@ -239,72 +243,41 @@ fn parse_files(alloc: Global, files: &[UnitText]) -> Result<ParsedFiles, TargetL
     let texts = numbered_texts(alloc, files)?;
     let first_lines = first_lines(alloc, texts.as_slice())?;
     let notes = notes_of(alloc, texts.as_slice())?;
-    let starts = can_start(notes.as_slice());
-    let calendar = match read_calendar(alloc, texts.as_slice(), starts) {
-        Ok(calendar) => calendar,
-        Err(fault) => return Err(text_fault(alloc, files, first_lines.as_slice(), fault)),
-    };
+    let CalendarLines { calendar, ignored } = read_calendar(alloc, texts.as_slice())?;
+    if calendar.lines().is_empty() && !can_start(notes.as_slice()) {
+        return Err(start_fault(alloc, files, first_lines.as_slice(), ignored.as_slice()));
+    }
     Ok(ParsedFiles {
         first_lines,
         calendar,
+        ignored,
         notes: shown_notes(alloc, notes.as_slice())?,
     })
 }
 
-/// Reads the expressions and exceptions in these texts. `starts` says whether other settings start the unit.
-fn read_calendar(
-    alloc: Global,
-    texts: &[NumberedText<'_>],
-    starts: bool,
-) -> Result<Calendar, TimerFault>
-    requires numbered { All (λ text. text.first + length text.text.now < 2 ^ 32) texts.now }
-    requires starts { starts ≡ starts_unit (assignments_of texts.now) }
-    ensures { MatchResult result
-        (λ calendar. IsCalendarBy (assignments_of texts.now) calendar)
-        (λ fault. (fault ≢ TimerFault.NoMemory → lists_of expr_in (assignments_of texts.now) ≡ Err fault)
-        × (fault ≡ TimerFault.NothingToDo → starts_unit (assignments_of texts.now) ≡ false)) }
-{
-    match read_texts(alloc, texts) {
-        Ok(timer) => Ok(Calendar::Timer(timer)),
-        Err(
-            FileFault {
-                file: _,
-                fault: TimerFault::NothingToDo,
-            },
-        ) if starts => Ok(Calendar::Nothing),
-        Err(found) => Err(found.fault),
-    }
-}
-
-/// Returns the error for a target, given the error of its files' assignments. In the result, an invalid line has the
-/// number that it has in its own file.
-fn text_fault(
+/// Returns the error for a timer whose unit nothing starts: that of the first ignored line, with the number that the
+/// line has in its own file, or [`TargetReason::NothingToDo`] if no line is ignored.
+fn start_fault(
     alloc: Global,
     files: &[UnitText],
     first_lines: &[u32],
-    fault: TimerFault,
+    ignored: &[IgnoredLine],
 ) -> TargetLoadFault
     requires numbered { AreFirstLines (map shown_unit_text files.now) first_lines.now }
-    requires found { fault ≢ TimerFault.NoMemory
-        → lists_of expr_in (assignments_of_files (map shown_unit_text files.now)) ≡ Err fault }
-    requires nothing { fault ≡ TimerFault.NothingToDo
-        → starts_unit (assignments_of_files (map shown_unit_text files.now)) ≡ false }
+    requires ignored { ignored.now ≡ ignored_of_files (map shown_unit_text files.now) }
+    requires nothing { StartNothing (map shown_unit_text files.now) }
     ensures { IsAssignmentFault (map shown_unit_text files.now) result }
 {
-    match fault {
-        TimerFault::NoMemory => TargetLoadFault::NoMemory,
-        TimerFault::NothingToDo => TargetLoadFault::Target(TargetReason::NothingToDo),
-        fault => {
-            let number = fault.line().unwrap_or(1);
-            let (path, line) = line_in(files, first_lines, number);
-            match String::from_str(alloc, path) {
-                Ok(path) => {
-                    let fault = with_line_number(fault, line);
-                    TargetLoadFault::Target(TargetReason::Line(path, line, fault))
-                }
-                Err(_) => TargetLoadFault::NoMemory,
-            }
+    let Some(first) = ignored.first() else {
+        return TargetLoadFault::Target(TargetReason::NothingToDo);
+    };
+    let (path, line) = line_in(files, first_lines, first.number);
+    match String::from_str(alloc, path) {
+        Ok(path) => {
+            let fault = TimerFault::BadLine(line, first.fault);
+            TargetLoadFault::Target(TargetReason::Line(path, line, fault))
         }
+        Err(_) => TargetLoadFault::NoMemory,
     }
 }
 
@@ -318,18 +291,6 @@ fn line_in<'f>(files: &'f [UnitText], first_lines: &[u32], number: u32) -> (&'f 
     match position_in(files, first_lines, number) {
         Some(position) => position,
         None => ("", number),
-    }
-}
-
-/// Replaces the line number in an error about an invalid line, or about too many expressions, by `line`. Returns any
-/// other error unchanged.
-fn with_line_number(fault: TimerFault, line: u32) -> TimerFault
-    ensures { result ≡ at_line fault line }
-{
-    match fault {
-        TimerFault::BadLine(_, reason) => TimerFault::BadLine(line, reason),
-        TimerFault::TooMany(_) => TimerFault::TooMany(line),
-        other => other,
     }
 }
 

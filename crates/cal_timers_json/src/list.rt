@@ -5,7 +5,7 @@ ghost use Rattle.cal_timers_json.specs.rules.Document.{IsDocument};
 
 use crate::document::document;
 use crate::texts::{left_text, local_text};
-use cal_load::{Calendar, Loaded, LoadedTimer};
+use cal_load::{Loaded, LoadedTimer};
 use cal_tasks::{Clocked, NextOfAll, TimerElapse};
 use serde::Serialize;
 use std::alloc::{AllocError, Global};
@@ -149,7 +149,7 @@ fn row_of_ended<'a>(
 /// has no calendar expressions: then other settings, such as `OnBootSec=`, start the unit.
 fn note_of_ended(timers: &[LoadedTimer], index: usize) -> Option<&'static str> {
     match timers.get(index) {
-        Some(timer) if matches!(timer.calendar, Calendar::Nothing) => None,
+        Some(timer) if timer.lines().is_empty() => None,
         _ => Some("never"),
     }
 }

@@ -1,7 +1,7 @@
-//! Error lines about timers that can't be loaded, and about a zone that can't be used.
+//! Error lines about timers that can't be loaded, about lines that are ignored, and about a zone that can't be used.
 
 use crate::cells::push_printable;
-use cal_load::{TargetFault, TargetReason};
+use cal_load::{IgnoredLine, LoadedTimer, TargetFault, TargetReason};
 use cal_machine::Unreadable;
 use cal_timer::TimerFault;
 use cal_unit_index::Reason;
@@ -47,6 +47,23 @@ pub fn fault_text(alloc: Global, fault: &TargetFault) -> Result<String, AllocErr
             *reason,
         ),
     }?;
+    Ok(out)
+}
+
+/// Returns the error line about a line in the files of a timer that is ignored, without a line feed. It begins with the
+/// path of the file and the number that the line has in this file.
+pub fn ignored_text(
+    alloc: Global,
+    timer: &LoadedTimer,
+    ignored: &IgnoredLine,
+) -> Result<String, AllocError> {
+    let mut out = String::new(alloc);
+    let (path, line) = timer
+        .position(ignored.number)
+        .unwrap_or((timer.name.as_str(), ignored.number));
+    push_position(&mut out, path, line)?;
+    out.push_str("ignored: ")?;
+    out.push_str(ignored.fault.words())?;
     Ok(out)
 }
 

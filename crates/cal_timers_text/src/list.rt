@@ -3,7 +3,7 @@
 use crate::cells::{push_cut, push_padded, push_printable, width_of};
 use crate::style::{Emphasis, Style};
 use crate::times::{push_instant, push_left};
-use cal_load::{Calendar, Loaded, LoadedTimer};
+use cal_load::{Loaded, LoadedTimer};
 use cal_tasks::{Clocked, NextOfAll, TimerElapse};
 use cal_zone::{Instant, InstantFormatter};
 use std::alloc::{AllocError, Global};
@@ -119,7 +119,7 @@ fn elapse_row(
 /// expressions: then its other notes say what starts its unit.
 fn never_row(alloc: Global, loaded: &Loaded, timer: &LoadedTimer) -> Result<Row, AllocError> {
     let mut row = timer_row(alloc, loaded, timer)?;
-    if !matches!(&timer.calendar, Calendar::Nothing) {
+    if !timer.lines().is_empty() {
         push_note(&mut row.notes, "never")?;
     }
     push_notes(&mut row.notes, &timer.notes)?;

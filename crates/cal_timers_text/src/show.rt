@@ -3,7 +3,7 @@
 use crate::cells::{push_padded, push_printable};
 use crate::style::{Emphasis, Style};
 use crate::times::{instant_width, normal_text, push_instant, push_left};
-use cal_load::{Calendar, LoadedTimer};
+use cal_load::LoadedTimer;
 use cal_tasks::{ClockChange, ClockNote, Clocked};
 use cal_timer::TimerLine;
 use cal_unit_index::UnitText;
@@ -27,7 +27,7 @@ pub fn show_text(
     let mut out = String::new(alloc);
     push_name(&mut out, timer.name.as_str(), style)?;
     push_settings(alloc, &mut out, timer)?;
-    if !matches!(timer.calendar, Calendar::Nothing) {
+    if !timer.lines().is_empty() {
         push_elapses(&mut out, at, elapses)?;
     }
     push_clock_notes(&mut out, notes)?;

@@ -1,6 +1,6 @@
 -- Timers that are loaded from the files of a machine: systemd.unit(5), Description, and systemd.timer(5), OnCalendar=.
-use Rattle.std.specs.Prelude.{◌≡◌, ◌⊎◌, ◌+◌, ◌||◌, ℕ, false, true, List, [], ◌∷◌, ◌++◌, Ok, Err, codes, is_some, length, map, string_bytes}
-use Rattle.std.specs.List.{flat_map, list_any}
+use Rattle.std.specs.Prelude.{◌≡◌, ◌⊎◌, ◌+◌, ◌||◌, ℕ, Bool, false, true, if◌then◌else◌, List, [], ◌∷◌, ◌++◌, Option, None, Some, Result, Ok, Err, codes, filter, is_some, length, map, string_bytes}
+use Rattle.std.specs.List.{filter_map, flat_map, list_any}
 use Rattle.std.specs.Option.{option_to_list}
 use Rattle.std.specs.Str.{bytes_eq}
 use Rattle.std.specs.Str.Lines.{lines}
@@ -9,13 +9,13 @@ use Rattle.cal_unit_index.specs.rules.DropIns.{drop_ins}
 use Rattle.cal_timer.specs.rules.Lines.{logical_lines}
 use Rattle.cal_zone_files.specs.rules.ZoneFiles.{HasZonesOf}
 use Rattle.cal_spec.specs.computed.Expr.{expr_in}
+use Rattle.cal_spec.specs.declared.spec_fault.SpecFault.{SpecFault}
 use Rattle.cal_spec.specs.rules.ZoneSuffix.{name_in}
 use Rattle.cal_spec.specs.rules.Fields.{Fields}
 use Rattle.cal_timer.specs.rules.Assignments.{Assignment, assignments_in}
-use Rattle.cal_timer.specs.rules.TimerText.{without_mark}
-use Rattle.cal_timer.specs.rules.TimerEntries.{TimerLine, lists_of}
+use Rattle.cal_timer.specs.rules.TimerText.{excepted, is_exception, is_expression, listed, without_mark}
+use Rattle.cal_timer.specs.rules.TimerEntries.{TimerLine, entries_of}
 use Rattle.cal_timer.specs.rules.TimerView.{shown}
-use Rattle.cal_timer.specs.declared.fault.TimerFault.TheVariants.{NothingToDo}
 use Rattle.cal_machine.specs.rules.Machine.{Machine}
 use Rattle.cal_unit_index.specs.declared.files.UnitText as texts
 use Rattle.cal_unit_index.specs.rules.Files.{UnitText, file_at, shown_unit_text, text_at, texts_at}
@@ -25,6 +25,8 @@ use Rattle.cal_unit_index.specs.rules.Units.{Unit, unit_on}
 use Rattle.cal_unit_index.specs.rules.Units.Unit.{Unfound, TemplateOnly, TooManyAliases, FoundAt}
 use Rattle.cal_zone.specs.rules.ZoneTable.{ZoneMap, zone_named}
 use Rattle.cal_load.specs.declared.calendar.Calendar as calendars
+use Rattle.cal_load.specs.declared.calendar.CalendarLines.{CalendarLines}
+use Rattle.cal_load.specs.declared.calendar.IgnoredLine.{IgnoredLine}
 use Rattle.cal_load.specs.declared.loaded.LoadedTimer.{LoadedTimer}
 use Rattle.cal_load.specs.rules.Notes.{note_text, notes_in, starts_unit}
 use Rattle.cal_load.specs.rules.Position.{AreFirstLines}
@@ -66,25 +68,35 @@ bytes_in files = map (λ file. file.bytes) files
 abbrev pub assignments_of_files : List UnitText → List Assignment
 assignments_of_files files = assignments_from 1 (bytes_in files)
 
--- None of these assignments has an error, and the calendar has their expressions and exceptions, or nothing if there are
--- no expressions, but other assignments start the unit.
+abbrev pub expressions_in : calendars.Calendar → List (TimerLine Fields)
+expressions_in calendar = map shown calendar.lines.items
+
+abbrev pub exceptions_in : calendars.Calendar → List (TimerLine Fields)
+exceptions_in calendar = map shown calendar.exceptions.items
+
+-- the calendar has those expressions and exceptions of these assignments that are valid, and no others
 abbrev pub IsCalendarBy : List Assignment → calendars.Calendar → Type 0
-IsCalendarBy assignments calendars.TheVariants.Nothing = (lists_of expr_in assignments ≡ Err NothingToDo) × (starts_unit assignments ≡ true)
-IsCalendarBy assignments (calendars.TheVariants.Timer timer) = lists_of expr_in assignments ≡ Ok timer
-IsCalendarBy assignments (calendars.TheVariants.Expressions list) = ⊥
+IsCalendarBy assignments calendar =
+    (expressions_in calendar ≡ entries_of expr_in (listed assignments))
+    × (exceptions_in calendar ≡ entries_of expr_in (excepted assignments))
 
 abbrev pub IsCalendarOf : List UnitText → calendars.Calendar → Type 0
 IsCalendarOf files calendar = IsCalendarBy (assignments_of_files files) calendar
 
-abbrev pub expressions_in : calendars.Calendar → List (TimerLine Fields)
-expressions_in calendars.TheVariants.Nothing = []
-expressions_in (calendars.TheVariants.Timer timer) = timer.expressions
-expressions_in (calendars.TheVariants.Expressions list) = map shown list.items
+-- these assignments start the unit: by a valid expression, or else by another setting
+abbrev pub IsStarted : List Assignment → Type 0
+IsStarted assignments = entries_of expr_in (listed assignments) ≡ [] → starts_unit assignments ≡ true
 
-abbrev pub exceptions_in : calendars.Calendar → List (TimerLine Fields)
-exceptions_in calendars.TheVariants.Nothing = []
-exceptions_in (calendars.TheVariants.Timer timer) = timer.exceptions
-exceptions_in (calendars.TheVariants.Expressions list) = []
+-- the line of an assignment that is ignored because its expression is invalid, given the result of parsing it
+abbrev pub ignored_line : {E : Type 0} → Assignment → Result E SpecFault → Option IgnoredLine
+ignored_line a (Ok expr) = None
+ignored_line a (Err fault) = Some (record { number = a.number; fault = fault })
+
+-- the lines that are ignored: those of all expressions and exceptions that are invalid, in order, even if a later
+-- assignment clears their list
+unfoldable pub ignored_in : {E : Type 0} → (List ℕ → Result E SpecFault) → List Assignment → List IgnoredLine
+ignored_in read assignments =
+    filter_map (λ a. ignored_line a (read a.value)) (filter (λ a. is_expression a || is_exception a) assignments)
 
 -- the names of the zones in these expressions
 abbrev pub zone_names_in : List (TimerLine Fields) → List (List ℕ)
@@ -104,6 +116,8 @@ pub record IsTimerReadFrom (machine : Machine) (files : List UnitText) (timer : 
   pub has_files : map shown_unit_text timer.files.items ≡ files
   pub has_first_lines : AreFirstLines files timer.first_lines.items
   pub has_calendar : IsCalendarOf files timer.calendar
+  pub is_started : IsStarted (assignments_of_files files)
+  pub has_ignored : timer.ignored.items ≡ ignored_in expr_in (assignments_of_files files)
   pub has_zones : HasZones machine timer.calendar timer.zones
   pub has_notes : map string_bytes timer.notes.items ≡ map note_text (notes_in (assignments_of_files files))
 
@@ -124,3 +138,19 @@ IsTimerOn machine path timer = ((asked : List ℕ) × IsUnitOn machine path aske
 -- the machine has this file: these bytes at this path
 abbrev pub IsStoredOn : Machine → texts.UnitText → Type 0
 IsStoredOn machine file = file_at machine (string_bytes file.path) ≡ Text file.bytes.items
+
+-- ## Steps
+
+-- the calendar has the valid expressions and exceptions of these assignments, and the lines of the others are ignored
+abbrev pub AreReadFrom : List Assignment → CalendarLines → Type 0
+AreReadFrom assignments read =
+    IsCalendarBy assignments read.calendar × (read.ignored.items ≡ ignored_in expr_in assignments)
+
+-- a list of entries after one more assignment, which adds its entry to the list, or clears the list, or does neither
+abbrev pub entries_after : Bool → Bool → List (TimerLine Fields) → Assignment → List (TimerLine Fields)
+entries_after adds empties entries a =
+    if adds then entries ++ entries_of expr_in (a ∷ []) else (if empties then [] else entries)
+
+-- the lines that are ignored because of one more assignment, which may add an entry to a list
+abbrev pub ignored_more : Bool → Assignment → List IgnoredLine
+ignored_more adds a = if adds then option_to_list (ignored_line a (expr_in a.value)) else []

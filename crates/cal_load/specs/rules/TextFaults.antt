@@ -1,12 +1,12 @@
 -- Why the files of a timer can't be loaded: systemd.syntax(7) and systemd.timer(5), OnCalendar=.
-use Rattle.std.specs.Prelude.{◌≡◌, ⊤, ◌+◌, ◌≤◌, ◌^◌, ℕ, false, List, ◌∷◌, ◌++◌, Err, Some, length, string_bytes}
+use Rattle.std.specs.Prelude.{◌≡◌, ⊤, ◌+◌, ◌≤◌, ◌^◌, ℕ, false, List, [], ◌∷◌, ◌++◌, Some, length, slice_get, string_bytes}
 use Rattle.std.specs.List.{Contains, find}
 use Rattle.std.specs.Str.{IsUtf8}
 use Rattle.cal_machine.specs.rules.Machine.{Machine}
 use Rattle.cal_spec.specs.computed.Expr.{expr_in}
 use Rattle.cal_spec.specs.rules.Fields.{Fields}
-use Rattle.cal_timer.specs.rules.TimerEntries.{TimerLine, lists_of}
-use Rattle.cal_timer.specs.rules.TimerFault.{line_of}
+use Rattle.cal_timer.specs.rules.TimerEntries.{TimerLine, entries_of}
+use Rattle.cal_timer.specs.rules.TimerText.{listed}
 use Rattle.cal_timer.specs.declared.fault.TimerFault.{TimerFault}
 use Rattle.cal_timer.specs.declared.fault.TimerFault.TheVariants as timer_faults
 use Rattle.cal_unit_index.specs.declared.fault.Reason as reasons
@@ -16,12 +16,13 @@ use Rattle.cal_zone_files.specs.declared.fault.ZonesFault.{ZonesFault}
 use Rattle.cal_zone_files.specs.declared.fault.ZonesFault.TheVariants as zone_faults
 use Rattle.cal_zone_files.specs.rules.ZoneFiles.{IsReasonOn, zone_path}
 use Rattle.cal_load.specs.declared.calendar.Calendar as calendars
+use Rattle.cal_load.specs.declared.calendar.IgnoredLine.{IgnoredLine}
 use Rattle.cal_load.specs.declared.fault.TargetLoadFault.{TargetLoadFault}
 use Rattle.cal_load.specs.declared.fault.TargetLoadFault as faults
 use Rattle.cal_load.specs.declared.target_fault.TargetReason.{TargetReason}
 use Rattle.cal_load.specs.declared.target_fault.TargetReason.TheVariants.{NotFound, Template, TooManyAliases, Path, NotUtf8, Line, NothingToDo, Zone, Expression, ExpressionZone}
 use Rattle.cal_load.specs.rules.Expressions.{names_zone}
-use Rattle.cal_load.specs.rules.Loaded.{IsCalendarOf, assignments_of_files, exceptions_in, expressions_in, zone_names_in}
+use Rattle.cal_load.specs.rules.Loaded.{IsCalendarOf, assignments_of_files, exceptions_in, expressions_in, ignored_in, zone_names_in}
 use Rattle.cal_load.specs.rules.Notes.{starts_unit}
 use Rattle.cal_load.specs.rules.Position.{IsLineIn, total_lines}
 
@@ -60,32 +61,25 @@ IsNumberFault files faults.TheVariants.NoMemory = ⊤
 
 -- ## Assignments
 
--- the error, with this line number in place of its own if it is about an invalid line or about too many expressions
-abbrev pub at_line : TimerFault → ℕ → TimerFault
-at_line timer_faults.ReadFailed line = timer_faults.ReadFailed
-at_line timer_faults.TooLarge line = timer_faults.TooLarge
-at_line (timer_faults.NotUtf8 number) line = timer_faults.NotUtf8 number
-at_line (timer_faults.BadLine number reason) line = timer_faults.BadLine line reason
-at_line (timer_faults.TooMany number) line = timer_faults.TooMany line
-at_line timer_faults.NothingToDo line = timer_faults.NothingToDo
-at_line timer_faults.NoMemory line = timer_faults.NoMemory
-
--- the error `found` is about line `line` of the file at `path`, and `fault` is the same error with the number `line`
-abbrev pub IsFaultAt : List UnitText → TimerFault → List ℕ → ℕ → TimerFault → Type 0
-IsFaultAt files found path line fault =
-    (number : ℕ) × (line_of found ≡ Some number) × IsLineIn files number path line × (fault ≡ at_line found line)
-
--- the error of the files' assignments is `fault`, which is about line `line` of the file at `path`
-abbrev pub IsLineFault : List UnitText → List ℕ → ℕ → TimerFault → Type 0
-IsLineFault files path line fault =
-    (found : TimerFault) × (lists_of expr_in (assignments_of_files files) ≡ Err found) × IsFaultAt files found path line fault
-
--- the assignments of files have no expression, and no other assignment starts the unit
+-- nothing starts the unit: the assignments of files have no valid expression, and no other assignment starts the unit
 abbrev pub StartNothing : List UnitText → Type 0
 StartNothing files =
-    (lists_of expr_in (assignments_of_files files) ≡ Err timer_faults.NothingToDo) × (starts_unit (assignments_of_files files) ≡ false)
+    (entries_of expr_in (listed (assignments_of_files files)) ≡ [])
+    × (starts_unit (assignments_of_files files) ≡ false)
 
--- why the assignments of files don't make a timer: a line is invalid, or nothing starts the unit
+-- the lines of files that are ignored because their expressions are invalid
+abbrev pub ignored_of_files : List UnitText → List IgnoredLine
+ignored_of_files files = ignored_in expr_in (assignments_of_files files)
+
+-- nothing starts the unit, and the first line that is ignored, with this error, is line `line` of the file at `path`
+abbrev pub IsLineFault : List UnitText → List ℕ → ℕ → TimerFault → Type 0
+IsLineFault files path line fault =
+    StartNothing files
+    × ((first : IgnoredLine) × (slice_get (ignored_of_files files) 0 ≡ Some first) × IsLineIn files first.number path line
+    × (fault ≡ timer_faults.BadLine line first.fault))
+
+-- why the assignments of files don't make a timer: nothing starts the unit. The reason is the first line that is
+-- ignored, if there is one.
 abbrev pub IsAssignmentReason : List UnitText → TargetReason → Type 0
 IsAssignmentReason files NotFound = ⊥
 IsAssignmentReason files Template = ⊥
@@ -93,7 +87,7 @@ IsAssignmentReason files TooManyAliases = ⊥
 IsAssignmentReason files (Path place why) = ⊥
 IsAssignmentReason files (NotUtf8 place) = ⊥
 IsAssignmentReason files (Line place line fault) = IsLineFault files (string_bytes place) line fault
-IsAssignmentReason files NothingToDo = StartNothing files
+IsAssignmentReason files NothingToDo = StartNothing files × (ignored_of_files files ≡ [])
 IsAssignmentReason files (Zone place line zone reason) = ⊥
 IsAssignmentReason files (Expression fault) = ⊥
 IsAssignmentReason files (ExpressionZone zone reason) = ⊥

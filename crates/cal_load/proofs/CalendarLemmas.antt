@@ -1,0 +1,120 @@
+-- Lemmas on reading the expressions and exceptions of a timer, one assignment at a time.
+use Rattle.std.proofs.Common.{◌≡◌, ◌∙◌, ◌+◌, ◌<◌, ◌||◌, ℕ, Bool, true, false, not, List, [], ◌∷◌, ◌++◌, Option, None, Some, ap, append-nil, append_assoc, codes, filter, get_or, length, map, refl, subst, sym, take}
+use Rattle.std.proofs.lemmas.Bool.{and_parts, and_right, false_from_ne_true}
+use Rattle.std.proofs.lemmas.List.{take_more}
+use Rattle.std.proofs.lemmas.List.Concat.{flat_map-append}
+use Rattle.std.proofs.lemmas.List.Elements.{filter-append, filter_map-append}
+use Rattle.std.proofs.lemmas.Slice.Eq.{bytes_eq-Decides}
+use Rattle.std.specs.List.{cons_option, filter_map}
+use Rattle.std.specs.Option.{option_to_list}
+use Rattle.std.specs.Str.{bytes_eq}
+use Rattle.cal_read.specs.declared.texts.NumberedText.{NumberedText}
+use Rattle.cal_read.specs.rules.TimerTexts.{assignments_at, assignments_of}
+use Rattle.cal_spec.specs.computed.Expr.{expr_in}
+use Rattle.cal_timer.proofs.ListedLemmas.{Kept, exception_is_no_exception_reset, expression_is_no_reset, kept_more, kept_other, kept_reset}
+use Rattle.cal_timer.specs.rules.Assignments.{Assignment}
+use Rattle.cal_timer.specs.rules.TimerEntries.{entries_of, entry_of}
+use Rattle.cal_timer.specs.rules.TimerText.{excepted, exception_key, has_no_value, is_exception, is_exception_reset, is_expression, is_reset, listed}
+use Rattle.cal_timer.specs.rules.TimerView.{shown}
+use Rattle.cal_load.specs.declared.calendar.CalendarLines.{CalendarLines}
+use Rattle.cal_load.specs.declared.calendar.IgnoredLine.{IgnoredLine}
+use Rattle.cal_load.specs.rules.Loaded.{AreReadFrom, entries_after, ignored_in, ignored_line, ignored_more}
+
+-- no assignment is both an expression and an exception, because their keys differ
+expression_is_no_exception : (a : Assignment) → is_expression a ≡ true → is_exception a ≡ false
+unfolding is_expression is_exception
+expression_is_no_exception a e =
+    and_right (not (has_no_value a)) (bytes_eq a.key exception_key)
+    (false_from_ne_true (bytes_eq a.key exception_key) (λ h.
+    let same : a.key ≡ exception_key = (bytes_eq-Decides a.key exception_key).0 h in
+    let other : bytes_eq a.key (codes "OnCalendar") ≡ false = subst (λ (key : List ℕ). bytes_eq key (codes "OnCalendar") ≡ false) (sym same) refl in
+    let here = (and_parts (not (has_no_value a)) _ e).1 in
+    absurd (cc)))
+
+-- how one more assignment changes the entries of a list
+list_by : (adds resets : Assignment → Bool) (before : List Assignment) (a : Assignment) (c d : Bool) → adds a ≡ c → resets a ≡ d → (c ≡ true → d ≡ false)
+    → entries_of expr_in (Kept adds resets (before ++ a ∷ [])) ≡ entries_after c d (entries_of expr_in (Kept adds resets before)) a
+list_by adds resets before a true true e f apart = let no = apart refl in absurd (cc)
+list_by adds resets before a true false e f apart =
+    ap (entries_of expr_in) (kept_more adds resets before a f e)
+    ∙ filter_map-append (λ a. entry_of a (expr_in a.value)) (Kept adds resets before) (a ∷ [])
+list_by adds resets before a false true e f apart = ap (entries_of expr_in) (kept_reset adds resets before a f)
+list_by adds resets before a false false e f apart = ap (entries_of expr_in) (kept_other adds resets before a f e)
+
+listed_more : (before : List Assignment) (a : Assignment)
+    → entries_of expr_in (listed (before ++ a ∷ [])) ≡ entries_after (is_expression a) (is_reset a) (entries_of expr_in (listed before)) a
+unfolding listed
+listed_more before a = list_by is_expression is_reset before a _ _ refl refl (expression_is_no_reset a)
+
+excepted_more : (before : List Assignment) (a : Assignment)
+    → entries_of expr_in (excepted (before ++ a ∷ [])) ≡ entries_after (is_exception a) (is_exception_reset a) (entries_of expr_in (excepted before)) a
+unfolding excepted
+excepted_more before a = list_by is_exception is_exception_reset before a _ _ refl refl (exception_is_no_exception_reset a)
+
+one_line : (line : Option IgnoredLine) → cons_option line [] ≡ option_to_list line
+one_line None = refl
+one_line (Some line) = refl
+
+ignored_by : (a : Assignment) (c d : Bool) → is_expression a ≡ c → is_exception a ≡ d → (c ≡ true → d ≡ false)
+    → filter_map (λ a. ignored_line a (expr_in a.value)) (filter (λ a. is_expression a || is_exception a) (a ∷ [])) ≡ ignored_more c a ++ ignored_more d a
+ignored_by a true true e f apart = let no = apart refl in absurd (cc)
+ignored_by a true false e f apart = rw e (one_line (ignored_line a (expr_in a.value)) ∙ sym (append-nil _))
+ignored_by a false true e f apart = rw (e, f) (one_line (ignored_line a (expr_in a.value)))
+ignored_by a false false e f apart = rw (e, f) refl
+
+-- how one more assignment changes the lines that are ignored
+ignored_with : (before : List Assignment) (a : Assignment)
+    → ignored_in expr_in (before ++ a ∷ []) ≡ (ignored_in expr_in before ++ ignored_more (is_expression a) a) ++ ignored_more (is_exception a) a
+unfolding ignored_in
+ignored_with before a =
+    ap (filter_map (λ a. ignored_line a (expr_in a.value))) (filter-append (λ a. is_expression a || is_exception a) before (a ∷ []))
+    ∙ filter_map-append (λ a. ignored_line a (expr_in a.value)) (filter (λ a. is_expression a || is_exception a) before) _
+    ∙ ap (λ last. ignored_in expr_in before ++ last) (ignored_by a _ _ refl refl (expression_is_no_exception a))
+    ∙ sym (append_assoc (ignored_in expr_in before) (ignored_more (is_expression a) a) (ignored_more (is_exception a) a))
+
+-- what was read of one more assignment; `adds` and `clears` say what it does to the expressions, `excepts` and `resets`
+-- what it does to the exceptions
+pub read_more : (before : List Assignment) (a : Assignment) (old new : CalendarLines) (middle : List IgnoredLine) (adds clears excepts resets : Bool)
+    → adds ≡ is_expression a → clears ≡ is_reset a → excepts ≡ is_exception a → resets ≡ is_exception_reset a
+    → map shown new.calendar.lines.items ≡ entries_after adds clears (map shown old.calendar.lines.items) a
+    → middle ≡ old.ignored.items ++ ignored_more adds a
+    → map shown new.calendar.exceptions.items ≡ entries_after excepts resets (map shown old.calendar.exceptions.items) a
+    → new.ignored.items ≡ middle ++ ignored_more excepts a
+    → AreReadFrom before old → AreReadFrom (before ++ a ∷ []) new
+read_more before a old new middle adds clears excepts resets is_adds is_clears is_excepts is_resets lines first exceptions second h = (
+  (
+    lines
+        ∙ ap (λ b. entries_after b clears (map shown old.calendar.lines.items) a) is_adds
+        ∙ ap (λ b. entries_after (is_expression a) b (map shown old.calendar.lines.items) a) is_clears
+        ∙ ap (λ all. entries_after (is_expression a) (is_reset a) all a) h.0.0
+        ∙ sym (listed_more before a),
+    exceptions
+        ∙ ap (λ b. entries_after b resets (map shown old.calendar.exceptions.items) a) is_excepts
+        ∙ ap (λ b. entries_after (is_exception a) b (map shown old.calendar.exceptions.items) a) is_resets
+        ∙ ap (λ all. entries_after (is_exception a) (is_exception_reset a) all a) h.0.1
+        ∙ sym (excepted_more before a),
+  ),
+  second
+      ∙ ap (λ all. all ++ ignored_more excepts a) (first ∙ ap (λ all. all ++ ignored_more adds a) h.1 ∙ ap (λ b. ignored_in expr_in before ++ ignored_more b a) is_adds)
+      ∙ ap (λ b. (ignored_in expr_in before ++ ignored_more (is_expression a) a) ++ ignored_more b a) is_excepts
+      ∙ sym (ignored_with before a),
+)
+
+-- what was read before the first assignment
+pub read_nothing : (read : CalendarLines) → map shown read.calendar.lines.items ≡ [] → map shown read.calendar.exceptions.items ≡ []
+    → read.ignored.items ≡ [] → AreReadFrom [] read
+unfolding listed excepted ignored_in
+read_nothing read lines exceptions ignored = ((lines, exceptions), ignored)
+
+-- what was read of one more text
+pub text_read : (texts : List NumberedText) (i : ℕ) (d : NumberedText) (old new : CalendarLines) → i < length texts
+    → AreReadFrom (assignments_of (take i texts)) old
+    → ((before : List Assignment) → AreReadFrom before old → AreReadFrom (before ++ assignments_at (get_or texts i d)) new)
+    → AreReadFrom (assignments_of (take (i + 1) texts)) new
+text_read texts i d old new h before step =
+    let text = get_or texts i d in
+    let all : assignments_of (take (i + 1) texts) ≡ assignments_of (take i texts) ++ assignments_at text =
+    ap assignments_of (take_more texts i d h)
+    ∙ flat_map-append assignments_at (take i texts) (text ∷ [])
+    ∙ ap (λ last. assignments_of (take i texts) ++ last) (append-nil (assignments_at text)) in
+    subst (λ all. AreReadFrom all new) (sym all) (step (assignments_of (take i texts)) before)
