@@ -1,5 +1,5 @@
--- Lemmas on the assignments that start or delay a timer's unit.
-use Rattle.std.proofs.Common.{◌≡◌, ◌∙◌, ◌+◌, ◌<◌, ◌||◌, ◌&&◌, ℕ, Bool, Bor, true, false, List, [], ◌∷◌, ◌++◌, add-one, ap, append-nil, append_assoc, cond, drop, drop-cons, get_or, length, map, not, refl, sym, take}
+-- Lemmas on the assignments that are noted for a timer.
+use Rattle.std.proofs.Common.{Option, Some, None, true≢false, ◌≡◌, ◌∙◌, ◌+◌, ◌<◌, ◌||◌, ◌&&◌, ℕ, Bool, Bor, true, false, List, [], ◌∷◌, ◌++◌, add-one, ap, append-nil, append_assoc, cond, drop, drop-cons, get_or, length, map, not, refl, sym, take}
 use Rattle.std.proofs.lemmas.Bool.Decides.{same_from_decides}
 use Rattle.std.proofs.lemmas.List.{take_more}
 use Rattle.std.proofs.lemmas.List.Concat.{flat_map-append}
@@ -15,48 +15,50 @@ use Rattle.cal_read.specs.rules.SectionAssignments.{shown_owned_assignment}
 use Rattle.cal_read.specs.rules.TimerTexts.{assignments_at, assignments_of}
 use Rattle.cal_timer.specs.rules.Assignments.{Assignment}
 use Rattle.cal_timer.specs.rules.TimerText.{is_reset}
-use Rattle.cal_load.specs.rules.Notes.{noted, noted_after, notes_in, replaces, sets, undoes}
+use Rattle.cal_load.specs.declared.setting_kind.SettingKind.{SettingKind}
+use Rattle.cal_load.specs.declared.setting_kind.SettingKind.TheVariants.{Monotonic, Change, Switch, Delay, Accuracy, Started}
+use Rattle.cal_load.specs.rules.Notes.{is_noted, is_noted_as, is_taken, kept_after, kept_in, kept_with, kind_of, noted_of, replaces, service_of, starts, starts_as, undoes, unit_line}
 
-noted_first : (s : Bool) (a : Assignment) → (if s && true then (a ∷ []) else []) ≡ (if s then (a ∷ []) else [])
-noted_first true a = refl
-noted_first false a = refl
+kept_first : (s : Bool) (a : Assignment) → (if s && true then (a ∷ []) else []) ≡ (if s then (a ∷ []) else [])
+kept_first true a = refl
+kept_first false a = refl
 
-noted_step : (s u v : Bool) (b : Assignment) (keep : Assignment → Bool) (rest more last : List Assignment) → keep b ≡ not v → more ≡ filter keep rest ++ last
+kept_step : (s u v : Bool) (b : Assignment) (keep : Assignment → Bool) (rest more last : List Assignment) → keep b ≡ not v → more ≡ filter keep rest ++ last
     → (if s && not (u || (v || false)) then (b ∷ more) else more) ≡ filter keep (if s && not u then (b ∷ rest) else rest) ++ last
-noted_step false u v b keep rest more last k e = e
-noted_step true true v b keep rest more last k e = e
-noted_step true false true b keep rest more last k e = rw k e
-noted_step true false false b keep rest more last k e = rw k (ap (λ all. b ∷ all) e)
+kept_step false u v b keep rest more last k e = e
+kept_step true true v b keep rest more last k e = e
+kept_step true false true b keep rest more last k e = rw k e
+kept_step true false false b keep rest more last k e = rw k (ap (λ all. b ∷ all) e)
 
-noted_more : (a : Assignment) (before : List Assignment) → notes_in (before ++ a ∷ []) ≡ noted (notes_in before) a
-unfolding notes_in
-noted_more a [] = noted_first (sets a) a
-noted_more a (b ∷ before) =
+kept_more : (a : Assignment) (before : List Assignment) → kept_in (before ++ a ∷ []) ≡ kept_with (kept_in before) a
+unfolding kept_in
+kept_more a [] = kept_first (is_taken a) a
+kept_more a (b ∷ before) =
     rw (list_any-append (λ later. undoes later b) before (a ∷ []))
-    (noted_step (sets b) (list_any (λ later. undoes later b) before) (undoes a b) b (λ note. not (undoes a note)) (notes_in before) (notes_in (before ++ a ∷ []))
-    (if sets a then (a ∷ []) else []) refl (noted_more a before))
+    (kept_step (is_taken b) (list_any (λ later. undoes later b) before) (undoes a b) b (λ note. not (undoes a note)) (kept_in before) (kept_in (before ++ a ∷ []))
+    (if is_taken a then (a ∷ []) else []) refl (kept_more a before))
 
-pub noted_all : (more before : List Assignment) → noted_after (notes_in before) more ≡ notes_in (before ++ more)
-noted_all [] before = ap notes_in (sym (append-nil before))
-noted_all (a ∷ more) before =
-    ap (λ notes. noted_after notes more) (sym (noted_more a before))
-    ∙ noted_all more (before ++ a ∷ [])
-    ∙ ap notes_in (append_assoc before (a ∷ []) more)
+pub kept_all : (more before : List Assignment) → kept_after (kept_in before) more ≡ kept_in (before ++ more)
+kept_all [] before = ap kept_in (sym (append-nil before))
+kept_all (a ∷ more) before =
+    ap (λ kept. kept_after kept more) (sym (kept_more a before))
+    ∙ kept_all more (before ++ a ∷ [])
+    ∙ ap kept_in (append_assoc before (a ∷ []) more)
 
--- the notes of no text
-pub no_notes : notes_in [] ≡ []
-unfolding notes_in
-no_notes = refl
+-- what is kept of no text
+pub nothing_kept : kept_in [] ≡ []
+unfolding kept_in
+nothing_kept = refl
 
--- the notes of one more text
-pub text_noted : (texts : List NumberedText) (i : ℕ) (d : NumberedText) (old new : List Assignment) → i < length texts
-    → old ≡ notes_in (assignments_of (take i texts)) → new ≡ noted_after old (assignments_at (get_or texts i d)) → new ≡ notes_in (assignments_of (take (i + 1) texts))
-text_noted texts i d old new h before after =
+-- what is kept of one more text
+pub text_kept : (texts : List NumberedText) (i : ℕ) (d : NumberedText) (old new : List Assignment) → i < length texts
+    → old ≡ kept_in (assignments_of (take i texts)) → new ≡ kept_after old (assignments_at (get_or texts i d)) → new ≡ kept_in (assignments_of (take (i + 1) texts))
+text_kept texts i d old new h before after =
     let text = get_or texts i d in
     after
-    ∙ ap (λ notes. noted_after notes (assignments_at text)) before
-    ∙ noted_all (assignments_at text) (assignments_of (take i texts))
-    ∙ ap notes_in (sym (ap assignments_of (take_more texts i d h)
+    ∙ ap (λ kept. kept_after kept (assignments_at text)) before
+    ∙ kept_all (assignments_at text) (assignments_of (take i texts))
+    ∙ ap kept_in (sym (ap assignments_of (take_more texts i d h)
     ∙ flat_map-append assignments_at (take i texts) (text ∷ [])
     ∙ ap (λ last. assignments_of (take i texts) ++ last) (append-nil (assignments_at text))))
 
@@ -85,6 +87,52 @@ pub nothing_undone : (later : Assignment) (notes : List Assignment) → is_reset
 nothing_undone later [] e f = refl
 nothing_undone later (note ∷ notes) e f =
     rw (undoes_none later note e f) (ap (λ rest. note ∷ rest) (nothing_undone later notes e f))
+
+-- ## Notes
+
+-- removing the kept assignments that change nothing
+pub only_noted : (own service : List ℕ) (unit : Option ℕ) (old new : List OwnedAssignment) → service ≡ service_of own
+    → unit ≡ unit_line own (map shown_owned_assignment old) → new ≡ filter (λ note. is_noted service unit (shown_owned_assignment note)) old
+    → map shown_owned_assignment new ≡ noted_of own (map shown_owned_assignment old)
+unfolding noted_of
+only_noted own service unit old new same line e =
+    let kept = map shown_owned_assignment old in
+    ap (map shown_owned_assignment) e
+    ∙ filtered_map (is_noted service unit) old
+    ∙ ap (λ name. filter (is_noted name unit) kept) same
+    ∙ ap (λ at. filter (is_noted (service_of own) at) kept) line
+
+-- an assignment that starts the unit is noted
+starting_as : (kind : Option SettingKind) (service : List ℕ) (unit : Option ℕ) (a : Assignment) → starts_as kind a.value ≡ true
+    → is_noted_as kind service unit a ≡ true
+starting_as None service unit a e = absurd (cc)
+starting_as (Some Monotonic) service unit a e = refl
+starting_as (Some Change) service unit a e = e
+starting_as (Some Switch) service unit a e = absurd (cc)
+starting_as (Some Delay) service unit a e = absurd (cc)
+starting_as (Some Accuracy) service unit a e = absurd (cc)
+starting_as (Some Started) service unit a e = absurd (cc)
+
+starting : (service : List ℕ) (unit : Option ℕ) (a : Assignment) → starts a ≡ true → is_noted service unit a ≡ true
+unfolding starts is_noted
+starting service unit a e = starting_as (kind_of a.key) service unit a e
+
+any_step : (s k : Bool) (test : Assignment → Bool) (a : Assignment) (rest kept : List Assignment) → test a ≡ s → (s ≡ true → k ≡ true)
+    → list_any test kept ≡ list_any test rest → list_any test (cond k (a ∷ kept) kept) ≡ (test a || list_any test rest)
+any_step true true test a rest kept e h same = rw e refl
+any_step true false test a rest kept e h same = absurd (true≢false (sym (h refl)))
+any_step false true test a rest kept e h same = rw e same
+any_step false false test a rest kept e h same = rw e same
+
+any_filtered : (test keep : Assignment → Bool) → ((a : Assignment) → test a ≡ true → keep a ≡ true) → (all : List Assignment)
+    → list_any test (filter keep all) ≡ list_any test all
+any_filtered test keep h [] = refl
+any_filtered test keep h (a ∷ rest) = any_step (test a) (keep a) test a rest (filter keep rest) refl (h a) (any_filtered test keep h rest)
+
+-- what starts the unit is the same among the notes as among the kept assignments
+pub noted_start : (own : List ℕ) (kept : List Assignment) → list_any starts (noted_of own kept) ≡ list_any starts kept
+unfolding noted_of
+noted_start own kept = any_filtered starts (is_noted (service_of own) (unit_line own kept)) (starting (service_of own) (unit_line own kept)) kept
 
 -- ## Searching lists
 

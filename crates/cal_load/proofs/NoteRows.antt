@@ -1,19 +1,151 @@
--- Examples of the assignments that start or delay a timer's unit.
-use Rattle.std.proofs.Common.{◌≡◌, ℕ, List, [], ◌∷◌, codes, refl}
+-- Examples of the assignments that are noted for a timer, and of those that start its unit.
+use Rattle.std.proofs.Common.{◌≡◌, ◌+◌, ℕ, List, [], ◌∷◌, codes, false, map, refl, true}
+use Rattle.cal_span.specs.computed.SpanValue.{pairs_in, span_of, words_in}
+use Rattle.cal_span.specs.rules.PairValue.{is_number, number_worth, unit_named, worth_of}
+use Rattle.cal_span.specs.rules.UnitSpellings.{spellings_of}
 use Rattle.cal_timer.specs.rules.Assignments.{Assignment}
 use Rattle.cal_timer.specs.rules.TimerText.{is_reset}
-use Rattle.cal_load.specs.rules.Notes.{notes_in, replaces, sets, undoes}
+use Rattle.cal_unit_index.specs.rules.UnitName.{without_suffix}
+use Rattle.cal_load.specs.rules.Notes.{has_unit_suffix, is_noted, is_taken, is_unit_name, keys_of, kept_in, kind_of, names_unit, note_text, noted_of, notes_in, replaces, starts, starts_unit, undoes}
 
-setting : List ℕ → List ℕ → Assignment
-setting key value = record { number = 1; key = key; value = value }
+-- the assignments with these keys and values, each on the line after that of the one before
+settings : ℕ → List (List ℕ × List ℕ) → List Assignment
+settings line [] = []
+settings line (setting ∷ more) = record { number = line; key = setting.0; value = setting.1 } ∷ settings (line + 1) more
 
--- an empty OnCalendar= undoes the monotonic timers before it, a word that isn't a boolean changes nothing, and a later
--- boolean replaces an earlier one
-kept : notes_in (
-    setting (codes "OnBootSec") (codes "5min") ∷ setting (codes "OnCalendar") [] ∷ setting (codes "OnUnitActiveSec") (codes "1h")
-    ∷ setting (codes "OnClockChange") (codes "YES") ∷ setting (codes "OnClockChange") (codes "maybe")
-    ∷ setting (codes "OnTimezoneChange") (codes "yes") ∷ setting (codes "OnTimezoneChange") (codes "off")
-    ∷ setting (codes "RandomizedDelaySec") [] ∷ [])
-    ≡ setting (codes "OnUnitActiveSec") (codes "1h") ∷ setting (codes "OnClockChange") (codes "YES") ∷ []
-unfolding setting notes_in sets replaces undoes is_reset
-kept = refl
+notes_for : List ℕ → List (List ℕ × List ℕ) → List (List ℕ)
+notes_for name list = map note_text (notes_in name (settings 1 list))
+
+-- the notes of the timer `a.timer`
+notes : List (List ℕ × List ℕ) → List (List ℕ)
+notes list = notes_for (codes "a.timer") list
+
+-- each monotonic timer counts, except for one with an invalid time span; systemd replaces specifiers
+monotonic : notes (
+    (codes "OnBootSec", codes "5min") ∷ (codes "OnBootSec", codes "abc") ∷ (codes "OnBootSec", codes "1h")
+    ∷ (codes "OnStartupSec", codes "infinity") ∷ (codes "OnUnitActiveSec", codes "%i") ∷ [])
+    ≡ codes "OnBootSec=5min" ∷ codes "OnBootSec=1h" ∷ codes "OnStartupSec=infinity" ∷ codes "OnUnitActiveSec=%i"
+    ∷ []
+unfolding notes notes_for settings noted_of kept_in is_noted is_taken starts replaces undoes kind_of keys_of names_unit is_unit_name has_unit_suffix is_reset without_suffix span_of pairs_in words_in is_number number_worth unit_named worth_of spellings_of
+monotonic = refl
+
+-- an empty OnCalendar= or monotonic timer drops the monotonic timers before it, and nothing else
+reset : notes (
+    (codes "OnBootSec", codes "5min") ∷ (codes "Persistent", codes "yes") ∷ (codes "OnCalendar", [])
+    ∷ (codes "OnActiveSec", codes "1h") ∷ (codes "RandomizedDelaySec", codes "5") ∷ (codes "OnUnitInactiveSec", [])
+    ∷ (codes "OnUnitActiveSec", codes "2h") ∷ [])
+    ≡ codes "Persistent=yes" ∷ codes "RandomizedDelaySec=5" ∷ codes "OnUnitActiveSec=2h" ∷ []
+unfolding notes notes_for settings noted_of kept_in is_noted is_taken starts replaces undoes kind_of keys_of names_unit is_unit_name has_unit_suffix is_reset without_suffix span_of pairs_in words_in is_number number_worth unit_named worth_of spellings_of
+reset = refl
+
+-- an invalid or empty delay keeps the one before it
+kept_delay : notes (
+    (codes "RandomizedDelaySec", codes "1h") ∷ (codes "RandomizedDelaySec", codes "5min")
+    ∷ (codes "RandomizedDelaySec", []) ∷ (codes "RandomizedDelaySec", codes "%i") ∷ [])
+    ≡ codes "RandomizedDelaySec=5min" ∷ []
+unfolding notes notes_for settings noted_of kept_in is_noted is_taken starts replaces undoes kind_of keys_of names_unit is_unit_name has_unit_suffix is_reset without_suffix span_of pairs_in words_in is_number number_worth unit_named worth_of spellings_of
+kept_delay = refl
+
+-- no delay isn't noted
+no_delay : notes ((codes "RandomizedDelaySec", codes "5min") ∷ (codes "RandomizedDelaySec", codes "0") ∷ [])
+    ≡ []
+unfolding notes notes_for settings noted_of kept_in is_noted is_taken starts replaces undoes kind_of keys_of names_unit is_unit_name has_unit_suffix is_reset without_suffix span_of pairs_in words_in is_number number_worth unit_named worth_of spellings_of
+no_delay = refl
+
+-- the longest delay
+longest_delay : notes ((codes "RandomizedDelaySec", codes "infinity") ∷ [])
+    ≡ codes "RandomizedDelaySec=infinity" ∷ []
+unfolding notes notes_for settings noted_of kept_in is_noted is_taken starts replaces undoes kind_of keys_of names_unit is_unit_name has_unit_suffix is_reset without_suffix span_of pairs_in words_in is_number number_worth unit_named worth_of spellings_of
+longest_delay = refl
+
+-- an accuracy that is no longer than the default isn't noted
+default_accuracy : notes ((codes "AccuracySec", codes "1h") ∷ (codes "AccuracySec", codes "1min") ∷ [])
+    ≡ []
+unfolding notes notes_for settings noted_of kept_in is_noted is_taken starts replaces undoes kind_of keys_of names_unit is_unit_name has_unit_suffix is_reset without_suffix span_of pairs_in words_in is_number number_worth unit_named worth_of spellings_of
+default_accuracy = refl
+
+-- other accuracies are, and an invalid one keeps the one before it
+coarse_accuracy : notes ((codes "AccuracySec", codes "2min") ∷ (codes "AccuracySec", codes "-1") ∷ [])
+    ≡ codes "AccuracySec=2min" ∷ []
+unfolding notes notes_for settings noted_of kept_in is_noted is_taken starts replaces undoes kind_of keys_of names_unit is_unit_name has_unit_suffix is_reset without_suffix span_of pairs_in words_in is_number number_worth unit_named worth_of spellings_of
+coarse_accuracy = refl
+
+-- a word that isn't a boolean keeps the boolean before it, and case doesn't matter
+booleans : notes (
+    (codes "Persistent", codes "yes") ∷ (codes "Persistent", codes "maybe")
+    ∷ (codes "FixedRandomDelay", codes "TRUE") ∷ (codes "OnClockChange", codes "1") ∷ (codes "OnClockChange", [])
+    ∷ (codes "OnTimezoneChange", codes "on") ∷ [])
+    ≡ codes "Persistent=yes" ∷ codes "FixedRandomDelay=TRUE" ∷ codes "OnClockChange=1" ∷ codes "OnTimezoneChange=on"
+    ∷ []
+unfolding notes notes_for settings noted_of kept_in is_noted is_taken starts replaces undoes kind_of keys_of names_unit is_unit_name has_unit_suffix is_reset without_suffix span_of pairs_in words_in is_number number_worth unit_named worth_of spellings_of
+booleans = refl
+
+-- the last boolean counts, and false ones aren't noted
+false_booleans : notes (
+    (codes "Persistent", codes "y") ∷ (codes "Persistent", codes "No") ∷ (codes "FixedRandomDelay", codes "t")
+    ∷ (codes "FixedRandomDelay", codes "f") ∷ (codes "OnClockChange", codes "on")
+    ∷ (codes "OnClockChange", codes "off") ∷ (codes "OnTimezoneChange", codes "0")
+    ∷ (codes "OnTimezoneChange", codes "2") ∷ [])
+    ≡ []
+unfolding notes notes_for settings noted_of kept_in is_noted is_taken starts replaces undoes kind_of keys_of names_unit is_unit_name has_unit_suffix is_reset without_suffix span_of pairs_in words_in is_number number_worth unit_named worth_of spellings_of
+false_booleans = refl
+
+-- the first unit counts
+first_unit : notes (
+    (codes "Unit", codes "b.service") ∷ (codes "Unit", codes "c.service") ∷ (codes "Unit", []) ∷ [])
+    ≡ codes "Unit=b.service" ∷ []
+unfolding notes notes_for settings noted_of kept_in is_noted is_taken starts replaces undoes kind_of keys_of names_unit is_unit_name has_unit_suffix is_reset without_suffix span_of pairs_in words_in is_number number_worth unit_named worth_of spellings_of
+first_unit = refl
+
+-- neither an invalid name nor the timer itself is a unit that counts
+valid_unit : notes (
+    (codes "Unit", []) ∷ (codes "Unit", codes "b") ∷ (codes "Unit", codes "a.timer")
+    ∷ (codes "Unit", codes "/b.service") ∷ (codes "Unit", codes "b.target") ∷ (codes "Unit", codes "c.service")
+    ∷ [])
+    ≡ codes "Unit=b.target" ∷ []
+unfolding notes notes_for settings noted_of kept_in is_noted is_taken starts replaces undoes kind_of keys_of names_unit is_unit_name has_unit_suffix is_reset without_suffix span_of pairs_in words_in is_number number_worth unit_named worth_of spellings_of
+valid_unit = refl
+
+-- the service with the timer's name counts, but isn't noted
+own_service : notes ((codes "Unit", codes "a.service") ∷ (codes "Unit", codes "b.service") ∷ [])
+    ≡ []
+unfolding notes notes_for settings noted_of kept_in is_noted is_taken starts replaces undoes kind_of keys_of names_unit is_unit_name has_unit_suffix is_reset without_suffix span_of pairs_in words_in is_number number_worth unit_named worth_of spellings_of
+own_service = refl
+
+-- a template, which systemd instantiates, and a specifier, which it replaces
+template_unit : notes ((codes "Unit", codes "t@.service") ∷ (codes "Unit", codes "b.service") ∷ [])
+    ≡ codes "Unit=t@.service" ∷ []
+unfolding notes notes_for settings noted_of kept_in is_noted is_taken starts replaces undoes kind_of keys_of names_unit is_unit_name has_unit_suffix is_reset without_suffix span_of pairs_in words_in is_number number_worth unit_named worth_of spellings_of
+template_unit = refl
+
+-- settings that are never noted
+other_keys : notes (
+    (codes "WakeSystem", codes "yes") ∷ (codes "RemainAfterElapse", codes "no")
+    ∷ (codes "OnCalendar", codes "daily") ∷ (codes "X-ExceptOnCalendar", codes "Sun")
+    ∷ (codes "onbootsec", codes "5") ∷ [])
+    ≡ []
+unfolding notes notes_for settings noted_of kept_in is_noted is_taken starts replaces undoes kind_of keys_of names_unit is_unit_name has_unit_suffix is_reset without_suffix span_of pairs_in words_in is_number number_worth unit_named worth_of spellings_of
+other_keys = refl
+
+-- of a file read by itself, the end of the path is the timer's own name, with or without a suffix
+own_names : map (λ name. notes_for name ((codes "Unit", codes "b.timer") ∷ (codes "Unit", codes "a.service") ∷ []))
+    (codes "/etc/b.timer" ∷ codes "./x/a.timer" ∷ codes "./b.timer/a" ∷ codes "b.timer" ∷ [])
+    ≡ (codes "Unit=a.service" ∷ []) ∷ (codes "Unit=b.timer" ∷ []) ∷ (codes "Unit=b.timer" ∷ []) ∷ (codes "Unit=a.service" ∷ []) ∷ []
+unfolding notes notes_for settings noted_of kept_in is_noted is_taken starts replaces undoes kind_of keys_of names_unit is_unit_name has_unit_suffix is_reset without_suffix span_of pairs_in words_in is_number number_worth unit_named worth_of spellings_of
+own_names = refl
+
+unit_names : map is_unit_name
+    (codes "a.service" ∷ codes "a.b.mount" ∷ codes "..path" ∷ codes "a@b.scope" ∷ codes "a-:_\\x.slice" ∷ codes ".service" ∷ codes "@a.service" ∷ codes "a.SERVICE"
+    ∷ codes "a.conf" ∷ codes "a b.service" ∷ codes "a.service.d" ∷ [])
+    ≡ true ∷ true ∷ true ∷ true ∷ true ∷ false ∷ false ∷ false ∷ false ∷ false ∷ false ∷ []
+unfolding notes notes_for settings noted_of kept_in is_noted is_taken starts replaces undoes kind_of keys_of names_unit is_unit_name has_unit_suffix is_reset without_suffix span_of pairs_in words_in is_number number_worth unit_named worth_of spellings_of
+unit_names = refl
+
+-- only monotonic timers and clock changes start a unit by themselves
+starters : map (λ list. starts_unit (settings 1 list))
+    (((codes "OnBootSec", codes "5min") ∷ []) ∷ ((codes "OnClockChange", codes "yes") ∷ []) ∷ ((codes "OnTimezoneChange", codes "yes") ∷ []) ∷ ((codes "OnBootSec", codes "abc") ∷ [])
+    ∷ ((codes "OnClockChange", codes "no") ∷ [])
+    ∷ ((codes "Persistent", codes "yes") ∷ (codes "FixedRandomDelay", codes "yes") ∷ (codes "RandomizedDelaySec", codes "1h") ∷ (codes "AccuracySec", codes "1h") ∷ (codes "Unit", codes "b.service") ∷ []) ∷ [])
+    ≡ true ∷ true ∷ true ∷ false ∷ false ∷ false ∷ []
+unfolding notes notes_for settings noted_of kept_in is_noted is_taken starts replaces undoes kind_of keys_of names_unit is_unit_name has_unit_suffix is_reset without_suffix span_of pairs_in words_in is_number number_worth unit_named worth_of spellings_of
+starters = refl

@@ -10,6 +10,7 @@ mod loaded;
 mod names;
 mod notes;
 mod paths;
+mod setting_kind;
 mod target_fault;
 mod texts;
 mod timers;

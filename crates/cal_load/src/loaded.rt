@@ -33,7 +33,8 @@ pub struct LoadedTimer {
     pub ignored: Vec<IgnoredLine>,
     /// The zones that the expressions and exceptions name.
     pub zones: ZoneTable,
-    /// The other settings that start or delay the timer's unit, each as `KEY=VALUE`, in the order of the files.
+    /// The other settings that decide when the timer starts a unit, and which unit that is, each as `KEY=VALUE`, in the
+    /// order of the files.
     pub notes: Vec<String>,
 }
 

@@ -1,99 +1,108 @@
-//! The assignments other than `OnCalendar=` that start or delay a timer's unit (systemd.timer(5), Options).
+//! The assignments other than `OnCalendar=` that are noted for a timer: those that decide when it starts a unit, and
+//! which unit that is (systemd.timer(5), Options).
 
 ghost use Rattle.std.specs.Prelude.{◌≡◌, ◌+◌, ◌<◌, ◌^◌, All, IfOk, OnOk, filter, length, map, not, string_bytes};
-ghost use Rattle.std.specs.List.{list_any};
-ghost use Rattle.std.specs.Str.{str_eq_ignore_ascii_case};
-ghost use Rattle.cal_span.specs.computed.SpanValue.{span_of};
+ghost use Rattle.std.specs.List.{list_any, slice_split};
 ghost use Rattle.cal_timer.specs.rules.TimerText.{is_reset};
 ghost use Rattle.cal_read.specs.rules.SectionAssignments.{shown_owned_assignment};
 ghost use Rattle.cal_read.specs.rules.TimerTexts.{assignments_at, assignments_of};
-ghost use Rattle.cal_load.specs.rules.Notes.{is_clock_key, is_delay_key, is_monotonic, is_no, is_yes, is_zero, note_text, noted, noted_after, notes_in, replaces, sets, undoes};
+ghost use Rattle.cal_unit_index.specs.rules.Destinations.{last_part};
+ghost use Rattle.cal_unit_index.specs.rules.SearchPath.{is_slash};
+ghost use Rattle.cal_unit_index.specs.rules.UnitName.{without_suffix};
+ghost use Rattle.cal_load.specs.rules.Notes.{is_at, is_monotonic, is_noted, is_started, is_taken, kept_after, kept_in, kept_with, kind_of, last_counts, names_unit, note_text, noted_of, notes_in, replaces, service_of, starts, starts_unit, undoes, unit_line};
 
-use cal_bytes::is_among;
+use crate::setting_kind::{SettingKind, is_longer, is_taken_as, is_yes, kind_of};
 use cal_read::{Assignment, Assignments, NumberedText, OwnedAssignment, without_mark};
-use cal_span::read_span;
 use std::alloc::{AllocError, Global};
 
-/// The keys of the monotonic timers.
-const MONOTONIC_KEYS: [&[u8]; 5] = [
-    b"OnActiveSec",
-    b"OnBootSec",
-    b"OnStartupSec",
-    b"OnUnitActiveSec",
-    b"OnUnitInactiveSec",
-];
+/// How accurate a timer is by default, in microseconds: one minute.
+const DEFAULT_ACCURACY: u64 = 60_000_000;
 
-/// The keys that start the unit when the clock or the local zone changes, if their value is true.
-const CLOCK_KEYS: [&[u8]; 2] = [b"OnClockChange", b"OnTimezoneChange"];
+/// The suffix of a timer's name.
+const SUFFIX: &str = ".timer";
 
-const DELAY_KEY: &str = "RandomizedDelaySec";
-
-/// The words for a true boolean (systemd.syntax(7)).
-const YES: [&[u8]; 6] = [b"1", b"yes", b"y", b"true", b"t", b"on"];
-
-/// The words for a false boolean.
-const NO: [&[u8]; 6] = [b"0", b"no", b"n", b"false", b"f", b"off"];
-
-/// Returns the assignments in the sections `Timer` of these texts that start or delay the unit, except `OnCalendar=`.
+/// Returns the assignments in the sections `Timer` of these texts that are noted for the timer with this name. `name`
+/// is the name of a unit, or the path of a file that is read by itself: then the timer's own name is the end of the
+/// path.
 ///
-/// Every `OnActiveSec=`, `OnBootSec=`, `OnStartupSec=`, `OnUnitActiveSec=` and `OnUnitInactiveSec=` counts, but an
-/// empty value of one of these keys, or of `OnCalendar=`, drops all assignments with these five keys above it. If
-/// `RandomizedDelaySec=` is set several times, the last one counts, and it is returned only if there is a delay: not if
-/// its value is empty or 0. If `OnClockChange=` is set to booleans several times, the last one counts, and it is
-/// returned only if it is true. The same goes for `OnTimezoneChange=`.
+/// Assignments that systemd ignores don't count. Every `OnActiveSec=`, `OnBootSec=`, `OnStartupSec=`,
+/// `OnUnitActiveSec=` and `OnUnitInactiveSec=` is returned, but an empty value of one of these keys, or of
+/// `OnCalendar=`, drops all assignments with these five keys above it. Of each other key, at most one assignment is
+/// returned:
+///
+/// - of `OnClockChange=`, `OnTimezoneChange=`, `Persistent=` and `FixedRandomDelay=` the last one, if it is true;
+/// - of `RandomizedDelaySec=` the last one, unless it is 0;
+/// - of `AccuracySec=` the last one, if it is longer than the default of one minute;
+/// - of `Unit=` the first one that isn't the timer itself, unless it is the service with the timer's name.
+///
+/// A value with a `%` may have specifiers: it is taken as valid if systemd replaces specifiers in this setting.
 pub(crate) fn notes_of(
     alloc: Global,
+    name: &str,
     texts: &[NumberedText<'_>],
 ) -> Result<Vec<OwnedAssignment>, AllocError>
     requires { All (λ text. text.first + length text.text.now < 2 ^ 32) texts.now }
-    ensures { IfOk result (λ notes. map shown_owned_assignment notes.items ≡ notes_in (assignments_of texts.now)) }
+    ensures notes { IfOk result (λ notes. map shown_owned_assignment notes.items ≡ notes_in name.now (assignments_of texts.now)) }
+    ensures starts { IfOk result (λ notes. list_any starts (map shown_owned_assignment notes.items)
+        ≡ starts_unit (assignments_of texts.now)) }
 {
-    let mut notes = Vec::new(alloc);
-    for text in texts {
-        apply_text(alloc, &mut notes, text)?;
-    }
+    let mut notes = kept_of(alloc, texts)?;
+    let own = last_part(alloc, name)?;
+    retain_noted(alloc, own, &mut notes)?;
     Ok(notes)
 }
 
-/// Applies the assignments of a text to the notes.
+/// Returns the assignments in these texts that systemd takes and that no later assignment undoes.
+fn kept_of(alloc: Global, texts: &[NumberedText<'_>]) -> Result<Vec<OwnedAssignment>, AllocError>
+    requires { All (λ text. text.first + length text.text.now < 2 ^ 32) texts.now }
+    ensures { IfOk result (λ kept. map shown_owned_assignment kept.items ≡ kept_in (assignments_of texts.now)) }
+{
+    let mut kept = Vec::new(alloc);
+    for text in texts {
+        apply_text(alloc, &mut kept, text)?;
+    }
+    Ok(kept)
+}
+
+/// Applies the assignments of a text to those kept so far.
 fn apply_text(
     alloc: Global,
-    notes: &mut Vec<OwnedAssignment>,
+    kept: &mut Vec<OwnedAssignment>,
     text: &NumberedText<'_>,
 ) -> Result<(), AllocError>
     requires { text.now.first + length text.now.text.now < 2 ^ 32 }
-    ensures { OnOk result (map shown_owned_assignment notes.new.items
-        ≡ noted_after (map shown_owned_assignment notes.old.items) (assignments_at text.now)) }
+    ensures { OnOk result (map shown_owned_assignment kept.new.items
+        ≡ kept_after (map shown_owned_assignment kept.old.items) (assignments_at text.now)) }
 {
     let mut assignments = Assignments::new("Timer", text.first, without_mark(text.text));
     while let Some(assignment) = assignments.next(alloc)? {
-        apply_assignment(notes, assignment)?;
+        apply_assignment(kept, assignment)?;
     }
     Ok(())
 }
 
-/// Applies an assignment to the notes: removes those that it undoes, and adds it if it starts or delays the unit.
+/// Applies an assignment: removes those that it undoes, and appends it if systemd takes it.
 fn apply_assignment(
-    notes: &mut Vec<OwnedAssignment>,
+    kept: &mut Vec<OwnedAssignment>,
     assignment: OwnedAssignment,
 ) -> Result<(), AllocError>
-    ensures { OnOk result (map shown_owned_assignment notes.new.items
-        ≡ noted (map shown_owned_assignment notes.old.items) (shown_owned_assignment assignment)) }
+    ensures { OnOk result (map shown_owned_assignment kept.new.items
+        ≡ kept_with (map shown_owned_assignment kept.old.items) (shown_owned_assignment assignment)) }
 {
-    remove_undone(notes, &assignment);
-    if sets(&assignment) {
-        notes.push(assignment)?;
+    remove_undone(kept, &assignment);
+    if is_taken(&assignment) {
+        kept.push(assignment)?;
     }
     Ok(())
 }
 
-/// Removes the notes that the assignment `later` undoes.
-fn remove_undone(notes: &mut Vec<OwnedAssignment>, later: &OwnedAssignment)
-    ensures { map shown_owned_assignment notes.new.items
-        ≡ filter (λ note. not (undoes (shown_owned_assignment later.now) note)) (map shown_owned_assignment notes.old.items) }
+/// Removes the assignments that `later` undoes.
+fn remove_undone(kept: &mut Vec<OwnedAssignment>, later: &OwnedAssignment)
+    ensures { map shown_owned_assignment kept.new.items
+        ≡ filter (λ earlier. not (undoes (shown_owned_assignment later.now) earlier)) (map shown_owned_assignment kept.old.items) }
 {
     if is_reset(later) || replaces(later) {
-        notes.retain(|note| !undoes(later, note));
+        kept.retain(|earlier| !undoes(later, earlier));
     }
 }
 
@@ -104,6 +113,12 @@ fn undoes(later: &OwnedAssignment, earlier: &OwnedAssignment) -> bool
 {
     let key = earlier.key.as_str();
     (is_reset(later) && is_monotonic(key)) || (replaces(later) && key == later.key.as_str())
+}
+
+fn is_monotonic(key: &str) -> bool
+    ensures { result ≡ is_monotonic (kind_of key.now) }
+{
+    matches!(kind_of(key), Some(SettingKind::Monotonic))
 }
 
 /// Returns whether the assignment clears all timers: whether it is an `OnCalendar=` or a monotonic timer without a
@@ -125,85 +140,154 @@ fn is_reset(assignment: &OwnedAssignment) -> bool
 fn replaces(assignment: &OwnedAssignment) -> bool
     ensures { result ≡ replaces (shown_owned_assignment assignment.now) }
 {
-    let key = assignment.key.as_str();
-    let value = assignment.value.as_str();
-    is_delay_key(key) || (is_clock_key(key) && (is_yes(value) || is_no(value)))
+    last_counts(kind_of(assignment.key.as_str())) && is_taken(assignment)
 }
 
-/// Returns whether the assignment starts or delays the unit, unless a later one undoes it.
-#[tactic(auto, unfolding(crate::specs::rules::Notes::sets))]
-fn sets(assignment: &OwnedAssignment) -> bool
-    ensures { result ≡ sets (shown_owned_assignment assignment.now) }
+/// Returns whether the last setting of this kind replaces those before it.
+fn last_counts(kind: Option<SettingKind>) -> bool
+    ensures { result ≡ last_counts kind }
 {
-    let key = assignment.key.as_str();
-    let value = assignment.value.as_str();
-    (is_monotonic(key) && !value.is_empty())
-        || (is_clock_key(key) && is_yes(value))
-        || (is_delay_key(key) && !(value.is_empty() || is_zero(value)))
+    match kind {
+        Some(SettingKind::Change) => true,
+        Some(SettingKind::Switch) => true,
+        Some(SettingKind::Delay) => true,
+        Some(SettingKind::Accuracy) => true,
+        _ => false,
+    }
 }
 
-fn is_monotonic(key: &str) -> bool
-    ensures { result ≡ is_monotonic key.now }
+/// Returns whether systemd takes the assignment.
+#[tactic(auto, unfolding(crate::specs::rules::Notes::is_taken))]
+fn is_taken(assignment: &OwnedAssignment) -> bool
+    ensures { result ≡ is_taken (shown_owned_assignment assignment.now) }
 {
-    is_among(&MONOTONIC_KEYS, key.as_bytes())
+    match kind_of(assignment.key.as_str()) {
+        Some(kind) => is_taken_as(kind, assignment.value.as_str()),
+        None => false,
+    }
 }
 
-fn is_clock_key(key: &str) -> bool
-    ensures { result ≡ is_clock_key key.now }
+/// Returns the part of a path after its last slash.
+fn last_part(alloc: Global, path: &str) -> Result<&str, AllocError>
+    ensures { IfOk result (λ part. part.now ≡ last_part path.now) }
 {
-    is_among(&CLOCK_KEYS, key.as_bytes())
+    let parts = parts_of(alloc, path)?;
+    match parts.last() {
+        Some(part) => Ok(*part),
+        None => Ok(""),
+    }
 }
 
-fn is_delay_key(key: &str) -> bool
-    ensures { result ≡ is_delay_key key.now }
+fn parts_of(alloc: Global, path: &str) -> Result<Vec<&str>, AllocError>
+    ensures { IfOk result (λ parts. map (λ part. part.now) parts.items ≡ slice_split is_slash path.now) }
 {
-    key == DELAY_KEY
+    path.split('/').collect(alloc)
 }
 
-fn is_yes(value: &str) -> bool
-    ensures { result ≡ is_yes value.now }
+/// Removes the assignments that change nothing for the timer with the name `own`.
+fn retain_noted(alloc: Global, own: &str, kept: &mut Vec<OwnedAssignment>) -> Result<(), AllocError>
+    ensures { OnOk result (map shown_owned_assignment kept.new.items
+        ≡ noted_of own.now (map shown_owned_assignment kept.old.items)) }
 {
-    is_any(&YES, value.as_bytes())
+    let service = service_of(alloc, own)?;
+    let unit = unit_line(own, kept.as_slice());
+    kept.retain(|note| is_noted(service.as_str(), unit, note));
+    Ok(())
 }
 
-fn is_no(value: &str) -> bool
-    ensures { result ≡ is_no value.now }
+/// Returns the name of the unit that the timer `own` starts without `Unit=`.
+fn service_of(alloc: Global, own: &str) -> Result<String, AllocError>
+    ensures { IfOk result (λ service. string_bytes service ≡ service_of own.now) }
 {
-    is_any(&NO, value.as_bytes())
+    let stem = without_suffix(own);
+    Ok(format!(in alloc; "{stem}.service")?)
 }
 
-/// Returns whether `value` equals one of the words, ignoring case.
-fn is_any(words: &[&[u8]], value: &[u8]) -> bool
-    ensures { result ≡ list_any (str_eq_ignore_ascii_case value.now) (map (λ word. word.now) words.now) }
+#[tactic(auto, unfolding(cal_unit_index::specs::rules::UnitName::without_suffix))]
+fn without_suffix(name: &str) -> &str
+    ensures { result.now ≡ without_suffix name.now }
 {
-    for word in words {
-        if value.eq_ignore_ascii_case(word) {
-            return true;
+    match name.strip_suffix(SUFFIX) {
+        Some(stem) => stem,
+        None => name,
+    }
+}
+
+/// Returns the number of the line whose `Unit=` counts: the first that doesn't name the timer `own` itself.
+fn unit_line(own: &str, kept: &[OwnedAssignment]) -> Option<u32>
+    ensures { result ≡ unit_line own.now (map shown_owned_assignment kept.now) }
+{
+    for assignment in kept {
+        if names_unit(own, assignment) {
+            return Some(assignment.number);
         }
     }
-    false
+    None
 }
 
-/// Returns whether `value` is a time span of 0.
-fn is_zero(value: &str) -> bool
-    ensures { result ≡ is_zero (span_of value.now) }
+/// Returns whether the assignment is one of `Unit=` that doesn't name the timer `own` itself.
+#[tactic(auto, unfolding(crate::specs::rules::Notes::names_unit))]
+fn names_unit(own: &str, assignment: &OwnedAssignment) -> bool
+    ensures { result ≡ names_unit own.now (shown_owned_assignment assignment.now) }
 {
-    match read_span(value) {
-        Ok(span) => span.micros() == 0,
-        Err(_) => false,
+    is_started(assignment.key.as_str()) && assignment.value.as_str() != own
+}
+
+fn is_started(key: &str) -> bool
+    ensures { result ≡ is_started (kind_of key.now) }
+{
+    matches!(kind_of(key), Some(SettingKind::Started))
+}
+
+/// Returns whether a kept assignment changes anything, if the timer starts the unit `service` by default, and `unit` is
+/// the line whose `Unit=` counts.
+#[tactic(auto, unfolding(crate::specs::rules::Notes::is_noted))]
+fn is_noted(service: &str, unit: Option<u32>, assignment: &OwnedAssignment) -> bool
+    ensures { result ≡ is_noted service.now unit (shown_owned_assignment assignment.now) }
+{
+    let value = assignment.value.as_str();
+    match kind_of(assignment.key.as_str()) {
+        None => false,
+        Some(SettingKind::Monotonic) => true,
+        Some(SettingKind::Change) => is_yes(value),
+        Some(SettingKind::Switch) => is_yes(value),
+        Some(SettingKind::Delay) => is_longer(0, value),
+        Some(SettingKind::Accuracy) => is_longer(DEFAULT_ACCURACY, value),
+        Some(SettingKind::Started) => is_at(unit, assignment.number) && value != service,
     }
 }
 
-/// Returns whether one of these assignments can start the unit by itself. `RandomizedDelaySec=` only delays a start.
+fn is_at(line: Option<u32>, number: u32) -> bool
+    ensures { result ≡ is_at line number }
+{
+    match line {
+        Some(line) => line == number,
+        None => false,
+    }
+}
+
+/// Returns whether one of these assignments starts the unit by itself.
 pub(crate) fn can_start(notes: &[OwnedAssignment]) -> bool
-    ensures { result ≡ list_any (λ note. not (is_delay_key note.key)) (map shown_owned_assignment notes.now) }
+    ensures { result ≡ list_any starts (map shown_owned_assignment notes.now) }
 {
     for note in notes {
-        if !is_delay_key(note.key.as_str()) {
+        if starts(note) {
             return true;
         }
     }
     false
+}
+
+/// Returns whether the assignment starts the unit by itself.
+#[tactic(auto, unfolding(crate::specs::rules::Notes::starts))]
+fn starts(note: &OwnedAssignment) -> bool
+    ensures { result ≡ starts (shown_owned_assignment note.now) }
+{
+    match kind_of(note.key.as_str()) {
+        Some(SettingKind::Monotonic) => true,
+        Some(SettingKind::Change) => is_yes(note.value.as_str()),
+        _ => false,
+    }
 }
 
 /// Returns the notes as they are shown to users, each as `KEY=VALUE`.

@@ -207,7 +207,7 @@ fn timer_from_files<T: Tree>(
         → IsTextFault machine (map shown_unit_text files.items) fault) }
     ensures grows { (machine : Machine) → T.shows tree.new machine → T.shows tree.old machine }
 {
-    let parsed = parse_files(alloc, files.as_slice())?;
+    let parsed = parse_files(alloc, name.as_str(), files.as_slice())?;
     let calendar = &parsed.calendar;
     let zones = match load_named_zones(alloc, tree, calendar.lines(), calendar.exceptions()) {
         Ok(zones) => zones,
@@ -230,19 +230,23 @@ fn timer_from_files<T: Tree>(
     })
 }
 
-/// Parses the files of a timer. Fails if nothing starts its unit.
-fn parse_files(alloc: Global, files: &[UnitText]) -> Result<ParsedFiles, TargetLoadFault>
+/// Parses the files of the timer with this name. Fails if nothing starts its unit.
+fn parse_files(
+    alloc: Global,
+    name: &str,
+    files: &[UnitText],
+) -> Result<ParsedFiles, TargetLoadFault>
     ensures calendar { IfOk result (λ parsed. IsCalendarOf (map shown_unit_text files.now) parsed.calendar) }
     ensures starts { OnOk result (IsStarted (assignments_of_files (map shown_unit_text files.now))) }
     ensures ignored { IfOk result (λ parsed. parsed.ignored.items ≡ ignored_of_files (map shown_unit_text files.now)) }
     ensures numbered { IfOk result (λ parsed. AreFirstLines (map shown_unit_text files.now) parsed.first_lines.items) }
     ensures notes { IfOk result (λ parsed. map string_bytes parsed.notes.items
-        ≡ map note_text (notes_in (assignments_of_files (map shown_unit_text files.now)))) }
+        ≡ map note_text (notes_in name.now (assignments_of_files (map shown_unit_text files.now)))) }
     ensures fault { IfErr result (λ fault. (machine : Machine) → IsTextFault machine (map shown_unit_text files.now) fault) }
 {
     let texts = numbered_texts(alloc, files)?;
     let first_lines = first_lines(alloc, texts.as_slice())?;
-    let notes = notes_of(alloc, texts.as_slice())?;
+    let notes = notes_of(alloc, name, texts.as_slice())?;
     let CalendarLines { calendar, ignored } = read_calendar(alloc, texts.as_slice())?;
     if calendar.lines().is_empty() && !can_start(notes.as_slice()) {
         return Err(start_fault(alloc, files, first_lines.as_slice(), ignored.as_slice()));

@@ -15,9 +15,9 @@ pub struct Side<'t> {
     pub settings: &'t [&'t str],
 }
 
-/// Returns the settings of `one` that start or delay its unit and that `other` doesn't have, each as `KEY=VALUE`, in the
-/// order of the files. Calendar expressions and exceptions aren't settings of this kind. Settings are compared as texts,
-/// so `OnBootSec=60` and `OnBootSec=1min` differ.
+/// Returns the notes of `one` that `other` doesn't have: settings that decide when it starts a unit, and which unit
+/// that is, each as `KEY=VALUE`, in the order of the files. Calendar expressions and exceptions aren't settings of this
+/// kind. Settings are compared as texts, so `OnBootSec=60` and `OnBootSec=1min` differ.
 ///
 /// Fails only if allocation fails.
 pub fn settings_only<'t>(

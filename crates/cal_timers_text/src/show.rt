@@ -13,9 +13,10 @@ use std::alloc::{AllocError, Global};
 /// The width of a label, including the blanks before and after it.
 const LABEL_WIDTH: usize = 13;
 
-/// Returns the name of a timer, its files, its expressions and exceptions in normal form, the other settings that start
-/// or delay its unit, its next elapses, and the local times that clock changes skip or repeat. Each of these has lines
-/// of its own. If the timer has no calendar expressions, its next elapses are left out.
+/// Returns the name of a timer, its files, its expressions and exceptions in normal form, its notes (the other settings
+/// that decide when it starts a unit, and which unit that is), its next elapses, and the local times that clock changes
+/// skip or repeat. Each of these has lines of its own. If the timer has no calendar expressions, its next elapses are
+/// left out.
 pub fn show_text(
     alloc: Global,
     at: Clocked<'_>,

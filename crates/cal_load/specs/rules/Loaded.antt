@@ -119,7 +119,7 @@ pub record IsTimerReadFrom (machine : Machine) (files : List UnitText) (timer : 
   pub is_started : IsStarted (assignments_of_files files)
   pub has_ignored : timer.ignored.items ≡ ignored_in expr_in (assignments_of_files files)
   pub has_zones : HasZones machine timer.calendar timer.zones
-  pub has_notes : map string_bytes timer.notes.items ≡ map note_text (notes_in (assignments_of_files files))
+  pub has_notes : map string_bytes timer.notes.items ≡ map note_text (notes_in (string_bytes timer.name) (assignments_of_files files))
 
 -- the timer is the unit that is found for this stem: it has the unit's name, and was read from its file and its drop-ins
 abbrev pub IsUnitOn : Machine → List (List ℕ) → List ℕ → LoadedTimer → Type 0

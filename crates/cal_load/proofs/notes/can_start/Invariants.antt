@@ -1,11 +1,11 @@
 -- One of the remaining notes starts the unit if and only if one of all notes does, because none of those so far does.
-use Rattle.std.proofs.Common.{◌≡◌, drop, map, not}
+use Rattle.std.proofs.Common.{◌≡◌, drop, map}
 use Rattle.std.specs.List.{list_any}
 use Rattle.cal_read.specs.rules.SectionAssignments.{shown_owned_assignment}
-use Rattle.cal_load.specs.rules.Notes.{is_delay_key}
+use Rattle.cal_load.specs.rules.Notes.{starts}
 use Rattle.cal_load.proofs.notes.can_start.Given as goal
 
 abbrev pub invariant-loop-note : goal.invariant-loop-note
 invariant-loop-note l =
-    list_any (λ note. not (is_delay_key note.key)) (map shown_owned_assignment (drop l.note-index l.notes))
-    ≡ list_any (λ note. not (is_delay_key note.key)) (map shown_owned_assignment l.notes)
+    list_any starts (map shown_owned_assignment (drop l.note-index l.notes))
+    ≡ list_any starts (map shown_owned_assignment l.notes)

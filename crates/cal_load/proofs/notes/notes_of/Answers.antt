@@ -1,21 +1,9 @@
-use Rattle.std.proofs.Common.{◌∙◌, ◌<◌, ◌≤◌, ap, arith, length, map, sym}
-use Rattle.std.proofs.lemmas.List.{take_all}
-use Rattle.cal_read.specs.rules.SectionAssignments.{shown_owned_assignment}
-use Rattle.cal_read.specs.rules.TimerTexts.{assignments_of}
-use Rattle.cal_load.specs.rules.Notes.{notes_in}
-use Rattle.cal_load.proofs.NoteLemmas.{no_notes, text_noted}
+use Rattle.std.proofs.Common.{◌∙◌, ap}
+use Rattle.std.specs.List.{list_any}
+use Rattle.cal_load.specs.rules.Notes.{starts}
+use Rattle.cal_load.proofs.NoteLemmas.{noted_start}
 use Rattle.cal_load.proofs.notes.notes_of.Goals as goal
 
-pub loop-text-init : goal.loop-text-init
-loop-text-init c = ap (map shown_owned_assignment) c.new-notes.ensures.items ∙ sym no_notes
-
-pub loop-text-preserved : goal.loop-text-preserved
-loop-text-preserved c =
-    let here : c.loop-text.text-index < length c.args.texts.now = omega arith in
-    text_noted c.args.texts.now c.loop-text.text-index _ (map shown_owned_assignment c.loop-text.notes.items) _ here
-    c.loop-text.invariant c.in_ok-apply_text.ensures
-
-pub returns : goal.returns
-returns c =
-    let all : length c.args.texts.now ≤ c.loop-text.text-index = omega arith in
-    c.loop-text.invariant ∙ ap (λ texts. notes_in (assignments_of texts)) (take_all c.loop-text.text-index c.args.texts.now all)
+pub returns-clause-starts : goal.returns-clause-starts
+returns-clause-starts c =
+    ap (list_any starts) c.in_ok-retain_noted.ensures ∙ noted_start _ _ ∙ ap (list_any starts) c.in_ok-notes.ensures

@@ -7,8 +7,8 @@ use Rattle.cal_load.proofs.notes.remove_undone.Goals as goal
 
 pub returns-then-is_reset : goal.returns-then-is_reset
 returns-then-is_reset c =
-    undone (shown_owned_assignment c.args.later.now) c.args.notes.now.items c.retain.new.self.items
-    (filter_same _ (λ note. not (undoes (shown_owned_assignment c.args.later.now) (shown_owned_assignment note))) _ (λ x b f' k. search rules) _ _ c.retain.ensures.filtered)
+    undone (shown_owned_assignment c.args.later.now) c.args.kept.now.items c.retain.new.self.items
+    (filter_same _ (λ earlier. not (undoes (shown_owned_assignment c.args.later.now) (shown_owned_assignment earlier))) _ (λ x b f' k. search rules) _ _ c.retain.ensures.filtered)
 
 pub returns-else-replaces : goal.returns-else-replaces
 returns-else-replaces c =

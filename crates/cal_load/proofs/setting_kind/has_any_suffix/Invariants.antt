@@ -1,0 +1,10 @@
+-- One of the remaining suffixes fits if and only if one of all suffixes does, because none of those so far does.
+use Rattle.std.proofs.Common.{◌≡◌, drop, map}
+use Rattle.std.specs.List.{list_any}
+use Rattle.cal_load.specs.rules.Notes.{is_before_suffix}
+use Rattle.cal_load.proofs.setting_kind.has_any_suffix.Given as goal
+
+abbrev pub invariant-loop-suffix : goal.invariant-loop-suffix
+invariant-loop-suffix l =
+    list_any (is_before_suffix l.name) (map (λ suffix. suffix.now) (drop l.suffix-index l.suffixes))
+    ≡ list_any (is_before_suffix l.name) (map (λ suffix. suffix.now) l.suffixes)
