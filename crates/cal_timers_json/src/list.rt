@@ -28,8 +28,9 @@ pub(crate) struct ListRow<'a> {
 /// that elapse again, soonest first, then the other timers, and then the units with the names `masked`.
 ///
 /// The notes of a timer are those in `loaded`. If the timer is disabled, the note `disabled` comes first. If it has
-/// calendar expressions, but no next elapse, the note `never` comes before those in `loaded`. A masked unit has only the
-/// note `masked`. The indices in `next` are those of the timers in `loaded`.
+/// calendar expressions, but no next elapse, the note `never` comes before those in `loaded`. If it has exceptions, the
+/// note `exceptions` comes last. A masked unit has only the note `masked`. The indices in `next` are those of the
+/// timers in `loaded`.
 ///
 /// Fails only if allocation fails.
 pub fn list_json(
@@ -177,7 +178,7 @@ fn name_of(timers: &[LoadedTimer], index: usize) -> &str {
 }
 
 /// Returns the notes of the timer with this index: `disabled` if the timer is disabled, then `ended` if there is such a
-/// note, and then those in `loaded`.
+/// note, then those in `loaded`, and `exceptions` if the timer has exceptions.
 fn notes_of<'a>(
     alloc: Global,
     loaded: &'a Loaded,
@@ -196,6 +197,9 @@ fn notes_of<'a>(
     }
     for note in &timer.notes {
         notes.push(note.as_str())?;
+    }
+    if !timer.exceptions().is_empty() {
+        notes.push("exceptions")?;
     }
     Ok(notes)
 }

@@ -48,7 +48,7 @@ static ANSWERS: [(&str, &str); 13] = [
     (
         "list",
         "\x1b[1mNEXT                            LEFT  UNIT     NOTES\x1b[0m
-Mon 2024-01-01 12:00:00 +01:00  11h   a.timer  RandomizedDelaySec=1h
+Mon 2024-01-01 12:00:00 +01:00  11h   a.timer  RandomizedDelaySec=1h  exceptions
 ",
     ),
     (
@@ -60,7 +60,8 @@ Mon 2024-01-01 12:00:00 +01:00  11h   a.timer  RandomizedDelaySec=1h
     "unix": 1704106800,
     "left": "11h",
     "notes": [
-      "RandomizedDelaySec=1h"
+      "RandomizedDelaySec=1h",
+      "exceptions"
     ]
   }
 ]

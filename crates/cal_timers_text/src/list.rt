@@ -11,8 +11,8 @@ use std::alloc::{AllocError, Global};
 /// The number of blanks between columns.
 const GAP: usize = 2;
 
-/// The minimum width of the notes: the width of `disabled`, the longest note that isn't a setting.
-const NOTES_WIDTH: usize = 8;
+/// The minimum width of the notes: the width of `exceptions`, the longest note that isn't a setting.
+const NOTES_WIDTH: usize = 10;
 
 /// What is printed in place of a next elapse that is missing, and in place of the time until then.
 const NO_ELAPSE: &str = "-";
@@ -39,9 +39,10 @@ struct Widths {
 }
 
 /// Returns a table: first the timers with a next elapse, soonest first, then the timers without one, and last the units
-/// with the names `masked`. Each row has the next elapse, how long it is until then, the name of the unit and its notes,
-/// the first of which is `disabled` if the timer is. Notes that don't fit into the width of the terminal are cut. If
-/// there are neither timers nor masked units, returns the line `no timers`.
+/// with the names `masked`. Each row has the next elapse, how long it is until then, the name of the unit and its
+/// notes. The first note is `disabled` if the timer is, and the last one is `exceptions` if it has exceptions. Notes
+/// that don't fit into the width of the terminal are cut. If there are neither timers nor masked units, returns the
+/// line `no timers`.
 pub fn list_text(
     alloc: Global,
     at: Clocked<'_>,
@@ -111,7 +112,7 @@ fn elapse_row(
     row.left = String::new(alloc);
     push_instant(&mut row.next, formatter, instant)?;
     push_left(&mut row.left, at.now, instant)?;
-    push_notes(&mut row.notes, &timer.notes)?;
+    push_notes(&mut row.notes, timer)?;
     Ok(row)
 }
 
@@ -122,7 +123,7 @@ fn never_row(alloc: Global, loaded: &Loaded, timer: &LoadedTimer) -> Result<Row,
     if !timer.lines().is_empty() {
         push_note(&mut row.notes, "never")?;
     }
-    push_notes(&mut row.notes, &timer.notes)?;
+    push_notes(&mut row.notes, timer)?;
     Ok(row)
 }
 
@@ -145,10 +146,13 @@ fn plain_row(alloc: Global, unit: &str, note: &str) -> Result<Row, AllocError> {
     })
 }
 
-/// Appends notes, with two blanks between them.
-fn push_notes(out: &mut String, notes: &[String]) -> Result<(), AllocError> {
-    for note in notes {
+/// Appends the settings of a timer that are noted, and the note `exceptions` if it has exceptions.
+fn push_notes(out: &mut String, timer: &LoadedTimer) -> Result<(), AllocError> {
+    for note in &timer.notes {
         push_note(out, note.as_str())?;
+    }
+    if !timer.exceptions().is_empty() {
+        push_note(out, "exceptions")?;
     }
     Ok(())
 }
