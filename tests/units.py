@@ -22,33 +22,28 @@ import subprocess
 import sys
 import tempfile
 
+sys.dont_write_bytecode = True
+sys.path.insert(0, f"{os.path.dirname(os.path.realpath(__file__))}/lib")
+import unit_trees
+from unit_trees import destination, following, in_real_folder, instance, is_followed, kind, template, unit_of
+
 TREES = 400
-# The folders of units below a tree, the most important first.
-FOLDERS = ["etc", "run", "usr/local/lib", "usr/lib"]
+SEARCH_PATH = [f"{folder}/systemd/system" for folder in ["etc", "run", "usr/local/lib", "usr/lib"]]
 UNITS = ["foo", "foo-bar", "foo--bar", "foo-bar-baz", "-x", "--x", "-a-b", "foo-", "foo@i", "foo-bar@x-y", "foo-bar@x@y", "a-b-@i"]
 OTHERS = ["foo-bar@x-", "foo-bar@x", "bar", "foo-b", "-", "@i", "foo@j"]
 ALIAS = "also-known"
 NAMES = ["10.conf", "9.conf", "B.conf", "a.conf", "a-b.conf", "a_b.conf", "é.conf", ".hidden.conf", "README", "x.conf~", ".conf"]
-# Masks: targets of links, or None for an empty file. The tree has empty files at the places of the devices.
-MASKS = ["/dev/null", "{up}/dev/null", "/dev/./null", "/dev/../dev//null", "/dev/zero", "{root}/opt/link", "{root}/opt/empty", "empty.timer", None]
 KINDS = ["file"] * 6 + ["empty", "null", "dangling", "folder", "link"]
 REFUSED = "[Timer]\nNoSuchKey=1\n"
 READ = re.compile(r"^(/.*):2: Unknown key 'NoSuchKey'", re.M)
 
 
-class Tree:
+class Tree(unit_trees.Tree):
     """Units and drop-ins in a folder. `named` are the paths of the files that systemd can name as read."""
 
     def __init__(self, root):
-        self.root = os.path.realpath(root)
-        self.folders = [f"{self.root}/{folder}/systemd/system" for folder in FOLDERS]
+        super().__init__(root, SEARCH_PATH)
         self.named = set()
-        for folder in self.folders:
-            os.makedirs(folder)
-        os.symlink("usr/lib", f"{self.root}/lib")
-        for path in ["dev/null", "dev/zero", "opt/empty", f"{FOLDERS[-1]}/systemd/system/empty.timer"]:
-            self.add(f"{self.root}/{path}", "empty")
-        os.symlink("/dev/null", f"{self.root}/opt/link")
 
     def add(self, path, kind):
         os.makedirs(os.path.dirname(path), exist_ok=True)
@@ -66,20 +61,11 @@ class Tree:
         if kind in ("file", "link"):
             self.named.add(path)
 
-    def write(self, path, text):
-        with open(path, "w") as file:
-            file.write(text)
-
 
 def prefixes(stem):
     """Returns the prefixes of a stem that end at a dash, the longest first."""
     base = stem.partition("@")[0]
     return [base[: end + 1] for end in range(len(base) - 2, 0, -1) if base[end] == "-"]
-
-
-def template(stem):
-    base, at, instance = stem.partition("@")
-    return f"{base}@" if instance else None
 
 
 def stems_with_folders(stem):
@@ -88,67 +74,6 @@ def stems_with_folders(stem):
         return [stem, *prefixes(stem)]
     of_instance = [f"{prefix}@{end}" for prefix in prefixes(stem) for end in [instance(stem), ""]]
     return [stem, template(stem), *prefixes(stem), *of_instance]
-
-
-def instance(stem):
-    return stem.partition("@")[2]
-
-
-def kind(stem):
-    """Returns whether a stem is that of a plain unit, a template or an instance."""
-    return "plain" if "@" not in stem else "instance" if instance(stem) else "template"
-
-
-def may_lead(stem, name):
-    """Returns whether a link with this stem can be an alias of the name in the search path to which it leads."""
-    other = name.removesuffix(".timer")
-    if other in (name, "", stem):
-        return False
-    if kind(stem) == "instance" and kind(other) == "template":
-        return True
-    return kind(stem) == kind(other) and instance(stem) == instance(other)
-
-
-def destination(tree, stem):
-    """Returns the first path of a file with this stem, or the stem of which it is an alias. What can be neither is
-    skipped."""
-    for folder in tree.folders:
-        path = f"{folder}/{stem}.timer"
-        if os.path.islink(path):
-            place = in_real_folder(os.path.join(folder, os.readlink(path)))
-            if not any(place.startswith(f"{searched}/") for searched in tree.folders):
-                return path, None
-            name = os.path.basename(place)
-            if may_lead(stem, name):
-                return None, name.removesuffix(".timer")
-        elif os.path.isfile(path):
-            return path, None
-    return None, None
-
-
-def in_real_folder(path):
-    return os.path.join(os.path.realpath(os.path.dirname(path)), os.path.basename(path))
-
-
-def following(tree, stem):
-    """Follows aliases from a stem. Returns the path of a file and the stem under which it was found."""
-    for step in range(8):
-        path, other = destination(tree, stem)
-        if not path and not other and step and template(stem):
-            stem = template(stem)
-            path, other = destination(tree, stem)
-        if path or not other:
-            return path, stem
-        stem = other
-    return None, stem
-
-
-def unit_of(tree, stem):
-    """Returns the path of a unit's own file, the stem under which it was found, and the stem of the unit."""
-    path, file = following(tree, stem)
-    if not path and template(stem):
-        path, file = following(tree, template(stem))
-    return path, file, file + instance(stem) if kind(file) == "template" else file
 
 
 def names_of(tree, file, own, asked):
@@ -176,12 +101,6 @@ def folders_of_drop_ins(tree, stems):
         yield f"{folder}/timer.d"
 
 
-def is_followed(tree, folder):
-    """Returns whether a folder of drop-ins is read. The target of a relative link has to be right from the folder in which
-    systemd-analyze runs, too."""
-    return os.path.isdir(folder) and (not os.path.islink(folder) or os.path.isdir(os.path.join(tree.root, os.readlink(folder))))
-
-
 def files_by_the_rules(tree, stem):
     """Returns the files of a unit in the order in which they are read."""
     path, file, own = unit_of(tree, stem)
@@ -206,7 +125,7 @@ def files_by_systemd(tree, stem):
 
 
 def files_by_command(command, tree, stem):
-    environment = {**os.environ, "SYSTEMD_UNIT_PATH": ":".join(f"/{folder}/systemd/system" for folder in FOLDERS)}
+    environment = {**os.environ, "SYSTEMD_UNIT_PATH": ":".join(f"/{folder}" for folder in SEARCH_PATH)}
     run = subprocess.run([*command, tree.root, f"{stem}.timer"], env=environment, capture_output=True, text=True)
     return run.stdout.splitlines()
 
@@ -228,7 +147,7 @@ def plant(tree, chance):
         names.append(f"{ALIAS}@{instance(stem)}" if has_instance else ALIAS)
         stems += stems_with_folders(names[1])
     asked = chance.choice(names)
-    for add in [mask, add_skipped]:
+    for add in [tree.mask, tree.add_skipped]:
         if chance.random() < 0.3:
             add_in_front(tree, chance, chance.choice([target, *names[1:]]), add)
     # Few folders and few names, so that many drop-ins hide each other.
@@ -268,26 +187,7 @@ def add_in_front(tree, chance, stem, add):
     """Adds something under a unit's name in a folder that doesn't have the name yet."""
     free = [folder for folder in tree.folders if not os.path.lexists(f"{folder}/{stem}.timer")]
     if free:
-        add(tree, chance, chance.choice(free), stem)
-
-
-def mask(tree, chance, folder, stem):
-    target = chance.choice(MASKS)
-    if target is None or (target == "empty.timer" and "@" in stem):
-        tree.add(f"{folder}/{stem}.timer", "empty")
-    else:
-        os.symlink(target.format(up=os.path.relpath("/", folder), root=os.path.relpath(tree.root, folder)), f"{folder}/{stem}.timer")
-
-
-def add_skipped(tree, chance, folder, stem):
-    """Adds what can't be a unit: a folder, or a link that can't be an alias."""
-    targets = [None, f"{stem}.timer", "foo.service", "foo", ".timer"]
-    targets += [f"{name}.timer" for name in ["foo", "foo@", "foo@other"] if not may_lead(stem, f"{name}.timer")]
-    target = chance.choice(targets)
-    if target is None:
-        os.mkdir(f"{folder}/{stem}.timer")
-    else:
-        os.symlink(target, f"{folder}/{stem}.timer")
+        add(chance, chance.choice(free), stem)
 
 
 def link_folder(tree, chance, folder):
