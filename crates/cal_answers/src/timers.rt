@@ -5,7 +5,7 @@ ghost use Rattle.std.specs.Prelude.{◌≤◌, IfOk};
 use crate::answer::{Answer, Asked, push_masked, with_error_lines};
 use cal_load::{Loaded, LoadedTimer};
 use cal_plan::PlanFault;
-use cal_tasks::{ClockNote, clock_notes, first_elapses, next_of_timers};
+use cal_tasks::{ClockNotes, clock_notes, first_elapses, next_of_timers};
 use cal_timers_json::{ShownTimer, list_json, show_json};
 use cal_timers_text::{list_text, show_text};
 use cal_zone::Instant;
@@ -15,7 +15,7 @@ use std::alloc::{AllocError, Global};
 #[derive(Debug, Drop)]
 struct Elapsing {
     elapses: Vec<Instant>,
-    clock: Vec<ClockNote>,
+    clock: ClockNotes,
 }
 
 /// Lists the next elapse of each timer, soonest first. Masked units are left out if the question is only about units that
@@ -55,7 +55,7 @@ pub(crate) fn show(alloc: Global, asked: Asked<'_>, loaded: &Loaded) -> Result<A
     with_error_lines(alloc, loaded, out)
 }
 
-/// Returns for each timer its next elapses, and the notes that [`clock_notes`] returns for these elapses.
+/// Returns for each timer its next elapses, and the notes that [`clock_notes`] returns.
 fn elapsing_of(
     alloc: Global,
     asked: Asked<'_>,
@@ -64,7 +64,7 @@ fn elapsing_of(
     let mut all = Vec::new(alloc);
     for timer in timers {
         let elapses = first_elapses(alloc, asked.at, timer, asked.count)?;
-        let clock = clock_notes(alloc, asked.at, timer, elapses.as_slice())?;
+        let clock = clock_notes(alloc, asked.at, timer)?;
         all.push(Elapsing { elapses, clock })?;
     }
     Ok(all)
@@ -81,7 +81,7 @@ fn show_loaded_as_json(
         shown.push(ShownTimer {
             timer,
             elapses: found.elapses.as_slice(),
-            clock: found.clock.as_slice(),
+            clock: found.clock.first.as_slice(),
         })?;
     }
     show_json(alloc, asked.shown, shown.as_slice())
@@ -99,8 +99,15 @@ fn show_loaded_as_text(
         if !text.is_empty() {
             text.push('\n')?;
         }
-        let (elapses, clock) = (found.elapses.as_slice(), found.clock.as_slice());
-        let shown = show_text(alloc, asked.shown, timer, elapses, clock, asked.style)?;
+        let elapses = found.elapses.as_slice();
+        let shown = show_text(
+            alloc,
+            asked.shown,
+            timer,
+            elapses,
+            &found.clock,
+            asked.style,
+        )?;
         text.push_str(shown.as_str())?;
     }
     push_masked(&mut text, loaded.masked.as_slice())?;

@@ -1,6 +1,9 @@
 pub mod DifferenceLemmas
 pub mod IdleLemmas
+pub mod KeptLemmas
+pub mod LineLemmas
 pub mod NoteLemmas
 pub mod OrderLemmas
 pub mod RangeLemmas
 pub mod TakeLemmas
+pub mod ZoneChangeLemmas

@@ -5,3 +5,4 @@ pub mod IdleLines
 pub mod LoadedElapses
 pub mod SeveralTimers
 pub mod When
+pub mod ZoneChange

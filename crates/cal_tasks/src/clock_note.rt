@@ -1,5 +1,7 @@
 //! Local times that a clock change skips or repeats.
 
+use cal_load::LoadedTimer;
+
 /// What a clock change does to a local time.
 #[derive(Clone, Copy, PartialEq, Eq, PartialOrd, Ord, Debug)]
 pub enum ClockChange {
@@ -15,4 +17,37 @@ pub struct ClockNote {
     /// The local time, in seconds since 1970-01-01 00:00:00 on the same clock.
     pub local: i64,
     pub change: ClockChange,
+    /// The index, among the timer's expressions, of the first expression that names the same zone as the expression
+    /// that matches. The local time is on the clock of this zone.
+    pub zone: usize,
+}
+
+impl ClockNote {
+    ghost use Rattle.std.specs.Prelude.{◌≡◌, Some, option_copied, slice_get};
+    ghost use Rattle.cal_spec.specs.rules.Fields.{Fields};
+    ghost use Rattle.cal_spec.specs.rules.ZoneSuffix.{name_in};
+    ghost use Rattle.cal_timer.specs.rules.TimerEntries.{TimerLine};
+    ghost use Rattle.cal_tasks.specs.rules.LoadedElapses.{lists_of_loaded};
+
+    /// Returns the name of the zone on whose clock the local time is, as an expression of `timer` names it. Returns
+    /// `None` if this is the local zone.
+    pub fn zone_name<'t>(&self, timer: &'t LoadedTimer) -> Option<&'t str>
+        ensures { (line : TimerLine Fields)
+            → slice_get (lists_of_loaded timer.now.calendar).expressions self.now.zone ≡ Some line
+            → option_copied result ≡ name_in line.expr.zone }
+    {
+        match timer.lines().get(self.zone) {
+            Some(line) => line.expr.zone_name(),
+            None => None,
+        }
+    }
+}
+
+/// The local times of a timer that the next clock changes skip or repeat.
+#[derive(Debug, Drop)]
+pub struct ClockNotes {
+    /// The earliest of these local times, at most 16.
+    pub first: Vec<ClockNote>,
+    /// Whether there are more than these.
+    pub has_more: bool,
 }

@@ -4,10 +4,12 @@
 #![tactic(auto)]
 
 mod clock_note;
+mod clock_shift;
 mod clocked;
 mod difference;
 mod elapses;
 mod idle;
+mod kept_notes;
 mod next;
 mod order;
 mod range;
@@ -17,8 +19,9 @@ mod shown;
 mod skipped;
 mod timer_elapse;
 mod when;
+mod zone_change;
 
-pub use clock_note::{ClockChange, ClockNote};
+pub use clock_note::{ClockChange, ClockNote, ClockNotes};
 pub use clocked::Clocked;
 pub use difference::Difference;
 pub use elapses::first_elapses;

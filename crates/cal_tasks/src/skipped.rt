@@ -1,42 +1,39 @@
 //! The search for local times that a clock change skips or repeats (systemd.time(7), Calendar Events).
 
-ghost use Rattle.std.specs.Prelude.{◌≡◌, ◌≤◌, ◌≤ℤ◌, pos, IfOk, IfSome, OnOk, Some, length, map, true};
+ghost use Rattle.std.specs.Prelude.{◌≡◌, ◌≤◌, ◌<ℤ◌, ◌≤ℤ◌, ◌<◌, ◌⊎◌, pos, IfOk, IfSome, OnOk, IsSorted, IsPermutation, Some, length, map, true};
 ghost use Rattle.cal_civil.specs.rules.LocalSecond.{seconds_in_all, IsLocalSecond};
 ghost use Rattle.std.specs.List.{All};
 ghost use Rattle.cal_elapse.specs.computed.Masks.{sets_in};
+ghost use Rattle.cal_elapse.specs.rules.Search.{IsFirstLocal};
+ghost use Rattle.cal_spec.specs.rules.Match.{matches};
+ghost use Rattle.cal_spec.specs.rules.ZoneSuffix.{name_in};
 ghost use Rattle.cal_timer.specs.rules.TimerView.{shown};
 ghost use Rattle.cal_zone.specs.rules.Setting.{setting_seen};
-ghost use Rattle.cal_zone.specs.rules.Place.{place_of};
 ghost use Rattle.cal_zone.specs.rules.Zone.{zone_of};
-ghost use Rattle.cal_tasks.specs.rules.ClockNotes.{AddsNotesOf, IsChange, IsMatch, IsNoteAmong, IsRepeated, max_notes};
+ghost use Rattle.cal_tasks.specs.rules.ClockNotes.{AreNotesOf, IsNoteAmong, by_local, limit_if, max_notes};
 ghost use Rattle.cal_tasks.specs.rules.LoadedElapses.{lists_of_loaded, setting_for};
+ghost use Rattle.cal_tasks.specs.computed.KeptNotes.{AreInOneZone, KeepsAllBefore, KeepsAllOf, StayComplete, StayTrue, max_kept};
 
-use crate::clock_note::{ClockChange, ClockNote};
+use crate::clock_note::{ClockNote, ClockNotes};
+use crate::clock_shift::{is_changed, shift_of};
 use crate::clocked::Clocked;
 use crate::elapses::setting_for;
-use crate::shown::local_shown;
-use cal_civil::{DAY, LOCAL_END, second_of_day};
+use crate::kept_notes::{MAX_NOTES, are_enough, keep};
+use crate::zone_change::next_change;
+use cal_civil::LOCAL_END;
 use cal_elapse::{Masks, next_local};
 use cal_load::LoadedTimer;
 use cal_plan::{PlanFault, zone_for};
-use cal_spec::Expr;
 use cal_timer::TimerLine;
-use cal_zone::{Instant, PlaceCache, Setting, Zone, civil};
+use cal_zone::{Instant, Setting, Zone};
 use std::alloc::{AllocError, Global};
 
-/// The maximum number of notes about clock changes for one timer.
-const MAX_NOTES: usize = 16;
-
-/// The maximum number of local times that are examined for each expression.
-const MAX_MATCHES: u32 = 10_000;
-
-/// Returns the local times that an expression of the timer matches and that a clock change skips or repeats: each once,
-/// earliest first, and at most 16 of them.
+/// Returns the local times that an expression of the timer matches and that one of the next two changes of the
+/// expression's zone skips or repeats: each once, earliest first, and at most 16 of them.
 ///
-/// The search for each expression goes, on the clock of the expression's zone, from the beginning of the present day to
-/// one day after the last of `elapses`, or to one day after the present if `elapses` is empty. It examines at most
-/// 10,000 matching local times. It finds a local time that the clock shows twice only if the UTC offset at the second
-/// occurrence is also the UTC offset one day after the first occurrence.
+/// A change of a zone is an instant at which its UTC offset isn't the one a second before. The change after the present
+/// is searched for on at most 1,096 days (three years), and the one after it on as many. If an offset lasts less than
+/// a day, its changes may not be found. No note about a change that is found is missing, up to the limit of 16.
 ///
 /// Fails with [`PlanFault::NoSuchZone`] if an expression names a zone that wasn't loaded, and with
 /// [`PlanFault::NoMemory`] if allocation fails.
@@ -44,84 +41,168 @@ pub fn clock_notes(
     alloc: Global,
     at: Clocked<'_>,
     timer: &LoadedTimer,
-    elapses: &[Instant],
-) -> Result<Vec<ClockNote>, PlanFault>
+) -> Result<ClockNotes, PlanFault>
     ensures notes { IfOk result (λ notes. All
-        (IsNoteAmong (setting_for at.entry timer.now) (lists_of_loaded timer.now.calendar).expressions)
-        notes.items) }
-    ensures few { IfOk result (λ notes. length notes.items ≤ max_notes) }
+        (IsNoteAmong (setting_for at.entry timer.now) at.entry.now.secs (lists_of_loaded timer.now.calendar).expressions)
+        notes.first.items) }
+    ensures all { IfOk result (λ notes. All
+        (AreNotesOf (setting_for at.entry timer.now) at.entry.now.secs (lists_of_loaded timer.now.calendar).expressions
+        (limit_if notes.has_more) notes.first.items)
+        (lists_of_loaded timer.now.calendar).expressions) }
+    ensures few { IfOk result (λ notes. length notes.first.items ≤ max_notes) }
+    ensures sorted { IfOk result (λ notes. IsSorted by_local notes.first.items) }
 {
-    let last = last_or_now(at.now, elapses);
-    let mut notes = notes_of_lines(alloc, setting_for(at, timer), timer.lines(), last)?;
-    notes.sort_unstable();
-    notes.dedup();
-    notes.truncate(MAX_NOTES);
-    Ok(notes)
+    let notes = notes_of_lines(alloc, setting_for(at, timer), timer.lines())?;
+    Ok(earliest_of(notes))
 }
 
-/// Returns the last of `elapses`, or `now` if there are none.
-fn last_or_now(now: Instant, elapses: &[Instant]) -> Instant {
-    match elapses {
-        [.., last] => *last,
-        [] => now,
+/// Sorts notes, and returns the first 16 of them.
+fn earliest_of(mut notes: Vec<ClockNote>) -> ClockNotes
+    ensures notes { StayTrue notes.items result.first.items }
+    ensures all { StayComplete notes.items result.has_more result.first.items }
+    ensures few { length result.first.items ≤ max_notes }
+    ensures sorted { IsSorted by_local result.first.items }
+{
+    sort_notes(&mut notes);
+    let has_more = notes.len() > MAX_NOTES;
+    notes.truncate(MAX_NOTES);
+    ClockNotes {
+        first: notes,
+        has_more,
     }
 }
 
-/// Returns the notes about all expressions, in the order of the expressions. Each search goes from the beginning of the
-/// present day to one day after `last`.
+/// Sorts notes by local time, and at the same local time by their zone.
+fn sort_notes(notes: &mut Vec<ClockNote>)
+    ensures sorted { IsSorted by_local notes.new.items }
+    ensures same { IsPermutation notes.old.items notes.new.items }
+{
+    notes.sort_unstable_by_key(|note| (note.local, note.zone));
+}
+
+/// Returns the 17 earliest notes about all expressions, in any order.
 fn notes_of_lines(
     alloc: Global,
     setting: Setting<'_>,
     lines: &[TimerLine],
-    last: Instant,
 ) -> Result<Vec<ClockNote>, PlanFault>
-    ensures { IfOk result (λ notes.
-        All (IsNoteAmong (setting_seen setting.entry) (map shown lines.now)) notes.items) }
+    ensures notes { IfOk result (λ notes.
+        All (IsNoteAmong (setting_seen setting.entry) setting.entry.now.secs (map shown lines.now)) notes.items) }
+    ensures all { IfOk result (λ notes.
+        All (AreNotesOf (setting_seen setting.entry) setting.entry.now.secs (map shown lines.now) max_kept notes.items)
+        (map shown lines.now)) }
 {
     let mut notes = Vec::new(alloc);
-    for line in lines {
+    for index in 0..lines.len() {
+        let line = &lines[index];
         let Some(zone) = zone_for(setting, &line.expr) else {
             return Err(PlanFault::NoSuchZone(line.number));
         };
-        // UTC and fixed offsets have no clock changes, so there is nothing to find.
-        if zone.is_utc() || line.expr.zone_offset().is_some() {
-            continue;
-        }
-        add_notes(&mut notes, &line.expr, zone, setting.now, last)?;
+        let masks = Masks::of(&line.expr);
+        let zone_index = first_in_zone(lines, index);
+        add_notes(&mut notes, &masks, zone, zone_index, setting.now)?;
     }
     Ok(notes)
 }
 
-/// Appends the notes about an expression in its zone: the matching local times that a clock change skips or repeats,
-/// from the beginning of the day of `now` to one day after `last`.
-#[tactic(auto, using(cal_civil::proofs::LocalLemmas::local_arith, crate::proofs::NoteLemmas::no_notes))]
+/// Returns the index of the first line whose expression names the same zone as the expression on the line at `index`,
+/// or no zone if that expression names none.
+fn first_in_zone(lines: &[TimerLine], index: usize) -> usize
+    requires { index < length lines.now }
+    ensures { AreInOneZone lines.now result index }
+{
+    let line = &lines[index];
+    for earlier in 0..index {
+        let other = &lines[earlier];
+        if names_same_zone(other, line) {
+            return earlier;
+        }
+    }
+    index
+}
+
+/// Returns whether two expressions name the same zone, or neither of them names one.
+fn names_same_zone(one: &TimerLine, other: &TimerLine) -> bool
+    ensures { result ≡ true → name_in one.now.expr.zone ≡ name_in other.now.expr.zone }
+{
+    match (one.expr.zone_name(), other.expr.zone_name()) {
+        (Some(one), Some(other)) => one == other,
+        (None, None) => true,
+        _ => false,
+    }
+}
+
+/// Adds notes about the next two changes of a zone. `zone_index` is the zone in the new notes.
 fn add_notes(
     notes: &mut Vec<ClockNote>,
-    expr: &Expr,
+    masks: &Masks,
     zone: Zone<'_>,
+    zone_index: usize,
     now: Instant,
-    last: Instant,
 ) -> Result<(), AllocError>
-    ensures { OnOk result (AddsNotesOf (zone_of zone.entry) expr.now notes.old.items notes.new.items) }
+    ensures { OnOk result
+        (KeepsAllOf (zone_of zone.entry) (sets_in masks.now) now.secs zone_index notes.old.items notes.new.items) }
 {
-    let masks = Masks::of(expr);
-    let end = local_shown(zone, last) + DAY;
-    let mut cache = PlaceCache::new(zone);
-    let mut found = first_match(&masks, start_of_day(local_shown(zone, now)));
-    for _ in 0..MAX_MATCHES {
-        let Some(local) = found else {
-            return Ok(());
-        };
-        if end < local {
+    let Some(first) = next_change(zone, now) else {
+        return Ok(());
+    };
+    add_notes_of_change(notes, masks, zone, zone_index, first)?;
+    let Some(second) = next_change(zone, first) else {
+        return Ok(());
+    };
+    add_notes_of_change(notes, masks, zone, zone_index, second)?;
+    Ok(())
+}
+
+/// Adds notes about one change of a zone: the matching local times that it skips or repeats.
+fn add_notes_of_change(
+    notes: &mut Vec<ClockNote>,
+    masks: &Masks,
+    zone: Zone<'_>,
+    zone_index: usize,
+    change: Instant,
+) -> Result<(), AllocError>
+    requires { pos 0 <ℤ change.secs }
+    ensures { OnOk result (KeepsAllBefore (zone_of zone.entry) (sets_in masks.now) change.secs zone_index
+        (pos seconds_in_all) notes.old.items notes.new.items) }
+{
+    let shift = shift_of(zone, change);
+    let mut next = search_start(shift.from);
+    while let Some(local) = first_match(masks, next) {
+        if shift.to <= local || are_enough(notes, local) {
             return Ok(());
         }
-        found = match_after(&masks, local);
-        let Some(change) = change_at(&mut cache, local) else {
-            continue;
-        };
-        notes.push(ClockNote { local, change })?;
+        if is_changed(zone, change, shift, local) {
+            keep(
+                notes,
+                ClockNote {
+                    local,
+                    change: shift.kind,
+                    zone: zone_index,
+                },
+            )?;
+        }
+        next = local + 1;
     }
     Ok(())
+}
+
+/// Returns where the search for local seconds from `from` on starts: at `from`, or at the nearest local second from 0 to
+/// [`LOCAL_END`].
+#[tactic(auto, using(cal_civil::proofs::LocalLemmas::local_arith))]
+fn search_start(from: i64) -> i64
+    ensures low { pos 0 ≤ℤ result }
+    ensures high { result ≤ℤ pos seconds_in_all }
+    ensures all { result <ℤ pos seconds_in_all → from ≤ℤ result }
+    ensures nearest { (result ≤ℤ from) ⊎ (result ≤ℤ pos 0) }
+{
+    if from < 0 {
+        return 0;
+    }
+    if from > LOCAL_END {
+        return LOCAL_END;
+    }
+    from
 }
 
 /// Returns the first matching local second at or after `from`.
@@ -129,72 +210,7 @@ fn add_notes(
 fn first_match(masks: &Masks, from: i64) -> Option<i64>
     requires low { pos 0 ≤ℤ from }
     requires high { from ≤ℤ pos seconds_in_all }
-    ensures { IfSome result (IsMatch (sets_in masks.now)) }
+    ensures { IsFirstLocal (matches (sets_in masks.now)) from result }
 {
     next_local(masks, from).local
-}
-
-/// Returns the first matching local second after `local`.
-#[tactic(auto, using(cal_civil::proofs::LocalLemmas::local_arith))]
-fn match_after(masks: &Masks, local: i64) -> Option<i64>
-    requires { IsLocalSecond local }
-    ensures { IfSome result (IsMatch (sets_in masks.now)) }
-{
-    first_match(masks, local + 1)
-}
-
-/// Returns the first local second of the day that contains `local`. Returns 0 if `local` is negative, and [`LOCAL_END`]
-/// if `local` is after 2199.
-#[tactic(auto, using(cal_civil::proofs::LocalLemmas::local_arith))]
-fn start_of_day(local: i64) -> i64
-    ensures low { pos 0 ≤ℤ result }
-    ensures high { result ≤ℤ pos seconds_in_all }
-{
-    if local < 0 {
-        return 0;
-    }
-    if local >= LOCAL_END {
-        return LOCAL_END;
-    }
-    local - i64::from(second_of_day(local))
-}
-
-/// Returns `Skipped` if the clock skips `local`, `Repeated` if the clock shows `local` twice, and otherwise `None`.
-/// Some repeated local seconds aren't found; see [`clock_notes`].
-fn change_at(cache: &mut PlaceCache<'_>, local: i64) -> Option<ClockChange>
-    requires { IsLocalSecond local }
-    ensures change { IfSome result (IsChange (zone_of cache.old) local) }
-    ensures zone { cache.new ≡ cache.old }
-{
-    // Most local seconds are far from any clock change, so the UTC offset is known to stay the same for a day.
-    if cache.offset_over(local, local + DAY).is_some() {
-        return None;
-    }
-    let Some(first) = cache.place(local) else {
-        return Some(ClockChange::Skipped);
-    };
-    if is_shown_again(cache.zone(), local, first) {
-        Some(ClockChange::Repeated)
-    } else {
-        None
-    }
-}
-
-/// Returns whether the clock shows `local` again after `first`, at the UTC offset that the zone has one day after
-/// `first`. `first` is the instant at which the clock first shows `local`.
-fn is_shown_again(zone: Zone<'_>, local: i64, first: i64) -> bool
-    requires local { IsLocalSecond local }
-    requires first { place_of (zone_of zone) local ≡ Some first }
-    ensures { result ≡ true → IsRepeated (zone_of zone.entry) local }
-{
-    let Some(next_day) = Instant::new(first.saturating_add(DAY)) else {
-        return false;
-    };
-    let Some(second) = Instant::new(local - i64::from(civil(zone, next_day).offset)) else {
-        return false;
-    };
-    if second.secs() <= first {
-        return false;
-    }
-    local_shown(zone, second) == local
 }

@@ -19,7 +19,7 @@ pub struct ShownTimer<'a> {
     pub timer: &'a LoadedTimer,
     /// The timer's next elapses.
     pub elapses: &'a [Instant],
-    /// Local times that the timer's expressions match, and that a clock change skips or repeats.
+    /// Local times that the timer's expressions match, and that one of the next clock changes skips or repeats.
     pub clock: &'a [ClockNote],
 }
 
@@ -33,7 +33,7 @@ pub(crate) struct ShowRow<'a> {
     pub(crate) exceptions: Vec<LineRow<'a>>,
     pub(crate) elapses: Vec<ElapseRow>,
     pub(crate) notes: &'a [String],
-    pub(crate) clock: Vec<ClockRow>,
+    pub(crate) clock: Vec<ClockRow<'a>>,
 }
 
 /// An expression or an exception.
@@ -62,9 +62,11 @@ pub(crate) struct ElapseRow {
 
 /// A local time that a clock change skips or repeats.
 #[derive(Drop, Serialize)]
-pub(crate) struct ClockRow {
+pub(crate) struct ClockRow<'a> {
     pub(crate) local: String,
     pub(crate) change: &'static str,
+    /// The name of the zone on whose clock the local time is, or `None` if this is the local zone.
+    pub(crate) zone: Option<&'a str>,
 }
 
 /// Returns the document of `show` and `next`: an array with an object for each timer.
@@ -101,7 +103,7 @@ fn show_row<'a>(
         exceptions: line_rows(alloc, timer, timer.exceptions())?,
         elapses: elapse_rows(alloc, at, shown.elapses)?,
         notes: timer.notes.as_slice(),
-        clock: clock_rows(alloc, shown.clock)?,
+        clock: clock_rows(alloc, timer, shown.clock)?,
     })
 }
 
@@ -175,7 +177,11 @@ fn elapse_row(alloc: Global, at: Clocked<'_>, instant: Instant) -> Result<Elapse
     })
 }
 
-fn clock_rows(alloc: Global, clock: &[ClockNote]) -> Result<Vec<ClockRow>, AllocError>
+fn clock_rows<'a>(
+    alloc: Global,
+    timer: &'a LoadedTimer,
+    clock: &[ClockNote],
+) -> Result<Vec<ClockRow<'a>>, AllocError>
     ensures { IfOk result (λ rows. length rows.items ≡ length clock.now) }
 {
     let mut rows = Vec::new(alloc);
@@ -184,6 +190,7 @@ fn clock_rows(alloc: Global, clock: &[ClockNote]) -> Result<Vec<ClockRow>, Alloc
         rows.push(ClockRow {
             local,
             change: change_name(note.change),
+            zone: note.zone_name(timer),
         })?;
     }
     Ok(rows)

@@ -4,7 +4,7 @@ use crate::cells::{push_padded, push_printable};
 use crate::style::{Emphasis, Style};
 use crate::times::{instant_width, normal_text, push_instant, push_left};
 use cal_load::LoadedTimer;
-use cal_tasks::{ClockChange, ClockNote, Clocked};
+use cal_tasks::{ClockChange, ClockNote, ClockNotes, Clocked};
 use cal_timer::TimerLine;
 use cal_unit_index::UnitText;
 use cal_zone::{Civil, Instant, InstantFormatter, Zone, civil};
@@ -16,13 +16,13 @@ const LABEL_WIDTH: usize = 13;
 /// Returns the name of a timer, its files, its expressions and exceptions in normal form, its notes (the other settings
 /// that decide when it starts a unit, and which unit that is), its next elapses, and the local times that clock changes
 /// skip or repeat. Each of these has lines of its own. If the timer has no calendar expressions, its next elapses are
-/// left out.
+/// left out. If there are more local times than `notes` has, the last line says so.
 pub fn show_text(
     alloc: Global,
     at: Clocked<'_>,
     timer: &LoadedTimer,
     elapses: &[Instant],
-    notes: &[ClockNote],
+    notes: &ClockNotes,
     style: Style,
 ) -> Result<String, AllocError> {
     let mut out = String::new(alloc);
@@ -31,7 +31,7 @@ pub fn show_text(
     if !timer.lines().is_empty() {
         push_elapses(&mut out, at, elapses)?;
     }
-    push_clock_notes(&mut out, notes)?;
+    push_clock_notes(&mut out, timer, notes)?;
     Ok(out)
 }
 
@@ -131,24 +131,40 @@ fn push_elapse(
     out.push('\n')
 }
 
-fn push_clock_notes(out: &mut String, notes: &[ClockNote]) -> Result<(), AllocError> {
+fn push_clock_notes(
+    out: &mut String,
+    timer: &LoadedTimer,
+    notes: &ClockNotes,
+) -> Result<(), AllocError> {
     let mut label = "  Clock:";
-    for note in notes {
+    for note in &notes.first {
         push_padded(out, label, LABEL_WIDTH)?;
-        push_clock_note(out, note)?;
+        push_clock_note(out, note, note.zone_name(timer))?;
         label = "";
+    }
+    if notes.has_more {
+        push_labeled_line(out, label, "and more")?;
     }
     Ok(())
 }
 
-/// Appends what a clock change does to a local time, and a line feed. The local time is converted to a date and a time
-/// as if it were in UTC, since a skipped local time has no instant in its own zone.
-fn push_clock_note(out: &mut String, note: &ClockNote) -> Result<(), AllocError> {
+/// Appends what a clock change does to a local time, and a line feed. The name of the zone follows the local time if an
+/// expression names the zone. The local time is converted to a date and a time as if it were in UTC, since a skipped
+/// local time has no instant in its own zone.
+fn push_clock_note(
+    out: &mut String,
+    note: &ClockNote,
+    zone_name: Option<&str>,
+) -> Result<(), AllocError> {
     let Some(instant) = Instant::new(note.local) else {
         return out.push('\n');
     };
     let shown = civil(Zone::utc(), instant);
     push_time(out, &shown)?;
+    if let Some(name) = zone_name {
+        out.push(' ')?;
+        push_printable(out, name)?;
+    }
     match note.change {
         ClockChange::Skipped => out.push_str(" is skipped on ")?,
         ClockChange::Repeated => out.push_str(" occurs twice on ")?,

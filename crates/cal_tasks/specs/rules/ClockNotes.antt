@@ -1,6 +1,8 @@
 -- Local times that a clock change skips or repeats: systemd.time(7), Calendar Events.
-use Rattle.std.specs.Prelude.{◌≡◌, ℕ, ◌++◌, true, List, None, Some, ℤ, ◌<ℤ◌, unsigned_abs}
+use Rattle.std.specs.Prelude.{◌≡◌, ℕ, ◌+◌, ◌≤◌, ◌⊎◌, Bool, true, false, List, length, slice_get, None, Some, ℤ, pos, ◌+ℤ◌, ◌-ℤ◌, ◌<ℤ◌, ◌≤ℤ◌, unsigned_abs}
 use Rattle.std.specs.List.{All, Contains}
+use Rattle.std.specs.Ordering.{int_cmp, nat_cmp, ordering_then}
+use Rattle.std.specs.declared.cmp.Ordering.{Ordering}
 use Rattle.jiff.specs.Types.{TimeZone}
 use Rattle.cal_civil.specs.rules.LocalSecond.{IsLocalSecond}
 use Rattle.cal_zone.specs.rules.Setting.{Setting}
@@ -9,8 +11,10 @@ use Rattle.cal_zone.specs.rules.Zone.{local_shown_at}
 use Rattle.cal_spec.specs.rules.Fields.{Fields}
 use Rattle.cal_spec.specs.rules.Match.{Sets, matches}
 use Rattle.cal_spec.specs.rules.Members.{sets_of}
+use Rattle.cal_spec.specs.rules.ZoneSuffix.{name_in}
 use Rattle.cal_timer.specs.rules.TimerEntries.{TimerLine}
 use Rattle.cal_plan.specs.rules.ZoneFor.{zone_for}
+use Rattle.cal_tasks.specs.rules.ZoneChange.{AreNextChanges, IsZoneChange}
 use Rattle.cal_tasks.specs.declared.clock_note.ClockChange.{ClockChange}
 use Rattle.cal_tasks.specs.declared.clock_note.ClockChange.TheVariants.{Skipped, Repeated}
 use Rattle.cal_tasks.specs.declared.clock_note.ClockNote.{ClockNote}
@@ -23,36 +27,81 @@ max_notes = 16
 abbrev pub IsMatch : Sets → ℤ → Type 0
 IsMatch sets local = IsLocalSecond local × (matches sets (unsigned_abs local) ≡ true)
 
--- the zone's clock shows `local` at its place, the instant `first`, and again at the later instant `second`
-pub record IsRepeated (tz : TimeZone) (local : ℤ) : Type 0 where
+-- what the zone's clock would show at `change` if its UTC offset didn't change then
+abbrev pub shown_unchanged : TimeZone → ℤ → ℤ
+shown_unchanged tz change = local_shown_at tz (change -ℤ pos 1) +ℤ pos 1
+
+-- The change skips `local`: it lies in the gap, which is as long as the clock is set forward, and has no place.
+pub record IsSkippedBy (tz : TimeZone) (change local : ℤ) : Type 0 where
+  pub from : shown_unchanged tz change ≤ℤ local
+  pub to : local <ℤ local_shown_at tz change
+  pub no_place : place_of tz local ≡ None
+
+-- The change repeats `local`: it lies in the fold, which is as long as the clock is set back. The clock shows it at its
+-- place, the instant `first` before the change, and again as long after the change as it lies in the fold.
+pub record IsRepeatedBy (tz : TimeZone) (change local : ℤ) : Type 0 where
+  pub from : local_shown_at tz change ≤ℤ local
+  pub to : local <ℤ shown_unchanged tz change
   pub first : ℤ
-  pub second : ℤ
   pub placed : place_of tz local ≡ Some first
-  pub later : first <ℤ second
-  pub shown : local_shown_at tz second ≡ local
+  pub before : first <ℤ change
+  pub again : local_shown_at tz (change +ℤ (local -ℤ local_shown_at tz change)) ≡ local
 
--- what a clock change does to `local`: `Skipped` says that it has no place, and `Repeated` that the clock shows it
--- twice
-abbrev pub IsChange : TimeZone → ℤ → ClockChange → Type 0
-IsChange tz local Skipped = place_of tz local ≡ None
-IsChange tz local Repeated = IsRepeated tz local
+-- what the change does to `local`
+abbrev pub IsChangedBy : TimeZone → ℤ → ℤ → ClockChange → Type 0
+IsChangedBy tz change local Skipped = IsSkippedBy tz change local
+IsChangedBy tz change local Repeated = IsRepeatedBy tz change local
 
--- the expression with these fields matches the local second of the note, and the zone's clock skips or repeats this
--- local second, as the note says
-pub record IsNoteOf (tz : TimeZone) (fields : Fields) (note : ClockNote) : Type 0 where
-  pub is_match : IsMatch (sets_of fields) note.local
-  pub change : IsChange tz note.local note.change
+-- an expression with these values matches `local`, which the change skips or repeats
+pub record IsNoted (tz : TimeZone) (sets : Sets) (change local : ℤ) (kind : ClockChange) : Type 0 where
+  pub is_match : IsMatch sets local
+  pub changed : IsChangedBy tz change local kind
 
--- `new` is `old` with notes about one expression appended
-pub record AddsNotesOf (tz : TimeZone) (fields : Fields) (old new : List ClockNote) : Type 0 where
-  pub more : List ClockNote
-  pub are_notes : All (IsNoteOf tz fields) more
-  pub is : new ≡ old ++ more
+-- The expression at this index names the same zone as `line`, or neither of them names a zone.
+abbrev pub IsZoneOf : List (TimerLine Fields) → ℕ → TimerLine Fields → Type 0
+IsZoneOf lines index line =
+    (other : TimerLine Fields) × (slice_get lines index ≡ Some other) × (name_in other.expr.zone ≡ name_in line.expr.zone)
 
--- the note is about the expression on one of the lines, in the zone of this expression
-pub record IsNoteAmong (at : Setting) (lines : List (TimerLine Fields)) (note : ClockNote) : Type 0 where
+-- The note is about the expression on one of the lines, in the zone of this expression: a change of this zone after the
+-- present skips or repeats a local time that the expression matches.
+pub record IsNoteAmong (at : Setting) (now : ℤ) (lines : List (TimerLine Fields)) (note : ClockNote) : Type 0 where
   pub line : TimerLine Fields
   pub among : Contains lines line
+  pub zone : IsZoneOf lines note.zone line
   pub tz : TimeZone
   pub zoned : zone_for at line.expr.zone ≡ Some tz
-  pub note_of : IsNoteOf tz line.expr note
+  pub change : ℤ
+  pub is_change : IsZoneChange tz change
+  pub later : now <ℤ change
+  pub noted : IsNoted tz (sets_of line.expr) change note.local note.change
+
+-- there are at least `limit` notes, and none of them is about a later local time than `local`
+pub record AreEnough (limit : ℕ) (notes : List ClockNote) (local : ℤ) : Type 0 where
+  pub many : limit ≤ length notes
+  pub none_later : All (λ note. note.local ≤ℤ local) notes
+
+-- the note is among the notes, or there are enough others, none of them about a later local time
+abbrev pub IsCovered : ℕ → List ClockNote → ClockNote → Type 0
+IsCovered limit notes note = Contains notes note ⊎ AreEnough limit notes note.local
+
+-- No note about the expression on `line` is missing: the notes cover each local time that the expression matches and
+-- that one of the next two changes of its zone skips or repeats.
+pub record AreNotesOf (at : Setting) (now : ℤ) (lines : List (TimerLine Fields)) (limit : ℕ) (notes : List ClockNote) (line : TimerLine Fields) : Type 0 where
+  pub tz : TimeZone
+  pub zoned : zone_for at line.expr.zone ≡ Some tz
+  pub zone : ℕ
+  pub zone_of : IsZoneOf lines zone line
+  pub changes : List ℤ
+  pub are_next : AreNextChanges tz now changes
+  pub covered : All (λ change. (local : ℤ) (kind : ClockChange) → IsNoted tz (sets_of line.expr) change local kind
+      → IsCovered limit notes (record { local = local; change = kind; zone = zone })) changes
+
+-- the order of notes: by local time, and at the same local time by the first expression in their zone
+abbrev pub by_local : ClockNote → ClockNote → Ordering
+by_local x y = ordering_then (int_cmp x.local y.local) (nat_cmp x.zone y.zone)
+
+-- The limit up to which no note is missing among those that are returned: 16 if there are more than these, and otherwise
+-- 17. At most 16 are returned, so with the limit 17 none is missing.
+abbrev pub limit_if : Bool → ℕ
+limit_if true = max_notes
+limit_if false = max_notes + 1

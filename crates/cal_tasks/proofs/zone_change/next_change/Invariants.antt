@@ -1,0 +1,12 @@
+-- The UTC offset has been the same each day, and `from` is as many days after `after` as the loop has done.
+use Rattle.std.proofs.Common.{◌≡◌}
+use Rattle.cal_zone.specs.rules.Zone.{zone_of}
+use Rattle.cal_tasks.specs.rules.ZoneChange.{utc_offset}
+use Rattle.cal_tasks.proofs.ZoneChangeLemmas.{IsSameUntil}
+use Rattle.cal_tasks.proofs.zone_change.next_change.Given as goal
+
+abbrev pub invariant-loop : goal.invariant-loop
+invariant-loop l = record {
+  offset : l.offset ≡ utc_offset (zone_of l.zone) l.fn.after.secs;
+  same : IsSameUntil (zone_of l.zone) l.fn.after.secs l.from.secs l.counter;
+}

@@ -1,0 +1,3 @@
+-- What the code computes step by step, and its states. Contracts of private functions cite these definitions.
+pub mod ClockShift
+pub mod KeptNotes

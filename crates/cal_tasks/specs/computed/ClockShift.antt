@@ -1,0 +1,23 @@
+-- The local seconds between what a zone's clock shows up to a change and what it shows from the change on.
+use Rattle.std.specs.Prelude.{◌≡◌, ℤ, ◌≤ℤ◌}
+use Rattle.jiff.specs.Types.{TimeZone}
+use Rattle.cal_zone.specs.rules.Zone.{local_shown_at}
+use Rattle.cal_tasks.specs.rules.ClockNotes.{shown_unchanged}
+use Rattle.cal_tasks.specs.declared.clock_note.ClockChange.{ClockChange}
+use Rattle.cal_tasks.specs.declared.clock_note.ClockChange.TheVariants.{Skipped, Repeated}
+use Rattle.cal_tasks.specs.declared.clock_shift.ClockShift.{ClockShift}
+
+-- the first local second of the gap or of the fold, and the one after its last
+abbrev pub shift_from : TimeZone → ℤ → ClockChange → ℤ
+shift_from tz change Skipped = shown_unchanged tz change
+shift_from tz change Repeated = local_shown_at tz change
+
+abbrev pub shift_to : TimeZone → ℤ → ClockChange → ℤ
+shift_to tz change Skipped = local_shown_at tz change
+shift_to tz change Repeated = shown_unchanged tz change
+
+-- the local seconds from `from` on and before `to` are those of the gap or of the fold
+pub record IsShiftOf (tz : TimeZone) (change : ℤ) (shift : ClockShift) : Type 0 where
+  pub first : shift.from ≡ shift_from tz change shift.kind
+  pub end : shift.to ≡ shift_to tz change shift.kind
+  pub order : shift.from ≤ℤ shift.to
