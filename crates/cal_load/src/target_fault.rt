@@ -1,5 +1,8 @@
 //! Why a timer can't be loaded.
 
+ghost use Rattle.std.specs.Prelude.{◌≡◌};
+ghost use Rattle.cal_load.specs.rules.TextFaults.{fails_to_load};
+
 use cal_spec::SpecFault;
 use cal_timer::TimerFault;
 use cal_unit_index::Reason;
@@ -41,4 +44,17 @@ pub struct TargetFault {
     /// without it.
     pub target: String,
     pub reason: TargetReason,
+}
+
+impl TargetFault {
+    /// Returns whether the target is a timer that was found and read, but fails to load: one of its files isn't UTF-8, or
+    /// nothing starts its unit.
+    pub fn fails_to_load(&self) -> bool
+        ensures { result ≡ fails_to_load self.now.reason }
+    {
+        matches!(
+            self.reason,
+            TargetReason::Line(..) | TargetReason::NothingToDo | TargetReason::NotUtf8(_)
+        )
+    }
 }

@@ -1,17 +1,18 @@
 //! The document of `list`: the next elapse of each timer.
 
-ghost use Rattle.std.specs.Prelude.{◌≡◌, ◌++◌, IfOk, OnOk, Some, None, map, string_bytes};
+ghost use Rattle.std.specs.Prelude.{◌≡◌, ◌++◌, IfOk, OnOk, Some, None, filter, map, string_bytes};
+ghost use Rattle.cal_load.specs.rules.TextFaults.{fails_to_load};
 ghost use Rattle.cal_timers_json.specs.rules.Document.{IsDocument};
 
 use crate::document::document;
 use crate::texts::{left_text, local_text};
-use cal_load::{Loaded, LoadedTimer};
+use cal_load::{Loaded, LoadedTimer, TargetFault};
 use cal_tasks::{Clocked, NextOfAll, TimerElapse};
 use serde::Serialize;
 use std::alloc::{AllocError, Global};
 
-/// A timer or a masked unit in the list. The fields `next`, `unix` and `left` are `None` if the unit is masked or the
-/// timer has no next elapse.
+/// A timer, a masked unit or a unit that fails to load in the list. The fields `next`, `unix` and `left` are `None` if it
+/// isn't a timer with a next elapse.
 #[derive(Drop, Serialize)]
 pub(crate) struct ListRow<'a> {
     pub(crate) unit: &'a str,
@@ -24,13 +25,14 @@ pub(crate) struct ListRow<'a> {
     pub(crate) notes: Vec<&'a str>,
 }
 
-/// Returns the document of `list`: an array with an object for each timer and each masked unit. First come the timers
-/// that elapse again, soonest first, then the other timers, and then the units with the names `masked`.
+/// Returns the document of `list`: an array with an object for each timer, each masked unit and each unit that fails to
+/// load. First come the timers that elapse again, soonest first, then the other timers, then the units with the names
+/// `masked`, and then those that fail to load.
 ///
 /// The notes of a timer are those in `loaded`. If the timer is disabled, the note `disabled` comes first. If it has
 /// calendar expressions, but no next elapse, the note `never` comes before those in `loaded`. If it has exceptions, the
-/// note `exceptions` comes last. A masked unit has only the note `masked`. The indices in `next` are those of the
-/// timers in `loaded`.
+/// note `exceptions` comes last. A masked unit has only the note `masked`, and a unit that fails to load only the note
+/// `fails to load`. The indices in `next` are those of the timers in `loaded`.
 ///
 /// Fails only if allocation fails.
 pub fn list_json(
@@ -46,7 +48,7 @@ pub fn list_json(
     document(alloc, &rows)
 }
 
-/// Returns the rows of all timers and masked units, in the order of the document.
+/// Returns the rows of all units, in the order of the document.
 fn list_rows<'a>(
     alloc: Global,
     at: Clocked<'_>,
@@ -56,12 +58,14 @@ fn list_rows<'a>(
 ) -> Result<Vec<ListRow<'a>>, AllocError>
     ensures { IfOk result (λ rows. map (λ row. row.unix) rows.items
         ≡ map (λ elapse. Some elapse.instant.secs) next.now.soonest.items
-        ++ map (λ _. None) next.now.never.items ++ map (λ _. None) masked.now) }
+        ++ map (λ _. None) next.now.never.items ++ map (λ _. None) masked.now
+        ++ map (λ _. None) (filter (λ fault. fails_to_load fault.reason) loaded.now.faults.items)) }
 {
     let mut rows: Vec<ListRow<'a>> = Vec::new(alloc);
     push_soonest(alloc, &mut rows, at, loaded, &next.soonest)?;
     push_never(alloc, &mut rows, loaded, &next.never)?;
     push_masked(alloc, &mut rows, masked)?;
+    push_failed(alloc, &mut rows, &loaded.faults)?;
     Ok(rows)
 }
 
@@ -109,6 +113,23 @@ fn push_masked<'a>(
 {
     for unit in masked {
         rows.push(row_without(unit.as_str(), vec![in alloc; "masked"]?))?;
+    }
+    Ok(())
+}
+
+/// Appends a row for each unit that fails to load.
+fn push_failed<'a>(
+    alloc: Global,
+    rows: &mut Vec<ListRow<'a>>,
+    faults: &'a [TargetFault],
+) -> Result<(), AllocError>
+    ensures { OnOk result (map (λ row. row.unix) rows.new.items ≡ map (λ row. row.unix) rows.old.items
+        ++ map (λ _. None) (filter (λ fault. fails_to_load fault.reason) faults.now)) }
+{
+    for fault in faults {
+        if fault.fails_to_load() {
+            rows.push(row_without(fault.target.as_str(), vec![in alloc; "fails to load"]?))?;
+        }
     }
     Ok(())
 }

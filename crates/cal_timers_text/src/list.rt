@@ -3,7 +3,7 @@
 use crate::cells::{push_cut, push_padded, push_printable, width_of};
 use crate::style::{Emphasis, Style};
 use crate::times::{push_instant, push_left};
-use cal_load::{Loaded, LoadedTimer};
+use cal_load::{Loaded, LoadedTimer, TargetFault};
 use cal_tasks::{Clocked, NextOfAll, TimerElapse};
 use cal_zone::{Instant, InstantFormatter};
 use std::alloc::{AllocError, Global};
@@ -11,8 +11,11 @@ use std::alloc::{AllocError, Global};
 /// The number of blanks between columns.
 const GAP: usize = 2;
 
-/// The minimum width of the notes: the width of `exceptions`, the longest note that isn't a setting.
-const NOTES_WIDTH: usize = 10;
+/// The note of a unit that fails to load.
+const FAILS_TO_LOAD: &str = "fails to load";
+
+/// The minimum width of the notes: the width of [`FAILS_TO_LOAD`], the longest note that isn't a setting.
+const NOTES_WIDTH: usize = 13;
 
 /// What is printed in place of a next elapse that is missing, and in place of the time until then.
 const NO_ELAPSE: &str = "-";
@@ -38,10 +41,10 @@ struct Widths {
     terminal: usize,
 }
 
-/// Returns a table: first the timers with a next elapse, soonest first, then the timers without one, and last the units
-/// with the names `masked`. Each row has the next elapse, how long it is until then, the name of the unit and its
-/// notes. The first note is `disabled` if the timer is, and the last one is `exceptions` if it has exceptions. Notes
-/// that don't fit into the width of the terminal are cut. If there are neither timers nor masked units, returns the
+/// Returns a table: first the timers with a next elapse, soonest first, then the timers without one, then the units with
+/// the names `masked`, and last those that fail to load. Each row has the next elapse, how long it is until then, the
+/// name of the unit and its notes. The first note is `disabled` if the timer is, and the last one is `exceptions` if it
+/// has exceptions. Notes that don't fit into the width of the terminal are cut. If there are no such units, returns the
 /// line `no timers`.
 pub fn list_text(
     alloc: Global,
@@ -55,6 +58,7 @@ pub fn list_text(
     push_soonest(alloc, &mut rows, at, loaded, &next.soonest)?;
     push_never(alloc, &mut rows, loaded, &next.never)?;
     push_masked(alloc, &mut rows, masked)?;
+    push_failed(alloc, &mut rows, &loaded.faults)?;
     table_text(alloc, &rows, style)
 }
 
@@ -79,6 +83,20 @@ fn push_masked(alloc: Global, rows: &mut Vec<Row>, masked: &[String]) -> Result<
     for unit in masked {
         let row = plain_row(alloc, unit.as_str(), "masked")?;
         rows.push(row)?;
+    }
+    Ok(())
+}
+
+fn push_failed(
+    alloc: Global,
+    rows: &mut Vec<Row>,
+    faults: &[TargetFault],
+) -> Result<(), AllocError> {
+    for fault in faults {
+        if fault.fails_to_load() {
+            let row = plain_row(alloc, fault.target.as_str(), FAILS_TO_LOAD)?;
+            rows.push(row)?;
+        }
     }
     Ok(())
 }

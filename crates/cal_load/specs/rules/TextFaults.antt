@@ -1,5 +1,5 @@
 -- Why the files of a timer can't be loaded: systemd.syntax(7) and systemd.timer(5), OnCalendar=.
-use Rattle.std.specs.Prelude.{◌≡◌, ⊤, ◌+◌, ◌≤◌, ◌^◌, ℕ, false, List, [], ◌∷◌, ◌++◌, Some, length, slice_get, string_bytes}
+use Rattle.std.specs.Prelude.{◌≡◌, ⊤, ◌+◌, ◌≤◌, ◌^◌, ℕ, Bool, false, true, List, [], ◌∷◌, ◌++◌, Some, length, slice_get, string_bytes}
 use Rattle.std.specs.List.{Contains, find}
 use Rattle.std.specs.Str.{IsUtf8}
 use Rattle.cal_machine.specs.rules.Machine.{Machine}
@@ -144,3 +144,16 @@ IsTextReason machine files (ExpressionZone zone reason) = ⊥
 abbrev pub IsTextFault : Machine → List UnitText → TargetLoadFault → Type 0
 IsTextFault machine files (faults.TheVariants.Target reason) = IsTextReason machine files reason
 IsTextFault machine files faults.TheVariants.NoMemory = ⊤
+
+-- whether the files of a timer were read, but the timer fails to load because of what they say
+abbrev pub fails_to_load : TargetReason → Bool
+fails_to_load NotFound = false
+fails_to_load Template = false
+fails_to_load TooManyAliases = false
+fails_to_load (Path place why) = false
+fails_to_load (NotUtf8 place) = true
+fails_to_load (Line place line fault) = true
+fails_to_load NothingToDo = true
+fails_to_load (Zone place line zone reason) = false
+fails_to_load (Expression fault) = false
+fails_to_load (ExpressionZone zone reason) = false
