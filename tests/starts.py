@@ -1,5 +1,5 @@
 #!/usr/bin/env python3
-"""Compares which timers calendar-timers takes without targets with those that systemd starts.
+"""Checks that calendar-timers, without targets, lists the timers that systemd starts.
 
     tests/starts.py [TIMERS]
 
@@ -13,19 +13,19 @@ Without TIMERS, the rules are compared with systemd and systemctl.
 
 A tree has wants and requires folders, and in them links with any target, masks, files and folders; and timers with
 several files, masks in every form, aliases, templates, and instances with and without files of their own. systemd
-counts the folders of units that it starts, and calendar-timers those of all units. So timers.target starts the units
-that have folders here. Four things are left out, since calendar-timers differs there:
+reads the wants folders of units that it starts, and calendar-timers those of all units. So in these trees,
+timers.target starts every unit that has a folder. Four things are left out, since calendar-timers differs there:
 
-- To calendar-timers, a folder stands by itself, whatever other folders the unit has. So in folders of several units,
-  such as `target.wants`, there are only links that aren't masks, and what one of these units masks, another one
-  starts.
+- calendar-timers looks at each folder by itself: a mask in `a.target.wants` doesn't hide a link in `target.wants`. So
+  in folders of several units, such as `target.wants`, there are only links that aren't masks, and what one of these
+  units masks, another one starts.
 - A template is in no folder of several units, where it would stand for several instances, and in none of an alias,
   where systemd would take the instance from the unit's own name.
 - A requires folder names only timers that can be loaded. Otherwise, systemd might not start the unit that has the
   folder.
 - No alias leads to a template one of whose instances has a file or an alias of its own. See docs/DECISIONS.md.
 
-The last line is 'N passed, M failed', one for each tree, and the status is 1 if one failed. If systemd isn't
+The last line is 'N passed, M failed', which counts trees, and the status is 1 if one failed. If systemd isn't
 installed or can't be run as another user than root, the script says so, and ', 1 skipped' follows."""
 
 import json
@@ -41,7 +41,7 @@ import tempfile
 sys.dont_write_bytecode = True
 sys.path.insert(0, f"{os.path.dirname(os.path.realpath(__file__))}/lib")
 import unit_trees
-from unit_trees import MASKS, instance, is_followed, kind, may_lead, template, unit_of
+from unit_trees import MASKS, destination, instance, is_followed, kind, may_lead, template, unit_of
 
 TREES = 400
 # Folders of the usual search path, which `systemctl --root` has. For it, only links below those of `CONFIGURED` count.
@@ -82,8 +82,9 @@ WITHOUT_FILES = ["gone", "t@gone", "gone@i"]
 NOISE = [".foo.timer", "foo.timer~", "foo.timer.bak", "foo", "job.service", "f o.timer", "@i.timer", "foo.timer.wants"]
 NAME = re.compile(r"([\w:\\-][\w:.\\@-]*)\.timer", re.A)
 JOB = re.compile(r"^\t\tAction: (\S+)\.timer -> start$", re.M)
-# The note of a unit by the output of `systemctl is-enabled`: first if all links that start it count for systemctl, and
-# then if some don't, which are in other folders or have the name of an alias. None if the unit isn't listed.
+# The notes that a unit can have, by the output of `systemctl is-enabled`: the first if systemctl counts all links that
+# start it, and the second if it doesn't count some, since they are in other folders or have the name of an alias. None
+# if the unit isn't listed.
 NOTES = {
     "enabled": ("started", "started"),
     "enabled-runtime": ("started", "started"),
@@ -136,8 +137,8 @@ class Tree(unit_trees.Tree):
         os.symlink(target, f"{folder}/{stem}.timer")
 
     def link_folder(self, chance, folder):
-        """Makes a folder of a unit a link: absolute, or relative and right from the folder that has it, from the root
-        folder of the machine, or from both."""
+        """Makes a folder of a unit a link: an absolute one, or a relative one that leads to a folder from where the link is,
+        from the root folder of the machine, or from both."""
         parent, place = os.path.dirname(folder), f"{self.root}/store/{os.path.basename(folder)}"
         os.makedirs(place, exist_ok=True)
         if not os.path.lexists(folder):
@@ -247,13 +248,26 @@ def entries(tree):
                     yield name.rpartition(".")[0], stem[1], f"{folder}/{name}/{entry}"
 
 
+def entries_of_links(tree):
+    """Yields the entries of units' folders that are links, each as the unit's name and the stem. With another root folder,
+    others of these folders are read."""
+    for folder in tree.folders:
+        for name in filter(lambda name: name.endswith((".wants", ".requires")), os.listdir(folder)):
+            path = f"{folder}/{name}"
+            for stem in map(NAME.fullmatch, os.listdir(path) if os.path.islink(path) and os.path.isdir(path) else []):
+                if stem:
+                    yield name.rpartition(".")[0], stem[1]
+
+
 def is_start(path):
     return os.path.islink(path) and not is_mask(path)
 
 
 def listed_stems(tree):
-    """Returns the stems of the timers that have files or aliases, and of those that are started."""
-    found = {name[1] for folder in tree.folders for name in map(NAME.fullmatch, os.listdir(folder)) if name}
+    """Returns the stems of the timers that have files or aliases, and of those that are started. What can be neither is no
+    timer by itself: it may have the name of an instance whose template is used instead."""
+    names = {name[1] for folder in tree.folders for name in map(NAME.fullmatch, os.listdir(folder)) if name}
+    found = {stem for stem in names if any(destination(tree, stem))}
     found |= {stem_started(owner, stem) for owner, stem, path in entries(tree) if is_start(path)}
     return sorted(stem for stem in found if kind(stem) != "template")
 
@@ -306,12 +320,13 @@ def can_run_systemd():
 
 def notes_by_systemctl(tree):
     """Returns the notes that follow from what systemctl says."""
-    notes, left_out, uncounted = {}, set(), set()
+    notes, uncounted = {}, set()
+    # systemctl neither follows a link to a folder nor looks at where the links in a folder lead.
+    left_out = {own(tree, stem_started(owner, stem)) for owner, stem in entries_of_links(tree)}
     for owner, stem, path in entries(tree):
         folder = os.path.dirname(path)
         name = own(tree, stem_started(owner, stem))
-        # systemctl neither looks at where a link leads nor follows a link to a folder.
-        if os.path.islink(folder) or not is_start(path):
+        if not is_start(path):
             left_out.add(name)
         elif name != stem or os.path.relpath(os.path.dirname(folder), tree.root) not in CONFIGURED:
             uncounted.add(name)
@@ -327,8 +342,8 @@ def notes_by_systemctl(tree):
 
 
 def is_clear(tree, stem):
-    """Returns whether a unit has something that systemctl and systemd can't but agree about: a single thing under its
-    name and that of its template, or only files and masks."""
+    """Returns whether systemctl and systemd must agree about a unit: there is a single thing under its name and that of
+    its template, or only files and masks."""
     paths = [f"{folder}/{name}.timer" for folder in tree.folders for name in [stem, template(stem)] if name]
     paths = [path for path in paths if os.path.lexists(path)]
     are_plain = all(is_mask(path) or os.path.isfile(path) and not os.path.islink(path) for path in paths)

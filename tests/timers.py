@@ -15,7 +15,7 @@ PROGRAM is calendar-analyze, and TIMERS is calendar-timers.
 - `list` finds units in exactly the folders that `systemd-analyze unit-paths` prints, and of several with one name the one
   in the first folder, for the system and for users, with ten settings of SYSTEMD_UNIT_PATH, HOME and the XDG variables.
 - A thousand units take less than twenty times as long as a hundred.
-- A reader that goes away ends the program quietly, and a full device is reported.
+- A reader that goes away and a full device are reported.
 - The timers of this machine are listed, if it has some.
 
 What needs systemd-analyze is skipped if it is missing. The last line is 'N passed, M failed', with ', K skipped' if some were,
@@ -238,7 +238,7 @@ class Tests:
         command = f"{self.timers} next -n 100000 --utc --now=@{NOW} '*:*:*' 2> {self.scratch}/said | head -n 1"
         ended = run(["sh", "-c", command])
         with open(f"{self.scratch}/said") as file:
-            self.expect("a reader that goes away", (ended.stdout, file.read()), ("*:*:*\n", ""))
+            self.expect("a reader that goes away", (ended.stdout, file.read()), ("*:*:*\n", "calendar-timers: output failed\n"))
         with open("/dev/full", "w") as full:
             ended = run([self.timers, "next", "--utc", "daily"], stdout=full)
         self.expect("a full device", (ended.returncode, ended.stderr), (1, "calendar-timers: output failed\n"))

@@ -19,8 +19,8 @@ MASKS = [
 
 
 class Tree:
-    """A folder with the folders of a search path, given below it and the most important first. systemd runs in
-    `working_folder`."""
+    """A root folder with the folders of a search path. `search_path` has their paths below the root, the most important
+    first. systemd runs in `working_folder`."""
 
     def __init__(self, root, search_path):
         self.root = self.working_folder = os.path.realpath(root)
@@ -38,7 +38,7 @@ class Tree:
             file.write(text)
 
     def mask(self, chance, folder, stem):
-        """Masks the unit with this stem, by what is in this folder."""
+        """Adds a mask of the unit with this stem to the folder."""
         target = chance.choice(MASKS)
         if target is None or (target == "empty.timer" and "@" in stem):
             self.write(f"{folder}/{stem}.timer", "")
@@ -67,7 +67,7 @@ def instance(stem):
 
 
 def kind(stem):
-    """Returns whether a stem is that of a plain unit, a template or an instance."""
+    """Returns the kind of a stem: 'plain', 'template' or 'instance'."""
     return "plain" if "@" not in stem else "instance" if instance(stem) else "template"
 
 
@@ -82,8 +82,8 @@ def may_lead(stem, name):
 
 
 def destination(tree, stem):
-    """Returns the first path of a file with this stem, or the stem of which it is an alias. What can be neither is
-    skipped."""
+    """Returns the path of the first file with this stem, and None; or None and the stem of which this one is an alias.
+    What is neither is skipped."""
     for folder in tree.folders:
         path = f"{folder}/{stem}.timer"
         if os.path.islink(path):
@@ -124,8 +124,8 @@ def unit_of(tree, stem):
 
 
 def is_followed(tree, folder):
-    """Returns whether a folder of drop-ins, or of links to units, is read. The target of a relative link has to be
-    right from the folder in which systemd runs, too."""
+    """Returns whether a folder of drop-ins, or of links to units, is read. A relative link must also lead to a folder
+    from the folder in which systemd runs."""
     if os.path.islink(folder) and not os.path.isdir(os.path.join(tree.working_folder, os.readlink(folder))):
         return False
     return os.path.isdir(folder)

@@ -1,6 +1,6 @@
 -- Lemmas on the zones that a range names.
-use Rattle.std.proofs.Common.{◌≡◌, ◌∙◌, ◌∷◌, ℕ, false, List, [], map, string_bytes, sym}
-use Rattle.std.specs.Prelude.{◌||◌, is_some, String}
+use Rattle.std.proofs.Common.{◌≡◌, ◌∙◌, ◌∷◌, ℕ, false, true, List, [], Result, Ok, Err, IfOk, map, string_bytes, subst, sym}
+use Rattle.std.specs.Prelude.{◌||◌, IfErr, is_some, String}
 use Rattle.std.specs.FinMap.{empty, get-empty}
 use Rattle.std.specs.List.{list_any}
 use Rattle.std.specs.Str.{bytes_eq}
@@ -13,16 +13,29 @@ use Rattle.cal_civil.specs.rules.ZoneName.{is_utc_name}
 use Rattle.cal_machine.specs.rules.Machine.{Machine}
 use Rattle.cal_zone.specs.rules.ZoneTable.{ZoneMap, zone_named}
 use Rattle.cal_zone_files.specs.declared.fault.FileReason.{FileReason}
-use Rattle.cal_zone_files.specs.rules.ZoneFiles.{HasZonesOf, IsReasonOn}
-use Rattle.cal_answers.proofs.LocalClockLemmas.{has_single}
-
--- a table that was loaded for a single name doesn't lack its zone
-pub has_loaded : (machine : Machine) (table : ZoneMap) (name : List ℕ) (names : List (String Global)) → map string_bytes names ≡ name ∷ []
-    → is_some (zone_named table name) ≡ (is_utc_name name || list_any (bytes_eq name) (map string_bytes names))
-    → is_some (zone_named table name) ≡ false → (reason : FileReason) × IsReasonOn machine name reason
-has_loaded machine table name names single has lacks = absurd (false≢true (sym lacks ∙ has_single table name names single has))
+use Rattle.cal_zone_files.specs.declared.fault.ZonesFault.{ZonesFault}
+use Rattle.cal_zone_files.specs.rules.ZoneFiles.{HasZonesOf, IsFirstError, IsReasonOn}
+use Rattle.cal_answers.proofs.LocalClockLemmas.{has_single, unusable_name}
+use Rattle.cal_answers.specs.rules.RangeZones.{IsTableOf}
 
 -- a table without names has only zones of the machine
 pub none_has : (machine : Machine) → HasZonesOf machine empty
 unfolding zone_named
 none_has machine name other = rw (other, get-empty {X = TimeZone} (slice_cmp nat_cmp) name) tt
+
+-- a table that was loaded, or has only UTC, has only zones of the machine
+pub zones_of_table : (machine : Machine) (Shows : Machine → Type 0) (loaded : Result ZoneMap ZonesFault) (table : ZoneMap) → IsTableOf loaded table
+    → IfOk loaded (λ found. (machine : Machine) → Shows machine → HasZonesOf machine found) → Shows machine → HasZonesOf machine table
+zones_of_table machine Shows (Ok found) table same zones shows = subst (HasZonesOf machine) (sym same) (zones machine shows)
+zones_of_table machine Shows (Err fault) table (other, same) zones shows = subst (HasZonesOf machine) (sym same) (none_has machine)
+
+-- a table that was loaded for a single name lacks it only if its file can't be used
+pub reason_of_lack : (machine : Machine) (Shows : Machine → Type 0) (loaded : Result ZoneMap ZonesFault) (table : ZoneMap) (name : List ℕ) (names : List (String Global))
+    → map string_bytes names ≡ name ∷ [] → IsTableOf loaded table
+    → IfOk loaded (λ found. (other : List ℕ) → is_some (zone_named found other) ≡ (is_utc_name other || list_any (bytes_eq other) (map string_bytes names)))
+    → IfErr loaded (λ fault. (machine : Machine) → Shows machine → IsFirstError machine (map string_bytes names) fault)
+    → Shows machine → is_some (zone_named table name) ≡ false → (reason : FileReason) × IsReasonOn machine name reason
+reason_of_lack machine Shows (Ok found) table name names single same has first shows lacks =
+    absurd (false≢true (sym lacks ∙ subst (λ table. is_some (zone_named table name) ≡ true) (sym same) (has_single found name names single (has name))))
+reason_of_lack machine Shows (Err fault) table name names single (other, same) has first shows lacks =
+    unusable_name machine name names fault single other (first machine shows)

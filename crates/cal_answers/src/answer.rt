@@ -46,7 +46,7 @@ pub struct Answer {
 pub(crate) struct Asked<'a> {
     /// The present and the local zone.
     pub at: Clocked<'a>,
-    /// The present, and as `local` the zone in which times are shown and FROM and TO are read.
+    /// The present, and as `local` the zone in which times are shown, and FROM and TO read unless they name a zone.
     pub shown: Clocked<'a>,
     /// The zones that FROM and TO can name.
     pub range: &'a RangeZones,

@@ -6,7 +6,7 @@ ghost use Rattle.cal_machine.specs.rules.Machine.{Machine};
 ghost use Rattle.cal_zone.specs.rules.ZoneTable.{zone_named};
 ghost use Rattle.cal_zone_files.specs.declared.fault.FileReason.{FileReason};
 ghost use Rattle.cal_zone_files.specs.rules.ZoneFiles.{HasZonesOf, IsReasonOn};
-ghost use Rattle.cal_answers.specs.rules.RangeZones.{AreRangeZones, HasZoneAtEnd, last_part, range_text, text_or_none};
+ghost use Rattle.cal_answers.specs.rules.RangeZones.{AreRangeZones, HasZoneAtEnd, IsTableOf, last_part, range_text, text_or_none};
 
 use crate::local_clock::only;
 use cal_bytes::last_word;
@@ -71,32 +71,41 @@ fn zone_at_end<T: Tree>(alloc: Global, tree: &mut T, text: &str) -> Result<ZoneT
     let Some(name) = name_at_end(text) else {
         return Ok(ZoneTable::new(alloc));
     };
-    zone_if_usable(alloc, tree, name.as_str())
+    let table = zone_if_usable(alloc, tree, name.as_str())?;
+    Ok(table)
 }
 
 /// Returns the last word of the text if it has the form of a zone's name and isn't the only word.
+#[tactic(auto, unfolding(cal_civil::specs::rules::ZoneName::is_zone_name))]
 fn name_at_end(text: &str) -> Option<ZoneName<'_>>
     ensures { MatchOption result
         (is_zone_name (last_part text.now) ≡ false)
         (λ name. name.text.now ≡ last_part text.now) }
 {
-    let (_, word) = last_word(text)?;
+    let Some((_, word)) = last_word(text) else {
+        return None;
+    };
     ZoneName::new(word)
 }
 
 /// Loads the zone of this name, unless its file can't be used.
-fn zone_if_usable<T: Tree>(
-    alloc: Global,
-    tree: &mut T,
-    name: &str,
-) -> Result<ZoneTable, AllocError>
+fn zone_if_usable<T: Tree>(alloc: Global, tree: &mut T, name: &str) -> Result<ZoneTable, AllocError>
     ensures known { IfOk result (λ table. (machine : Machine) → T.shows tree.new machine → HasZonesOf machine table) }
     ensures zone { IfOk result (λ table. (machine : Machine) → T.shows tree.new machine
         → is_some (zone_named table name.now) ≡ false → (reason : FileReason) × IsReasonOn machine name.now reason) }
     ensures grows { (machine : Machine) → T.shows tree.new machine → T.shows tree.old machine }
 {
     let names = only(alloc, name)?;
-    match load_zones(alloc, tree, names.as_slice()) {
+    let loaded = load_zones(alloc, tree, names.as_slice());
+    let table = table_of(alloc, loaded)?;
+    Ok(table)
+}
+
+/// Returns the table that was loaded, or a table with only UTC if loading failed, but not for want of memory.
+fn table_of(alloc: Global, loaded: Result<ZoneTable, ZonesFault>) -> Result<ZoneTable, AllocError>
+    ensures { IfOk result (IsTableOf loaded) }
+{
+    match loaded {
         Ok(table) => Ok(table),
         Err(ZonesFault::NoMemory) => Err(AllocError),
         Err(_) => Ok(ZoneTable::new(alloc)),

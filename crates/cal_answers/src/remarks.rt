@@ -42,16 +42,18 @@ fn first_unknown<'q>(question: &'q Question, loaded: &LoadedByVerb) -> Option<&'
         return None;
     };
     let first = question.targets.first()?.as_str();
-    let is_unknown = timers
-        .faults
-        .iter()
-        .any(|fault| matches!(fault.reason, TargetReason::NotFound) && fault.target.as_str() == first);
+    let is_unknown = timers.faults.iter().any(|fault| matches!(fault.reason, TargetReason::NotFound)
+        && fault.target.as_str() == first);
     if is_unknown { Some(first) } else { None }
 }
 
 /// For verbs that show times, adds a line if the local zone is UTC only because `/etc/localtime` doesn't lead to a zone
 /// file.
-pub(crate) fn with_zone_note(verb: Verb, local: &LocalClock, answer: Answer) -> Result<Answer, AllocError>
+pub(crate) fn with_zone_note(
+    verb: Verb,
+    local: &LocalClock,
+    answer: Answer,
+) -> Result<Answer, AllocError>
     ensures { IfOk result (λ changed. changed.status ≡ answer.status) }
 {
     if matches!(verb, Verb::Lint) || !matches!(local, LocalClock::Assumed) {
@@ -66,8 +68,8 @@ pub(crate) fn with_zone_note(verb: Verb, local: &LocalClock, answer: Answer) -> 
     Ok(Answer { out, err, status })
 }
 
-/// Adds an error line for each target if loading the targets found nothing at all: then they are folders without timers.
-/// Changes nothing if the question can't be answered.
+/// Adds an error line for each target if loading the targets found nothing at all, and none of them ends in `.conf`: then
+/// they are folders without timers. Changes nothing if the question can't be answered.
 pub(crate) fn with_empty_folders(
     question: &Question,
     loaded: &LoadedByVerb,

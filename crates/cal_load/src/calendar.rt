@@ -54,7 +54,7 @@ impl Calendar {
         self.lines.as_slice()
     }
 
-    /// Returns the exceptions. Expressions that were given by themselves have none.
+    /// Returns the exceptions. A timer that was made of expressions has none.
     pub(crate) fn exceptions(&self) -> &[TimerLine]
         ensures { map shown result.now ≡ exceptions_in self.now }
     {
@@ -63,7 +63,8 @@ impl Calendar {
 }
 
 /// Reads the expressions and exceptions in the sections `Timer` of these texts. As in systemd, a line with an invalid
-/// expression is ignored, and so is a line with an invalid exception. Fails only if allocation fails.
+/// expression is ignored. So is one with an invalid exception, though systemd reads no exceptions. Fails only if
+/// allocation fails.
 pub(crate) fn read_calendar(
     alloc: Global,
     texts: &[NumberedText<'_>],
@@ -98,7 +99,8 @@ fn read_text(
     Ok(())
 }
 
-/// Applies one more assignment, which can add to one of the lists, clear one of them, or be ignored.
+/// Applies one more assignment: it adds to a list, clears a list, is recorded as ignored, or has no effect because of its
+/// key.
 fn read_assignment(
     alloc: Global,
     read: &mut CalendarLines,

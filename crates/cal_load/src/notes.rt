@@ -22,8 +22,8 @@ const DEFAULT_ACCURACY: u64 = 60_000_000;
 const SUFFIX: &str = ".timer";
 
 /// Returns the assignments in the sections `Timer` of these texts that are noted for the timer with this name. `name`
-/// is the name of a unit, or the path of a file that is read by itself: then the timer's own name is the end of the
-/// path.
+/// is the name of a unit, or the path of a file that is read by itself: then the timer's own name is the part after the
+/// last slash.
 ///
 /// Assignments that systemd ignores don't count. Every `OnActiveSec=`, `OnBootSec=`, `OnStartupSec=`,
 /// `OnUnitActiveSec=` and `OnUnitInactiveSec=` is returned, but an empty value of one of these keys, or of
@@ -52,7 +52,8 @@ pub(crate) fn notes_of(
     Ok(notes)
 }
 
-/// Returns the assignments in these texts that systemd takes and that no later assignment undoes.
+/// Returns the assignments in these texts with a key that can be noted and a value that systemd accepts, except those
+/// that a later assignment undoes.
 fn kept_of(alloc: Global, texts: &[NumberedText<'_>]) -> Result<Vec<OwnedAssignment>, AllocError>
     requires { All (λ text. text.first + length text.text.now < 2 ^ 32) texts.now }
     ensures { IfOk result (λ kept. map shown_owned_assignment kept.items ≡ kept_in (assignments_of texts.now)) }
@@ -143,7 +144,7 @@ fn replaces(assignment: &OwnedAssignment) -> bool
     last_counts(kind_of(assignment.key.as_str())) && is_taken(assignment)
 }
 
-/// Returns whether the last setting of this kind replaces those before it.
+/// Returns whether, of several assignments with one key of this kind, only the last counts.
 fn last_counts(kind: Option<SettingKind>) -> bool
     ensures { result ≡ last_counts kind }
 {
@@ -156,7 +157,7 @@ fn last_counts(kind: Option<SettingKind>) -> bool
     }
 }
 
-/// Returns whether systemd takes the assignment.
+/// Returns whether the assignment has a key that can be noted and a value that systemd accepts.
 #[tactic(auto, unfolding(crate::specs::rules::Notes::is_taken))]
 fn is_taken(assignment: &OwnedAssignment) -> bool
     ensures { result ≡ is_taken (shown_owned_assignment assignment.now) }
@@ -184,7 +185,7 @@ fn parts_of(alloc: Global, path: &str) -> Result<Vec<&str>, AllocError>
     path.split('/').collect(alloc)
 }
 
-/// Removes the assignments that change nothing for the timer with the name `own`.
+/// Removes the assignments that aren't noted for the timer with the name `own`.
 fn retain_noted(alloc: Global, own: &str, kept: &mut Vec<OwnedAssignment>) -> Result<(), AllocError>
     ensures { OnOk result (map shown_owned_assignment kept.new.items
         ≡ noted_of own.now (map shown_owned_assignment kept.old.items)) }
@@ -239,8 +240,8 @@ fn is_started(key: &str) -> bool
     matches!(kind_of(key), Some(SettingKind::Started))
 }
 
-/// Returns whether a kept assignment changes anything, if the timer starts the unit `service` by default, and `unit` is
-/// the line whose `Unit=` counts.
+/// Returns whether a kept assignment is noted, if the timer starts the unit `service` by default, and `unit` is the line
+/// whose `Unit=` counts.
 #[tactic(auto, unfolding(crate::specs::rules::Notes::is_noted))]
 fn is_noted(service: &str, unit: Option<u32>, assignment: &OwnedAssignment) -> bool
     ensures { result ≡ is_noted service.now unit (shown_owned_assignment assignment.now) }

@@ -38,16 +38,16 @@ const UNIT_SUFFIXES: [&[u8]; 11] = [
 /// The maximum length of a unit's name with its suffix, in bytes.
 const MAX_NAME: usize = 255;
 
-/// A kind of settings that are noted for a timer.
+/// A kind of setting that can be noted for a timer.
 #[derive(Clone, Copy, PartialEq, Eq, Debug)]
 pub(crate) enum SettingKind {
-    /// After what time the unit starts: `OnBootSec=` and the other monotonic timers. The value is a time span.
+    /// How long after an event, such as boot, the unit starts: `OnBootSec=` and the other monotonic timers. The value is a time span.
     Monotonic,
     /// Whether a change of the clock or of the time zone starts the unit. The value is a boolean.
     Change,
     /// Whether a missed start is made up for, and whether a random delay is always the same. The value is a boolean.
     Switch,
-    /// How long a start is delayed at most. The value is a time span.
+    /// The maximum random delay of a start. The value is a time span.
     Delay,
     /// How accurate the time of a start is. The value is a time span.
     Accuracy,
@@ -182,8 +182,8 @@ fn is_span_over(least: u64, value: &str) -> bool
     }
 }
 
-/// Returns whether `name` is the name of a unit, also of a template: it has the suffix of a unit, doesn't begin with
-/// this suffix or with `@`, has only letters, digits and `:-_.\@`, and has at most 255 bytes.
+/// Returns whether `name` is the name of a unit or a template: it ends in the suffix of a unit and has something before
+/// it, doesn't begin with `@`, has only ASCII letters, digits and `:-_.\@`, and has at most 255 bytes.
 #[tactic(auto, unfolding(crate::specs::rules::Notes::is_unit_name))]
 fn is_unit_name(name: &str) -> bool
     ensures { result ≡ is_unit_name name.now }

@@ -230,7 +230,7 @@ fn timer_from_files<T: Tree>(
     })
 }
 
-/// Parses the files of the timer with this name. Fails if nothing starts its unit.
+/// Parses the files of the timer with this name. Fails if nothing starts its unit, or if a file isn't UTF-8 or too large.
 fn parse_files(
     alloc: Global,
     name: &str,

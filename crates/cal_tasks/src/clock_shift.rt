@@ -12,7 +12,7 @@ use crate::clock_note::ClockChange;
 use crate::shown::local_shown;
 use cal_zone::{Instant, Zone, place};
 
-/// The local seconds between what a zone's clock shows up to a change and what it shows from the change on.
+/// The gap or the fold of a change of a zone, as a range of local seconds.
 #[derive(Clone, Copy)]
 pub(crate) struct ClockShift {
     /// The first of these local seconds.
@@ -57,8 +57,8 @@ fn shown_unchanged(zone: Zone<'_>, change: Instant) -> i64
     local_shown(zone, before) + 1
 }
 
-/// Returns whether a change skips `local`, if it sets the clock forward, or repeats it, if it sets the clock back.
-/// `local` must be one of the local seconds of `shift`, which are those of this change.
+/// Returns whether the change skips or repeats `local`, by the kind of `shift`. `shift` must be that of this change, and
+/// `local` must be in it.
 pub(crate) fn is_changed(zone: Zone<'_>, change: Instant, shift: ClockShift, local: i64) -> bool
     requires shift { IsShiftOf (zone_of zone) change.secs shift }
     requires local { IsLocalSecond local }

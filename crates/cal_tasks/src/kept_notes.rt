@@ -11,11 +11,11 @@ use std::alloc::AllocError;
 /// The maximum number of notes about clock changes for one timer.
 pub(crate) const MAX_NOTES: usize = 16;
 
-/// The number of notes that are kept: one more, since this shows that there are more.
+/// The number of notes that are kept: one more than are returned, to know whether there are more.
 const MAX_KEPT: usize = MAX_NOTES + 1;
 
-/// Adds a note, unless it's already there, or there are 17 notes and none of them is later. If there are 17 notes, the
-/// latest one is removed.
+/// Adds a note, unless it's already there, or there are 17 notes and none of them is later. If there are 17 notes and one
+/// of them is later, the note replaces the latest one.
 pub(crate) fn keep(notes: &mut Vec<ClockNote>, note: ClockNote) -> Result<(), AllocError>
     ensures { OnOk result (Keeps notes.old.items note notes.new.items) }
 {
@@ -38,7 +38,7 @@ pub(crate) fn are_enough(notes: &[ClockNote], local: i64) -> bool
     notes.len() >= MAX_KEPT && notes.iter().all(|note| note.local <= local)
 }
 
-/// Returns the index of a note than which no note is later.
+/// Returns the index of a note with the latest local time.
 fn latest_of(notes: &[ClockNote]) -> usize
     requires { 0 < length notes.now }
     ensures { IsLatest notes.now result }

@@ -29,10 +29,10 @@ use cal_zone::{Instant, Setting, Zone};
 use std::alloc::{AllocError, Global};
 
 /// Returns the local times that an expression of the timer matches and that one of the next two changes of the
-/// expression's zone skips or repeats: each once, earliest first, and at most 16 of them.
+/// expression's zone skips or repeats: each once for each zone, in the order of local times, and at most 16 of them.
 ///
 /// A change of a zone is an instant at which its UTC offset isn't the one a second before. The change after the present
-/// is searched for on at most 1,096 days (three years), and the one after it on as many. If an offset lasts less than
+/// is searched for within 1,096 days (three years), and the one after it within 1,096 days of the first. If an offset lasts less than
 /// a day, its changes may not be found. No note about a change that is found is missing, up to the limit of 16.
 ///
 /// Fails with [`PlanFault::NoSuchZone`] if an expression names a zone that wasn't loaded, and with
@@ -80,7 +80,7 @@ fn sort_notes(notes: &mut Vec<ClockNote>)
     notes.sort_unstable_by_key(|note| (note.local, note.zone));
 }
 
-/// Returns the 17 earliest notes about all expressions, in any order.
+/// Returns the earliest notes about all expressions, at most 17, in any order.
 fn notes_of_lines(
     alloc: Global,
     setting: Setting<'_>,
@@ -132,7 +132,7 @@ fn names_same_zone(one: &TimerLine, other: &TimerLine) -> bool
     }
 }
 
-/// Adds notes about the next two changes of a zone. `zone_index` is the zone in the new notes.
+/// Adds notes about the next two changes of a zone. `zone_index` is the field `zone` of the new notes.
 fn add_notes(
     notes: &mut Vec<ClockNote>,
     masks: &Masks,

@@ -18,8 +18,8 @@ const DAY_SECONDS: u32 = 86_400;
 /// before.
 ///
 /// The offset at `after` is compared with the offsets one day after it, two days after it, and so on, up to 1,096 days
-/// (three years). Returns `None` if they are all the same, as they are in a zone without changes. So if an offset
-/// lasts less than a day, its changes may not be found.
+/// (three years) or to the end of 2199. Returns `None` if they are all the same, as they are in a zone without changes.
+/// So if an offset lasts less than a day, its changes may not be found.
 pub(crate) fn next_change(zone: Zone<'_>, after: Instant) -> Option<Instant>
     ensures { IsNextChange (zone_of zone.entry) after.secs (option_map (λ change. change.secs) result) }
 {

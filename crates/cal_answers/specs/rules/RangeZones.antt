@@ -1,5 +1,6 @@
 -- The zones that the start and the end of a range name: systemd.time(7), Parsing Timestamps.
-use Rattle.std.specs.Prelude.{◌≡◌, ℕ, true, false, if◌then◌else◌, List, [], Option, None, Some, is_some, slice_get}
+use Rattle.std.specs.Prelude.{◌≡◌, ◌≢◌, ℕ, true, false, if◌then◌else◌, List, [], Option, None, Some, Result, Ok, Err, is_some, slice_get}
+use Rattle.std.specs.FinMap.{empty}
 use Rattle.std.specs.List.{after_last, list_any}
 use Rattle.cal_bytes.specs.rules.Separators.{is_blank}
 use Rattle.cal_civil.specs.rules.ZoneName.{is_zone_name}
@@ -8,6 +9,8 @@ use Rattle.cal_timers_command.specs.declared.question.Verb.{Verb}
 use Rattle.cal_timers_command.specs.declared.question.Verb.TheVariants as verbs
 use Rattle.cal_zone.specs.rules.ZoneTable.{ZoneMap, zone_named}
 use Rattle.cal_zone_files.specs.declared.fault.FileReason.{FileReason}
+use Rattle.cal_zone_files.specs.declared.fault.ZonesFault.{ZonesFault}
+use Rattle.cal_zone_files.specs.declared.fault.ZonesFault.TheVariants as faults
 use Rattle.cal_zone_files.specs.rules.ZoneFiles.{HasZonesOf, IsReasonOn}
 use Rattle.cal_answers.specs.declared.range_zones.RangeZones.{RangeZones}
 
@@ -39,3 +42,10 @@ range_text verbs.Next targets index = []
 pub record AreRangeZones (machine : Machine) (verb : Verb) (targets : List (List ℕ)) (zones : RangeZones) : Type 0 where
   pub from : HasZoneAtEnd machine (range_text verb targets 0) zones.from
   pub before : HasZoneAtEnd machine (range_text verb targets 1) zones.before
+
+-- ## Steps
+
+-- the table that was loaded, or one with only UTC if loading failed, but not for want of memory
+abbrev pub IsTableOf : Result ZoneMap ZonesFault → ZoneMap → Type 0
+IsTableOf (Ok loaded) table = table ≡ loaded
+IsTableOf (Err fault) table = (fault ≢ faults.NoMemory) × (table ≡ empty)

@@ -74,7 +74,8 @@ expressions_in calendar = map shown calendar.lines.items
 abbrev pub exceptions_in : calendars.Calendar → List (TimerLine Fields)
 exceptions_in calendar = map shown calendar.exceptions.items
 
--- the calendar has those expressions and exceptions of these assignments that are valid, and no others
+-- the calendar has those expressions and exceptions of these assignments that are valid and aren't cleared later, and no
+-- others
 abbrev pub IsCalendarBy : List Assignment → calendars.Calendar → Type 0
 IsCalendarBy assignments calendar =
     (expressions_in calendar ≡ entries_of expr_in (listed assignments))
@@ -83,7 +84,7 @@ IsCalendarBy assignments calendar =
 abbrev pub IsCalendarOf : List UnitText → calendars.Calendar → Type 0
 IsCalendarOf files calendar = IsCalendarBy (assignments_of_files files) calendar
 
--- these assignments start the unit: by a valid expression, or else by another setting
+-- these assignments start the unit: by a valid expression that isn't cleared later, or else by another setting
 abbrev pub IsStarted : List Assignment → Type 0
 IsStarted assignments = entries_of expr_in (listed assignments) ≡ [] → starts_unit assignments ≡ true
 

@@ -1,6 +1,7 @@
 -- Which assignments besides `OnCalendar=` are noted for a timer: those that decide when it starts a unit, and which
--- unit that is (systemd.timer(5), Options). Settings that change nothing are left out.
-use Rattle.std.specs.Prelude.{ℕ, ◌-◌, nat_eq, nat_lt, nat_le, Bool, true, false, filter, find, not, ◌&&◌, ◌||◌, ◌==◌, if◌then◌else◌, List, [], ◌∷◌, ◌++◌, length, Option, Some, None, option_map, Ok, Err, Result, codes}
+-- unit that is (systemd.timer(5), Options). Booleans that are false, a random delay of 0, an accuracy of one minute or
+-- less, and a `Unit=` that names the default service are left out.
+use Rattle.std.specs.Prelude.{ℕ, nat_eq, nat_lt, nat_le, Bool, true, false, filter, find, not, ◌&&◌, ◌||◌, ◌==◌, if◌then◌else◌, List, [], ◌∷◌, ◌++◌, length, Option, Some, None, option_map, Ok, Err, Result, codes}
 use Rattle.std.specs.List.{ends_with, list_all, list_any}
 use Rattle.std.specs.Str.{bytes_eq, str_eq_ignore_ascii_case}
 use Rattle.cal_span.specs.computed.SpanValue.{span_of}
@@ -60,7 +61,7 @@ abbrev pub is_span_over : ℕ → Result ℕ SpanFault → Bool
 is_span_over least (Ok micros) = nat_lt least micros
 is_span_over least (Err fault) = false
 
--- whether the value is a time span of more than so many microseconds; `infinity` is longer than all others
+-- whether the value is a time span of more than `least` microseconds; `infinity` is longer than all others
 abbrev pub is_longer : ℕ → List ℕ → Bool
 is_longer least value = is_infinity value || is_span_over least (span_of value)
 
@@ -80,7 +81,7 @@ is_before_suffix name suffix = nat_lt (length suffix) (length name) && ends_with
 unfoldable pub has_unit_suffix : List ℕ → Bool
 has_unit_suffix name = list_any (is_before_suffix name) unit_suffixes
 
--- whether the value is the name of a unit (systemd.unit(5), Description), also of a template
+-- whether the value is the name of a unit or of a template (systemd.unit(5), Description)
 unfoldable pub is_unit_name : List ℕ → Bool
 is_unit_name name =
     nat_le (length name) max_name
@@ -120,11 +121,12 @@ unfoldable pub replaces : Assignment → Bool
 replaces a = last_counts (kind_of a.key) && is_taken a
 
 -- whether the assignment `later` undoes `a`, which comes before it: an empty value of `OnCalendar=` or of a monotonic
--- timer undoes all monotonic timers
+-- timer undoes all monotonic timers, and a valid value of a key whose last value counts undoes those before it
 unfoldable pub undoes : Assignment → Assignment → Bool
 undoes later a = (is_reset later && is_monotonic (kind_of a.key)) || (replaces later && bytes_eq a.key later.key)
 
--- the assignments that systemd takes and that no later assignment undoes, in order; each valid `Unit=` is among them
+-- the assignments with a key that can be noted and a value that systemd accepts, except those that a later assignment
+-- undoes, in order; each valid `Unit=` is among them
 unfoldable pub kept_in : List Assignment → List Assignment
 kept_in [] = []
 kept_in (a ∷ after) =
@@ -145,7 +147,7 @@ starts_unit assignments = list_any starts (kept_in assignments)
 
 -- ## Notes
 
--- the name of the unit that a timer starts without `Unit=`
+-- the name of the unit that a timer starts if it has no `Unit=`
 abbrev pub service_of : List ℕ → List ℕ
 service_of own = without_suffix own ++ codes ".service"
 
@@ -153,7 +155,7 @@ abbrev pub is_started : Option SettingKind → Bool
 is_started (Some Started) = true
 is_started _ = false
 
--- whether the assignment is one of `Unit=` that doesn't name the timer `own` itself; systemd ignores one that does
+-- whether the assignment is a `Unit=` that doesn't name the timer `own` itself; systemd ignores one that does
 unfoldable pub names_unit : List ℕ → Assignment → Bool
 names_unit own a = is_started (kind_of a.key) && not (bytes_eq a.value own)
 
@@ -169,7 +171,7 @@ is_at (Some line) number = line == number
 abbrev pub default_accuracy : ℕ
 default_accuracy = 60000000
 
--- whether a setting of this kind changes anything, if the timer starts the unit `service` by default and `unit` is the
+-- whether a setting of this kind is noted, if the timer starts the unit `service` by default and `unit` is the
 -- line whose `Unit=` counts
 abbrev pub is_noted_as : Option SettingKind → List ℕ → Option ℕ → Assignment → Bool
 is_noted_as None service unit a = false
@@ -183,12 +185,12 @@ is_noted_as (Some Started) service unit a = is_at unit a.number && not (bytes_eq
 unfoldable pub is_noted : List ℕ → Option ℕ → Assignment → Bool
 is_noted service unit a = is_noted_as (kind_of a.key) service unit a
 
--- those of the kept assignments that change anything for the timer `own`
+-- those of the kept assignments that are noted for the timer `own`
 unfoldable pub noted_of : List ℕ → List Assignment → List Assignment
 noted_of own kept = filter (is_noted (service_of own) (unit_line own kept)) kept
 
--- The assignments that are noted for a timer, in order. A timer that is a file read by itself has the path of this file
--- for a name, and then the end of the path counts.
+-- The assignments that are noted for a timer, in order. A timer that is a file read by itself is named by its path; its
+-- own name is then the part after the last slash.
 abbrev pub notes_in : List ℕ → List Assignment → List Assignment
 notes_in name assignments = noted_of (last_part name) (kept_in assignments)
 

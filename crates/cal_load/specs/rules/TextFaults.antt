@@ -61,7 +61,8 @@ IsNumberFault files faults.TheVariants.NoMemory = ⊤
 
 -- ## Assignments
 
--- nothing starts the unit: the assignments of files have no valid expression, and no other assignment starts the unit
+-- nothing starts the unit: the files have no valid expression that isn't cleared later, and no other setting starts the
+-- unit
 abbrev pub StartNothing : List UnitText → Type 0
 StartNothing files =
     (entries_of expr_in (listed (assignments_of_files files)) ≡ [])

@@ -31,14 +31,15 @@ IsMatch sets local = IsLocalSecond local × (matches sets (unsigned_abs local) �
 abbrev pub shown_unchanged : TimeZone → ℤ → ℤ
 shown_unchanged tz change = local_shown_at tz (change -ℤ pos 1) +ℤ pos 1
 
--- The change skips `local`: it lies in the gap, which is as long as the clock is set forward, and has no place.
+-- The change skips `local`, which lies in the gap: at or after the time that the clock would have shown, and before the
+-- time that it shows. So `local` has no place.
 pub record IsSkippedBy (tz : TimeZone) (change local : ℤ) : Type 0 where
   pub from : shown_unchanged tz change ≤ℤ local
   pub to : local <ℤ local_shown_at tz change
   pub no_place : place_of tz local ≡ None
 
--- The change repeats `local`: it lies in the fold, which is as long as the clock is set back. The clock shows it at its
--- place, the instant `first` before the change, and again as long after the change as it lies in the fold.
+-- The change repeats `local`, which lies in the fold. The clock shows it first at the instant `first`, before the change,
+-- and again after the change, as many seconds after it as `local` is after the start of the fold.
 pub record IsRepeatedBy (tz : TimeZone) (change local : ℤ) : Type 0 where
   pub from : local_shown_at tz change ≤ℤ local
   pub to : local <ℤ shown_unchanged tz change
@@ -100,8 +101,8 @@ pub record AreNotesOf (at : Setting) (now : ℤ) (lines : List (TimerLine Fields
 abbrev pub by_local : ClockNote → ClockNote → Ordering
 by_local x y = ordering_then (int_cmp x.local y.local) (nat_cmp x.zone y.zone)
 
--- The limit up to which no note is missing among those that are returned: 16 if there are more than these, and otherwise
--- 17. At most 16 are returned, so with the limit 17 none is missing.
+-- The `limit` in the contract of `clock_notes`. If there are more notes than are returned, only notes that aren't earlier
+-- than the 16 others may be missing. Otherwise the limit is 17, which 16 notes never reach, so none may be missing.
 abbrev pub limit_if : Bool → ℕ
 limit_if true = max_notes
 limit_if false = max_notes + 1

@@ -18,7 +18,7 @@ pub record IsZoneChange (tz : TimeZone) (change : ℤ) : Type 0 where
 abbrev pub days_after : ℤ → ℕ → ℤ
 days_after second days = second +ℤ pos (days * seconds_per_day)
 
--- the zone has the same UTC offset as at `after` if a whole number of days has passed since then
+-- this many days after `after`, the zone has the same UTC offset as at `after`
 abbrev pub HasSameOffset : TimeZone → ℤ → ℕ → Type 0
 HasSameOffset tz after days = utc_offset tz (days_after after days) ≡ utc_offset tz after
 
@@ -27,8 +27,8 @@ abbrev pub max_days : ℕ
 max_days = 1_096
 
 -- The change is after `after`, and the UTC offset is the same each day before it, at the time of day of `after`. Or
--- there is none, and the offset is the same each day for `max_days` days. A change whose offset lasts less than a day
--- isn't always the next one in this sense.
+-- there is none, and the offset is the same each day for `max_days` days. If an offset lasts less than a day, the changes
+-- at its start and its end may both be passed over.
 abbrev pub IsNextChange : TimeZone → ℤ → Option ℤ → Type 0
 IsNextChange tz after (Some change) =
     IsZoneChange tz change × (after <ℤ change)

@@ -3,7 +3,6 @@ use Rattle.std.proofs.lemmas.List.{length-map}
 use Rattle.cal_machine.specs.rules.Machine.{Machine}
 use Rattle.cal_timers_command.specs.rules.Questions.{fits_verb}
 use Rattle.cal_unit_index.specs.rules.Index.{IsIndexOf}
-use Rattle.cal_answers.specs.declared.fault.ReadFault.TheVariants.{NoMemory}
 use Rattle.cal_answers.specs.rules.Found.{AreAll, AreLoadedOn, IsIndexFor, needs_units, targets_of}
 use Rattle.cal_answers.specs.rules.RangeZones.{AreRangeZones}
 use Rattle.cal_answers.proofs.FoundLemmas.{known_on, loaded_at}
@@ -38,11 +37,6 @@ pub returns-in_err-path-clause-fault : goal.returns-in_err-path-clause-fault
 returns-in_err-path-clause-fault g c =
     let same : c.from_residual-in_err-path.result ≡ Err c.in_err-path.field-0.0 = search rules in
     rw same (λ other machine shows. inr (inr (inr (c.in_err-path.ensures.fault other machine shows))))
-
-pub returns-in_err-index-clause-fault : goal.returns-in_err-index-clause-fault
-returns-in_err-index-clause-fault g c =
-    let same : c.from_residual-in_err-index.result ≡ Err NoMemory = search rules in
-    rw same (λ other. absurd (other refl))
 
 pub load_by_verb-requires : goal.load_by_verb-requires
 load_by_verb-requires g c =
