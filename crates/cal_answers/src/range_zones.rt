@@ -101,7 +101,7 @@ fn zone_if_usable<T: Tree>(alloc: Global, tree: &mut T, name: &str) -> Result<Zo
     Ok(table)
 }
 
-/// Returns the table that was loaded, or a table with only UTC if loading failed, but not for want of memory.
+/// Returns the table that was loaded. If loading failed, returns a table with only UTC, unless memory ran out.
 fn table_of(alloc: Global, loaded: Result<ZoneTable, ZonesFault>) -> Result<ZoneTable, AllocError>
     ensures { IfOk result (IsTableOf loaded) }
 {

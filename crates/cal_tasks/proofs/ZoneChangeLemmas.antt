@@ -28,7 +28,7 @@ shown_near tz second =
 pub shown_same : (tz : TimeZone) (second other shown local : ℤ) → local_shown_at tz second ≡ shown → other ≡ second → shown ≡ local → local_shown_at tz other ≡ local
 shown_same tz second other shown local is same now = ap (local_shown_at tz) same ∙ is ∙ now
 
--- The UTC offset has been the same each day so far, `days` days after `after`; `from` is that many days after it.
+-- On each day so far, the UTC offset was the one at `after`. `from` is `days` days after `after`.
 pub record IsSameUntil (tz : TimeZone) (after from : ℤ) (days : ℕ) : Type 0 where
   pub at : from ≡ days_after after days
   pub same : (k : ℕ) → k ≤ days → HasSameOffset tz after k

@@ -45,7 +45,7 @@ pub record AreRangeZones (machine : Machine) (verb : Verb) (targets : List (List
 
 -- ## Steps
 
--- the table that was loaded, or one with only UTC if loading failed, but not for want of memory
+-- the table that was loaded; if loading failed, a table with only UTC, unless memory ran out
 abbrev pub IsTableOf : Result ZoneMap ZonesFault → ZoneMap → Type 0
 IsTableOf (Ok loaded) table = table ≡ loaded
 IsTableOf (Err fault) table = (fault ≢ faults.NoMemory) × (table ≡ empty)
