@@ -1,3 +1,4 @@
+pub mod AtInstantLemmas
 pub mod DifferenceLemmas
 pub mod IdleLemmas
 pub mod KeptLemmas

@@ -3,6 +3,7 @@
 //! that have no effect, and the local times that clock changes skip or repeat.
 #![tactic(auto)]
 
+mod at_instant;
 mod clock_note;
 mod clock_shift;
 mod clocked;

@@ -2,7 +2,6 @@
 //! (systemd.timer(5), OnCalendar=).
 
 ghost use Rattle.std.specs.Prelude.{◌≡◌, ◌≢◌, ◌-ℤ◌, pos, IfErr, IfOk, MatchResult, IsPermutation, IsSorted, map, option_map};
-ghost use Rattle.std.specs.Int.{int_max};
 ghost use Rattle.std.specs.Option.{option_or};
 ghost use Rattle.cal_tasks.specs.rules.Difference.{IsDifference, first_only_in};
 ghost use Rattle.cal_tasks.specs.rules.SeveralTimers.{by_instant, elapse_seen, ended, next_of_each, range_of_each};
@@ -10,11 +9,13 @@ ghost use Rattle.cal_plan.specs.rules.ZoneFor.{IsUnzoned};
 ghost use Rattle.cal_plan.specs.declared.plan_fault.PlanFault.TheVariants.{NoMemory};
 ghost use Rattle.cal_tasks.specs.rules.LoadedElapses.{elapses_in, first_unzoned_line, unzoned_line};
 
+use crate::at_instant::is_elapse;
 use crate::clocked::Clocked;
 use crate::difference::{Difference, first_only};
 use crate::elapses::elapses_in;
 use crate::next::{NextOfAll, next_of_all};
-use crate::range::{base_before, between};
+use crate::order::sort_elapses;
+use crate::range::add_range;
 use crate::timer_elapse::TimerElapse;
 use cal_elapse::Elapses;
 use cal_load::LoadedTimer;
@@ -47,7 +48,7 @@ pub fn next_of_timers(
 /// Returns all elapses of the timers that are at or after `from` and before `before`, in increasing order, each with
 /// the index of its timer. Elapses at the same instant are in the order of their timers.
 ///
-/// If `from` is 1970-01-01 00:00:00 UTC, elapses at this instant are missing. Fails like [`next_of_timers`].
+/// Fails like [`next_of_timers`].
 pub fn elapses_between(
     alloc: Global,
     at: Clocked<'_>,
@@ -57,14 +58,14 @@ pub fn elapses_between(
 ) -> Result<Vec<TimerElapse>, PlanFault>
     ensures sorted { IfOk result (λ found. IsSorted by_instant found.items) }
     ensures all { IfOk result (λ found. IsPermutation
-        (range_of_each from.secs before.secs
-        (map (elapses_in at.entry (int_max (from.secs -ℤ pos 1) (pos 0))) timers.now))
+        (range_of_each from.secs before.secs (map (elapses_in at.entry (from.secs -ℤ pos 1)) timers.now))
         (map elapse_seen found.items)) }
     ensures fault { IfErr result (λ fault. fault ≢ NoMemory
         → IsUnzoned (first_unzoned_line at.entry timers.now) fault) }
 {
-    let mut elapses = elapses_of_timers(alloc, at, base_before(from), timers)?;
-    Ok(between(alloc, elapses.as_mut_slice(), from, before)?)
+    let mut found = ranges_of_timers(alloc, at, from, before, timers)?;
+    sort_elapses(&mut found);
+    Ok(found)
 }
 
 /// Returns, for each of two timers, the first instant after the present, through 2199, at which it elapses and the
@@ -132,4 +133,27 @@ fn elapses_of_timers<'a>(
         all.push_reserved(elapses);
     }
     Ok(all)
+}
+
+/// Returns the elapses of the timers that are at or after `from` and before `before`: first those of the first timer,
+/// then those of the second timer, and so on.
+fn ranges_of_timers(
+    alloc: Global,
+    at: Clocked<'_>,
+    from: Instant,
+    before: Instant,
+    timers: &[LoadedTimer],
+) -> Result<Vec<TimerElapse>, PlanFault>
+    ensures { MatchResult result
+        (λ found. map elapse_seen found.items
+        ≡ range_of_each from.secs before.secs (map (elapses_in at.entry (from.secs -ℤ pos 1)) timers.now))
+        (λ fault. fault ≢ NoMemory → IsUnzoned (first_unzoned_line at.entry timers.now) fault) }
+{
+    let mut found = Vec::new(alloc);
+    for (index, timer) in timers.iter().enumerate() {
+        let mut elapses = elapses_in(alloc, at, from, timer)?;
+        let starts = is_elapse(at, timer, from);
+        add_range(&mut found, index, starts, &mut elapses, from, before)?;
+    }
+    Ok(found)
 }

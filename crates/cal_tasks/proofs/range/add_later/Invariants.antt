@@ -2,7 +2,7 @@
 -- the range.
 use Rattle.std.proofs.Common.{◌≡◌, ◌++◌, length, map}
 use Rattle.cal_tasks.specs.rules.SeveralTimers.{elapse_seen, range_of_one}
-use Rattle.cal_tasks.proofs.range.add_range.Given as goal
+use Rattle.cal_tasks.proofs.range.add_later.Given as goal
 
 abbrev pub invariant-loop-instant : goal.invariant-loop-instant
 invariant-loop-instant g l =

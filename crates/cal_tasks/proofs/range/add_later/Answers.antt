@@ -1,7 +1,7 @@
 use Rattle.std.proofs.Common.{arith, sym}
 use Rattle.std.proofs.lemmas.Int.{ints}
 use Rattle.cal_tasks.proofs.RangeLemmas.{range_past}
-use Rattle.cal_tasks.proofs.range.add_range.Goals as goal
+use Rattle.cal_tasks.proofs.range.add_later.Goals as goal
 
 pub returns-then-secs : goal.returns-then-secs
 returns-then-secs g c =
