@@ -1,5 +1,10 @@
 //! Error lines about timers that can't be loaded, about lines that are ignored, and about a zone that can't be used.
 
+ghost use Rattle.std.specs.Prelude.{◌≡◌};
+ghost use Rattle.std.specs.Char.{is_ascii_uppercase};
+ghost use Rattle.std.specs.List.{list_all};
+ghost use Rattle.cal_timers_text.specs.rules.AbbreviationHint.{looks_like_abbreviation};
+
 use crate::cells::push_printable;
 use cal_load::{IgnoredLine, LoadedTimer, TargetFault, TargetReason};
 use cal_machine::Unreadable;
@@ -7,6 +12,10 @@ use cal_timer::TimerFault;
 use cal_unit_index::Reason;
 use cal_zone_files::{FileReason, Origin, ZonesFault};
 use std::alloc::{AllocError, Global};
+
+/// What follows the message about a zone without a file if the zone's name looks like an abbreviation.
+const ABBREVIATION_HINT: &str =
+    "; an abbreviation stands for a single offset: write the name of a zone, such as Europe/Berlin";
 
 /// Returns the error line about a timer that can't be loaded, without a line feed. The line begins with what is at
 /// fault, and ends with the message. What is at fault is the target as it was given, a path, or a line of a file.
@@ -155,10 +164,33 @@ fn push_expression_zone(
 /// Appends the message about a zone file that can't be used for this reason. `zone` is the path of the file.
 fn push_zone_fault(out: &mut String, zone: &str, reason: FileReason) -> Result<(), AllocError> {
     match reason {
-        FileReason::NotFound => {
-            out.push_str("no zone file ")?;
-            push_printable(out, zone)
-        }
+        FileReason::NotFound => push_no_zone(out, zone),
         FileReason::Load(fault) => push_fault(out, zone, fault.words()),
     }
+}
+
+/// Appends the message about a zone file that doesn't exist. `zone` is the path of the file. If the name of the zone
+/// looks like an abbreviation, such as `CEST`, the message goes on with a hint.
+fn push_no_zone(out: &mut String, zone: &str) -> Result<(), AllocError> {
+    out.push_str("no zone file ")?;
+    push_printable(out, zone)?;
+    let name = zone.strip_prefix("/usr/share/zoneinfo/").unwrap_or("");
+    if looks_like_abbreviation(name) {
+        out.push_str(ABBREVIATION_HINT)?;
+    }
+    Ok(())
+}
+
+/// Returns whether the name of a zone looks like an abbreviation: 3 to 5 upper-case ASCII letters.
+fn looks_like_abbreviation(name: &str) -> bool
+    ensures { result ≡ looks_like_abbreviation name.now }
+{
+    name.len() >= 3 && name.len() <= 5 && are_upper_case(name.as_bytes())
+}
+
+/// Returns whether all bytes are upper-case ASCII letters.
+fn are_upper_case(text: &[u8]) -> bool
+    ensures { result ≡ list_all is_ascii_uppercase text.now }
+{
+    text.iter().all(|byte| byte.is_ascii_uppercase())
 }
