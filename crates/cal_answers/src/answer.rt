@@ -14,7 +14,7 @@ use cal_load::{Loaded, LoadedTimer, TargetFault};
 use cal_plan::PlanFault;
 use cal_tasks::Clocked;
 use cal_timers_command::Question;
-use cal_timers_text::{Style, fault_text, ignored_text};
+use cal_timers_text::{Style, broken_text, fault_text, ignored_text};
 use std::alloc::{AllocError, Global};
 
 /// The exit status if a timer can't be loaded (except by `same`), a line of its files is ignored, a file or folder can't be
@@ -160,8 +160,8 @@ pub(crate) fn with_error_lines(
     Ok(Answer { out, err, status })
 }
 
-/// Appends an error line about each line of the timers' files that is ignored. If several timers have this line, as in
-/// a drop-in for all of them, it has only one error line.
+/// Appends an error line about each line of the timers' files that is ignored, and about each drop-in whose end is. If
+/// several timers have this line, as in a drop-in for all of them, it has only one error line.
 pub(crate) fn push_ignored_lines(
     alloc: Global,
     lines: &mut String,
@@ -170,7 +170,7 @@ pub(crate) fn push_ignored_lines(
     for timer in timers {
         push_ignored_of(alloc, lines, timer)?;
     }
-    Ok(())
+    push_broken_lines(alloc, lines, timers)
 }
 
 fn push_ignored_of(
@@ -180,12 +180,45 @@ fn push_ignored_of(
 ) -> Result<(), AllocError> {
     for ignored in &timer.ignored {
         let line = ignored_text(alloc, timer, ignored)?;
-        if !lines.lines().any(|known| known == line.as_str()) {
-            lines.push_str(line.as_str())?;
-            lines.push('\n')?;
+        push_line_once(lines, line.as_str())?;
+    }
+    Ok(())
+}
+
+/// Appends an error line about each drop-in of the timers that systemd stops reading at some line. If several timers
+/// have the drop-in, it has only one error line.
+pub(crate) fn push_broken_lines(
+    alloc: Global,
+    lines: &mut String,
+    timers: &[LoadedTimer],
+) -> Result<(), AllocError> {
+    for timer in timers {
+        push_broken_of(alloc, lines, timer)?;
+    }
+    Ok(())
+}
+
+fn push_broken_of(
+    alloc: Global,
+    lines: &mut String,
+    timer: &LoadedTimer,
+) -> Result<(), AllocError> {
+    for broken in &timer.broken {
+        if let Some(broken) = broken {
+            let line = broken_text(alloc, timer, *broken)?;
+            push_line_once(lines, line.as_str())?;
         }
     }
     Ok(())
+}
+
+/// Appends a line, unless it is among the lines already.
+fn push_line_once(lines: &mut String, line: &str) -> Result<(), AllocError> {
+    if lines.lines().any(|known| known == line) {
+        return Ok(());
+    }
+    lines.push_str(line)?;
+    lines.push('\n')
 }
 
 /// Appends a line for each masked unit.

@@ -2,7 +2,7 @@
 
 ghost use Rattle.std.specs.Prelude.{◌≤◌, IfOk};
 
-use crate::answer::{Answer, Asked, INVALID, fault_lines, push_fault_line};
+use crate::answer::{Answer, Asked, INVALID, fault_lines, push_broken_lines, push_fault_line};
 use cal_lint::{Finding, ProblemKind, findings};
 use cal_load::{Loaded, LoadedFiles, LoadedTimer, TargetFault, TargetReason};
 use cal_plan::PlanFault;
@@ -42,12 +42,7 @@ pub(crate) fn lint(
     add_files(alloc, asked, files, &mut problems)?;
     let of_files = files.faults.as_slice();
     add_idle(alloc, asked, timers.timers.as_slice(), &mut problems)?;
-    let mut err = fault_lines(alloc, of_files)?;
-    for fault in &timers.faults {
-        if is_of_timer(fault, of_files) {
-            push_fault_line(alloc, &mut err, fault)?;
-        }
-    }
+    let err = error_lines(alloc, of_files, timers)?;
     let status = if err.is_empty() && !has_error(problems.as_slice()) {
         0
     } else {
@@ -59,6 +54,23 @@ pub(crate) fn lint(
         problems_text(alloc, problems.as_slice())?
     };
     Ok(Answer { out, err, status })
+}
+
+/// Returns the error lines about units, files and folders that can't be read, which are `of_files`, and about timers as a
+/// whole.
+fn error_lines(
+    alloc: Global,
+    of_files: &[TargetFault],
+    timers: &Loaded,
+) -> Result<String, AllocError> {
+    let mut lines = fault_lines(alloc, of_files)?;
+    for fault in &timers.faults {
+        if is_of_timer(fault, of_files) {
+            push_fault_line(alloc, &mut lines, fault)?;
+        }
+    }
+    push_broken_lines(alloc, &mut lines, timers.timers.as_slice())?;
+    Ok(lines)
 }
 
 /// Adds the problems of the files, each file checked by itself.
@@ -151,14 +163,14 @@ fn idle_problem(
 }
 
 /// Returns whether an error is about the timer as a whole, and so isn't among the problems of its files. Such an error
-/// says that the timer names a zone that can't be loaded, that it has no setting that starts its unit, or that its file
-/// is a link to nothing. `of_files` are the errors about units, files and folders that can't be read.
+/// says that the timer names a zone that can't be loaded, that it has no setting that starts its unit, that systemd
+/// doesn't read its file to the end, or that its file is a link to nothing. `of_files` are the errors about units, files
+/// and folders that can't be read.
 ///
-/// All other errors are left to [`add_files`], which accepts more than loading a timer does, for example comments that
-/// aren't UTF-8. It also reports the invalid lines that loading a timer ignores.
+/// All other errors are left to [`add_files`], which also reports the invalid lines that loading a timer ignores.
 fn is_of_timer(fault: &TargetFault, of_files: &[TargetFault]) -> bool {
     match &fault.reason {
-        TargetReason::Zone(..) | TargetReason::NothingToDo => true,
+        TargetReason::Zone(..) | TargetReason::NothingToDo | TargetReason::Broken(..) => true,
         TargetReason::NotFound => !of_files.iter().any(|other| other.target == fault.target),
         _ => false,
     }

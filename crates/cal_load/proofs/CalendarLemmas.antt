@@ -1,15 +1,14 @@
 -- Lemmas on reading the expressions and exceptions of a timer, one assignment at a time.
 use Rattle.std.proofs.Common.{◌≡◌, ◌∙◌, ◌+◌, ◌<◌, ◌||◌, ℕ, Bool, true, false, not, List, [], ◌∷◌, ◌++◌, Option, None, Some, ap, append-nil, append_assoc, codes, filter, get_or, length, map, refl, subst, sym, take}
 use Rattle.std.proofs.lemmas.Bool.{and_parts, and_right, false_from_ne_true}
-use Rattle.std.proofs.lemmas.List.{take_more}
-use Rattle.std.proofs.lemmas.List.Concat.{flat_map-append}
+use Rattle.std.proofs.lemmas.List.{map-append, take_more}
 use Rattle.std.proofs.lemmas.List.Elements.{filter-append, filter_map-append}
 use Rattle.std.proofs.lemmas.Slice.Eq.{bytes_eq-Decides}
 use Rattle.std.specs.List.{cons_option, filter_map}
 use Rattle.std.specs.Option.{option_to_list}
 use Rattle.std.specs.Str.{bytes_eq}
-use Rattle.cal_read.specs.declared.texts.NumberedText.{NumberedText}
-use Rattle.cal_read.specs.rules.TimerTexts.{assignments_at, assignments_of}
+use Rattle.cal_read.specs.declared.section_assignments.OwnedAssignment.{OwnedAssignment}
+use Rattle.cal_read.specs.rules.SectionAssignments.{shown_owned_assignment}
 use Rattle.cal_spec.specs.computed.Expr.{expr_in}
 use Rattle.cal_timer.proofs.ListedLemmas.{Kept, exception_is_no_exception_reset, expression_is_no_reset, kept_more, kept_other, kept_reset}
 use Rattle.cal_timer.specs.rules.Assignments.{Assignment}
@@ -106,15 +105,13 @@ pub read_nothing : (read : CalendarLines) → map shown read.calendar.lines.item
 unfolding listed excepted ignored_in
 read_nothing read lines exceptions ignored = ((lines, exceptions), ignored)
 
--- what was read of one more text
-pub text_read : (texts : List NumberedText) (i : ℕ) (d : NumberedText) (old new : CalendarLines) → i < length texts
-    → AreReadFrom (assignments_of (take i texts)) old
-    → ((before : List Assignment) → AreReadFrom before old → AreReadFrom (before ++ assignments_at (get_or texts i d)) new)
-    → AreReadFrom (assignments_of (take (i + 1) texts)) new
-text_read texts i d old new h before step =
-    let text = get_or texts i d in
-    let all : assignments_of (take (i + 1) texts) ≡ assignments_of (take i texts) ++ assignments_at text =
-    ap assignments_of (take_more texts i d h)
-    ∙ flat_map-append assignments_at (take i texts) (text ∷ [])
-    ∙ ap (λ last. assignments_of (take i texts) ++ last) (append-nil (assignments_at text)) in
-    subst (λ all. AreReadFrom all new) (sym all) (step (assignments_of (take i texts)) before)
+-- what was read of one more assignment of a list
+pub assignment_read : (assignments : List OwnedAssignment) (i : ℕ) (a : OwnedAssignment) (old new : CalendarLines) → i < length assignments
+    → a ≡ get_or assignments i a → AreReadFrom (map shown_owned_assignment (take i assignments)) old
+    → ((before : List Assignment) → AreReadFrom before old → AreReadFrom (before ++ shown_owned_assignment a ∷ []) new)
+    → AreReadFrom (map shown_owned_assignment (take (i + 1) assignments)) new
+assignment_read assignments i a old new h is before step =
+    let all : map shown_owned_assignment (take (i + 1) assignments) ≡ map shown_owned_assignment (take i assignments) ++ shown_owned_assignment a ∷ [] =
+    ap (map shown_owned_assignment) (take_more assignments i a h ∙ ap (λ last. take i assignments ++ last ∷ []) (sym is))
+    ∙ map-append shown_owned_assignment (take i assignments) (a ∷ []) in
+    subst (λ all. AreReadFrom all new) (sym all) (step (map shown_owned_assignment (take i assignments)) before)

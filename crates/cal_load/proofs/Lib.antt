@@ -8,6 +8,11 @@ pub mod NoteLemmas
 mod NoteRows
 pub mod PathLemmas
 pub mod PositionLemmas
+pub mod ReadableLemmas
+mod ReadableRows
+pub mod SettledLemmas
+pub mod SpecifierLemmas
+mod SpecifierRows
 pub mod TextFaultLemmas
 pub mod TextLemmas
 pub mod TimerLemmas

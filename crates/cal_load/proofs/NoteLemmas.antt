@@ -1,8 +1,7 @@
 -- Lemmas on the assignments that are noted for a timer.
-use Rattle.std.proofs.Common.{Option, Some, None, true≢false, ◌≡◌, ◌∙◌, ◌+◌, ◌<◌, ◌||◌, ◌&&◌, ℕ, Bool, Bor, true, false, List, [], ◌∷◌, ◌++◌, add-one, ap, append-nil, append_assoc, cond, drop, drop-cons, get_or, length, map, not, refl, sym, take}
+use Rattle.std.proofs.Common.{Option, Some, None, true≢false, ◌≡◌, ◌∙◌, ◌+◌, ◌<◌, ◌||◌, ◌&&◌, ℕ, Bool, Bor, true, false, List, [], ◌∷◌, ◌++◌, add-one, ap, cond, drop, drop-cons, get_or, length, map, not, refl, sym}
 use Rattle.std.proofs.lemmas.Bool.Decides.{same_from_decides}
-use Rattle.std.proofs.lemmas.List.{take_more}
-use Rattle.std.proofs.lemmas.List.Concat.{flat_map-append}
+use Rattle.std.proofs.lemmas.List.{map-append}
 use Rattle.std.proofs.lemmas.List.Folds.{list_any-append}
 use Rattle.std.proofs.lemmas.Slice.Eq.{bytes_eq-Decides}
 use Rattle.std.specs.Bool.{Decides}
@@ -10,14 +9,12 @@ use Rattle.std.specs.List.{list_any}
 use Rattle.std.specs.Prelude.{filter, if◌then◌else◌}
 use Rattle.std.specs.Str.{str_eq_ignore_ascii_case, str_to_ascii_lowercase}
 use Rattle.cal_read.specs.declared.section_assignments.OwnedAssignment.{OwnedAssignment}
-use Rattle.cal_read.specs.declared.texts.NumberedText.{NumberedText}
 use Rattle.cal_read.specs.rules.SectionAssignments.{shown_owned_assignment}
-use Rattle.cal_read.specs.rules.TimerTexts.{assignments_at, assignments_of}
 use Rattle.cal_timer.specs.rules.Assignments.{Assignment}
 use Rattle.cal_timer.specs.rules.TimerText.{is_reset}
 use Rattle.cal_load.specs.declared.setting_kind.SettingKind.{SettingKind}
 use Rattle.cal_load.specs.declared.setting_kind.SettingKind.TheVariants.{Monotonic, Change, Switch, Delay, Accuracy, Started}
-use Rattle.cal_load.specs.rules.Notes.{is_noted, is_noted_as, is_taken, kept_after, kept_in, kept_with, kind_of, noted_of, replaces, service_of, starts, starts_as, undoes, unit_line}
+use Rattle.cal_load.specs.rules.Notes.{is_noted, is_noted_as, is_taken, kept_in, kept_with, kind_of, noted_of, replaces, service_of, starts, starts_as, undoes, unit_line}
 
 kept_first : (s : Bool) (a : Assignment) → (if s && true then (a ∷ []) else []) ≡ (if s then (a ∷ []) else [])
 kept_first true a = refl
@@ -38,29 +35,20 @@ kept_more a (b ∷ before) =
     (kept_step (is_taken b) (list_any (λ later. undoes later b) before) (undoes a b) b (λ note. not (undoes a note)) (kept_in before) (kept_in (before ++ a ∷ []))
     (if is_taken a then (a ∷ []) else []) refl (kept_more a before))
 
-pub kept_all : (more before : List Assignment) → kept_after (kept_in before) more ≡ kept_in (before ++ more)
-kept_all [] before = ap kept_in (sym (append-nil before))
-kept_all (a ∷ more) before =
-    ap (λ kept. kept_after kept more) (sym (kept_more a before))
-    ∙ kept_all more (before ++ a ∷ [])
-    ∙ ap kept_in (append_assoc before (a ∷ []) more)
-
--- what is kept of no text
+-- what is kept of no assignment
 pub nothing_kept : kept_in [] ≡ []
 unfolding kept_in
 nothing_kept = refl
 
--- what is kept of one more text
-pub text_kept : (texts : List NumberedText) (i : ℕ) (d : NumberedText) (old new : List Assignment) → i < length texts
-    → old ≡ kept_in (assignments_of (take i texts)) → new ≡ kept_after old (assignments_at (get_or texts i d)) → new ≡ kept_in (assignments_of (take (i + 1) texts))
-text_kept texts i d old new h before after =
-    let text = get_or texts i d in
+-- what is kept of one more assignment
+pub assignment_kept : (before : List OwnedAssignment) (a : OwnedAssignment) (old new : List Assignment)
+    → old ≡ kept_in (map shown_owned_assignment before) → new ≡ kept_with old (shown_owned_assignment a)
+    → new ≡ kept_in (map shown_owned_assignment (before ++ a ∷ []))
+assignment_kept before a old new is after =
     after
-    ∙ ap (λ kept. kept_after kept (assignments_at text)) before
-    ∙ kept_all (assignments_at text) (assignments_of (take i texts))
-    ∙ ap kept_in (sym (ap assignments_of (take_more texts i d h)
-    ∙ flat_map-append assignments_at (take i texts) (text ∷ [])
-    ∙ ap (λ last. assignments_of (take i texts) ++ last) (append-nil (assignments_at text))))
+    ∙ ap (λ kept. kept_with kept (shown_owned_assignment a)) is
+    ∙ sym (kept_more (shown_owned_assignment a) (map shown_owned_assignment before))
+    ∙ ap kept_in (sym (map-append shown_owned_assignment before (a ∷ [])))
 
 filtered_step : (k : Bool) (note : OwnedAssignment) (kept : List OwnedAssignment) (all : List Assignment) → map shown_owned_assignment kept ≡ all
     → map shown_owned_assignment (cond k (note ∷ kept) kept) ≡ cond k (shown_owned_assignment note ∷ all) all

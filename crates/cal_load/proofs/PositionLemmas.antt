@@ -4,10 +4,10 @@ use Rattle.std.proofs.lemmas.Bool.{cases_lt, cases_order}
 use Rattle.std.proofs.lemmas.Bool.Decides.{nat_tests}
 use Rattle.std.proofs.lemmas.List.{get_or-map, get_or_append_left, get_or_push, length-append, length-map, take-append-drop, take_all, take_more}
 use Rattle.std.proofs.lemmas.List.Concat.{flat_map-append}
-use Rattle.std.proofs.lemmas.List.Elements.{All-append, All-cons, All-drop, All-filter, All-head, All-map, All-nil, All-tail, All-weaker}
+use Rattle.std.proofs.lemmas.List.Elements.{All-append, All-cons, All-drop, All-filter, All-head, All-map, All-nil, All-tail, All-take, All-weaker}
 use Rattle.std.proofs.lemmas.List.Splits.{length-slice_split}
 use Rattle.std.proofs.lemmas.Option.{get_or_from_slice_get, slice_get-get_or, slice_get_within}
-use Rattle.std.specs.List.{cons_option, filter_map, flat_map, list_any, onto_first, slice_split}
+use Rattle.std.specs.List.{before_first, cons_option, filter_map, flat_map, list_any, onto_first, slice_split}
 use Rattle.std.specs.Prelude.{◌||◌, if◌then◌else◌, not}
 use Rattle.std.specs.Str.Lines.{lines, lines_of_parts}
 use Rattle.cal_bytes.specs.rules.Separators.{is_equals}
@@ -20,7 +20,12 @@ use Rattle.cal_timer.specs.rules.TimerText.{excepted, is_exception, is_expressio
 use Rattle.cal_unit_index.specs.declared.files.UnitText as texts
 use Rattle.cal_unit_index.specs.rules.Files.{UnitText, shown_unit_text}
 use Rattle.cal_load.specs.declared.calendar.IgnoredLine.{IgnoredLine}
-use Rattle.cal_load.specs.rules.Loaded.{assignments_from, assignments_of_files, bytes_in, ignored_in, ignored_line}
+use Rattle.cal_load.specs.rules.Loaded.{assignments_from, assignments_of_files, bytes_in, ignored_in, ignored_line, timer_assignments}
+use Rattle.cal_load.specs.rules.Readable.{assignments_read, is_broken}
+use Rattle.cal_load.specs.rules.Settled.{value_filled, is_usable, may_have_specifiers, settled, settled_by, unusable}
+use Rattle.cal_load.specs.rules.Specifiers.{Filling}
+use Rattle.cal_load.specs.rules.Specifiers.Filling.{Text, Unclear, Invalid}
+use Rattle.cal_unit_index.specs.rules.Destinations.{last_part}
 use Rattle.cal_load.specs.rules.Position.{AreFirstLines, HasLine, IsLastUntil, IsLineIn, IsPosition, total_lines}
 
 -- ## How many lines a text has
@@ -152,26 +157,72 @@ logical_numbers first text =
     (grouped (IsOneFrom first (length (lines text))) (plain_lines first text)
     (All-filter (λ line. not (is_comment line.text)) (λ (line : Line). IsOneFrom first (length (lines text)) line.number) (numbered_lines first texts) physical))
 
+-- the assignments that systemd reads in a file have the numbers of some of its lines
+read_numbered : (first : ℕ) (bytes : List ℕ) → All (λ a. IsOneFrom first (length (lines bytes)) a.number) (assignments_read first bytes)
+unfolding assignments_read
+read_numbered first bytes =
+    let text = without_mark bytes in
+    let fewer : length (lines text) ≤ length (lines bytes) = unmarked_lines bytes in
+    All-weaker (λ (a : Assignment). IsOneFrom first (length (lines text)) a.number) (λ (a : Assignment). IsOneFrom first (length (lines bytes)) a.number) (λ a h. (h.0, omega arith)) _
+    (of_lines (IsOneFrom first (length (lines text))) false (before_first is_broken (logical_lines first text))
+    (All-take (λ (line : Line). IsOneFrom first (length (lines text)) line.number) _ (logical_lines first text) (logical_numbers first text)))
+
 -- the assignments of files have the numbers of some of their lines
 numbers_from : (first : ℕ) (files : List UnitText) → All (λ a. IsOneFrom first (total_lines files) a.number) (assignments_from first (bytes_in files))
 unfolding assignments_from
 numbers_from first [] = All-nil (λ (a : Assignment). IsOneFrom first 0 a.number)
 numbers_from first (file ∷ files) =
     let P = IsOneFrom first (total_lines (file ∷ files)) in
-    let text = without_mark file.bytes in
     let next = first + length (lines file.bytes) in
     let count : total_lines (file ∷ files) ≡ length (lines file.bytes) + total_lines files = length-append (lines file.bytes) (flat_map (λ file. lines file.bytes) files) in
-    let fewer : length (lines text) ≤ length (lines file.bytes) = unmarked_lines file.bytes in
-    All-append (λ (a : Assignment). P a.number) (assignments_in false (logical_lines first text)) (assignments_from next (bytes_in files))
-    (All-weaker (λ (a : Assignment). IsOneFrom first (length (lines text)) a.number) (λ (a : Assignment). P a.number) (λ a h. (h.0, omega arith)) _
-    (of_lines (IsOneFrom first (length (lines text))) false (logical_lines first text) (logical_numbers first text)))
+    All-append (λ (a : Assignment). P a.number) (assignments_read first file.bytes) (assignments_from next (bytes_in files))
+    (All-weaker (λ (a : Assignment). IsOneFrom first (length (lines file.bytes)) a.number) (λ (a : Assignment). P a.number) (λ a h. (h.0, omega arith)) _
+    (read_numbered first file.bytes))
     (All-weaker (λ (a : Assignment). IsOneFrom next (total_lines files) a.number) (λ (a : Assignment). P a.number) (λ a h. (omega arith, omega arith)) _ (numbers_from next files))
 
-pub assignments_numbered : (files : List UnitText) → All (λ a. HasLine files a.number) (assignments_of_files files)
+assignments_numbered : (files : List UnitText) → All (λ a. HasLine files a.number) (assignments_of_files files)
 assignments_numbered files =
     All-weaker (λ (a : Assignment). IsOneFrom 1 (total_lines files) a.number) (λ (a : Assignment). HasLine files a.number) (λ a h. (h.0, omega arith)) _ (numbers_from 1 files)
 
 -- ## The numbers of entries and of ignored lines
+
+module _ (P : ℕ → Type 0) where
+  unusable_about : (c : Bool) (a : Assignment) (all : List Assignment) → P a.number → All (λ a. P a.number) all
+      → All (λ a. P a.number) (cons_option (if c then Some a else None) all)
+  unusable_about true a all h k = All-cons (λ (a : Assignment). P a.number) a all h k
+  unusable_about false a all h k = k
+
+  filled_about : (c : Bool) (a : Assignment) (text : List ℕ) (all : List Assignment) → P a.number → All (λ a. P a.number) all
+      → All (λ a. P a.number) (cons_option (if c then Some (record { number = a.number; key = a.key; value = text }) else unusable a) all)
+  filled_about true a text all h k = All-cons (λ (a : Assignment). P a.number) _ all h k
+  filled_about false a text all h k = unusable_about (is_expression a || is_exception a) a all h k
+
+  unclear_about : (c : Bool) (a : Assignment) (all : List Assignment) → P a.number → All (λ a. P a.number) all
+      → All (λ a. P a.number) (cons_option (if c then None else Some a) all)
+  unclear_about true a all h k = k
+  unclear_about false a all h k = All-cons (λ (a : Assignment). P a.number) a all h k
+
+  settled_by_about : (a : Assignment) (filling : Filling) (all : List Assignment) → P a.number → All (λ a. P a.number) all
+      → All (λ a. P a.number) (cons_option (settled_by a filling) all)
+  settled_by_about a (Text text) all h k = filled_about (is_usable text) a text all h k
+  settled_by_about a Unclear all h k = unclear_about (is_expression a) a all h k
+  settled_by_about a Invalid all h k = unusable_about (is_expression a || is_exception a) a all h k
+
+  settled_if_about : (c : Bool) (a : Assignment) (filling : Filling) (all : List Assignment) → P a.number → All (λ a. P a.number) all
+      → All (λ a. P a.number) (cons_option (if c then settled_by a filling else Some a) all)
+  settled_if_about true a filling all h k = settled_by_about a filling all h k
+  settled_if_about false a filling all h k = All-cons (λ (a : Assignment). P a.number) a all h k
+
+  settled_about : (own : List ℕ) (list : List Assignment) → All (λ a. P a.number) list → All (λ a. P a.number) (filter_map (settled own) list)
+  unfolding settled
+  settled_about own [] h = All-nil (λ (a : Assignment). P a.number)
+  settled_about own (a ∷ list) h =
+      settled_if_about (may_have_specifiers a) a (value_filled own a) (filter_map (settled own) list) (All-head (λ (a : Assignment). P a.number) a list h)
+      (settled_about own list (All-tail (λ (a : Assignment). P a.number) a list h))
+
+-- the assignments of a timer have the numbers of some lines of its files
+pub timer_numbered : (name : List ℕ) (files : List UnitText) → All (λ a. HasLine files a.number) (timer_assignments name files)
+timer_numbered name files = settled_about (HasLine files) (last_part name) (assignments_of_files files) (assignments_numbered files)
 
 module _ {E : Type 0} (read : List ℕ → Result E SpecFault) (P : ℕ → Type 0) where
   entry_about : (number : ℕ) (value : List ℕ) (r : Result E SpecFault) (all : List (TimerLine E)) → P number → All (λ entry. P entry.number) all

@@ -9,7 +9,7 @@ use Rattle.std.proofs.lemmas.Slice.Eq.{bytes_eq-Decides}
 use Rattle.std.specs.List.{Contains, find}
 use Rattle.std.specs.Option.{option_or, option_to_list}
 use Rattle.std.specs.Prelude.{option_copied, option_map, slice_get}
-use Rattle.std.specs.Str.{IsUtf8, bytes_eq}
+use Rattle.std.specs.Str.{bytes_eq}
 use Rattle.cal_machine.specs.rules.Machine.{Machine}
 use Rattle.cal_spec.specs.computed.Expr.{expr_in}
 use Rattle.cal_spec.specs.rules.Fields.{Fields}
@@ -27,82 +27,83 @@ use Rattle.cal_zone_files.specs.declared.fault.ZonesFault.TheVariants as zone_fa
 use Rattle.cal_zone_files.specs.rules.ZoneFiles.{IsFirstError, IsLoadError, IsReasonOn, zone_path}
 use Rattle.cal_load.specs.declared.calendar.Calendar as calendars
 use Rattle.cal_load.specs.declared.calendar.IgnoredLine.{IgnoredLine}
+use Rattle.cal_load.specs.declared.readable.BrokenLine.{BrokenLine}
 use Rattle.cal_load.specs.declared.fault.TargetLoadFault.{TargetLoadFault}
 use Rattle.cal_load.specs.declared.fault.TargetLoadFault as faults
 use Rattle.cal_load.specs.declared.target_fault.TargetReason.{TargetReason}
-use Rattle.cal_load.specs.declared.target_fault.TargetReason.TheVariants.{NotFound, Template, TooManyAliases, Path, NotUtf8, Line, NothingToDo, Zone, Expression, ExpressionZone}
-use Rattle.cal_load.specs.rules.AllUnits.{IsNotUtf8Fault, IsPathFault}
+use Rattle.cal_load.specs.declared.target_fault.TargetReason.TheVariants.{NotFound, Template, TooManyAliases, Path, Broken, Line, NothingToDo, Zone, Expression, ExpressionZone}
+use Rattle.cal_load.specs.rules.AllUnits.{IsBrokenFault, IsPathFault}
 use Rattle.cal_load.specs.rules.Expressions.{names_zone}
-use Rattle.cal_load.specs.rules.Loaded.{IsCalendarOf, assignments_of_files, exceptions_in, expressions_in, zone_names_in}
+use Rattle.cal_load.specs.rules.Loaded.{broken_own, exceptions_in, expressions_in, IsCalendarOf, timer_assignments, zone_names_in}
 use Rattle.cal_load.specs.rules.Position.{HasLine, IsLineIn, total_lines}
-use Rattle.cal_load.specs.rules.TextFaults.{IsAssignmentFault, IsAssignmentReason, IsFirstWithZone, IsLineFault, IsNumberFault, IsNumberReason, IsTextFault, HasUnusableZone, IsZonesError, StartNothing, ignored_of_files, zone_names_of}
+use Rattle.cal_load.specs.rules.TextFaults.{IsAssignmentFault, IsAssignmentReason, IsFirstWithZone, IsLineFault, IsReadFault, IsReadReason, IsTextFault, HasUnusableZone, IsZonesError, StartNothing, ignored_of_files, zone_names_of}
 use Rattle.cal_load.proofs.ExpressionLemmas.{find_map, zone_found}
-use Rattle.cal_load.proofs.PositionLemmas.{assignments_numbered, entries_numbered, ignored_numbered}
+use Rattle.cal_load.proofs.PositionLemmas.{entries_numbered, ignored_numbered, timer_numbered}
 
 -- ## Texts
 
-pub not_utf8_numbered : (file : UnitText) (fault : TargetLoadFault) → (IsUtf8 file.bytes → ⊥) → IsNotUtf8Fault file.path fault
-    → (before after : List UnitText) → IsNumberFault (before ++ file ∷ after) fault
-not_utf8_numbered file (faults.TheVariants.Target reason) not h before after =
-    subst (IsNumberReason (before ++ file ∷ after)) (sym h.2)
-    (file, Contains-append_right before (file ∷ after) file (0, omega arith, refl), sym h.1, not)
-not_utf8_numbered file faults.TheVariants.NoMemory not h before after = tt
+-- if systemd stops reading the unit's own file at a line, this is why the files can't be read
+pub broken_read : (own : UnitText) (drop_ins : List UnitText) (line : BrokenLine) (fault : TargetLoadFault) → broken_own (own ∷ drop_ins) ≡ Some line
+    → IsBrokenFault own.path line fault → IsReadFault (own ∷ drop_ins) fault
+broken_read own drop_ins line (faults.TheVariants.Target reason) is h =
+    subst (IsReadReason (own ∷ drop_ins)) (sym h.2) (sym h.1, is)
+broken_read own drop_ins line faults.TheVariants.NoMemory is h = tt
 
-pub too_large_numbered : (file : UnitText) (fault : TargetLoadFault) → IsPathFault file.path reasons.TheVariants.TooLarge fault
-    → (before after : List UnitText) → 2 ^ 32 ≤ total_lines before + 1 + length file.bytes → IsNumberFault (before ++ file ∷ after) fault
-too_large_numbered file (faults.TheVariants.Target reason) h before after large =
-    subst (IsNumberReason (before ++ file ∷ after)) (sym h.2)
+pub too_large_read : (file : UnitText) (fault : TargetLoadFault) → IsPathFault file.path reasons.TheVariants.TooLarge fault
+    → (before after : List UnitText) → 2 ^ 32 ≤ total_lines before + 1 + length file.bytes → IsReadFault (before ++ file ∷ after) fault
+too_large_read file (faults.TheVariants.Target reason) h before after large =
+    subst (IsReadReason (before ++ file ∷ after)) (sym h.2)
     (record { before = before; file = file; after = after; divided = refl; has_path = sym h.1; is_large = large }, refl)
-too_large_numbered file faults.TheVariants.NoMemory h before after large = tt
+too_large_read file faults.TheVariants.NoMemory h before after large = tt
 
-number_reason : (machine : Machine) (files : List UnitText) (reason : TargetReason) → IsNumberReason files reason → IsTextFault machine files (faults.TheVariants.Target reason)
-number_reason machine files NotFound h = h
-number_reason machine files Template h = h
-number_reason machine files TooManyAliases h = h
-number_reason machine files (Path place why) h = h
-number_reason machine files (NotUtf8 place) h = h
-number_reason machine files (Line place line fault) h = absurd h
-number_reason machine files NothingToDo h = absurd h
-number_reason machine files (Zone place line zone reason) h = absurd h
-number_reason machine files (Expression fault) h = h
-number_reason machine files (ExpressionZone zone reason) h = absurd h
+read_reason : (machine : Machine) (name : List ℕ) (files : List UnitText) (reason : TargetReason) → IsReadReason files reason → IsTextFault machine name files (faults.TheVariants.Target reason)
+read_reason machine name files NotFound h = h
+read_reason machine name files Template h = h
+read_reason machine name files TooManyAliases h = h
+read_reason machine name files (Path place why) h = h
+read_reason machine name files (Broken place line) h = h
+read_reason machine name files (Line place line fault) h = absurd h
+read_reason machine name files NothingToDo h = absurd h
+read_reason machine name files (Zone place line zone reason) h = absurd h
+read_reason machine name files (Expression fault) h = h
+read_reason machine name files (ExpressionZone zone reason) h = absurd h
 
--- if lines can't be numbered, this is why the files don't make a timer
-pub number_text : (machine : Machine) (files : List UnitText) (fault : TargetLoadFault) → IsNumberFault files fault → IsTextFault machine files fault
-number_text machine files (faults.TheVariants.Target reason) h = number_reason machine files reason h
-number_text machine files faults.TheVariants.NoMemory h = tt
+-- if files can't be read, this is why they don't make a timer
+pub read_text : (machine : Machine) (name : List ℕ) (files : List UnitText) (fault : TargetLoadFault) → IsReadFault files fault → IsTextFault machine name files fault
+read_text machine name files (faults.TheVariants.Target reason) h = read_reason machine name files reason h
+read_text machine name files faults.TheVariants.NoMemory h = tt
 
 -- ## Assignments
 
-assignment_reason : (machine : Machine) (files : List UnitText) (reason : TargetReason) → IsAssignmentReason files reason
-    → IsTextFault machine files (faults.TheVariants.Target reason)
-assignment_reason machine files NotFound h = h
-assignment_reason machine files Template h = h
-assignment_reason machine files TooManyAliases h = h
-assignment_reason machine files (Path place why) h = absurd h
-assignment_reason machine files (NotUtf8 place) h = absurd h
-assignment_reason machine files (Line place line fault) h = h
-assignment_reason machine files NothingToDo h = h
-assignment_reason machine files (Zone place line zone reason) h = absurd h
-assignment_reason machine files (Expression fault) h = h
-assignment_reason machine files (ExpressionZone zone reason) h = h
+assignment_reason : (machine : Machine) (name : List ℕ) (files : List UnitText) (reason : TargetReason) → IsAssignmentReason name files reason
+    → IsTextFault machine name files (faults.TheVariants.Target reason)
+assignment_reason machine name files NotFound h = h
+assignment_reason machine name files Template h = h
+assignment_reason machine name files TooManyAliases h = h
+assignment_reason machine name files (Path place why) h = absurd h
+assignment_reason machine name files (Broken place line) h = absurd h
+assignment_reason machine name files (Line place line fault) h = h
+assignment_reason machine name files NothingToDo h = h
+assignment_reason machine name files (Zone place line zone reason) h = absurd h
+assignment_reason machine name files (Expression fault) h = h
+assignment_reason machine name files (ExpressionZone zone reason) h = h
 
 -- if the files' assignments don't make a timer, this is why the files don't make one
-pub assignment_text : (machine : Machine) (files : List UnitText) (fault : TargetLoadFault) → IsAssignmentFault files fault → IsTextFault machine files fault
-assignment_text machine files (faults.TheVariants.Target reason) h = assignment_reason machine files reason h
-assignment_text machine files faults.TheVariants.NoMemory h = tt
+pub assignment_text : (machine : Machine) (name : List ℕ) (files : List UnitText) (fault : TargetLoadFault) → IsAssignmentFault name files fault → IsTextFault machine name files fault
+assignment_text machine name files (faults.TheVariants.Target reason) h = assignment_reason machine name files reason h
+assignment_text machine name files faults.TheVariants.NoMemory h = tt
 
 first_has : {X : Type 0} (P : X → Type 0) (xs : List X) (x : X) → All P xs → slice_get xs 0 ≡ Some x → P x
 first_has P [] x all e = absurd (cc)
 first_has P (first ∷ xs) x all e = subst P (same_Some first x e) (All-head P first xs all)
 
 -- if nothing starts the unit of files, the first ignored line, which is a line of one of the files, is the reason
-pub ignored_text : (files : List UnitText) (path : List ℕ) (line : ℕ) (first : IgnoredLine) → StartNothing files
-    → slice_get (ignored_of_files files) 0 ≡ Some first → (HasLine files first.number → IsLineIn files first.number path line)
-    → IsLineFault files path line (timer_faults.BadLine line first.fault)
-ignored_text files path line first nothing is is_in =
-    let has = first_has (λ (line : IgnoredLine). HasLine files line.number) (ignored_of_files files) first
-    (ignored_numbered expr_in (HasLine files) (assignments_of_files files) (assignments_numbered files)) is in
+pub ignored_text : (name : List ℕ) (files : List UnitText) (path : List ℕ) (line : ℕ) (first : IgnoredLine) → StartNothing name files
+    → slice_get (ignored_of_files name files) 0 ≡ Some first → (HasLine files first.number → IsLineIn files first.number path line)
+    → IsLineFault name files path line (timer_faults.BadLine line first.fault)
+ignored_text name files path line first nothing is is_in =
+    let has = first_has (λ (line : IgnoredLine). HasLine files line.number) (ignored_of_files name files) first
+    (ignored_numbered expr_in (HasLine files) (timer_assignments name files) (timer_numbered name files)) is in
     (nothing, (first, is, is_in has, refl))
 
 -- ## Zones
@@ -158,31 +159,31 @@ found_by : {X : Type 0} (P : X → Type 0) (test : X → Bool) (xs : List X) (x 
 found_by P test [] x all e = absurd (cc)
 found_by P test (first ∷ xs) x all e = one_found P (test first) first x (find test xs) (All-head P first xs all) (found_by P test xs x (All-tail P first xs all)) e
 
-calendar_lines : (files : List UnitText) (calendar : calendars.Calendar) → IsCalendarOf files calendar
+calendar_lines : (timer : List ℕ) (files : List UnitText) (calendar : calendars.Calendar) → IsCalendarOf timer files calendar
     → All (λ entry. HasLine files entry.number) (expressions_in calendar ++ exceptions_in calendar)
-calendar_lines files calendar h =
-    rw (h.0, h.1) (entries_numbered expr_in (HasLine files) (assignments_of_files files) (assignments_numbered files))
+calendar_lines timer files calendar h =
+    rw (h.0, h.1) (entries_numbered expr_in (HasLine files) (timer_assignments timer files) (timer_numbered timer files))
 
 -- if the files name this zone, a line of one of them has the first expression or exception that names it
-first_entry : (files : List UnitText) (calendar : calendars.Calendar) (name : List ℕ) → IsCalendarOf files calendar → Contains (zone_names_of calendar) name
+first_entry : (timer : List ℕ) (files : List UnitText) (calendar : calendars.Calendar) (name : List ℕ) → IsCalendarOf timer files calendar → Contains (zone_names_of calendar) name
     → (entry : TimerLine Fields) × IsFirstWithZone calendar name entry × HasLine files entry.number
-first_entry files calendar name of_files named =
+first_entry timer files calendar name of_files named =
     let all = expressions_in calendar ++ exceptions_in calendar in
     let has : Contains (zone_names_in all) name =
     subst (λ names. Contains names name) (sym (flat_map-append (λ (entry : TimerLine Fields). option_to_list (name_in entry.expr.zone)) (expressions_in calendar) (exceptions_in calendar))) named in
     let text = zone_found name all (list_any-from_Any (bytes_eq name) (zone_names_in all) (has.0, name, has.1, has.2, (bytes_eq-Decides name name).1 refl)) in
     let entry = some_of_map (λ (entry : TimerLine Fields). entry.text) (find (names_zone name) all) text.0 text.1 in
-    (entry.0, entry.1, found_by (λ (entry : TimerLine Fields). HasLine files entry.number) (names_zone name) all entry.0 (calendar_lines files calendar of_files) entry.1)
+    (entry.0, entry.1, found_by (λ (entry : TimerLine Fields). HasLine files entry.number) (names_zone name) all entry.0 (calendar_lines timer files calendar of_files) entry.1)
 
 -- if the zone file at the path `zone` can't be used, this is why the files don't make a timer
-pub zone_text : (machine : Machine) (files : List UnitText) (calendar : calendars.Calendar) (path : List ℕ) (line number : ℕ) (zone : List ℕ) (reason : FileReason)
-    → IsCalendarOf files calendar
+pub zone_text : (machine : Machine) (timer : List ℕ) (files : List UnitText) (calendar : calendars.Calendar) (path : List ℕ) (line number : ℕ) (zone : List ℕ) (reason : FileReason)
+    → IsCalendarOf timer files calendar
     → ((name : List ℕ) (entry : TimerLine Fields) → zone ≡ zone_path name → IsFirstWithZone calendar name entry → number ≡ entry.number)
     → (HasLine files number → IsLineIn files number path line)
     → (name : List ℕ) × Contains (zone_names_of calendar) name × (zone ≡ zone_path name) × IsReasonOn machine name reason
-    → HasUnusableZone machine files path line zone reason
-zone_text machine files calendar path line number zone reason of_files numbered is_in error =
-    let first = first_entry files calendar error.0 of_files error.1 in
+    → HasUnusableZone machine timer files path line zone reason
+zone_text machine timer files calendar path line number zone reason of_files numbered is_in error =
+    let first = first_entry timer files calendar error.0 of_files error.1 in
     let same : number ≡ first.0.number = numbered error.0 first.0 error.2 first.1 in
     record {
       calendar = calendar;

@@ -1,52 +1,75 @@
--- Lemmas on the assignments in several texts whose line numbers continue from text to text.
-use Rattle.std.proofs.Common.{◌≡◌, ◌+◌, ◌<◌, ◌^◌, ℕ, All, List, [], ◌∷◌, ◌++◌, ◌∙◌, add-one, ap, append_assoc, append-nil, drop, drop-cons, get_or, length, map, refl, sym}
+-- Lemmas on what the files of a unit say, where line numbers continue from file to file.
+use Rattle.std.proofs.Common.{◌≡◌, ◌+◌, ◌<◌, ℕ, List, Option, None, Some, [], ◌∷◌, ◌++◌, ◌∙◌, add-one, ap, append_assoc, append-nil, drop, drop-cons, get_or, length, map, refl, sym}
 use Rattle.std.specs.Str.Lines.{lines}
+use Rattle.std.specs.Prelude.{slice_get}
 use Rattle.std.proofs.Math.Seq.{drop-length}
-use Rattle.std.proofs.lemmas.List.Concat.{flat_map-append}
-use Rattle.std.proofs.lemmas.List.Elements.{All-push}
-use Rattle.cal_read.specs.rules.TimerTexts.{assignments_at, assignments_of}
-use Rattle.cal_read.specs.declared.texts.NumberedText.{NumberedText}
-use Rattle.cal_timer.specs.rules.Assignments.{Assignment}
-use Rattle.cal_unit_index.specs.rules.Files.{shown_unit_text}
+use Rattle.std.proofs.lemmas.Option.{same_Some}
+use Rattle.cal_unit_index.specs.rules.Files.{UnitText as FileText, shown_unit_text}
 use Rattle.cal_unit_index.specs.declared.files.UnitText.{UnitText}
-use Rattle.cal_load.specs.rules.Loaded.{assignments_from, bytes_in}
+use Rattle.cal_load.specs.declared.readable.BrokenLine.{BrokenLine}
+use Rattle.cal_load.specs.rules.Loaded.{assignments_from, broken_from, broken_of_files, broken_own, bytes_in}
+use Rattle.cal_load.specs.rules.Readable.{assignments_read, broken_line}
 
--- the assignments in the files from index `i` on are those in the file with index `i`, whose text is `text`, followed
--- by those in the later files
-assignments_here : (text : NumberedText) (files : List UnitText) (i : ℕ) (file : UnitText) (next : ℕ)
-    → i < length files → file ≡ get_or files i file → text.text.now ≡ file.bytes.items → next ≡ text.first + length (lines text.text.now)
-    → assignments_at text ++ assignments_from next (bytes_in (map shown_unit_text (drop (i + 1) files)))
-    ≡ assignments_from text.first (bytes_in (map shown_unit_text (drop i files)))
+-- `one` is a list that is found in one file, and `from` joins the lists that are found in several files
+module _ {X : Type 0} (one : ℕ → List ℕ → List X) (from : ℕ → List (List ℕ) → List X)
+    (step : (first : ℕ) (bytes : List ℕ) (rest : List (List ℕ)) → from first (bytes ∷ rest) ≡ one first bytes ++ from (first + length (lines bytes)) rest)
+    (none : (first : ℕ) → from first [] ≡ []) where
+  -- what is found in the files from index `i` on is what is found in the file with this index and in the later files
+  found_here : (files : List UnitText) (i : ℕ) (file : UnitText) (first : ℕ) → i < length files → file ≡ get_or files i file
+      → one first file.bytes.items ++ from (first + length (lines file.bytes.items)) (bytes_in (map shown_unit_text (drop (i + 1) files)))
+      ≡ from first (bytes_in (map shown_unit_text (drop i files)))
+  found_here files i file first h at =
+      rw (drop-cons files i file h, ← at, add-one) (sym (step first file.bytes.items _))
+
+  pub found_more : (old new : List X) (files : List UnitText) (i : ℕ) (file : UnitText) (first next : ℕ) (all : List X)
+      → i < length files → file ≡ get_or files i file → next ≡ first + length (lines file.bytes.items) → new ≡ old ++ one first file.bytes.items
+      → old ++ from first (bytes_in (map shown_unit_text (drop i files))) ≡ all
+      → new ++ from next (bytes_in (map shown_unit_text (drop (i + 1) files))) ≡ all
+  found_more old new files i file first next all h at number pushed before =
+      let rest = bytes_in (map shown_unit_text (drop (i + 1) files)) in
+      ap (λ list. list ++ from next rest) pushed
+      ∙ append_assoc old (one first file.bytes.items) (from next rest)
+      ∙ ap (λ n. old ++ (one first file.bytes.items ++ from n rest)) number
+      ∙ ap (λ list. old ++ list) (found_here files i file first h at)
+      ∙ before
+
+  pub found_all : (found : List X) (first : ℕ) (files : List UnitText) (i : ℕ) (all : List X) → i ≡ length files
+      → found ++ from first (bytes_in (map shown_unit_text (drop i files))) ≡ all → found ≡ all
+  found_all found first files i all e before =
+      sym (append-nil found)
+      ∙ ap (λ list. found ++ list) (sym (ap (λ rest. from first (bytes_in (map shown_unit_text rest))) (ap (λ n. drop n files) e ∙ drop-length files) ∙ none first))
+      ∙ before
+
+-- the assignments of one file, and those of several
+pub assignments_step : (first : ℕ) (bytes : List ℕ) (rest : List (List ℕ))
+    → assignments_from first (bytes ∷ rest) ≡ assignments_read first bytes ++ assignments_from (first + length (lines bytes)) rest
 unfolding assignments_from
-assignments_here text files i file next h at same number = rw (drop-cons files i file h, ← at, add-one, number, same) refl
+assignments_step first bytes rest = refl
 
-pub texts_more : (texts more : List NumberedText) (text : NumberedText) (files : List UnitText) (i : ℕ) (file : UnitText) (first next : ℕ) (all : List Assignment)
-    → i < length files → file ≡ get_or files i file → text.text.now ≡ file.bytes.items → text.first ≡ first
-    → next ≡ text.first + length (lines text.text.now) → more ≡ texts ++ text ∷ []
-    → assignments_of texts ++ assignments_from first (bytes_in (map shown_unit_text (drop i files))) ≡ all
-    → assignments_of more ++ assignments_from next (bytes_in (map shown_unit_text (drop (i + 1) files))) ≡ all
-texts_more texts more text files i file first next all h at same from number pushed before =
-    ap (λ list. assignments_of list ++ assignments_from next (bytes_in (map shown_unit_text (drop (i + 1) files)))) pushed
-    ∙ ap (λ list. list ++ assignments_from next (bytes_in (map shown_unit_text (drop (i + 1) files))))
-    (flat_map-append assignments_at texts (text ∷ []) ∙ ap (λ last. assignments_of texts ++ last) (append-nil (assignments_at text)))
-    ∙ append_assoc (assignments_of texts) (assignments_at text) (assignments_from next (bytes_in (map shown_unit_text (drop (i + 1) files))))
-    ∙ ap (λ list. assignments_of texts ++ list) (assignments_here text files i file next h at same number)
-    ∙ ap (λ n. assignments_of texts ++ assignments_from n (bytes_in (map shown_unit_text (drop i files)))) from
-    ∙ before
-
-no_files : (first : ℕ) → assignments_from first [] ≡ []
+pub no_assignments : (first : ℕ) → assignments_from first [] ≡ []
 unfolding assignments_from
-no_files first = refl
+no_assignments first = refl
 
-pub texts_all : (texts : List NumberedText) (first : ℕ) (files : List UnitText) (i : ℕ) (all : List Assignment) → i ≡ length files
-    → assignments_of texts ++ assignments_from first (bytes_in (map shown_unit_text (drop i files))) ≡ all
-    → assignments_of texts ≡ all
-texts_all texts first files i all e before =
-    sym (append-nil (assignments_of texts))
-    ∙ ap (λ list. assignments_of texts ++ list) (sym (ap (λ rest. assignments_from first (bytes_in (map shown_unit_text rest))) (ap (λ n. drop n files) e ∙ drop-length files) ∙ no_files first))
-    ∙ before
+-- the line at which systemd stops reading one file, and those of several files
+abbrev pub broken_in_one : ℕ → List ℕ → List (Option BrokenLine)
+broken_in_one first bytes = broken_line first bytes ∷ []
 
-pub numbered_more : (texts more : List NumberedText) (text : NumberedText) → more ≡ texts ++ text ∷ []
-    → All (λ text. text.first + length text.text.now < 2 ^ 32) texts → text.first + length text.text.now < 2 ^ 32
-    → All (λ text. text.first + length text.text.now < 2 ^ 32) more
-numbered_more texts more text pushed before here = rw pushed (All-push (λ text. text.first + length text.text.now < 2 ^ 32) texts text before here)
+pub broken_step : (first : ℕ) (bytes : List ℕ) (rest : List (List ℕ))
+    → broken_from first (bytes ∷ rest) ≡ broken_in_one first bytes ++ broken_from (first + length (lines bytes)) rest
+unfolding broken_from
+broken_step first bytes rest = refl
+
+pub none_broken : (first : ℕ) → broken_from first [] ≡ []
+unfolding broken_from
+none_broken first = refl
+
+-- what is first in the list of the lines at which systemd stops reading each file is about the unit's own file
+pub first_broken : (files : List FileText) (line : Option BrokenLine) → slice_get (broken_of_files files) 0 ≡ Some line → line ≡ broken_own files
+unfolding broken_from
+first_broken [] line e = absurd (cc)
+first_broken (own ∷ drop_ins) line e = sym (same_Some _ line e)
+
+pub no_first_broken : (files : List FileText) → slice_get (broken_of_files files) 0 ≡ None → None ≡ broken_own files
+unfolding broken_from
+no_first_broken [] e = refl
+no_first_broken (own ∷ drop_ins) e = absurd (cc)

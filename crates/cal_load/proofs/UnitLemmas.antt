@@ -87,10 +87,10 @@ fault_pushed old new fault name found e named is =
     subst (HasFault new name) (sym is) (fault, rw e (Contains-push old fault), named, refl)
 
 -- an error about a file that can't be used is the error for a target whose own file it is
-pub file_unusable : (machine : Machine) (why : Reason) (path : List ℕ) (read : FileRead) (files : List UnitText) (fault : TargetLoadFault) → Unusable why ≡ read
-    → IsUnusableFault why path fault → IsFileFault machine read path files fault
-file_unusable machine why path read files (faults.TheVariants.Target reason) is h = subst (λ read. IsFileReason machine read path files reason) is h
-file_unusable machine why path read files faults.TheVariants.NoMemory is h = tt
+pub file_unusable : (machine : Machine) (why : Reason) (path : List ℕ) (read : FileRead) (name : List ℕ) (files : List UnitText) (fault : TargetLoadFault) → Unusable why ≡ read
+    → IsUnusableFault why path fault → IsFileFault machine read path name files fault
+file_unusable machine why path read name files (faults.TheVariants.Target reason) is h = subst (λ read. IsFileReason machine read path name files reason) is h
+file_unusable machine why path read name files faults.TheVariants.NoMemory is h = tt
 
 -- what was pushed is kept if only faults are added afterwards
 pub pushed_kept : (name : List ℕ) (found : Result targets.LoadedTarget TargetLoadFault) (old mid new : Loaded)

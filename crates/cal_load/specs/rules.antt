@@ -8,4 +8,7 @@ pub mod Loaded
 pub mod LoadedTarget
 pub mod Notes
 pub mod Position
+pub mod Readable
+pub mod Settled
+pub mod Specifiers
 pub mod TextFaults

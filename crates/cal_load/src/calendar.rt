@@ -1,13 +1,12 @@
 //! The calendar of a timer, and reading it from texts.
 
-ghost use Rattle.std.specs.Prelude.{◌≡◌, ◌+◌, ◌<◌, ◌^◌, ◌∷◌, ◌++◌, [], List, All, IfOk, OnOk, false, length, map, true};
+ghost use Rattle.std.specs.Prelude.{◌≡◌, ◌∷◌, ◌++◌, [], List, IfOk, OnOk, false, map, true};
 ghost use Rattle.cal_timer.specs.rules.Assignments as assignments;
 ghost use Rattle.cal_timer.specs.rules.TimerView.{shown, shown_assignment};
 ghost use Rattle.cal_read.specs.rules.SectionAssignments.{shown_owned_assignment};
-ghost use Rattle.cal_read.specs.rules.TimerTexts.{assignments_at, assignments_of};
 ghost use Rattle.cal_load.specs.rules.Loaded.{AreReadFrom, entries_after, exceptions_in, expressions_in, ignored_more};
 
-use cal_read::{Assignment, Assignments, NumberedText, OwnedAssignment, without_mark};
+use cal_read::{Assignment, OwnedAssignment};
 use cal_spec::{SpecFault, read_expr};
 use cal_timer::TimerLine;
 use std::alloc::{AllocError, Global};
@@ -62,41 +61,22 @@ impl Calendar {
     }
 }
 
-/// Reads the expressions and exceptions in the sections `Timer` of these texts. As in systemd, a line with an invalid
-/// expression is ignored. So is one with an invalid exception, though systemd reads no exceptions. Fails only if
-/// allocation fails.
+/// Reads the expressions and exceptions among these assignments. As in systemd, a line with an invalid expression is
+/// ignored. So is one with an invalid exception, though systemd reads no exceptions. Fails only if allocation fails.
 pub(crate) fn read_calendar(
     alloc: Global,
-    texts: &[NumberedText<'_>],
+    assignments: &[OwnedAssignment],
 ) -> Result<CalendarLines, AllocError>
-    requires { All (λ text. text.first + length text.text.now < 2 ^ 32) texts.now }
-    ensures { IfOk result (AreReadFrom (assignments_of texts.now)) }
+    ensures { IfOk result (AreReadFrom (map shown_owned_assignment assignments.now)) }
 {
     let mut read = CalendarLines {
         calendar: Calendar::of_expressions(alloc, Vec::new(alloc)),
         ignored: Vec::new(alloc),
     };
-    for text in texts {
-        read_text(alloc, &mut read, text)?;
+    for assignment in assignments {
+        read_assignment(alloc, &mut read, assignment)?;
     }
     Ok(read)
-}
-
-/// Reads the expressions and exceptions of one more text.
-fn read_text(
-    alloc: Global,
-    read: &mut CalendarLines,
-    text: &NumberedText<'_>,
-) -> Result<(), AllocError>
-    requires { text.now.first + length text.now.text.now < 2 ^ 32 }
-    ensures { OnOk result ((before : List assignments.Assignment) → AreReadFrom before read.old
-        → AreReadFrom (before ++ assignments_at text.now) read.new) }
-{
-    let mut assignments = Assignments::new("Timer", text.first, without_mark(text.text));
-    while let Some(assignment) = assignments.next(alloc)? {
-        read_assignment(alloc, read, &assignment)?;
-    }
-    Ok(())
 }
 
 /// Applies one more assignment: it adds to a list, clears a list, is recorded as ignored, or has no effect because of its
@@ -130,7 +110,7 @@ fn read_assignment(
 }
 
 /// Returns the same assignment, which borrows its key and value.
-fn borrowed(owned: &OwnedAssignment) -> Assignment<'_>
+pub(crate) fn borrowed(owned: &OwnedAssignment) -> Assignment<'_>
     ensures { shown_assignment result ≡ shown_owned_assignment owned.now }
 {
     Assignment {

@@ -113,6 +113,7 @@ fn only_timer(
         name,
         files: Vec::new(alloc),
         first_lines: Vec::new(alloc),
+        broken: Vec::new(alloc),
         calendar: Calendar::of_expressions(alloc, lines),
         ignored: Vec::new(alloc),
         zones,

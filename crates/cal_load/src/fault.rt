@@ -3,9 +3,10 @@
 ghost use Rattle.std.specs.Prelude.{◌≡◌, ◌∷◌, [], true, OnOk, map, string_bytes};
 ghost use Rattle.cal_unit_index.specs.rules.Index.{shown_fault};
 ghost use Rattle.cal_load.specs.declared.fault.TargetLoadFault.TheVariants.{NoMemory};
-ghost use Rattle.cal_load.specs.rules.AllUnits.{HasFault, IsFaultPushed, IsNotUtf8Fault, IsPathFault, IsTreeFault, Keeps};
+ghost use Rattle.cal_load.specs.rules.AllUnits.{HasFault, IsBrokenFault, IsFaultPushed, IsPathFault, IsTreeFault, Keeps};
 ghost use Rattle.cal_load.specs.rules.FileFaults.{AreLostAlso, IsAbout, IsCause, IsFaultOf, IsLostIn, Lost, lost_path};
 
+use crate::readable::BrokenLine;
 use crate::target_fault::{TargetFault, TargetReason};
 use cal_machine::TreeFault;
 use cal_unit_index::{Reason, UnitFault};
@@ -47,12 +48,12 @@ impl TargetLoadFault {
         }
     }
 
-    /// Returns the error for a file that is not UTF-8.
-    pub(crate) fn not_utf8(alloc: Global, path: &str) -> TargetLoadFault
-        ensures { IsNotUtf8Fault path.now result }
+    /// Returns the error for a timer's own file, at this path, if systemd stops reading it at this line.
+    pub(crate) fn broken(alloc: Global, path: &str, line: BrokenLine) -> TargetLoadFault
+        ensures { IsBrokenFault path.now line result }
     {
         match String::from_str(alloc, path) {
-            Ok(path) => TargetLoadFault::Target(TargetReason::NotUtf8(path)),
+            Ok(path) => TargetLoadFault::Target(TargetReason::Broken(path, line)),
             Err(_) => TargetLoadFault::NoMemory,
         }
     }

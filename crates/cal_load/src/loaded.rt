@@ -9,6 +9,7 @@ ghost use Rattle.cal_load.specs.rules.Position.{IsLastUntil, IsPosition};
 use crate::calendar::{Calendar, IgnoredLine};
 use crate::fault::{TargetLoadFault, push_fault};
 use crate::names::has_unit;
+use crate::readable::BrokenLine;
 use crate::target_fault::TargetFault;
 use cal_timer::TimerLine;
 use cal_unit_index::UnitText;
@@ -26,6 +27,9 @@ pub struct LoadedTimer {
     pub files: Vec<UnitText>,
     /// The number of each file's first line. Line numbers continue from file to file.
     pub first_lines: Vec<u32>,
+    /// For each file, the line at which systemd stops reading it, if it has such a line. A timer's own file has none. Of
+    /// a drop-in, only the lines above it count.
+    pub broken: Vec<Option<BrokenLine>>,
     /// The valid expressions and exceptions in these files, or the expressions that were given by themselves. Each of
     /// the latter has its index, counted from 1, as its line number.
     pub calendar: Calendar,
@@ -33,8 +37,8 @@ pub struct LoadedTimer {
     pub ignored: Vec<IgnoredLine>,
     /// The zones that the expressions and exceptions name.
     pub zones: ZoneTable,
-    /// The other settings that decide when the timer starts a unit, and which unit that is, each as `KEY=VALUE`, in the
-    /// order of the files.
+    /// The expressions that depend on the running system, because of their specifiers, and then the other settings that
+    /// decide when the timer starts a unit, and which unit that is; each as `KEY=VALUE`, in the order of the files.
     pub notes: Vec<String>,
 }
 

@@ -1,18 +1,17 @@
 //! The assignments other than `OnCalendar=` that are noted for a timer: those that decide when it starts a unit, and
 //! which unit that is (systemd.timer(5), Options).
 
-ghost use Rattle.std.specs.Prelude.{◌≡◌, ◌+◌, ◌<◌, ◌^◌, All, IfOk, OnOk, filter, length, map, not, string_bytes};
+ghost use Rattle.std.specs.Prelude.{◌≡◌, IfOk, OnOk, filter, map, not, string_bytes};
 ghost use Rattle.std.specs.List.{list_any, slice_split};
 ghost use Rattle.cal_timer.specs.rules.TimerText.{is_reset};
 ghost use Rattle.cal_read.specs.rules.SectionAssignments.{shown_owned_assignment};
-ghost use Rattle.cal_read.specs.rules.TimerTexts.{assignments_at, assignments_of};
 ghost use Rattle.cal_unit_index.specs.rules.Destinations.{last_part};
 ghost use Rattle.cal_unit_index.specs.rules.SearchPath.{is_slash};
 ghost use Rattle.cal_unit_index.specs.rules.UnitName.{without_suffix};
-ghost use Rattle.cal_load.specs.rules.Notes.{is_at, is_monotonic, is_noted, is_started, is_taken, kept_after, kept_in, kept_with, kind_of, last_counts, names_unit, note_text, noted_of, notes_in, replaces, service_of, starts, starts_unit, undoes, unit_line};
+ghost use Rattle.cal_load.specs.rules.Notes.{is_at, is_monotonic, is_noted, is_started, is_taken, kept_in, kept_with, kind_of, last_counts, names_unit, note_text, noted_of, notes_in, replaces, service_of, starts, starts_unit, undoes, unit_line};
 
 use crate::setting_kind::{SettingKind, is_longer, is_taken_as, is_yes, kind_of};
-use cal_read::{Assignment, Assignments, NumberedText, OwnedAssignment, without_mark};
+use cal_read::{Assignment, OwnedAssignment};
 use std::alloc::{AllocError, Global};
 
 /// How accurate a timer is by default, in microseconds: one minute.
@@ -21,9 +20,8 @@ const DEFAULT_ACCURACY: u64 = 60_000_000;
 /// The suffix of a timer's name.
 const SUFFIX: &str = ".timer";
 
-/// Returns the assignments in the sections `Timer` of these texts that are noted for the timer with this name. `name`
-/// is the name of a unit, or the path of a file that is read by itself: then the timer's own name is the part after the
-/// last slash.
+/// Returns those of these assignments that are noted for the timer with this name. `name` is the name of a unit, or the
+/// path of a file that is read by itself: then the timer's own name is the part after the last slash.
 ///
 /// Assignments that systemd ignores don't count. Every `OnActiveSec=`, `OnBootSec=`, `OnStartupSec=`,
 /// `OnUnitActiveSec=` and `OnUnitInactiveSec=` is returned, but an empty value of one of these keys, or of
@@ -35,51 +33,36 @@ const SUFFIX: &str = ".timer";
 /// - of `AccuracySec=` the last one, if it is longer than the default of one minute;
 /// - of `Unit=` the first one that isn't the timer itself, unless it is the service with the timer's name.
 ///
-/// A value with a `%` may have specifiers: it is taken as valid if systemd replaces specifiers in this setting.
+/// A monotonic timer or a `Unit=` with a `%` has specifiers that depend on the running system, and is taken as valid.
 pub(crate) fn notes_of(
     alloc: Global,
     name: &str,
-    texts: &[NumberedText<'_>],
+    assignments: Vec<OwnedAssignment>,
 ) -> Result<Vec<OwnedAssignment>, AllocError>
-    requires { All (λ text. text.first + length text.text.now < 2 ^ 32) texts.now }
-    ensures notes { IfOk result (λ notes. map shown_owned_assignment notes.items ≡ notes_in name.now (assignments_of texts.now)) }
+    ensures notes { IfOk result (λ notes. map shown_owned_assignment notes.items
+        ≡ notes_in name.now (map shown_owned_assignment assignments.items)) }
     ensures starts { IfOk result (λ notes. list_any starts (map shown_owned_assignment notes.items)
-        ≡ starts_unit (assignments_of texts.now)) }
+        ≡ starts_unit (map shown_owned_assignment assignments.items)) }
 {
-    let mut notes = kept_of(alloc, texts)?;
+    let mut notes = kept_of(alloc, assignments)?;
     let own = last_part(alloc, name)?;
     retain_noted(alloc, own, &mut notes)?;
     Ok(notes)
 }
 
-/// Returns the assignments in these texts with a key that can be noted and a value that systemd accepts, except those
+/// Returns those of these assignments that have a key that can be noted and a value that systemd accepts, except those
 /// that a later assignment undoes.
-fn kept_of(alloc: Global, texts: &[NumberedText<'_>]) -> Result<Vec<OwnedAssignment>, AllocError>
-    requires { All (λ text. text.first + length text.text.now < 2 ^ 32) texts.now }
-    ensures { IfOk result (λ kept. map shown_owned_assignment kept.items ≡ kept_in (assignments_of texts.now)) }
+fn kept_of(
+    alloc: Global,
+    assignments: Vec<OwnedAssignment>,
+) -> Result<Vec<OwnedAssignment>, AllocError>
+    ensures { IfOk result (λ kept. map shown_owned_assignment kept.items ≡ kept_in (map shown_owned_assignment assignments.items)) }
 {
     let mut kept = Vec::new(alloc);
-    for text in texts {
-        apply_text(alloc, &mut kept, text)?;
+    for assignment in assignments {
+        apply_assignment(&mut kept, assignment)?;
     }
     Ok(kept)
-}
-
-/// Applies the assignments of a text to those kept so far.
-fn apply_text(
-    alloc: Global,
-    kept: &mut Vec<OwnedAssignment>,
-    text: &NumberedText<'_>,
-) -> Result<(), AllocError>
-    requires { text.now.first + length text.now.text.now < 2 ^ 32 }
-    ensures { OnOk result (map shown_owned_assignment kept.new.items
-        ≡ kept_after (map shown_owned_assignment kept.old.items) (assignments_at text.now)) }
-{
-    let mut assignments = Assignments::new("Timer", text.first, without_mark(text.text));
-    while let Some(assignment) = assignments.next(alloc)? {
-        apply_assignment(kept, assignment)?;
-    }
-    Ok(())
 }
 
 /// Applies an assignment: removes those that it undoes, and appends it if systemd takes it.
@@ -169,7 +152,7 @@ fn is_taken(assignment: &OwnedAssignment) -> bool
 }
 
 /// Returns the part of a path after its last slash.
-fn last_part(alloc: Global, path: &str) -> Result<&str, AllocError>
+pub(crate) fn last_part(alloc: Global, path: &str) -> Result<&str, AllocError>
     ensures { IfOk result (λ part. part.now ≡ last_part path.now) }
 {
     let parts = parts_of(alloc, path)?;
@@ -205,7 +188,7 @@ fn service_of(alloc: Global, own: &str) -> Result<String, AllocError>
 }
 
 #[tactic(auto, unfolding(cal_unit_index::specs::rules::UnitName::without_suffix))]
-fn without_suffix(name: &str) -> &str
+pub(crate) fn without_suffix(name: &str) -> &str
     ensures { result.now ≡ without_suffix name.now }
 {
     match name.strip_suffix(SUFFIX) {

@@ -108,8 +108,7 @@ fn find_kind(kinds: &[SettingKind], key: &[u8]) -> Option<SettingKind>
 }
 
 /// Returns whether systemd takes the value for a setting of this kind; it ignores an assignment with any other value. A
-/// value with a `%` may have specifiers, which systemd replaces in the time spans of monotonic timers and in `Unit=`.
-/// It is taken as valid there.
+/// value of a monotonic timer or of `Unit=` that still has a `%` depends on the running system, and is taken as valid.
 pub(crate) fn is_taken_as(kind: SettingKind, value: &str) -> bool
     ensures { result ≡ is_taken_as (Some kind) value.now }
 {
@@ -123,7 +122,8 @@ pub(crate) fn is_taken_as(kind: SettingKind, value: &str) -> bool
     }
 }
 
-fn has_percent(value: &str) -> bool
+/// Returns whether the value may have specifiers.
+pub(crate) fn has_percent(value: &str) -> bool
     ensures { result ≡ has_percent value.now }
 {
     value.as_bytes().contains(&b'%')
@@ -195,7 +195,7 @@ fn is_unit_name(name: &str) -> bool
 }
 
 /// Returns the part of a name before its first `@`, or the whole name if it has no `@`.
-fn stem_base(name: &str) -> &str
+pub(crate) fn stem_base(name: &str) -> &str
     ensures { result.now ≡ stem_base name.now }
 {
     match name.split_once('@') {

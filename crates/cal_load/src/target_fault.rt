@@ -3,6 +3,7 @@
 ghost use Rattle.std.specs.Prelude.{◌≡◌};
 ghost use Rattle.cal_load.specs.rules.TextFaults.{fails_to_load};
 
+use crate::readable::BrokenLine;
 use cal_spec::SpecFault;
 use cal_timer::TimerFault;
 use cal_unit_index::Reason;
@@ -19,8 +20,8 @@ pub enum TargetReason {
     TooManyAliases,
     /// The file, folder or link at this path can't be used, for this reason.
     Path(String, Reason),
-    /// The file at this path is not UTF-8.
-    NotUtf8(String),
+    /// systemd stops reading the timer's own file, which is at this path, at this line. So it doesn't load the timer.
+    Broken(String, BrokenLine),
     /// This line of the file at this path is invalid. The error has the same line number.
     Line(String, u32, TimerFault),
     /// The timer has neither a calendar expression nor another setting that starts its unit.
@@ -47,14 +48,14 @@ pub struct TargetFault {
 }
 
 impl TargetFault {
-    /// Returns whether the target is a timer that was found and read, but fails to load: one of its files isn't UTF-8, or
-    /// nothing starts its unit.
+    /// Returns whether the target is a timer that was found and read, but fails to load: its own file has a line at which
+    /// systemd stops reading it, or nothing starts its unit.
     pub fn fails_to_load(&self) -> bool
         ensures { result ≡ fails_to_load self.now.reason }
     {
         matches!(
             self.reason,
-            TargetReason::Line(..) | TargetReason::NothingToDo | TargetReason::NotUtf8(_)
+            TargetReason::Line(..) | TargetReason::NothingToDo | TargetReason::Broken(..)
         )
     }
 }

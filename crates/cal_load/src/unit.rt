@@ -1,6 +1,6 @@
 //! Reading a timer from its files.
 
-ghost use Rattle.std.specs.Prelude.{◌≡◌, ◌∷◌, ◌++◌, ℕ, List, IfOk, OnOk, map, string_bytes};
+ghost use Rattle.std.specs.Prelude.{◌≡◌, ◌∷◌, ◌++◌, ℕ, List, None, Some, IfOk, OnOk, map, string_bytes};
 ghost use Rattle.cal_machine.specs.rules.Machine.{Machine};
 ghost use Rattle.std.specs.Result.{IfErr};
 ghost use Rattle.cal_unit_index.specs.rules.DropIns.{drop_ins};
@@ -11,20 +11,22 @@ ghost use Rattle.cal_unit_index.specs.rules.Index.{IsIndexOf};
 ghost use Rattle.cal_unit_index.specs.rules.Names.{names_on};
 ghost use Rattle.cal_unit_index.specs.rules.Units.{unit_on};
 ghost use Rattle.cal_zone_files.specs.rules.ZoneFiles.{zone_path};
-ghost use Rattle.cal_load.specs.rules.Notes.{note_text, notes_in};
+ghost use Rattle.cal_load.specs.rules.Notes.{note_text};
 ghost use Rattle.cal_load.specs.rules.Position.{AreFirstLines, HasLine, IsLineIn};
-ghost use Rattle.cal_load.specs.rules.TextFaults.{IsAssignmentFault, IsFirstWithZone, IsTextFault, IsZonesError, StartNothing, ignored_of_files, zone_names_of};
+ghost use Rattle.cal_load.specs.rules.TextFaults.{IsAssignmentFault, IsFirstWithZone, IsReadFault, IsTextFault, IsZonesError, StartNothing, ignored_of_files, zone_names_of};
 ghost use Rattle.cal_load.specs.rules.AllTargets.{IsReadAt};
-ghost use Rattle.cal_load.specs.rules.AllUnits.{IsFileFault, IsTimerFileFault, IsUnitFault, IsUnusableFault};
-ghost use Rattle.cal_load.specs.rules.Loaded.{IsCalendarOf, IsStarted, IsTimerReadFrom, assignments_of_files, unit_texts};
+ghost use Rattle.cal_load.specs.rules.AllUnits.{IsFileFault, IsTimerFileFault, IsUnitFault, IsUnusableFault, unit_name};
+ghost use Rattle.cal_load.specs.rules.Loaded.{IsCalendarOf, IsStarted, IsTimerReadFrom, broken_of_files, broken_own, noted_in_files, unit_texts};
 ghost use Rattle.cal_load.specs.rules.LoadedTarget.{IsFoundTarget, IsLoadedFile, IsLoadedUnit, IsOwnFile};
 
 use crate::calendar::{Calendar, CalendarLines, IgnoredLine, read_calendar};
 use crate::fault::TargetLoadFault;
 use crate::loaded::{LoadedTarget, LoadedTimer, position_in};
 use crate::notes::{can_start, notes_of, shown_notes};
+use crate::readable::BrokenLine;
+use crate::settled::{Settled, settle};
 use crate::target_fault::TargetReason;
-use crate::texts::{first_lines, numbered_texts};
+use crate::texts::{ReadFiles, append, read_files};
 use crate::zones::{first_with_zone, load_named_zones};
 use cal_machine::Tree;
 use cal_read::TimerFault;
@@ -39,6 +41,7 @@ use std::alloc::{AllocError, Global};
 #[derive(Drop)]
 struct ParsedFiles {
     first_lines: Vec<u32>,
+    broken: Vec<Option<BrokenLine>>,
     calendar: Calendar,
     ignored: Vec<IgnoredLine>,
     notes: Vec<String>,
@@ -81,7 +84,7 @@ fn read_found<T: Tree>(
         (string_bytes file.stem) asked.now found) }
     ensures fault { IfErr result (λ fault. (machine : Machine) (path : List (List ℕ)) → T.shows tree.new machine
         → IsIndexOf machine path index.now → IsFileFault machine (file_at machine (string_bytes file.path)) (string_bytes file.path)
-        (unit_texts machine path (string_bytes file.path) (string_bytes file.file) (string_bytes file.stem) asked.now) fault) }
+        (unit_name (string_bytes file.stem)) (unit_texts machine path (string_bytes file.path) (string_bytes file.file) (string_bytes file.stem) asked.now) fault) }
     ensures grows { (machine : Machine) → T.shows tree.new machine → T.shows tree.old machine }
 {
     let Some(own) = read_own(alloc, tree, file.path.as_str())? else {
@@ -102,8 +105,8 @@ fn read_own<T: Tree>(
     path: &str,
 ) -> Result<Option<UnitText>, TargetLoadFault>
     ensures known { IfOk result (λ own. (machine : Machine) → T.shows tree.new machine → IsOwnFile machine path.now own) }
-    ensures fault { IfErr result (λ fault. (machine : Machine) (files : List FileText) → T.shows tree.new machine
-        → IsFileFault machine (file_at machine path.now) path.now files fault) }
+    ensures fault { IfErr result (λ fault. (machine : Machine) (name : List ℕ) (files : List FileText) → T.shows tree.new machine
+        → IsFileFault machine (file_at machine path.now) path.now name files fault) }
     ensures grows { (machine : Machine) → T.shows tree.new machine → T.shows tree.old machine }
 {
     match read_file(alloc, tree, path)? {
@@ -151,15 +154,6 @@ fn drop_in_texts<T: Tree>(
     Ok(texts)
 }
 
-fn append<X: Drop>(all: &mut Vec<X>, more: Vec<X>) -> Result<(), AllocError>
-    ensures { OnOk result (all.new.items ≡ all.old.items ++ more.items) }
-{
-    for item in more {
-        all.push(item)?;
-    }
-    Ok(())
-}
-
 /// Returns the unit's own file, and then its drop-ins.
 fn with_drop_ins(
     alloc: Global,
@@ -204,7 +198,7 @@ fn timer_from_files<T: Tree>(
     ensures read { IfOk result (λ timer. (machine : Machine) → T.shows tree.new machine
         → IsTimerReadFrom machine (map shown_unit_text files.items) timer) }
     ensures fault { IfErr result (λ fault. (machine : Machine) → T.shows tree.new machine
-        → IsTextFault machine (map shown_unit_text files.items) fault) }
+        → IsTextFault machine (string_bytes name) (map shown_unit_text files.items) fault) }
     ensures grows { (machine : Machine) → T.shows tree.new machine → T.shows tree.old machine }
 {
     let parsed = parse_files(alloc, name.as_str(), files.as_slice())?;
@@ -215,6 +209,7 @@ fn timer_from_files<T: Tree>(
     };
     let ParsedFiles {
         first_lines,
+        broken,
         calendar,
         ignored,
         notes,
@@ -223,6 +218,7 @@ fn timer_from_files<T: Tree>(
         name,
         files,
         first_lines,
+        broken,
         calendar,
         ignored,
         zones,
@@ -230,33 +226,70 @@ fn timer_from_files<T: Tree>(
     })
 }
 
-/// Parses the files of the timer with this name. Fails if nothing starts its unit, or if a file isn't UTF-8 or too large.
+/// Parses the files of the timer with this name. Fails if systemd doesn't read the timer's own file to the end, if a
+/// file is too large, or if nothing starts the timer's unit.
 fn parse_files(
     alloc: Global,
     name: &str,
     files: &[UnitText],
 ) -> Result<ParsedFiles, TargetLoadFault>
-    ensures calendar { IfOk result (λ parsed. IsCalendarOf (map shown_unit_text files.now) parsed.calendar) }
-    ensures starts { OnOk result (IsStarted (assignments_of_files (map shown_unit_text files.now))) }
-    ensures ignored { IfOk result (λ parsed. parsed.ignored.items ≡ ignored_of_files (map shown_unit_text files.now)) }
+    ensures whole { OnOk result (broken_own (map shown_unit_text files.now) ≡ None) }
+    ensures broken { IfOk result (λ parsed. parsed.broken.items ≡ broken_of_files (map shown_unit_text files.now)) }
+    ensures calendar { IfOk result (λ parsed. IsCalendarOf name.now (map shown_unit_text files.now) parsed.calendar) }
+    ensures starts { OnOk result (IsStarted name.now (map shown_unit_text files.now)) }
+    ensures ignored { IfOk result (λ parsed. parsed.ignored.items ≡ ignored_of_files name.now (map shown_unit_text files.now)) }
     ensures numbered { IfOk result (λ parsed. AreFirstLines (map shown_unit_text files.now) parsed.first_lines.items) }
     ensures notes { IfOk result (λ parsed. map string_bytes parsed.notes.items
-        ≡ map note_text (notes_in name.now (assignments_of_files (map shown_unit_text files.now)))) }
-    ensures fault { IfErr result (λ fault. (machine : Machine) → IsTextFault machine (map shown_unit_text files.now) fault) }
+        ≡ map note_text (noted_in_files name.now (map shown_unit_text files.now))) }
+    ensures fault { IfErr result (λ fault. (machine : Machine) → IsTextFault machine name.now (map shown_unit_text files.now) fault) }
 {
-    let texts = numbered_texts(alloc, files)?;
-    let first_lines = first_lines(alloc, texts.as_slice())?;
-    let notes = notes_of(alloc, name, texts.as_slice())?;
-    let CalendarLines { calendar, ignored } = read_calendar(alloc, texts.as_slice())?;
-    if calendar.lines().is_empty() && !can_start(notes.as_slice()) {
+    let ReadFiles {
+        first_lines,
+        assignments,
+        broken,
+    } = read_files(alloc, files)?;
+    if let Some(line) = own_broken(broken.as_slice()) {
+        return Err(broken_fault(alloc, files, line));
+    }
+    let Settled {
+        assignments,
+        unclear,
+    } = settle(alloc, name, assignments)?;
+    let CalendarLines { calendar, ignored } = read_calendar(alloc, assignments.as_slice())?;
+    let notes = notes_of(alloc, name, assignments)?;
+    if calendar.lines().is_empty() && unclear.is_empty() && !can_start(notes.as_slice()) {
         return Err(start_fault(alloc, files, first_lines.as_slice(), ignored.as_slice()));
     }
+    let mut noted = unclear;
+    append(&mut noted, notes)?;
     Ok(ParsedFiles {
         first_lines,
+        broken,
         calendar,
         ignored,
-        notes: shown_notes(alloc, notes.as_slice())?,
+        notes: shown_notes(alloc, noted.as_slice())?,
     })
+}
+
+/// Returns the line at which systemd stops reading the first of a unit's files, its own file.
+fn own_broken(broken: &[Option<BrokenLine>]) -> Option<BrokenLine>
+    ensures { (files : List FileText) → broken.now ≡ broken_of_files files → result ≡ broken_own files }
+{
+    match broken.first() {
+        Some(line) => *line,
+        None => None,
+    }
+}
+
+/// Returns the error for a unit whose own file, the first of its files, systemd stops reading at this line.
+fn broken_fault(alloc: Global, files: &[UnitText], line: BrokenLine) -> TargetLoadFault
+    ensures { broken_own (map shown_unit_text files.now) ≡ Some line → IsReadFault (map shown_unit_text files.now) result }
+{
+    match files.first() {
+        Some(own) => TargetLoadFault::broken(alloc, own.path.as_str(), line),
+        // A unit has a file of its own.
+        None => TargetLoadFault::NoMemory,
+    }
 }
 
 /// Returns the error for a timer whose unit nothing starts: that of the first ignored line, with the number that the
@@ -267,10 +300,9 @@ fn start_fault(
     first_lines: &[u32],
     ignored: &[IgnoredLine],
 ) -> TargetLoadFault
-    requires numbered { AreFirstLines (map shown_unit_text files.now) first_lines.now }
-    requires ignored { ignored.now ≡ ignored_of_files (map shown_unit_text files.now) }
-    requires nothing { StartNothing (map shown_unit_text files.now) }
-    ensures { IsAssignmentFault (map shown_unit_text files.now) result }
+    requires { AreFirstLines (map shown_unit_text files.now) first_lines.now }
+    ensures { (name : List ℕ) → ignored.now ≡ ignored_of_files name (map shown_unit_text files.now)
+        → StartNothing name (map shown_unit_text files.now) → IsAssignmentFault name (map shown_unit_text files.now) result }
 {
     let Some(first) = ignored.first() else {
         return TargetLoadFault::Target(TargetReason::NothingToDo);
@@ -305,10 +337,10 @@ fn zone_fault(
     parsed: &ParsedFiles,
     fault: ZonesFault,
 ) -> TargetLoadFault
-    requires numbered { AreFirstLines (map shown_unit_text files.now) parsed.now.first_lines.items }
-    requires calendar { IsCalendarOf (map shown_unit_text files.now) parsed.now.calendar }
-    ensures { (machine : Machine) → IsZonesError machine (zone_names_of parsed.now.calendar) fault
-        → IsTextFault machine (map shown_unit_text files.now) result }
+    requires { AreFirstLines (map shown_unit_text files.now) parsed.now.first_lines.items }
+    ensures { (machine : Machine) (name : List ℕ) → IsCalendarOf name (map shown_unit_text files.now) parsed.now.calendar
+        → IsZonesError machine (zone_names_of parsed.now.calendar) fault
+        → IsTextFault machine name (map shown_unit_text files.now) result }
 {
     match fault {
         ZonesFault::At(zone, reason) => {

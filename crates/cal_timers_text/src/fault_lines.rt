@@ -6,7 +6,7 @@ ghost use Rattle.std.specs.List.{list_all};
 ghost use Rattle.cal_timers_text.specs.rules.AbbreviationHint.{looks_like_abbreviation};
 
 use crate::cells::push_printable;
-use cal_load::{IgnoredLine, LoadedTimer, TargetFault, TargetReason};
+use cal_load::{BrokenLine, BrokenReason, IgnoredLine, LoadedTimer, TargetFault, TargetReason};
 use cal_machine::Unreadable;
 use cal_timer::TimerFault;
 use cal_unit_index::Reason;
@@ -33,7 +33,7 @@ pub fn fault_text(alloc: Global, fault: &TargetFault) -> Result<String, AllocErr
             path.as_str(),
             reason_words(*reason),
         ),
-        TargetReason::NotUtf8(path) => push_fault(&mut out, path.as_str(), "not UTF-8"),
+        TargetReason::Broken(path, line) => push_broken(&mut out, path.as_str(), *line),
         TargetReason::Line(path, line, fault) => push_line_fault(
             &mut out,
             path.as_str(),
@@ -74,6 +74,32 @@ pub fn ignored_text(
     out.push_str("ignored: ")?;
     out.push_str(ignored.fault.words())?;
     Ok(out)
+}
+
+/// Returns the error line about a drop-in of a timer, without a line feed, for the line at which systemd stops reading
+/// the drop-in. It begins with the path of the drop-in and the number that the line has in it.
+pub fn broken_text(
+    alloc: Global,
+    timer: &LoadedTimer,
+    line: BrokenLine,
+) -> Result<String, AllocError> {
+    let mut out = String::new(alloc);
+    let (path, number) = timer
+        .position(line.number)
+        .unwrap_or((timer.name.as_str(), line.number));
+    push_position(&mut out, path, number)?;
+    out.push_str("ignored from this line on: ")?;
+    out.push_str(broken_words(line.reason))?;
+    Ok(out)
+}
+
+/// Returns the message about a line at which systemd stops reading a file.
+fn broken_words(reason: BrokenReason) -> &'static str {
+    match reason {
+        BrokenReason::NotUtf8 => "not UTF-8",
+        BrokenReason::BadHeader => "bad section header",
+        BrokenReason::TooLong => "line longer than 1048575 bytes",
+    }
 }
 
 /// Returns the error line about a zone that can't be used, without a line feed.
@@ -121,6 +147,11 @@ fn push_fault(out: &mut String, subject: &str, message: &str) -> Result<(), Allo
     push_printable(out, subject)?;
     out.push_str(": ")?;
     out.push_str(message)
+}
+
+fn push_broken(out: &mut String, path: &str, line: BrokenLine) -> Result<(), AllocError> {
+    push_position(out, path, line.number)?;
+    out.push_str(broken_words(line.reason))
 }
 
 fn push_line_fault(

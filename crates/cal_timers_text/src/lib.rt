@@ -15,7 +15,7 @@ mod style;
 mod times;
 
 pub use elapse_lines::{between_text, same_text};
-pub use fault_lines::{fault_text, ignored_text, zones_text};
+pub use fault_lines::{broken_text, fault_text, ignored_text, zones_text};
 pub use finding_lines::{finding_text, idle_text};
 pub use list::list_text;
 pub use messages::{idle_words, message_of, mistake_words};

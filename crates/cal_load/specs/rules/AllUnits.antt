@@ -22,6 +22,7 @@ use Rattle.cal_load.specs.declared.fault.TargetLoadFault.{TargetLoadFault}
 use Rattle.cal_load.specs.declared.fault.TargetLoadFault as faults
 use Rattle.cal_load.specs.declared.loaded.Loaded.{Loaded}
 use Rattle.cal_load.specs.declared.loaded.LoadedTarget as targets
+use Rattle.cal_load.specs.declared.readable.BrokenLine.{BrokenLine}
 use Rattle.cal_load.specs.declared.target_fault.TargetFault.{TargetFault}
 use Rattle.cal_load.specs.declared.target_fault.TargetReason.{TargetReason}
 use Rattle.cal_load.specs.declared.target_fault.TargetReason.TheVariants.{NotFound, Template, Path}
@@ -75,6 +76,10 @@ abbrev pub is_disabled : Option (List (List ℕ)) → List ℕ → Bool
 is_disabled None name = false
 is_disabled (Some started) name = not (is_among_started started (unit_stem name))
 
+-- the name of the unit with this stem
+abbrev pub unit_name : List ℕ → List ℕ
+unit_name stem = stem ++ codes ".timer"
+
 -- ## Why a unit can't be loaded
 
 -- the error is that this path can't be used, for this reason
@@ -85,10 +90,10 @@ abbrev pub IsPathFault : List ℕ → reasons.Reason → TargetLoadFault → Typ
 IsPathFault path why (faults.TheVariants.Target reason) = IsPathReason path why reason
 IsPathFault path why faults.TheVariants.NoMemory = ⊤
 
--- the error is that the file at this path is not UTF-8
-abbrev pub IsNotUtf8Fault : List ℕ → TargetLoadFault → Type 0
-IsNotUtf8Fault path (faults.TheVariants.Target reason) = (place : String Global) × (string_bytes place ≡ path) × (reason ≡ target_reasons.TheVariants.NotUtf8 place)
-IsNotUtf8Fault path faults.TheVariants.NoMemory = ⊤
+-- the error is that systemd stops reading the file at this path at this line
+abbrev pub IsBrokenFault : List ℕ → BrokenLine → TargetLoadFault → Type 0
+IsBrokenFault path line (faults.TheVariants.Target reason) = (place : String Global) × (string_bytes place ≡ path) × (reason ≡ target_reasons.TheVariants.Broken place line)
+IsBrokenFault path line faults.TheVariants.NoMemory = ⊤
 
 -- the error for a path that can't be followed or read
 abbrev pub IsTreeFault : List ℕ → tree_faults.TreeFault → TargetLoadFault → Type 0
@@ -106,19 +111,20 @@ abbrev pub IsUnusableFault : reasons.Reason → List ℕ → TargetLoadFault →
 IsUnusableFault why file (faults.TheVariants.Target reason) = IsUnusableReason why file reason
 IsUnusableFault why file faults.TheVariants.NoMemory = ⊤
 
--- the error for a target: `file` is the path of its own file, `read` what is read there, and `files` has all its files
-abbrev pub IsFileReason : Machine → FileRead → List ℕ → List UnitText → TargetReason → Type 0
-IsFileReason machine Mask file files reason = ⊥
-IsFileReason machine (Unusable why) file files reason = IsUnusableReason why file reason
-IsFileReason machine (Text bytes) file files reason = IsTextReason machine files reason
+-- the error for the timer `name`: `file` is the path of its own file, `read` what is read there, and `files` has all its
+-- files
+abbrev pub IsFileReason : Machine → FileRead → List ℕ → List ℕ → List UnitText → TargetReason → Type 0
+IsFileReason machine Mask file name files reason = ⊥
+IsFileReason machine (Unusable why) file name files reason = IsUnusableReason why file reason
+IsFileReason machine (Text bytes) file name files reason = IsTextReason machine name files reason
 
-abbrev pub IsFileFault : Machine → FileRead → List ℕ → List UnitText → TargetLoadFault → Type 0
-IsFileFault machine read file files (faults.TheVariants.Target reason) = IsFileReason machine read file files reason
-IsFileFault machine read file files faults.TheVariants.NoMemory = ⊤
+abbrev pub IsFileFault : Machine → FileRead → List ℕ → List ℕ → List UnitText → TargetLoadFault → Type 0
+IsFileFault machine read file name files (faults.TheVariants.Target reason) = IsFileReason machine read file name files reason
+IsFileFault machine read file name files faults.TheVariants.NoMemory = ⊤
 
 -- the error for a target that is the path of a single file
 abbrev pub IsTimerFileFault : Machine → List ℕ → TargetLoadFault → Type 0
-IsTimerFileFault machine path fault = IsFileFault machine (file_at machine path) path (text_at machine path) fault
+IsTimerFileFault machine path fault = IsFileFault machine (file_at machine path) path path (text_at machine path) fault
 
 -- the error for a unit that was asked for by the stem `asked`, by what is found for this stem
 abbrev pub IsUnitReason : Machine → List (List ℕ) → List ℕ → Unit → TargetReason → Type 0
@@ -126,7 +132,7 @@ IsUnitReason machine path asked Unfound reason = reason ≡ NotFound
 IsUnitReason machine path asked TemplateOnly reason = reason ≡ Template
 IsUnitReason machine path asked TooManyAliases reason = reason ≡ target_reasons.TheVariants.TooManyAliases
 IsUnitReason machine path asked (FoundAt file own_file own) reason =
-    IsFileReason machine (file_at machine file) file (unit_texts machine path file own_file own asked) reason
+    IsFileReason machine (file_at machine file) file (unit_name own) (unit_texts machine path file own_file own asked) reason
 
 abbrev pub IsUnitFault : Machine → List (List ℕ) → List ℕ → Unit → TargetLoadFault → Type 0
 IsUnitFault machine path asked unit (faults.TheVariants.Target reason) = IsUnitReason machine path asked unit reason
@@ -150,7 +156,7 @@ is_absent_reason NotFound = true
 is_absent_reason Template = false
 is_absent_reason target_reasons.TheVariants.TooManyAliases = false
 is_absent_reason (Path place reason) = false
-is_absent_reason (target_reasons.TheVariants.NotUtf8 place) = false
+is_absent_reason (target_reasons.TheVariants.Broken place line) = false
 is_absent_reason (target_reasons.TheVariants.Line place line fault) = false
 is_absent_reason target_reasons.TheVariants.NothingToDo = false
 is_absent_reason (target_reasons.TheVariants.Zone place line zone reason) = false
@@ -173,9 +179,6 @@ HasFault all name faults.TheVariants.NoMemory = ⊥
 abbrev pub IsReported : List TargetFault → List ℕ → Result targets.LoadedTarget TargetLoadFault → Type 0
 IsReported all name (Ok found) = ⊤
 IsReported all name (Err fault) = HasFault all name fault
-
-abbrev pub unit_name : List ℕ → List ℕ
-unit_name stem = stem ++ codes ".timer"
 
 -- ## Steps
 

@@ -20,7 +20,7 @@ use Rattle.cal_load.specs.declared.loaded.Loaded.{Loaded}
 use Rattle.cal_load.specs.declared.loaded.LoadedTimer.{LoadedTimer}
 use Rattle.cal_load.specs.declared.target_fault.TargetFault.{TargetFault}
 use Rattle.cal_load.specs.declared.target_fault.TargetReason.{TargetReason}
-use Rattle.cal_load.specs.declared.target_fault.TargetReason.TheVariants.{NotFound, Template, TooManyAliases, Path, NotUtf8, Line, NothingToDo, Zone, Expression, ExpressionZone}
+use Rattle.cal_load.specs.declared.target_fault.TargetReason.TheVariants.{NotFound, Template, TooManyAliases, Path, Broken, Line, NothingToDo, Zone, Expression, ExpressionZone}
 
 -- ## Timers
 
@@ -72,7 +72,7 @@ IsExpressionReason Shows texts target NotFound = ⊥
 IsExpressionReason Shows texts target Template = ⊥
 IsExpressionReason Shows texts target TooManyAliases = ⊥
 IsExpressionReason Shows texts target (Path place why) = ⊥
-IsExpressionReason Shows texts target (NotUtf8 place) = ⊥
+IsExpressionReason Shows texts target (Broken place line) = ⊥
 IsExpressionReason Shows texts target (Line place line fault) = ⊥
 IsExpressionReason Shows texts target NothingToDo = ⊥
 IsExpressionReason Shows texts target (Zone place line zone reason) = ⊥

@@ -1,19 +1,18 @@
 -- Timers that are loaded from the files of a machine: systemd.unit(5), Description, and systemd.timer(5), OnCalendar=.
-use Rattle.std.specs.Prelude.{◌≡◌, ◌⊎◌, ◌+◌, ◌||◌, ℕ, Bool, false, true, if◌then◌else◌, List, [], ◌∷◌, ◌++◌, Option, None, Some, Result, Ok, Err, codes, filter, is_some, length, map, string_bytes}
+use Rattle.std.specs.Prelude.{◌≡◌, ◌⊎◌, ◌+◌, ◌||◌, ℕ, Bool, true, if◌then◌else◌, List, [], ◌∷◌, ◌++◌, Option, None, Some, Result, Ok, Err, codes, filter, is_some, length, map, string_bytes}
 use Rattle.std.specs.List.{filter_map, flat_map, list_any}
 use Rattle.std.specs.Option.{option_to_list}
 use Rattle.std.specs.Str.{bytes_eq}
 use Rattle.std.specs.Str.Lines.{lines}
 use Rattle.cal_civil.specs.rules.ZoneName.{is_utc_name}
 use Rattle.cal_unit_index.specs.rules.DropIns.{drop_ins}
-use Rattle.cal_timer.specs.rules.Lines.{logical_lines}
 use Rattle.cal_zone_files.specs.rules.ZoneFiles.{HasZonesOf}
 use Rattle.cal_spec.specs.computed.Expr.{expr_in}
 use Rattle.cal_spec.specs.declared.spec_fault.SpecFault.{SpecFault}
 use Rattle.cal_spec.specs.rules.ZoneSuffix.{name_in}
 use Rattle.cal_spec.specs.rules.Fields.{Fields}
-use Rattle.cal_timer.specs.rules.Assignments.{Assignment, assignments_in}
-use Rattle.cal_timer.specs.rules.TimerText.{excepted, is_exception, is_expression, listed, without_mark}
+use Rattle.cal_timer.specs.rules.Assignments.{Assignment}
+use Rattle.cal_timer.specs.rules.TimerText.{excepted, is_exception, is_expression, listed}
 use Rattle.cal_timer.specs.rules.TimerEntries.{TimerLine, entries_of}
 use Rattle.cal_timer.specs.rules.TimerView.{shown}
 use Rattle.cal_machine.specs.rules.Machine.{Machine}
@@ -30,6 +29,9 @@ use Rattle.cal_load.specs.declared.calendar.IgnoredLine.{IgnoredLine}
 use Rattle.cal_load.specs.declared.loaded.LoadedTimer.{LoadedTimer}
 use Rattle.cal_load.specs.rules.Notes.{note_text, notes_in, starts_unit}
 use Rattle.cal_load.specs.rules.Position.{AreFirstLines}
+use Rattle.cal_load.specs.rules.Readable.{assignments_read, broken_line}
+use Rattle.cal_load.specs.rules.Settled.{settled_in, unclear_in}
+use Rattle.cal_load.specs.declared.readable.BrokenLine.{BrokenLine}
 
 -- The files of the unit whose own file is at the path `file`: this file, and then its drop-ins, in the order in which
 -- they are read. `own_file` is the stem under which the file was found, `own` the stem of the unit's own name, and
@@ -55,18 +57,38 @@ name_of_unit TemplateOnly = []
 name_of_unit TooManyAliases = []
 name_of_unit (FoundAt file own_file own) = own ++ codes ".timer"
 
--- The assignments in the sections `Timer` of files. The first line of the first file has the number `first`, and the
--- numbers continue from file to file.
+-- The assignments in the sections `Timer` of files, as far as systemd reads each file. The first line of the first file
+-- has the number `first`, and the numbers continue from file to file.
 unfoldable pub assignments_from : ℕ → List (List ℕ) → List Assignment
 assignments_from first [] = []
-assignments_from first (text ∷ texts) =
-    assignments_in false (logical_lines first (without_mark text)) ++ assignments_from (first + length (lines text)) texts
+assignments_from first (bytes ∷ rest) = assignments_read first bytes ++ assignments_from (first + length (lines bytes)) rest
+
+-- for each file, the line at which systemd stops reading it, if there is one
+unfoldable pub broken_from : ℕ → List (List ℕ) → List (Option BrokenLine)
+broken_from first [] = []
+broken_from first (bytes ∷ rest) = broken_line first bytes ∷ broken_from (first + length (lines bytes)) rest
 
 abbrev pub bytes_in : List UnitText → List (List ℕ)
 bytes_in files = map (λ file. file.bytes) files
 
 abbrev pub assignments_of_files : List UnitText → List Assignment
 assignments_of_files files = assignments_from 1 (bytes_in files)
+
+abbrev pub broken_of_files : List UnitText → List (Option BrokenLine)
+broken_of_files files = broken_from 1 (bytes_in files)
+
+-- the line at which systemd stops reading the unit's own file, which is the first of its files
+abbrev pub broken_own : List UnitText → Option BrokenLine
+broken_own [] = None
+broken_own (own ∷ drop_ins) = broken_line 1 own.bytes
+
+-- the assignments of the timer `name` in these files, with specifiers filled in
+abbrev pub timer_assignments : List ℕ → List UnitText → List Assignment
+timer_assignments name files = settled_in name (assignments_of_files files)
+
+-- the expressions of the timer `name` that depend on the running system
+abbrev pub unclear_of_files : List ℕ → List UnitText → List Assignment
+unclear_of_files name files = unclear_in name (assignments_of_files files)
 
 abbrev pub expressions_in : calendars.Calendar → List (TimerLine Fields)
 expressions_in calendar = map shown calendar.lines.items
@@ -81,12 +103,15 @@ IsCalendarBy assignments calendar =
     (expressions_in calendar ≡ entries_of expr_in (listed assignments))
     × (exceptions_in calendar ≡ entries_of expr_in (excepted assignments))
 
-abbrev pub IsCalendarOf : List UnitText → calendars.Calendar → Type 0
-IsCalendarOf files calendar = IsCalendarBy (assignments_of_files files) calendar
+abbrev pub IsCalendarOf : List ℕ → List UnitText → calendars.Calendar → Type 0
+IsCalendarOf name files calendar = IsCalendarBy (timer_assignments name files) calendar
 
--- these assignments start the unit: by a valid expression that isn't cleared later, or else by another setting
-abbrev pub IsStarted : List Assignment → Type 0
-IsStarted assignments = entries_of expr_in (listed assignments) ≡ [] → starts_unit assignments ≡ true
+-- The files of the timer `name` start its unit: by a valid expression that isn't cleared later, or else by one that
+-- depends on the running system, or by another setting.
+abbrev pub IsStarted : List ℕ → List UnitText → Type 0
+IsStarted name files =
+    entries_of expr_in (listed (timer_assignments name files)) ≡ [] → unclear_of_files name files ≡ []
+    → starts_unit (timer_assignments name files) ≡ true
 
 -- the line of an assignment that is ignored because its expression is invalid, given the result of parsing it
 abbrev pub ignored_line : {E : Type 0} → Assignment → Result E SpecFault → Option IgnoredLine
@@ -112,15 +137,21 @@ abbrev pub HasZones : Machine → calendars.Calendar → ZoneMap → Type 0
 HasZones machine calendar table =
     HasNames table (zone_names_in (expressions_in calendar) ++ zone_names_in (exceptions_in calendar)) × HasZonesOf machine table
 
--- the timer was read from these files of a machine
+-- what is noted for the timer `name`: its expressions that depend on the running system, and then other settings
+abbrev pub noted_in_files : List ℕ → List UnitText → List Assignment
+noted_in_files name files = unclear_of_files name files ++ notes_in name (timer_assignments name files)
+
+-- the timer was read from these files of a machine; systemd reads its own file, the first of them, to the end
 pub record IsTimerReadFrom (machine : Machine) (files : List UnitText) (timer : LoadedTimer) : Type 0 where
   pub has_files : map shown_unit_text timer.files.items ≡ files
   pub has_first_lines : AreFirstLines files timer.first_lines.items
-  pub has_calendar : IsCalendarOf files timer.calendar
-  pub is_started : IsStarted (assignments_of_files files)
-  pub has_ignored : timer.ignored.items ≡ ignored_in expr_in (assignments_of_files files)
+  pub is_whole : broken_own files ≡ None
+  pub has_broken : timer.broken.items ≡ broken_of_files files
+  pub has_calendar : IsCalendarOf (string_bytes timer.name) files timer.calendar
+  pub is_started : IsStarted (string_bytes timer.name) files
+  pub has_ignored : timer.ignored.items ≡ ignored_in expr_in (timer_assignments (string_bytes timer.name) files)
   pub has_zones : HasZones machine timer.calendar timer.zones
-  pub has_notes : map string_bytes timer.notes.items ≡ map note_text (notes_in (string_bytes timer.name) (assignments_of_files files))
+  pub has_notes : map string_bytes timer.notes.items ≡ map note_text (noted_in_files (string_bytes timer.name) files)
 
 -- the timer is the unit that is found for this stem: it has the unit's name, and was read from its file and its drop-ins
 abbrev pub IsUnitOn : Machine → List (List ℕ) → List ℕ → LoadedTimer → Type 0

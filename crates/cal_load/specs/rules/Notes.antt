@@ -65,7 +65,7 @@ is_span_over least (Err fault) = false
 abbrev pub is_longer : ℕ → List ℕ → Bool
 is_longer least value = is_infinity value || is_span_over least (span_of value)
 
--- whether the value may have a specifier, which systemd replaces (systemd.unit(5), Specifiers)
+-- whether the value may have a specifier (systemd.unit(5), Specifiers)
 abbrev pub has_percent : List ℕ → Bool
 has_percent value = list_any (nat_eq 37) value
 
@@ -89,8 +89,8 @@ is_unit_name name =
 
 -- ## Assignments
 
--- Whether systemd takes this value for a setting of this kind; it ignores an assignment with any other value. It
--- replaces specifiers in monotonic timers and in `Unit=`, so values with a `%` are taken as valid there.
+-- Whether systemd takes this value for a setting of this kind; it ignores an assignment with any other value. A value of
+-- a monotonic timer or of `Unit=` that still has a `%` depends on the running system, and is taken as valid.
 abbrev pub is_taken_as : Option SettingKind → List ℕ → Bool
 is_taken_as None value = false
 is_taken_as (Some Monotonic) value = has_percent value || is_span value
@@ -203,8 +203,3 @@ note_text a = a.key ++ codes "=" ++ a.value
 -- the kept assignments after one more assignment
 abbrev pub kept_with : List Assignment → Assignment → List Assignment
 kept_with kept a = filter (λ earlier. not (undoes a earlier)) kept ++ (if is_taken a then a ∷ [] else [])
-
--- the kept assignments after several more assignments
-abbrev pub kept_after : List Assignment → List Assignment → List Assignment
-kept_after kept [] = kept
-kept_after kept (a ∷ more) = kept_after (kept_with kept a) more

@@ -1,7 +1,6 @@
 -- Why the files of a timer can't be loaded: systemd.syntax(7) and systemd.timer(5), OnCalendar=.
 use Rattle.std.specs.Prelude.{◌≡◌, ⊤, ◌+◌, ◌≤◌, ◌^◌, ℕ, Bool, false, true, List, [], ◌∷◌, ◌++◌, Some, length, slice_get, string_bytes}
 use Rattle.std.specs.List.{Contains, find}
-use Rattle.std.specs.Str.{IsUtf8}
 use Rattle.cal_machine.specs.rules.Machine.{Machine}
 use Rattle.cal_spec.specs.computed.Expr.{expr_in}
 use Rattle.cal_spec.specs.rules.Fields.{Fields}
@@ -17,20 +16,22 @@ use Rattle.cal_zone_files.specs.declared.fault.ZonesFault.TheVariants as zone_fa
 use Rattle.cal_zone_files.specs.rules.ZoneFiles.{IsReasonOn, zone_path}
 use Rattle.cal_load.specs.declared.calendar.Calendar as calendars
 use Rattle.cal_load.specs.declared.calendar.IgnoredLine.{IgnoredLine}
+use Rattle.cal_load.specs.declared.readable.BrokenLine.{BrokenLine}
 use Rattle.cal_load.specs.declared.fault.TargetLoadFault.{TargetLoadFault}
 use Rattle.cal_load.specs.declared.fault.TargetLoadFault as faults
 use Rattle.cal_load.specs.declared.target_fault.TargetReason.{TargetReason}
-use Rattle.cal_load.specs.declared.target_fault.TargetReason.TheVariants.{NotFound, Template, TooManyAliases, Path, NotUtf8, Line, NothingToDo, Zone, Expression, ExpressionZone}
+use Rattle.cal_load.specs.declared.target_fault.TargetReason.TheVariants.{NotFound, Template, TooManyAliases, Path, Broken, Line, NothingToDo, Zone, Expression, ExpressionZone}
 use Rattle.cal_load.specs.rules.Expressions.{names_zone}
-use Rattle.cal_load.specs.rules.Loaded.{IsCalendarOf, assignments_of_files, exceptions_in, expressions_in, ignored_in, zone_names_in}
+use Rattle.cal_load.specs.rules.Loaded.{IsCalendarOf, broken_own, exceptions_in, expressions_in, ignored_in, timer_assignments, unclear_of_files, zone_names_in}
 use Rattle.cal_load.specs.rules.Notes.{starts_unit}
 use Rattle.cal_load.specs.rules.Position.{IsLineIn, total_lines}
 
 -- ## Texts
 
--- one of the files is at this path, and isn't UTF-8
-abbrev pub HasNotUtf8At : List UnitText → List ℕ → Type 0
-HasNotUtf8At files path = (file : UnitText) × Contains files file × (file.path ≡ path) × (IsUtf8 file.bytes → ⊥)
+-- the unit's own file, the first of its files, is at this path, and systemd stops reading it at this line
+abbrev pub IsBrokenAt : List UnitText → List ℕ → BrokenLine → Type 0
+IsBrokenAt [] path broken = ⊥
+IsBrokenAt (own ∷ drop_ins) path broken = (own.path ≡ path) × (broken_own (own ∷ drop_ins) ≡ Some broken)
 
 -- The file at this path is too large for line numbers below 2^32: the number of its first line plus its length in bytes
 -- is 2^32 or more.
@@ -42,60 +43,60 @@ pub record HasTooLargeAt (files : List UnitText) (path : List ℕ) : Type 0 wher
   pub has_path : file.path ≡ path
   pub is_large : 2 ^ 32 ≤ total_lines before + 1 + length file.bytes
 
--- why the lines of files can't be numbered: one of the files isn't UTF-8, or is too large
-abbrev pub IsNumberReason : List UnitText → TargetReason → Type 0
-IsNumberReason files NotFound = ⊥
-IsNumberReason files Template = ⊥
-IsNumberReason files TooManyAliases = ⊥
-IsNumberReason files (Path place why) = HasTooLargeAt files (string_bytes place) × (why ≡ reasons.TheVariants.TooLarge)
-IsNumberReason files (NotUtf8 place) = HasNotUtf8At files (string_bytes place)
-IsNumberReason files (Line place line fault) = ⊥
-IsNumberReason files NothingToDo = ⊥
-IsNumberReason files (Zone place line zone reason) = ⊥
-IsNumberReason files (Expression fault) = ⊥
-IsNumberReason files (ExpressionZone zone reason) = ⊥
+-- why the files of a unit can't be read: one of them is too large, or systemd doesn't read its own file to the end
+abbrev pub IsReadReason : List UnitText → TargetReason → Type 0
+IsReadReason files NotFound = ⊥
+IsReadReason files Template = ⊥
+IsReadReason files TooManyAliases = ⊥
+IsReadReason files (Path place why) = HasTooLargeAt files (string_bytes place) × (why ≡ reasons.TheVariants.TooLarge)
+IsReadReason files (Broken place line) = IsBrokenAt files (string_bytes place) line
+IsReadReason files (Line place line fault) = ⊥
+IsReadReason files NothingToDo = ⊥
+IsReadReason files (Zone place line zone reason) = ⊥
+IsReadReason files (Expression fault) = ⊥
+IsReadReason files (ExpressionZone zone reason) = ⊥
 
-abbrev pub IsNumberFault : List UnitText → TargetLoadFault → Type 0
-IsNumberFault files (faults.TheVariants.Target reason) = IsNumberReason files reason
-IsNumberFault files faults.TheVariants.NoMemory = ⊤
+abbrev pub IsReadFault : List UnitText → TargetLoadFault → Type 0
+IsReadFault files (faults.TheVariants.Target reason) = IsReadReason files reason
+IsReadFault files faults.TheVariants.NoMemory = ⊤
 
 -- ## Assignments
 
--- nothing starts the unit: the files have no valid expression that isn't cleared later, and no other setting starts the
--- unit
-abbrev pub StartNothing : List UnitText → Type 0
-StartNothing files =
-    (entries_of expr_in (listed (assignments_of_files files)) ≡ [])
-    × (starts_unit (assignments_of_files files) ≡ false)
+-- nothing starts the unit of the timer `name`: its files have neither a valid expression that isn't cleared later nor one
+-- that depends on the running system, and no other setting starts the unit
+abbrev pub StartNothing : List ℕ → List UnitText → Type 0
+StartNothing name files =
+    (entries_of expr_in (listed (timer_assignments name files)) ≡ []) × (unclear_of_files name files ≡ [])
+    × (starts_unit (timer_assignments name files) ≡ false)
 
--- the lines of files that are ignored because their expressions are invalid
-abbrev pub ignored_of_files : List UnitText → List IgnoredLine
-ignored_of_files files = ignored_in expr_in (assignments_of_files files)
+-- the lines of the timer's files that are ignored because their expressions are invalid
+abbrev pub ignored_of_files : List ℕ → List UnitText → List IgnoredLine
+ignored_of_files name files = ignored_in expr_in (timer_assignments name files)
 
 -- nothing starts the unit, and the first line that is ignored, with this error, is line `line` of the file at `path`
-abbrev pub IsLineFault : List UnitText → List ℕ → ℕ → TimerFault → Type 0
-IsLineFault files path line fault =
-    StartNothing files
-    × ((first : IgnoredLine) × (slice_get (ignored_of_files files) 0 ≡ Some first) × IsLineIn files first.number path line
+abbrev pub IsLineFault : List ℕ → List UnitText → List ℕ → ℕ → TimerFault → Type 0
+IsLineFault name files path line fault =
+    StartNothing name files
+    × ((first : IgnoredLine) × (slice_get (ignored_of_files name files) 0 ≡ Some first) × IsLineIn files first.number path line
     × (fault ≡ timer_faults.BadLine line first.fault))
 
 -- why the assignments of files don't make a timer: nothing starts the unit. The reason is the first line that is
 -- ignored, if there is one.
-abbrev pub IsAssignmentReason : List UnitText → TargetReason → Type 0
-IsAssignmentReason files NotFound = ⊥
-IsAssignmentReason files Template = ⊥
-IsAssignmentReason files TooManyAliases = ⊥
-IsAssignmentReason files (Path place why) = ⊥
-IsAssignmentReason files (NotUtf8 place) = ⊥
-IsAssignmentReason files (Line place line fault) = IsLineFault files (string_bytes place) line fault
-IsAssignmentReason files NothingToDo = StartNothing files × (ignored_of_files files ≡ [])
-IsAssignmentReason files (Zone place line zone reason) = ⊥
-IsAssignmentReason files (Expression fault) = ⊥
-IsAssignmentReason files (ExpressionZone zone reason) = ⊥
+abbrev pub IsAssignmentReason : List ℕ → List UnitText → TargetReason → Type 0
+IsAssignmentReason name files NotFound = ⊥
+IsAssignmentReason name files Template = ⊥
+IsAssignmentReason name files TooManyAliases = ⊥
+IsAssignmentReason name files (Path place why) = ⊥
+IsAssignmentReason name files (Broken place line) = ⊥
+IsAssignmentReason name files (Line place line fault) = IsLineFault name files (string_bytes place) line fault
+IsAssignmentReason name files NothingToDo = StartNothing name files × (ignored_of_files name files ≡ [])
+IsAssignmentReason name files (Zone place line zone reason) = ⊥
+IsAssignmentReason name files (Expression fault) = ⊥
+IsAssignmentReason name files (ExpressionZone zone reason) = ⊥
 
-abbrev pub IsAssignmentFault : List UnitText → TargetLoadFault → Type 0
-IsAssignmentFault files (faults.TheVariants.Target reason) = IsAssignmentReason files reason
-IsAssignmentFault files faults.TheVariants.NoMemory = ⊤
+abbrev pub IsAssignmentFault : List ℕ → List UnitText → TargetLoadFault → Type 0
+IsAssignmentFault name files (faults.TheVariants.Target reason) = IsAssignmentReason name files reason
+IsAssignmentFault name files faults.TheVariants.NoMemory = ⊤
 
 -- ## Zones
 
@@ -115,11 +116,11 @@ IsZonesError machine names zone_faults.NoMemory = ⊤
 abbrev pub IsFirstWithZone : calendars.Calendar → List ℕ → TimerLine Fields → Type 0
 IsFirstWithZone calendar zone entry = find (names_zone zone) (expressions_in calendar ++ exceptions_in calendar) ≡ Some entry
 
--- The files name a zone whose file, at the path `zone`, can't be used for this reason. Line `line` of the file at `path`
+-- The files of the timer name a zone whose file, at the path `zone`, can't be used for this reason. Line `line` of the file at `path`
 -- has the first expression that names the zone, or, if no expression names it, the first exception.
-pub record HasUnusableZone (machine : Machine) (files : List UnitText) (path : List ℕ) (line : ℕ) (zone : List ℕ) (reason : FileReason) : Type 0 where
+pub record HasUnusableZone (machine : Machine) (timer : List ℕ) (files : List UnitText) (path : List ℕ) (line : ℕ) (zone : List ℕ) (reason : FileReason) : Type 0 where
   pub calendar : calendars.Calendar
-  pub of_files : IsCalendarOf files calendar
+  pub of_files : IsCalendarOf timer files calendar
   pub name : List ℕ
   pub has_path : zone ≡ zone_path name
   pub is_unusable : IsReasonOn machine name reason
@@ -130,21 +131,21 @@ pub record HasUnusableZone (machine : Machine) (files : List UnitText) (path : L
 -- ## All errors of files
 
 -- why files don't make a timer
-abbrev pub IsTextReason : Machine → List UnitText → TargetReason → Type 0
-IsTextReason machine files NotFound = ⊥
-IsTextReason machine files Template = ⊥
-IsTextReason machine files TooManyAliases = ⊥
-IsTextReason machine files (Path place why) = IsNumberReason files (Path place why)
-IsTextReason machine files (NotUtf8 place) = IsNumberReason files (NotUtf8 place)
-IsTextReason machine files (Line place line fault) = IsAssignmentReason files (Line place line fault)
-IsTextReason machine files NothingToDo = IsAssignmentReason files NothingToDo
-IsTextReason machine files (Zone place line zone reason) = HasUnusableZone machine files (string_bytes place) line (string_bytes zone) reason
-IsTextReason machine files (Expression fault) = ⊥
-IsTextReason machine files (ExpressionZone zone reason) = ⊥
+abbrev pub IsTextReason : Machine → List ℕ → List UnitText → TargetReason → Type 0
+IsTextReason machine name files NotFound = ⊥
+IsTextReason machine name files Template = ⊥
+IsTextReason machine name files TooManyAliases = ⊥
+IsTextReason machine name files (Path place why) = IsReadReason files (Path place why)
+IsTextReason machine name files (Broken place line) = IsReadReason files (Broken place line)
+IsTextReason machine name files (Line place line fault) = IsAssignmentReason name files (Line place line fault)
+IsTextReason machine name files NothingToDo = IsAssignmentReason name files NothingToDo
+IsTextReason machine name files (Zone place line zone reason) = HasUnusableZone machine name files (string_bytes place) line (string_bytes zone) reason
+IsTextReason machine name files (Expression fault) = ⊥
+IsTextReason machine name files (ExpressionZone zone reason) = ⊥
 
-abbrev pub IsTextFault : Machine → List UnitText → TargetLoadFault → Type 0
-IsTextFault machine files (faults.TheVariants.Target reason) = IsTextReason machine files reason
-IsTextFault machine files faults.TheVariants.NoMemory = ⊤
+abbrev pub IsTextFault : Machine → List ℕ → List UnitText → TargetLoadFault → Type 0
+IsTextFault machine name files (faults.TheVariants.Target reason) = IsTextReason machine name files reason
+IsTextFault machine name files faults.TheVariants.NoMemory = ⊤
 
 -- whether the files of a timer were read, but the timer fails to load because of what they say
 abbrev pub fails_to_load : TargetReason → Bool
@@ -152,7 +153,7 @@ fails_to_load NotFound = false
 fails_to_load Template = false
 fails_to_load TooManyAliases = false
 fails_to_load (Path place why) = false
-fails_to_load (NotUtf8 place) = true
+fails_to_load (Broken place line) = true
 fails_to_load (Line place line fault) = true
 fails_to_load NothingToDo = true
 fails_to_load (Zone place line zone reason) = false

@@ -1,7 +1,7 @@
-use Rattle.std.proofs.Common.{take}
-use Rattle.cal_read.specs.rules.TimerTexts.{assignments_of}
+use Rattle.std.proofs.Common.{map, take}
+use Rattle.cal_read.specs.rules.SectionAssignments.{shown_owned_assignment}
 use Rattle.cal_load.specs.rules.Loaded.{AreReadFrom}
 use Rattle.cal_load.proofs.calendar.read_calendar.Given as goal
 
-abbrev pub invariant-loop-text : goal.invariant-loop-text
-invariant-loop-text l = AreReadFrom (assignments_of (take l.text-index l.texts)) l.read
+abbrev pub invariant-loop-assignment : goal.invariant-loop-assignment
+invariant-loop-assignment l = AreReadFrom (map shown_owned_assignment (take l.assignment-index l.assignments)) l.read

@@ -1,6 +1,6 @@
 use Rattle.std.proofs.Common.{◌≡◌, Err, rules, string_bytes, subst}
 use Rattle.cal_unit_index.specs.rules.Files.{file_at}
-use Rattle.cal_load.specs.rules.AllUnits.{IsFileFault}
+use Rattle.cal_load.specs.rules.AllUnits.{IsFileFault, unit_name}
 use Rattle.cal_load.specs.rules.Loaded.{unit_texts}
 use Rattle.cal_load.proofs.unit.read_found.Goals as goal
 
@@ -9,4 +9,5 @@ returns-in_err-own-clause-fault g c =
     let same : c.from_residual.result ≡ Err c.in_err-own.field-0.0 = search rules in
     rw same (λ machine path shows is.
     let files = unit_texts machine path (string_bytes c.args.file.path) (string_bytes c.args.file.file) (string_bytes c.args.file.stem) c.args.asked.now in
-    subst (λ place. IsFileFault machine (file_at machine place) place files c.in_err-own.field-0.0) c.as_str.ensures.value (c.in_err-own.ensures.fault machine files shows))
+    let name = unit_name (string_bytes c.args.file.stem) in
+    subst (λ place. IsFileFault machine (file_at machine place) place name files c.in_err-own.field-0.0) c.as_str.ensures.value (c.in_err-own.ensures.fault machine name files shows))

@@ -1,0 +1,75 @@
+-- The assignments of a timer with their specifiers filled in: systemd.unit(5), Specifiers. systemd fills them in in
+-- `OnCalendar=`, in monotonic timers and in `Unit=`; we do so in exceptions, too.
+use Rattle.std.specs.Prelude.{ℕ, Bool, false, true, not, ◌&&◌, ◌||◌, ◌==◌, if◌then◌else◌, List, [], ◌∷◌, ◌++◌, Option, None, Some, codes, filter, length}
+use Rattle.std.specs.List.{after_last, filter_map, list_any}
+use Rattle.std.specs.Str.{bytes_eq}
+use Rattle.cal_timer.specs.rules.Assignments.{Assignment}
+use Rattle.cal_timer.specs.rules.TimerText.{exception_key, is_exception, is_expression, is_reset, timer_keys}
+use Rattle.cal_unit_index.specs.rules.Destinations.{last_part}
+use Rattle.cal_load.specs.rules.Notes.{has_percent}
+use Rattle.cal_load.specs.rules.Specifiers.{Filling, filled_of}
+use Rattle.cal_load.specs.rules.Specifiers.Filling.{Text, Unclear, Invalid}
+
+-- whether the value of the assignment may have specifiers
+abbrev pub may_have_specifiers : Assignment → Bool
+may_have_specifiers a =
+    has_percent a.value
+    && list_any (bytes_eq a.key) (codes "Unit" ∷ exception_key ∷ timer_keys)
+
+-- the value of an assignment of the timer with the name `own`, with its specifiers filled in
+abbrev pub value_filled : List ℕ → Assignment → Filling
+value_filled own a = filled_of own a.value
+
+-- whether a value can be used after its specifiers were filled in; an empty one doesn't count, and no expression, time
+-- span or name of a unit has a `%`
+abbrev pub is_usable : List ℕ → Bool
+is_usable text = not (length text == 0 || has_percent text)
+
+-- An assignment whose specifiers can't be filled in: it is left as it is if it is an expression or an exception, which
+-- is then invalid because of its `%`, and left out otherwise.
+abbrev pub unusable : Assignment → Option Assignment
+unusable a = if is_expression a || is_exception a then Some a else None
+
+abbrev pub settled_by : Assignment → Filling → Option Assignment
+settled_by a (Text text) =
+    if is_usable text then Some (record { number = a.number; key = a.key; value = text }) else unusable a
+settled_by a Unclear = if is_expression a then None else Some a
+settled_by a Invalid = unusable a
+
+-- The assignment of the timer with the name `own`, with its specifiers filled in, or None if it has no effect. An
+-- expression that depends on the running system has none, and other assignments that do are left as they are.
+unfoldable pub settled : List ℕ → Assignment → Option Assignment
+settled own a = if may_have_specifiers a then settled_by a (value_filled own a) else Some a
+
+-- The assignments of a timer with their specifiers filled in. A timer that is a file read by itself is named by its
+-- path; its own name is then the part after the last slash.
+abbrev pub settled_in : List ℕ → List Assignment → List Assignment
+settled_in name assignments = filter_map (settled (last_part name)) assignments
+
+abbrev pub is_unclear_filling : Filling → Bool
+is_unclear_filling (Text text) = false
+is_unclear_filling Unclear = true
+is_unclear_filling Invalid = false
+
+-- whether the assignment is an expression of the timer with the name `own` that depends on the running system
+unfoldable pub is_unclear_expression : List ℕ → Assignment → Bool
+is_unclear_expression own a = is_expression a && (may_have_specifiers a && is_unclear_filling (value_filled own a))
+
+-- the expressions of a timer that depend on the running system, without those that are cleared later
+unfoldable pub unclear_in : List ℕ → List Assignment → List Assignment
+unclear_in name assignments = filter (is_unclear_expression (last_part name)) (after_last is_reset assignments)
+
+-- ## Steps
+
+-- the unclear expressions after an assignment that may clear them
+abbrev pub after_reset : List Assignment → Assignment → List Assignment
+after_reset unclear a = if is_reset a then [] else unclear
+
+-- the unclear expression in an assignment that depends on the running system
+abbrev pub unclear_of : Assignment → List Assignment
+unclear_of a = if is_expression a then (a ∷ []) else []
+
+-- the unclear expressions after one more assignment of the timer with the name `own`
+abbrev pub unclear_with : List ℕ → List Assignment → Assignment → List Assignment
+unclear_with own unclear a =
+    if is_reset a then [] else (if is_unclear_expression own a then unclear ++ a ∷ [] else unclear)
