@@ -41,7 +41,8 @@ import tempfile
 sys.dont_write_bytecode = True
 sys.path.insert(0, f"{os.path.dirname(os.path.realpath(__file__))}/lib")
 import unit_trees
-from unit_trees import MASKS, destination, instance, is_followed, kind, may_lead, template, unit_of
+from unit_trees import MASKS, can_test_systemd, destination, instance, is_followed, kind, may_lead, template, test_systemd
+from unit_trees import unit_of
 
 TREES = 400
 # Folders of the usual search path, which `systemctl --root` has. For it, only links below those of `CONFIGURED` count.
@@ -296,26 +297,8 @@ def notes_by_timers(timers, folders, *options):
 
 def notes_by_systemd(tree):
     """Returns the note `started` for each timer that systemd would start with timers.target."""
-    variables = {"HOME": "/", "SYSTEMD_LOG_TARGET": "console", "SYSTEMD_UNIT_PATH": ":".join(tree.folders)}
-    # Generators would read files of this machine.
-    variables |= {"SYSTEMD_GENERATOR_PATH": "/nowhere", "SYSTEMD_ENVIRONMENT_GENERATOR_PATH": "/nowhere"}
-    # It refuses to be tested by root.
-    user = {"user": 65534, "group": 65534, "extra_groups": []} if os.getuid() == 0 else {}
-    command = ["systemd", "--test", "--system", "--unit=timers.target"]
-    run = subprocess.run(command, env={**os.environ, **variables}, cwd="/", capture_output=True, text=True, **user)
-    return dict.fromkeys(JOB.findall(run.stdout.partition("-> By jobs:")[2]), "started")
-
-
-def can_run_systemd():
-    with tempfile.TemporaryDirectory() as root:
-        tree = Tree(root)
-        tree.write(f"{tree.folders[0]}/foo.timer", TIMER)
-        os.mkdir(f"{tree.folders[0]}/timers.target.wants")
-        os.symlink("../foo.timer", f"{tree.folders[0]}/timers.target.wants/foo.timer")
-        try:
-            return bool(notes_by_systemd(tree) and shutil.which("systemctl"))
-        except OSError:
-            return False
+    shown, _ = test_systemd(tree.folders)
+    return dict.fromkeys(JOB.findall(shown.partition("-> By jobs:")[2]), "started")
 
 
 def notes_by_systemctl(tree):
@@ -370,7 +353,7 @@ def compare(timers, tree):
 
 
 def main(timers=None):
-    if not can_run_systemd():
+    if not can_test_systemd() or not shutil.which("systemctl"):
         print("systemd isn't installed, or can't be run as another user than root")
         print("0 passed, 0 failed, 1 skipped")
         return 0

@@ -33,6 +33,7 @@ UNITS = ["foo", "foo-bar", "foo--bar", "foo-bar-baz", "-x", "--x", "-a-b", "foo-
 OTHERS = ["foo-bar@x-", "foo-bar@x", "bar", "foo-b", "-", "@i", "foo@j"]
 ALIAS = "also-known"
 NAMES = ["10.conf", "9.conf", "B.conf", "a.conf", "a-b.conf", "a_b.conf", "é.conf", ".hidden.conf", "README", "x.conf~", ".conf"]
+NAMES += ["a b.conf", "x.dpkg-new.conf", "x.conf.bak", "x.CONF"]
 KINDS = ["file"] * 6 + ["empty", "null", "dangling", "folder", "link"]
 REFUSED = "[Timer]\nNoSuchKey=1\n"
 READ = re.compile(r"^(/.*):2: Unknown key 'NoSuchKey'", re.M)
@@ -171,7 +172,8 @@ def alias_for(chance, stem):
 
 
 def add_alias(tree, chance, alias, stem):
-    """Links the alias to a unit's file: by its name in the same folder, or by a relative path, perhaps through `/lib`."""
+    """Links the alias to a unit's file: by its name in the same folder, or by a relative path, perhaps through `/lib`. For
+    systemd, a link into a folder below one of the search path is also an alias of the name to which it leads."""
     own = destination(tree, stem)[0]
     own = os.path.dirname(own) if own else tree.folders[-1]
     folder = chance.choice([own, *tree.folders])
@@ -180,6 +182,9 @@ def add_alias(tree, chance, alias, stem):
         target = os.path.relpath(f"{own}/{target}", folder)
         if chance.random() < 0.5:
             target = target.replace("usr/lib/", "lib/")
+    if chance.random() < 0.1:
+        target = os.path.join(os.path.dirname(target), "below", os.path.basename(target))
+        tree.write(os.path.join(folder, target), REFUSED)
     os.symlink(target, f"{folder}/{alias}.timer")
 
 

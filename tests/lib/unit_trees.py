@@ -1,8 +1,11 @@
-"""What tests/units.py and tests/starts.py share: trees of units, and the rules by which systemd finds a timer in them.
+"""What tests/units.py, tests/starts.py and tests/loads.py share: trees of units, the rules by which systemd finds a timer
+in them, and how to run systemd over them.
 
 A stem is the name of a timer without `.timer`."""
 
 import os
+import subprocess
+import tempfile
 
 # Masks: targets of links, or None for an empty file. The tree has empty files at the places of the devices.
 MASKS = [
@@ -129,3 +132,29 @@ def is_followed(tree, folder):
     if os.path.islink(folder) and not os.path.isdir(os.path.join(tree.working_folder, os.readlink(folder))):
         return False
     return os.path.isdir(folder)
+
+
+def test_systemd(folders):
+    """Has systemd load what timers.target wants in the folders of a search path. Returns its standard output, which shows all
+    units and jobs, and its standard error. Nothing is started."""
+    variables = {"HOME": "/", "SYSTEMD_LOG_TARGET": "console", "SYSTEMD_UNIT_PATH": ":".join(folders)}
+    # Generators would read files of this machine.
+    variables |= {"SYSTEMD_GENERATOR_PATH": "/nowhere", "SYSTEMD_ENVIRONMENT_GENERATOR_PATH": "/nowhere"}
+    # It refuses to be tested by root.
+    options = {"user": 65534, "group": 65534, "extra_groups": []} if os.getuid() == 0 else {}
+    options |= {"capture_output": True, "text": True, "errors": "replace"}
+    command = ["systemd", "--test", "--system", "--unit=timers.target"]
+    run = subprocess.run(command, env={**os.environ, **variables}, cwd="/", **options)
+    return run.stdout, run.stderr
+
+
+def can_test_systemd():
+    """Returns whether systemd is installed, and loads a unit."""
+    with tempfile.TemporaryDirectory() as folder:
+        os.chmod(folder, 0o755)
+        with open(f"{folder}/timers.target", "w") as file:
+            file.write("[Unit]\nDefaultDependencies=no\n")
+        try:
+            return "Action: timers.target -> start" in test_systemd([folder])[0]
+        except OSError:
+            return False
