@@ -3,15 +3,15 @@
 
     tests/loads.py [TIMERS]
 
-In each of 400 random trees there is one timer: a plain one, or an instance of a template, which may have a file of its
-own. It has up to two drop-ins. The lines of these files are valid or not in many ways; see `LINES` and the functions
+In each of 400 random trees there is one timer: a plain one, or an instance of a template; an instance may have a file
+of its own. It has up to two drop-ins. The lines of these files are valid or not in many ways; see `LINES` and the functions
 that it names. timers.target wants the timer, so that `systemd --test --unit=timers.target` loads it. From what systemd
 prints follows
 
 - whether the timer loads and, if not, at which line of its own file systemd gives up, unless nothing starts the unit,
 - which of its `OnCalendar=` lines systemd ignores,
 - from which line on it doesn't read a drop-in, and
-- which expressions, monotonic timers, true settings and unit are left in the end.
+- which expressions, monotonic timers, settings that are switched on and unit are left in the end.
 
 TIMERS, which is calendar-timers, has to say the same in its lists and on standard error, and to end with status 1 if
 something is ignored or the timer doesn't load. It names the first line of a continued line, and systemd the last one.
@@ -20,10 +20,10 @@ rules of systemd 252, as this script states them, are compared with systemd.
 
 Some things are left out, since calendar-timers has other rules for them:
 
-- Lines end only at a line feed: no carriage return or NUL ends one, as in systemd.
+- Lines end only at a line feed. In systemd, a carriage return or a NUL also ends a line.
 - A byte order mark is only at the start of a file, and not before a comment. systemd also drops one at the start of a
   later line, and doesn't see the comment after one.
-- No comment has 1 MiB: systemd gives up a file at such a comment.
+- No comment is 1 MiB long: systemd stops reading a file at such a comment.
 - Section headers have no quotes, backslashes or control characters between the brackets.
 - In spans and in `Unit=`, no `%` is left when specifiers are filled in, as by `%%`. In `Unit=`, there are no specifiers
   that unescape names, which systemd doesn't know there.

@@ -10,7 +10,7 @@ pub mod PathLemmas
 pub mod PositionLemmas
 pub mod ReadableLemmas
 mod ReadableRows
-pub mod SettledLemmas
+pub mod ResolvedLemmas
 pub mod SpecifierLemmas
 mod SpecifierRows
 pub mod TextFaultLemmas

@@ -22,7 +22,7 @@ use Rattle.cal_unit_index.specs.rules.Files.{UnitText, shown_unit_text}
 use Rattle.cal_load.specs.declared.calendar.IgnoredLine.{IgnoredLine}
 use Rattle.cal_load.specs.rules.Loaded.{assignments_from, assignments_of_files, bytes_in, ignored_in, ignored_line, timer_assignments}
 use Rattle.cal_load.specs.rules.Readable.{assignments_read, is_broken}
-use Rattle.cal_load.specs.rules.Settled.{value_filled, is_usable, may_have_specifiers, settled, settled_by, unusable}
+use Rattle.cal_load.specs.rules.Resolved.{value_filled, is_usable, may_have_specifiers, resolved, resolved_by, unusable}
 use Rattle.cal_load.specs.rules.Specifiers.{Filling}
 use Rattle.cal_load.specs.rules.Specifiers.Filling.{Text, Unclear, Invalid}
 use Rattle.cal_unit_index.specs.rules.Destinations.{last_part}
@@ -202,27 +202,27 @@ module _ (P : ℕ → Type 0) where
   unclear_about true a all h k = k
   unclear_about false a all h k = All-cons (λ (a : Assignment). P a.number) a all h k
 
-  settled_by_about : (a : Assignment) (filling : Filling) (all : List Assignment) → P a.number → All (λ a. P a.number) all
-      → All (λ a. P a.number) (cons_option (settled_by a filling) all)
-  settled_by_about a (Text text) all h k = filled_about (is_usable text) a text all h k
-  settled_by_about a Unclear all h k = unclear_about (is_expression a) a all h k
-  settled_by_about a Invalid all h k = unusable_about (is_expression a || is_exception a) a all h k
+  resolved_by_about : (a : Assignment) (filling : Filling) (all : List Assignment) → P a.number → All (λ a. P a.number) all
+      → All (λ a. P a.number) (cons_option (resolved_by a filling) all)
+  resolved_by_about a (Text text) all h k = filled_about (is_usable text) a text all h k
+  resolved_by_about a Unclear all h k = unclear_about (is_expression a) a all h k
+  resolved_by_about a Invalid all h k = unusable_about (is_expression a || is_exception a) a all h k
 
-  settled_if_about : (c : Bool) (a : Assignment) (filling : Filling) (all : List Assignment) → P a.number → All (λ a. P a.number) all
-      → All (λ a. P a.number) (cons_option (if c then settled_by a filling else Some a) all)
-  settled_if_about true a filling all h k = settled_by_about a filling all h k
-  settled_if_about false a filling all h k = All-cons (λ (a : Assignment). P a.number) a all h k
+  resolved_if_about : (c : Bool) (a : Assignment) (filling : Filling) (all : List Assignment) → P a.number → All (λ a. P a.number) all
+      → All (λ a. P a.number) (cons_option (if c then resolved_by a filling else Some a) all)
+  resolved_if_about true a filling all h k = resolved_by_about a filling all h k
+  resolved_if_about false a filling all h k = All-cons (λ (a : Assignment). P a.number) a all h k
 
-  settled_about : (own : List ℕ) (list : List Assignment) → All (λ a. P a.number) list → All (λ a. P a.number) (filter_map (settled own) list)
-  unfolding settled
-  settled_about own [] h = All-nil (λ (a : Assignment). P a.number)
-  settled_about own (a ∷ list) h =
-      settled_if_about (may_have_specifiers a) a (value_filled own a) (filter_map (settled own) list) (All-head (λ (a : Assignment). P a.number) a list h)
-      (settled_about own list (All-tail (λ (a : Assignment). P a.number) a list h))
+  resolved_about : (own : List ℕ) (list : List Assignment) → All (λ a. P a.number) list → All (λ a. P a.number) (filter_map (resolved own) list)
+  unfolding resolved
+  resolved_about own [] h = All-nil (λ (a : Assignment). P a.number)
+  resolved_about own (a ∷ list) h =
+      resolved_if_about (may_have_specifiers a) a (value_filled own a) (filter_map (resolved own) list) (All-head (λ (a : Assignment). P a.number) a list h)
+      (resolved_about own list (All-tail (λ (a : Assignment). P a.number) a list h))
 
 -- the assignments of a timer have the numbers of some lines of its files
 pub timer_numbered : (name : List ℕ) (files : List UnitText) → All (λ a. HasLine files a.number) (timer_assignments name files)
-timer_numbered name files = settled_about (HasLine files) (last_part name) (assignments_of_files files) (assignments_numbered files)
+timer_numbered name files = resolved_about (HasLine files) (last_part name) (assignments_of_files files) (assignments_numbered files)
 
 module _ {E : Type 0} (read : List ℕ → Result E SpecFault) (P : ℕ → Type 0) where
   entry_about : (number : ℕ) (value : List ℕ) (r : Result E SpecFault) (all : List (TimerLine E)) → P number → All (λ entry. P entry.number) all

@@ -9,6 +9,6 @@ pub mod LoadedTarget
 pub mod Notes
 pub mod Position
 pub mod Readable
-pub mod Settled
+pub mod Resolved
 pub mod Specifiers
 pub mod TextFaults

@@ -1,4 +1,4 @@
-//! The calendar of a timer, and reading it from texts.
+//! The calendar of a timer, and how it is read from the timer's assignments.
 
 ghost use Rattle.std.specs.Prelude.{◌≡◌, ◌∷◌, ◌++◌, [], List, IfOk, OnOk, false, map, true};
 ghost use Rattle.cal_timer.specs.rules.Assignments as assignments;

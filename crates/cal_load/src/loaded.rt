@@ -27,8 +27,8 @@ pub struct LoadedTimer {
     pub files: Vec<UnitText>,
     /// The number of each file's first line. Line numbers continue from file to file.
     pub first_lines: Vec<u32>,
-    /// For each file, the line at which systemd stops reading it, if it has such a line. A timer's own file has none. Of
-    /// a drop-in, only the lines above it count.
+    /// For each file, the line at which systemd stops reading the file, or `None`. The first is always `None`: a timer
+    /// isn't loaded if systemd stops in its own file. In a drop-in, only the lines above the broken one count.
     pub broken: Vec<Option<BrokenLine>>,
     /// The valid expressions and exceptions in these files, or the expressions that were given by themselves. Each of
     /// the latter has its index, counted from 1, as its line number.
@@ -37,13 +37,14 @@ pub struct LoadedTimer {
     pub ignored: Vec<IgnoredLine>,
     /// The zones that the expressions and exceptions name.
     pub zones: ZoneTable,
-    /// The expressions that depend on the running system, because of their specifiers, and then the other settings that
-    /// decide when the timer starts a unit, and which unit that is; each as `KEY=VALUE`, in the order of the files.
+    /// The expressions whose specifiers depend on more than the timer's name, and then the other settings that decide
+    /// when the timer starts a unit, and which unit that is; each as `KEY=VALUE`, in the order of the files.
     pub notes: Vec<String>,
 }
 
 impl LoadedTimer {
-    /// Returns the calendar expressions in the order of the files. There may be none if other settings start the unit.
+    /// Returns the calendar expressions in the order of the files. The list is empty if only
+    /// other settings start the unit, or only expressions that depend on more than the timer's name.
     pub fn lines(&self) -> &[TimerLine]
         ensures { map shown result.now ≡ expressions_in self.now.calendar }
     {

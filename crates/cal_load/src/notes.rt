@@ -1,5 +1,6 @@
 //! The assignments other than `OnCalendar=` that are noted for a timer: those that decide when it starts a unit, and
-//! which unit that is (systemd.timer(5), Options).
+//! which unit that is (systemd.timer(5), Options). Expressions that depend on more than the timer's name are noted, too;
+//! `Resolved` has them.
 
 ghost use Rattle.std.specs.Prelude.{◌≡◌, IfOk, OnOk, filter, map, not, string_bytes};
 ghost use Rattle.std.specs.List.{list_any, slice_split};

@@ -250,7 +250,8 @@ fn is_last(alloc: Global, number: u32, rest: &str) -> Result<bool, AllocError>
     Ok(next.is_none())
 }
 
-/// Returns why systemd stops at a line that is UTF-8, or `None` if it doesn't.
+/// Returns why systemd stops at a line that is valid UTF-8, or `None` if it doesn't. A line with a noncharacter is
+/// [`BrokenReason::NotUtf8`].
 fn broken_reason(line: &str) -> Option<BrokenReason>
     ensures { result ≡ broken_reason line.now }
 {

@@ -34,14 +34,14 @@ enum Part {
     Specifier(u8),
 }
 
-/// Whether the bytes of a [`Draft`] are the text that the parts stand for.
+/// Whether the bytes of a [`Draft`] are the text that its parts stand for.
 #[derive(Clone, Copy, Debug)]
 enum State {
-    /// They are.
+    /// The bytes are this text.
     Text,
-    /// They aren't, because one of the parts depends on more than the timer's name.
+    /// One of the parts depends on more than the timer's name, so the bytes mean nothing.
     Unclear,
-    /// They aren't, because one of the parts is invalid.
+    /// One of the parts is invalid, so the bytes mean nothing.
     Invalid,
 }
 

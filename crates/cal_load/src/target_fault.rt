@@ -22,7 +22,8 @@ pub enum TargetReason {
     Path(String, Reason),
     /// systemd stops reading the timer's own file, which is at this path, at this line. So it doesn't load the timer.
     Broken(String, BrokenLine),
-    /// This line of the file at this path is invalid. The error has the same line number.
+    /// Nothing starts the timer's unit, and this line of the file at this path is the first that is ignored as invalid.
+    /// The error has the same line number.
     Line(String, u32, TimerFault),
     /// The timer has neither a calendar expression nor another setting that starts its unit.
     NothingToDo,

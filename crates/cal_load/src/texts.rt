@@ -16,7 +16,7 @@ use cal_read::OwnedAssignment;
 use cal_unit_index::{Reason, UnitText};
 use std::alloc::{AllocError, Global};
 
-/// What the files of a unit say.
+/// What the files of a unit say, before specifiers are filled in.
 #[derive(Drop)]
 pub(crate) struct ReadFiles {
     /// The number of each file's first line. The first line of the first file has the number 1, and the first line of
@@ -28,8 +28,8 @@ pub(crate) struct ReadFiles {
     pub(crate) broken: Vec<Option<BrokenLine>>,
 }
 
-/// Reads the files of a unit. Fails with [`Reason::TooLarge`] for the first file whose first line's number plus its
-/// length in bytes is 2^32 or more.
+/// Reads the files of a unit. Fails with [`Reason::TooLarge`] if the number of a file's first line plus the file's length
+/// in bytes is 2^32 or more. The error is that of the first such file.
 pub(crate) fn read_files(alloc: Global, files: &[UnitText]) -> Result<ReadFiles, TargetLoadFault>
     ensures assignments { IfOk result (λ read. map shown_owned_assignment read.assignments.items
         ≡ assignments_of_files (map shown_unit_text files.now)) }

@@ -24,7 +24,7 @@ use crate::fault::TargetLoadFault;
 use crate::loaded::{LoadedTarget, LoadedTimer, position_in};
 use crate::notes::{can_start, notes_of, shown_notes};
 use crate::readable::BrokenLine;
-use crate::settled::{Settled, settle};
+use crate::resolved::{Resolved, resolve};
 use crate::target_fault::TargetReason;
 use crate::texts::{ReadFiles, append, read_files};
 use crate::zones::{first_with_zone, load_named_zones};
@@ -37,7 +37,7 @@ use cal_unit_index::{
 use cal_zone_files::ZonesFault;
 use std::alloc::{AllocError, Global};
 
-/// What the files of a timer say.
+/// What was read of the files of a timer.
 #[derive(Drop)]
 struct ParsedFiles {
     first_lines: Vec<u32>,
@@ -47,8 +47,8 @@ struct ParsedFiles {
     notes: Vec<String>,
 }
 
-/// Reads the unit that is found for this stem, with its drop-ins. Adds the drop-ins and drop-in folders that can't be
-/// read to `lost`.
+/// Reads the unit that is found for this stem, with its drop-ins. Adds to `lost` the drop-ins and drop-in folders that
+/// can't be read.
 pub(crate) fn read_unit<T: Tree>(
     alloc: Global,
     tree: &mut T,
@@ -131,7 +131,7 @@ fn own_fault(alloc: Global, path: &str, reason: Reason) -> TargetLoadFault
     }
 }
 
-/// Reads the drop-ins of a unit. Adds the drop-ins and drop-in folders that can't be read to `lost`.
+/// Reads the drop-ins of a unit. Adds to `lost` the drop-ins and drop-in folders that can't be read.
 fn drop_in_texts<T: Tree>(
     alloc: Global,
     tree: &mut T,
@@ -251,10 +251,10 @@ fn parse_files(
     if let Some(line) = own_broken(broken.as_slice()) {
         return Err(broken_fault(alloc, files, line));
     }
-    let Settled {
+    let Resolved {
         assignments,
         unclear,
-    } = settle(alloc, name, assignments)?;
+    } = resolve(alloc, name, assignments)?;
     let CalendarLines { calendar, ignored } = read_calendar(alloc, assignments.as_slice())?;
     let notes = notes_of(alloc, name, assignments)?;
     if calendar.lines().is_empty() && unclear.is_empty() && !can_start(notes.as_slice()) {
@@ -281,19 +281,19 @@ fn own_broken(broken: &[Option<BrokenLine>]) -> Option<BrokenLine>
     }
 }
 
-/// Returns the error for a unit whose own file, the first of its files, systemd stops reading at this line.
+/// Returns the error for a unit if systemd stops reading its own file, the first of `files`, at this line.
 fn broken_fault(alloc: Global, files: &[UnitText], line: BrokenLine) -> TargetLoadFault
     ensures { broken_own (map shown_unit_text files.now) ≡ Some line → IsReadFault (map shown_unit_text files.now) result }
 {
     match files.first() {
         Some(own) => TargetLoadFault::broken(alloc, own.path.as_str(), line),
-        // A unit has a file of its own.
+        // This can't happen: a unit has a file of its own.
         None => TargetLoadFault::NoMemory,
     }
 }
 
-/// Returns the error for a timer whose unit nothing starts: that of the first ignored line, with the number that the
-/// line has in its own file, or [`TargetReason::NothingToDo`] if no line is ignored.
+/// Returns the error for a timer whose unit nothing starts. It is the error of the first ignored line, with the line's
+/// number in the file that has it, or [`TargetReason::NothingToDo`] if no line is ignored.
 fn start_fault(
     alloc: Global,
     files: &[UnitText],

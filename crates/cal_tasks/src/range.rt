@@ -9,19 +9,19 @@ use cal_rising::{NoMemory, Rising};
 use cal_zone::Instant;
 
 /// Appends the elapses of one timer from `from` on (included) and before `before`. `elapses` must be the source of its
-/// elapses after `from`, and `starts` is whether the timer elapses at `from`.
+/// elapses after `from`, and `elapses_at_from` says whether the timer elapses at `from`.
 pub(crate) fn add_range<S: Rising>(
     found: &mut Vec<TimerElapse>,
     timer: usize,
-    starts: bool,
+    elapses_at_from: bool,
     elapses: &mut Instants<S>,
     from: Instant,
     before: Instant,
 ) -> Result<(), NoMemory>
     ensures { OnOk result (map elapse_seen found.new.items ≡ map elapse_seen found.old.items
-        ++ range_of_one from.secs before.secs timer (cond starts (from.secs ∷ []) [] ++ elapses.old)) }
+        ++ range_of_one from.secs before.secs timer (cond elapses_at_from (from.secs ∷ []) [] ++ elapses.old)) }
 {
-    if starts && from.secs() < before.secs() {
+    if elapses_at_from && from.secs() < before.secs() {
         found.push(TimerElapse {
             instant: from,
             timer,

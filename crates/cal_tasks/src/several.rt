@@ -152,8 +152,15 @@ fn ranges_of_timers(
     let mut found = Vec::new(alloc);
     for (index, timer) in timers.iter().enumerate() {
         let mut elapses = elapses_in(alloc, at, from, timer)?;
-        let starts = is_elapse(at, timer, from);
-        add_range(&mut found, index, starts, &mut elapses, from, before)?;
+        let elapses_at_from = is_elapse(at, timer, from);
+        add_range(
+            &mut found,
+            index,
+            elapses_at_from,
+            &mut elapses,
+            from,
+            before,
+        )?;
     }
     Ok(found)
 }

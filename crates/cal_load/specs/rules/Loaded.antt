@@ -30,7 +30,7 @@ use Rattle.cal_load.specs.declared.loaded.LoadedTimer.{LoadedTimer}
 use Rattle.cal_load.specs.rules.Notes.{note_text, notes_in, starts_unit}
 use Rattle.cal_load.specs.rules.Position.{AreFirstLines}
 use Rattle.cal_load.specs.rules.Readable.{assignments_read, broken_line}
-use Rattle.cal_load.specs.rules.Settled.{settled_in, unclear_in}
+use Rattle.cal_load.specs.rules.Resolved.{resolved_in, unclear_in}
 use Rattle.cal_load.specs.declared.readable.BrokenLine.{BrokenLine}
 
 -- The files of the unit whose own file is at the path `file`: this file, and then its drop-ins, in the order in which
@@ -84,9 +84,9 @@ broken_own (own ∷ drop_ins) = broken_line 1 own.bytes
 
 -- the assignments of the timer `name` in these files, with specifiers filled in
 abbrev pub timer_assignments : List ℕ → List UnitText → List Assignment
-timer_assignments name files = settled_in name (assignments_of_files files)
+timer_assignments name files = resolved_in name (assignments_of_files files)
 
--- the expressions of the timer `name` that depend on the running system
+-- the expressions of the timer `name` that depend on more than this name
 abbrev pub unclear_of_files : List ℕ → List UnitText → List Assignment
 unclear_of_files name files = unclear_in name (assignments_of_files files)
 
@@ -107,7 +107,7 @@ abbrev pub IsCalendarOf : List ℕ → List UnitText → calendars.Calendar → 
 IsCalendarOf name files calendar = IsCalendarBy (timer_assignments name files) calendar
 
 -- The files of the timer `name` start its unit: by a valid expression that isn't cleared later, or else by one that
--- depends on the running system, or by another setting.
+-- depends on more than the timer's name, or by another setting.
 abbrev pub IsStarted : List ℕ → List UnitText → Type 0
 IsStarted name files =
     entries_of expr_in (listed (timer_assignments name files)) ≡ [] → unclear_of_files name files ≡ []
@@ -137,7 +137,7 @@ abbrev pub HasZones : Machine → calendars.Calendar → ZoneMap → Type 0
 HasZones machine calendar table =
     HasNames table (zone_names_in (expressions_in calendar) ++ zone_names_in (exceptions_in calendar)) × HasZonesOf machine table
 
--- what is noted for the timer `name`: its expressions that depend on the running system, and then other settings
+-- what is noted for the timer `name`: its expressions that depend on more than its name, and then other settings
 abbrev pub noted_in_files : List ℕ → List UnitText → List Assignment
 noted_in_files name files = unclear_of_files name files ++ notes_in name (timer_assignments name files)
 

@@ -1,7 +1,7 @@
 -- Which lines of a unit file systemd reads (systemd.syntax(7), and the parser of systemd 252). It stops at the first
 -- line that isn't UTF-8, that begins with `[` but isn't a section header, or that is too long: what comes before this
--- line counts, and the rest of the file is lost. The lines are logical lines without leading and trailing blanks, so
--- comments can contain any bytes.
+-- line counts, and the rest of the file is lost. The lines are logical lines, without leading and trailing blanks.
+-- Comments aren't among them, so they can contain any bytes.
 use Rattle.std.specs.Prelude.{◌≡◌, ℕ, ◌==◌, nat_le, Bool, false, true, not, ◌&&◌, ◌||◌, ◌%◌, if◌then◌else◌, List, [], ◌∷◌, Option, None, Some, length, slice_get, slice_index}
 use Rattle.std.specs.List.{before_first, filter_map, list_any}
 use Rattle.std.specs.Option.{is_some, option_map, option_or}
@@ -31,7 +31,7 @@ is_clean_utf8 text = is_utf8 text && not (list_any is_noncharacter (chars text))
 abbrev pub line_limit : ℕ
 line_limit = 1_048_576
 
--- why systemd stops at a line with this text, or None if it doesn't; if there are several reasons, the first counts
+-- why systemd stops at a line with this text, or None if it doesn't; if there are several reasons, the first of `NotUtf8`, `BadHeader` and `TooLong` counts
 unfoldable pub broken_reason : List ℕ → Option BrokenReason
 broken_reason text =
     if is_clean_utf8 text

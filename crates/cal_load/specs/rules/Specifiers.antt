@@ -73,7 +73,7 @@ after_backslash (x ∷ high ∷ []) = Invalid
 after_backslash (x ∷ high ∷ low ∷ text) =
     if is_escape x high low then Text (hex_value high low ∷ slashed text) else Invalid
 
--- what the pieces into which its backslashes divide a text stand for
+-- what an escaped text stands for, given the pieces between its backslashes
 abbrev pub unescaped_pieces : List (List ℕ) → Filling
 unescaped_pieces [] = Text []
 unescaped_pieces (first ∷ others) = joined (Text (slashed first)) (all_joined (map after_backslash others))

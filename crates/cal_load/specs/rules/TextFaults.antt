@@ -63,7 +63,7 @@ IsReadFault files faults.TheVariants.NoMemory = ⊤
 -- ## Assignments
 
 -- nothing starts the unit of the timer `name`: its files have neither a valid expression that isn't cleared later nor one
--- that depends on the running system, and no other setting starts the unit
+-- that depends on more than the timer's name, and no other setting starts the unit
 abbrev pub StartNothing : List ℕ → List UnitText → Type 0
 StartNothing name files =
     (entries_of expr_in (listed (timer_assignments name files)) ≡ []) × (unclear_of_files name files ≡ [])

@@ -4,7 +4,7 @@ ghost use Rattle.std.specs.Prelude.{◌≡◌, ◌∷◌, ◌++◌, ◌||◌, []
 ghost use Rattle.std.specs.Option.{option_to_list};
 ghost use Rattle.cal_read.specs.rules.SectionAssignments.{shown_owned_assignment};
 ghost use Rattle.cal_timer.specs.rules.TimerText.{is_exception, is_expression};
-ghost use Rattle.cal_load.specs.rules.Settled.{after_reset, is_usable, may_have_specifiers, settled, settled_by, settled_in, unclear_in, unclear_of, unclear_with, unusable};
+ghost use Rattle.cal_load.specs.rules.Resolved.{after_reset, is_usable, may_have_specifiers, resolved, resolved_by, resolved_in, unclear_in, unclear_of, unclear_with, unusable};
 ghost use Rattle.cal_load.specs.rules.Specifiers.Filling.{Text, Unclear};
 
 use crate::calendar::borrowed;
@@ -29,66 +29,69 @@ const KEYS_WITH_SPECIFIERS: [&[u8]; 8] = [
 
 /// The assignments of a timer with their specifiers filled in.
 #[derive(Drop)]
-pub(crate) struct Settled {
-    /// The assignments that have an effect.
+pub(crate) struct Resolved {
     pub(crate) assignments: Vec<OwnedAssignment>,
-    /// The expressions that depend on the running system, and that aren't cleared later.
+    /// The expressions that depend on more than the timer's name, and that aren't cleared later. They aren't among the
+    /// other assignments.
     pub(crate) unclear: Vec<OwnedAssignment>,
 }
 
 /// Fills in the specifiers in the assignments of the timer with this name. `name` is the name of a unit, or the path of
 /// a file that is read by itself: then the timer's own name is the part after the last slash.
 ///
-/// A value whose specifiers depend on the running system, or can't be filled in, has no effect. There are two
-/// exceptions. An expression with invalid specifiers stays as it is: its `%` makes it invalid. And so do a monotonic
-/// timer and a `Unit=` that depend on the running system.
-pub(crate) fn settle(
+/// Assignments without specifiers are kept. For the others:
+///
+/// - If the specifiers depend on the timer's name alone, they are filled in.
+/// - If they depend on anything else, an expression is moved to `unclear`. Any other assignment is kept as it is.
+/// - If they are invalid, or if the filled-in value is empty or still has a `%`, an expression or exception is kept as it
+///   is, and is then invalid because of its `%`. Any other assignment is dropped.
+pub(crate) fn resolve(
     alloc: Global,
     name: &str,
     assignments: Vec<OwnedAssignment>,
-) -> Result<Settled, AllocError>
-    ensures assignments { IfOk result (λ settled. map shown_owned_assignment settled.assignments.items
-        ≡ settled_in name.now (map shown_owned_assignment assignments.items)) }
-    ensures unclear { IfOk result (λ settled. map shown_owned_assignment settled.unclear.items
+) -> Result<Resolved, AllocError>
+    ensures assignments { IfOk result (λ resolved. map shown_owned_assignment resolved.assignments.items
+        ≡ resolved_in name.now (map shown_owned_assignment assignments.items)) }
+    ensures unclear { IfOk result (λ resolved. map shown_owned_assignment resolved.unclear.items
         ≡ unclear_in name.now (map shown_owned_assignment assignments.items)) }
 {
     let own = last_part(alloc, name)?;
-    let mut settled = Settled {
+    let mut resolved = Resolved {
         assignments: Vec::new(alloc),
         unclear: Vec::new(alloc),
     };
     for assignment in assignments {
-        settled.take(alloc, own, assignment)?;
+        resolved.add(alloc, own, assignment)?;
     }
-    Ok(settled)
+    Ok(resolved)
 }
 
-impl Settled {
-    /// Takes one more assignment of the timer with the name `own`.
-    #[tactic(auto, unfolding(crate::specs::rules::Settled::settled))]
-    fn take(
+impl Resolved {
+    /// Adds one more assignment of the timer with the name `own`.
+    #[tactic(auto, unfolding(crate::specs::rules::Resolved::resolved))]
+    fn add(
         &mut self,
         alloc: Global,
         own: &str,
         assignment: OwnedAssignment,
     ) -> Result<(), AllocError>
         ensures assignments { OnOk result (map shown_owned_assignment self.new.assignments.items
-            ≡ map shown_owned_assignment self.old.assignments.items ++ option_to_list (settled own.now (shown_owned_assignment assignment))) }
+            ≡ map shown_owned_assignment self.old.assignments.items ++ option_to_list (resolved own.now (shown_owned_assignment assignment))) }
         ensures unclear { OnOk result (map shown_owned_assignment self.new.unclear.items
             ≡ unclear_with own.now (map shown_owned_assignment self.old.unclear.items) (shown_owned_assignment assignment)) }
     {
         if !may_have_specifiers(&assignment) {
-            return self.take_plain(assignment);
+            return self.add_plain(assignment);
         }
         match fill(alloc, own, assignment.value.as_str())? {
             Filled::Text(text) => push_filled(&mut self.assignments, assignment, text),
-            Filled::Unclear => self.take_unclear(assignment),
+            Filled::Unclear => self.add_unclear(assignment),
             Filled::Invalid => push_unusable(&mut self.assignments, assignment),
         }
     }
 
-    /// Takes an assignment without specifiers.
-    fn take_plain(&mut self, assignment: OwnedAssignment) -> Result<(), AllocError>
+    /// Adds an assignment without specifiers. It may clear the unclear expressions.
+    fn add_plain(&mut self, assignment: OwnedAssignment) -> Result<(), AllocError>
         ensures assignments { OnOk result (map shown_owned_assignment self.new.assignments.items
             ≡ map shown_owned_assignment self.old.assignments.items ++ shown_owned_assignment assignment ∷ []) }
         ensures unclear { OnOk result (map shown_owned_assignment self.new.unclear.items
@@ -101,10 +104,11 @@ impl Settled {
         Ok(())
     }
 
-    /// Takes an assignment that depends on the running system.
-    fn take_unclear(&mut self, assignment: OwnedAssignment) -> Result<(), AllocError>
+    /// Adds an assignment that depends on more than the timer's name: an expression to `unclear`, any other one to
+    /// `assignments`.
+    fn add_unclear(&mut self, assignment: OwnedAssignment) -> Result<(), AllocError>
         ensures assignments { OnOk result (map shown_owned_assignment self.new.assignments.items
-            ≡ map shown_owned_assignment self.old.assignments.items ++ option_to_list (settled_by (shown_owned_assignment assignment) Unclear)) }
+            ≡ map shown_owned_assignment self.old.assignments.items ++ option_to_list (resolved_by (shown_owned_assignment assignment) Unclear)) }
         ensures unclear { OnOk result (map shown_owned_assignment self.new.unclear.items
             ≡ map shown_owned_assignment self.old.unclear.items ++ unclear_of (shown_owned_assignment assignment)) }
     {
@@ -117,24 +121,25 @@ impl Settled {
     }
 }
 
-/// Appends the assignment with this text, in which its specifiers are filled in, as its value.
+/// Appends the assignment with `text`, its filled-in value. If this value can't be used, does what [`push_unusable`]
+/// does.
 fn push_filled(
-    settled: &mut Vec<OwnedAssignment>,
+    resolved: &mut Vec<OwnedAssignment>,
     assignment: OwnedAssignment,
     text: String,
 ) -> Result<(), AllocError>
-    ensures { OnOk result (map shown_owned_assignment settled.new.items ≡ map shown_owned_assignment settled.old.items
-        ++ option_to_list (settled_by (shown_owned_assignment assignment) (Text (string_bytes text)))) }
+    ensures { OnOk result (map shown_owned_assignment resolved.new.items ≡ map shown_owned_assignment resolved.old.items
+        ++ option_to_list (resolved_by (shown_owned_assignment assignment) (Text (string_bytes text)))) }
 {
     if !is_usable(text.as_str()) {
-        return push_unusable(settled, assignment);
+        return push_unusable(resolved, assignment);
     }
     let OwnedAssignment {
         number,
         key,
         value: _,
     } = assignment;
-    settled.push(OwnedAssignment {
+    resolved.push(OwnedAssignment {
         number,
         key,
         value: text,
@@ -142,16 +147,17 @@ fn push_filled(
     Ok(())
 }
 
-/// Appends an assignment whose specifiers can't be filled in as it is, if it is an expression or an exception.
+/// Appends an assignment whose filled-in value can't be used, without a change, if it is an expression or an exception.
+/// Drops any other assignment.
 fn push_unusable(
-    settled: &mut Vec<OwnedAssignment>,
+    resolved: &mut Vec<OwnedAssignment>,
     assignment: OwnedAssignment,
 ) -> Result<(), AllocError>
-    ensures { OnOk result (map shown_owned_assignment settled.new.items ≡ map shown_owned_assignment settled.old.items
+    ensures { OnOk result (map shown_owned_assignment resolved.new.items ≡ map shown_owned_assignment resolved.old.items
         ++ option_to_list (unusable (shown_owned_assignment assignment))) }
 {
     if is_entry(&assignment) {
-        settled.push(assignment)?;
+        resolved.push(assignment)?;
     }
     Ok(())
 }

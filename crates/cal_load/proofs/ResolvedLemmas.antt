@@ -12,26 +12,26 @@ use Rattle.cal_timer.proofs.ListedLemmas.{kept_more, kept_other, kept_reset}
 use Rattle.cal_timer.specs.rules.Assignments.{Assignment}
 use Rattle.cal_timer.specs.rules.TimerText.{is_expression, is_reset}
 use Rattle.cal_unit_index.specs.rules.Destinations.{last_part}
-use Rattle.cal_load.specs.rules.Settled.{after_reset, is_unclear_expression, is_unclear_filling, may_have_specifiers, settled, settled_in, unclear_in, unclear_of, unclear_with, value_filled}
+use Rattle.cal_load.specs.rules.Resolved.{after_reset, is_unclear_expression, is_unclear_filling, may_have_specifiers, resolved, resolved_in, unclear_in, unclear_of, unclear_with, value_filled}
 use Rattle.cal_load.specs.rules.Specifiers.{Filling}
 use Rattle.cal_load.specs.rules.Specifiers.Filling.{Unclear}
 
-one_settled : (a : Option Assignment) → cons_option a [] ≡ option_to_list a
-one_settled None = refl
-one_settled (Some a) = refl
+one_resolved : (a : Option Assignment) → cons_option a [] ≡ option_to_list a
+one_resolved None = refl
+one_resolved (Some a) = refl
 
 -- ## One more assignment
 
-pub settled_more : (name own : List ℕ) (before : List OwnedAssignment) (a : OwnedAssignment) (old new : List Assignment) → own ≡ last_part name
-    → old ≡ settled_in name (map shown_owned_assignment before) → new ≡ old ++ option_to_list (settled own (shown_owned_assignment a))
-    → new ≡ settled_in name (map shown_owned_assignment (before ++ a ∷ []))
-settled_more name own before a old new is so_far pushed =
+pub resolved_more : (name own : List ℕ) (before : List OwnedAssignment) (a : OwnedAssignment) (old new : List Assignment) → own ≡ last_part name
+    → old ≡ resolved_in name (map shown_owned_assignment before) → new ≡ old ++ option_to_list (resolved own (shown_owned_assignment a))
+    → new ≡ resolved_in name (map shown_owned_assignment (before ++ a ∷ []))
+resolved_more name own before a old new is so_far pushed =
     pushed
-    ∙ ap (λ list. list ++ option_to_list (settled own (shown_owned_assignment a))) so_far
-    ∙ ap (λ own. settled_in name (map shown_owned_assignment before) ++ option_to_list (settled own (shown_owned_assignment a))) is
-    ∙ ap (λ last. settled_in name (map shown_owned_assignment before) ++ last) (sym (one_settled (settled (last_part name) (shown_owned_assignment a))))
-    ∙ sym (filter_map-append (settled (last_part name)) (map shown_owned_assignment before) (shown_owned_assignment a ∷ []))
-    ∙ ap (settled_in name) (sym (map-append shown_owned_assignment before (a ∷ [])))
+    ∙ ap (λ list. list ++ option_to_list (resolved own (shown_owned_assignment a))) so_far
+    ∙ ap (λ own. resolved_in name (map shown_owned_assignment before) ++ option_to_list (resolved own (shown_owned_assignment a))) is
+    ∙ ap (λ last. resolved_in name (map shown_owned_assignment before) ++ last) (sym (one_resolved (resolved (last_part name) (shown_owned_assignment a))))
+    ∙ sym (filter_map-append (resolved (last_part name)) (map shown_owned_assignment before) (shown_owned_assignment a ∷ []))
+    ∙ ap (resolved_in name) (sym (map-append shown_owned_assignment before (a ∷ [])))
 
 unclear_by : (own : List ℕ) (before : List Assignment) (a : Assignment) (r u : Bool) → is_reset a ≡ r → is_unclear_expression own a ≡ u
     → filter (is_unclear_expression own) (after_last is_reset (before ++ a ∷ [])) ≡ unclear_with own (filter (is_unclear_expression own) (after_last is_reset before)) a

@@ -30,32 +30,33 @@ is_usable text = not (length text == 0 || has_percent text)
 abbrev pub unusable : Assignment → Option Assignment
 unusable a = if is_expression a || is_exception a then Some a else None
 
-abbrev pub settled_by : Assignment → Filling → Option Assignment
-settled_by a (Text text) =
+abbrev pub resolved_by : Assignment → Filling → Option Assignment
+resolved_by a (Text text) =
     if is_usable text then Some (record { number = a.number; key = a.key; value = text }) else unusable a
-settled_by a Unclear = if is_expression a then None else Some a
-settled_by a Invalid = unusable a
+resolved_by a Unclear = if is_expression a then None else Some a
+resolved_by a Invalid = unusable a
 
--- The assignment of the timer with the name `own`, with its specifiers filled in, or None if it has no effect. An
--- expression that depends on the running system has none, and other assignments that do are left as they are.
-unfoldable pub settled : List ℕ → Assignment → Option Assignment
-settled own a = if may_have_specifiers a then settled_by a (value_filled own a) else Some a
+-- The assignment of the timer with the name `own`, with its specifiers filled in, or None if it is dropped. An expression
+-- that depends on more than the timer's name is dropped here: `unclear_in` has it. Other assignments that depend on more
+-- than the name are left as they are.
+unfoldable pub resolved : List ℕ → Assignment → Option Assignment
+resolved own a = if may_have_specifiers a then resolved_by a (value_filled own a) else Some a
 
 -- The assignments of a timer with their specifiers filled in. A timer that is a file read by itself is named by its
 -- path; its own name is then the part after the last slash.
-abbrev pub settled_in : List ℕ → List Assignment → List Assignment
-settled_in name assignments = filter_map (settled (last_part name)) assignments
+abbrev pub resolved_in : List ℕ → List Assignment → List Assignment
+resolved_in name assignments = filter_map (resolved (last_part name)) assignments
 
 abbrev pub is_unclear_filling : Filling → Bool
 is_unclear_filling (Text text) = false
 is_unclear_filling Unclear = true
 is_unclear_filling Invalid = false
 
--- whether the assignment is an expression of the timer with the name `own` that depends on the running system
+-- whether the assignment is an expression of the timer with the name `own` that depends on more than this name
 unfoldable pub is_unclear_expression : List ℕ → Assignment → Bool
 is_unclear_expression own a = is_expression a && (may_have_specifiers a && is_unclear_filling (value_filled own a))
 
--- the expressions of a timer that depend on the running system, without those that are cleared later
+-- the expressions of a timer that depend on more than its name, without those that are cleared later
 unfoldable pub unclear_in : List ℕ → List Assignment → List Assignment
 unclear_in name assignments = filter (is_unclear_expression (last_part name)) (after_last is_reset assignments)
 
@@ -65,7 +66,7 @@ unclear_in name assignments = filter (is_unclear_expression (last_part name)) (a
 abbrev pub after_reset : List Assignment → Assignment → List Assignment
 after_reset unclear a = if is_reset a then [] else unclear
 
--- the unclear expression in an assignment that depends on the running system
+-- the unclear expression in an assignment that depends on more than the timer's name
 abbrev pub unclear_of : Assignment → List Assignment
 unclear_of a = if is_expression a then (a ∷ []) else []
 
