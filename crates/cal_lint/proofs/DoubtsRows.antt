@@ -2,9 +2,10 @@
 -- unknown.
 use Rattle.std.proofs.Common.{◌≡◌, ℕ, List, true, false, [], ◌∷◌, codes, refl, Option, None, Some}
 use Rattle.cal_bytes.specs.rules.Separators.{words}
+use Rattle.cal_civil.specs.rules.ZoneName.{is_utc_name}
 use Rattle.cal_spec.specs.declared.field.Part.{Part}
 use Rattle.cal_spec.specs.rules.NormalForm.{point}
-use Rattle.cal_lint.specs.rules.Doubts.{has_month_day, is_hour_list, is_hour_range}
+use Rattle.cal_lint.specs.rules.Doubts.{has_month_day, is_hour_list, is_hour_range, looks_like_abbreviation}
 use Rattle.cal_lint.specs.rules.UnknownKeys.{is_unknown_key}
 
 abbrev to : ℕ → Option ℕ → List Part
@@ -35,6 +36,20 @@ month_day = refl
 padded : has_month_day (words (codes "01-05 09:00")) ≡ false
 unfolding words
 padded = refl
+
+abbreviation : looks_like_abbreviation (codes "CET") ≡ true
+unfolding is_utc_name
+abbreviation = refl
+
+utc : looks_like_abbreviation (codes "UTC") ≡ false
+unfolding is_utc_name
+utc = refl
+
+two_letters : looks_like_abbreviation (codes "GB") ≡ false
+two_letters = refl
+
+mixed_case : looks_like_abbreviation (codes "Japan") ≡ false
+mixed_case = refl
 
 known : is_unknown_key (codes "FixedRandomDelay") ≡ false
 known = refl

@@ -1,13 +1,16 @@
 //! Valid calendar expressions that may not mean what their author thinks.
 
 ghost use Rattle.std.specs.Prelude.{◌≡◌};
-ghost use Rattle.std.specs.List.{find};
+ghost use Rattle.std.specs.Char.{is_ascii_uppercase};
+ghost use Rattle.std.specs.List.{find, list_all};
 ghost use Rattle.std.specs.Option.{option_copied};
 ghost use Rattle.cal_spec.specs.computed.Reads.{GivesUnlessNoMemory};
 ghost use Rattle.cal_bytes.specs.rules.Separators.{words};
-ghost use Rattle.cal_lint.specs.rules.Doubts.{doubt_in, has_hours, has_month_day, is_doubtful, is_hour_list, is_hour_range, is_later_hour, is_month_day, is_range_to, part_number, single};
+ghost use Rattle.cal_spec.specs.rules.ZoneSuffix.{name_in};
+ghost use Rattle.cal_lint.specs.rules.Doubts.{doubt_in, has_abbreviation, has_hours, has_month_day, is_doubtful, is_hour_list, is_hour_range, is_later_hour, is_month_day, is_range_to, looks_like_abbreviation, part_number, single};
 
 use cal_bytes::first_word;
+use cal_civil::is_utc_name;
 use cal_spec::{Expr, Field, Part, SpecFault, read_expr};
 use std::alloc::Global;
 
@@ -24,10 +27,19 @@ pub enum Doubt {
     /// The date is a month and a day that could be meant as a range of weekdays, with 1 for Monday and 7 for Sunday.
     /// `1-5 09:00` stands for January 5, and not for Monday to Friday.
     MonthDay,
+    /// The name of the zone looks like an abbreviation, such as `CET`: see [`looks_like_abbreviation`]. If it is one of
+    /// the two abbreviations of the machine's own zone, systemd interprets it as winter time or summer time alone, and
+    /// the timer elapses only in one half of the year. Otherwise it stands for the zone file of this name.
+    Abbreviation,
 }
 
 impl Doubt {
-    const ALL: [Doubt; 3] = [Doubt::HourRange, Doubt::HourList, Doubt::MonthDay];
+    const ALL: [Doubt; 4] = [
+        Doubt::HourRange,
+        Doubt::HourList,
+        Doubt::MonthDay,
+        Doubt::Abbreviation,
+    ];
 }
 
 /// Returns why a valid calendar expression may not mean what its author thinks (systemd.time(7), Calendar Events), or
@@ -58,6 +70,7 @@ fn is_doubtful(text: &str, expr: &Expr, doubt: Doubt) -> bool
     match doubt {
         Doubt::HourRange | Doubt::HourList => has_hours(doubt, expr),
         Doubt::MonthDay => has_month_day(text),
+        Doubt::Abbreviation => has_abbreviation(expr),
     }
 }
 
@@ -77,6 +90,7 @@ fn has_hours(doubt: Doubt, expr: &Expr) -> bool
         Doubt::HourRange => is_hour_range(hour, minutes),
         Doubt::HourList => is_hour_list(hour, minutes),
         Doubt::MonthDay => false,
+        Doubt::Abbreviation => false,
     }
 }
 
@@ -156,4 +170,29 @@ fn is_month_day(word: &[u8]) -> bool
         [month, b'-', day] => b'1' <= *month && *month < *day && *day <= b'7',
         _ => false,
     }
+}
+
+/// Returns whether the zone has a name, and this name looks like an abbreviation.
+fn has_abbreviation(expr: &Expr) -> bool
+    ensures { result ≡ has_abbreviation (name_in expr.now.zone) }
+{
+    match expr.zone_name() {
+        Some(name) => looks_like_abbreviation(name),
+        None => false,
+    }
+}
+
+/// Returns whether the name of a zone looks like an abbreviation such as `CET`: 3 to 5 upper-case ASCII letters, and not
+/// `UTC`.
+pub fn looks_like_abbreviation(name: &str) -> bool
+    ensures { result ≡ looks_like_abbreviation name.now }
+{
+    name.len() >= 3 && name.len() <= 5 && are_upper_case(name.as_bytes()) && !is_utc_name(name)
+}
+
+/// Returns whether all bytes are upper-case ASCII letters.
+fn are_upper_case(text: &[u8]) -> bool
+    ensures { result ≡ list_all is_ascii_uppercase text.now }
+{
+    text.iter().all(|byte| byte.is_ascii_uppercase())
 }

@@ -10,7 +10,7 @@ mod older_systemd;
 mod problems;
 mod unknown_keys;
 
-pub use doubts::{Doubt, find_doubt};
+pub use doubts::{Doubt, find_doubt, looks_like_abbreviation};
 pub use hints::{Hint, Mistake, find_hint};
 pub use older_systemd::{Rejection, systemd_252};
 pub use problems::{Finding, Problem, ProblemKind, findings};

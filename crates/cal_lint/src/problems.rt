@@ -18,7 +18,7 @@ use crate::doubts::{Doubt, find_doubt};
 use crate::hints::{Hint, Mistake, find_hint};
 use crate::older_systemd::{Rejection, systemd_252};
 use crate::unknown_keys::is_unknown_key;
-use cal_bytes::Port;
+use cal_bytes::{Port, last_word, trim_blanks_end};
 use cal_read::{
     Assignment, Assignments, FileFault, NumberedText, OwnedAssignment, TimerFault, find_faults,
     without_mark,
@@ -66,9 +66,9 @@ pub struct Finding {
     /// The number of the assignment's line, from 1. A continued line has the number of its first physical line.
     pub line: u32,
     /// The byte of the line, counted from 1, at which the problem begins. This is the first byte of the unknown key, of
-    /// the word at fault in an invalid expression (see [`fault_span`]), or otherwise of the value. The column is 1 if
-    /// the problem is in the value and the line doesn't contain the whole value, which happens only if the line is
-    /// continued.
+    /// the word at fault in an invalid expression (see [`fault_span`]), of the abbreviation ([`Doubt::Abbreviation`]),
+    /// or otherwise of the value. The column is 1 if the problem is in the value and the line doesn't contain the whole
+    /// value, which happens only if the line is continued.
     pub column: u32,
     pub kind: ProblemKind,
     pub problem: Problem,
@@ -179,6 +179,7 @@ fn add_advice(
     let rejected = rejection_of(alloc, value)?;
     let doubt = doubt_of(alloc, value)?;
     push_rejection(alloc, found, assignment.number, column, rejected, value)?;
+    let column = value_column(line, value, doubt_start(doubt, value));
     push_doubt(found, assignment.number, column, doubt)
 }
 
@@ -345,6 +346,16 @@ fn fault_start(alloc: Global, value: &str) -> Result<usize, AllocError> {
     match fault_span(alloc, value)? {
         Some(word) => Ok(word.start),
         None => Ok(0),
+    }
+}
+
+/// Returns the byte of the value, counted from 0, at which the abbreviation begins if this is what the doubt is about,
+/// and otherwise 0. The abbreviation is the last word of the value.
+fn doubt_start(doubt: Option<Doubt>, value: &str) -> usize {
+    let value = trim_blanks_end(value);
+    match (doubt, last_word(value)) {
+        (Some(Doubt::Abbreviation), Some((_, word))) => value.len().saturating_sub(word.len()),
+        _ => 0,
     }
 }
 

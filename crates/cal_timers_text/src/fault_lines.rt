@@ -1,11 +1,7 @@
 //! Error lines about timers that can't be loaded, about lines that are ignored, and about a zone that can't be used.
 
-ghost use Rattle.std.specs.Prelude.{◌≡◌};
-ghost use Rattle.std.specs.Char.{is_ascii_uppercase};
-ghost use Rattle.std.specs.List.{list_all};
-ghost use Rattle.cal_timers_text.specs.rules.AbbreviationHint.{looks_like_abbreviation};
-
 use crate::cells::push_printable;
+use cal_lint::looks_like_abbreviation;
 use cal_load::{BrokenLine, BrokenReason, IgnoredLine, LoadedTimer, TargetFault, TargetReason};
 use cal_machine::Unreadable;
 use cal_timer::TimerFault;
@@ -210,18 +206,4 @@ fn push_no_zone(out: &mut String, zone: &str) -> Result<(), AllocError> {
         out.push_str(ABBREVIATION_HINT)?;
     }
     Ok(())
-}
-
-/// Returns whether the name of a zone looks like an abbreviation: 3 to 5 upper-case ASCII letters.
-fn looks_like_abbreviation(name: &str) -> bool
-    ensures { result ≡ looks_like_abbreviation name.now }
-{
-    name.len() >= 3 && name.len() <= 5 && are_upper_case(name.as_bytes())
-}
-
-/// Returns whether all bytes are upper-case ASCII letters.
-fn are_upper_case(text: &[u8]) -> bool
-    ensures { result ≡ list_all is_ascii_uppercase text.now }
-{
-    text.iter().all(|byte| byte.is_ascii_uppercase())
 }

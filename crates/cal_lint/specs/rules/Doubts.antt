@@ -1,14 +1,17 @@
 -- Valid calendar expressions that may not mean what their author thinks: systemd.time(7), Calendar Events.
-use Rattle.std.specs.Prelude.{ℕ, ◌==◌, nat_le, nat_lt, Bool, false, ◌&&◌, List, [], ◌∷◌, Option, None, Some, Result, Ok}
-use Rattle.std.specs.List.{find}
+use Rattle.std.specs.Prelude.{ℕ, ◌==◌, nat_le, nat_lt, Bool, false, not, ◌&&◌, List, [], ◌∷◌, length, Option, None, Some, Result, Ok}
+use Rattle.std.specs.Char.{is_ascii_uppercase}
+use Rattle.std.specs.List.{find, list_all}
 use Rattle.cal_bytes.specs.rules.AndThen.{◌>>=◌}
 use Rattle.cal_bytes.specs.rules.Separators.{words}
+use Rattle.cal_civil.specs.rules.ZoneName.{is_utc_name}
 use Rattle.cal_spec.specs.computed.Expr.{expr_in}
 use Rattle.cal_spec.specs.rules.Fields.{Fields}
+use Rattle.cal_spec.specs.rules.ZoneSuffix.{name_in}
 use Rattle.cal_spec.specs.declared.field.Part.{Part}
 use Rattle.cal_spec.specs.declared.spec_fault.SpecFault.{SpecFault}
 use Rattle.cal_lint.specs.declared.doubts.Doubt.{Doubt}
-use Rattle.cal_lint.specs.declared.doubts.Doubt.TheVariants.{HourRange, HourList, MonthDay}
+use Rattle.cal_lint.specs.declared.doubts.Doubt.TheVariants.{HourRange, HourList, MonthDay, Abbreviation}
 
 -- the number of a part that is a single number, or None for any other part
 abbrev pub part_number : ℕ → Option ℕ → Option ℕ → Option ℕ
@@ -57,6 +60,7 @@ abbrev pub are_hours : Doubt → ℕ → List Part → Bool
 are_hours HourRange hour minutes = is_hour_range hour minutes
 are_hours HourList hour minutes = is_hour_list hour minutes
 are_hours MonthDay hour minutes = false
+are_hours Abbreviation hour minutes = false
 
 -- whether the hour and the second are single numbers, and `are_hours` says that the minutes look like hours
 abbrev pub has_hours_by : Doubt → Option ℕ → Option ℕ → Option (List Part) → Bool
@@ -76,13 +80,25 @@ abbrev pub has_month_day : List (List ℕ) → Bool
 has_month_day [] = false
 has_month_day (word ∷ ws) = is_month_day word
 
+-- whether the name of a zone looks like an abbreviation such as `CET`: 3 to 5 upper-case ASCII letters, and not `UTC`;
+-- systemd interprets an abbreviation of the machine's own zone as winter time or summer time alone
+abbrev pub looks_like_abbreviation : List ℕ → Bool
+looks_like_abbreviation name =
+    nat_le 3 (length name) && nat_le (length name) 5 && list_all is_ascii_uppercase name && not (is_utc_name name)
+
+-- whether there is a zone with a name, and this name looks like an abbreviation
+abbrev pub has_abbreviation : Option (List ℕ) → Bool
+has_abbreviation None = false
+has_abbreviation (Some name) = looks_like_abbreviation name
+
 -- whether this doubt applies to the expression `text`, whose normal form has the fields `f`
 abbrev pub is_doubtful : List ℕ → Fields → Doubt → Bool
 is_doubtful text f MonthDay = has_month_day (words text)
+is_doubtful text f Abbreviation = has_abbreviation (name_in f.zone)
 is_doubtful text f doubt = has_hours doubt f
 
 abbrev pub doubts : List Doubt
-doubts = HourRange ∷ HourList ∷ MonthDay ∷ []
+doubts = HourRange ∷ HourList ∷ MonthDay ∷ Abbreviation ∷ []
 
 -- the first doubt that applies to a valid expression, or None if no doubt does; for an invalid expression, the error
 unfoldable pub doubt_in : List ℕ → Result (Option Doubt) SpecFault
