@@ -24,9 +24,7 @@ Some things are left out, since calendar-timers has other rules for them:
 - A byte order mark is only at the start of a file, and not before a comment. systemd also drops one at the start of a
   later line, and doesn't see the comment after one.
 - No comment is 1 MiB long: systemd stops reading a file at such a comment.
-- Section headers have no quotes, backslashes or control characters between the brackets.
-- In spans and in `Unit=`, no `%` is left when specifiers are filled in, as by `%%`. In `Unit=`, there are no specifiers
-  that unescape names, which systemd doesn't know there.
+- In `Unit=`, there are no specifiers that unescape names, which systemd doesn't know there.
 - There are no spans such as `+5`, which only systemd accepts, or `5.`, which only calendar-timers accepts.
 - There are no calendar expressions on which the two differ (see docs/DIFFERENCES.md) or that end in a zone.
 - No specifier depends on the running system: calendar-timers doesn't guess its value.
@@ -119,6 +117,7 @@ KEYS = ["OnCalendar"] * 8 + MONOTONIC + ["Unit"] * 2 + SETTINGS + ["WakeSystem"]
 HEADERS = ["[Timer]", " \t[Timer]", "[Timer]\t ", "[Unit]", "[Install]", "[Service]", "[Foo]", "[X-Foo]", "[]", "[[Timer]"]
 HEADERS += ["[Timer]]", "[ Timer ]", "[timer]", "[Timer][Unit]", "[Tim er]", "[é]"]
 BAD_HEADERS = ["[Timer] # x", "[Timer] ; x", "[Timer]x", "[Timer", "[", "[X-Foo", "[Foo]=1", "[Timer]\\ ", "[Timer]\u00a0"]
+BAD_HEADERS += ['[a"b]', "[Timer']", "[a\\b]", "[a\tb]", "[\x7f]", "[X-a'b]"]
 RUBBISH = ["rubbish", "Persistent", "=daily", " = daily", ".include /etc/foo", "", "  ", "\\\\", "'", "]", "Timer]"]
 COMMENTS = [b"# x", b"; x", b"#\xff", b" \t; \xff\xfe", b"# x \\", b"#OnCalendar=25:00", b"#[Timer", b";\\"]
 BEFORE_BAD_BYTES = [b"OnCalendar=", b"OnCalendar=daily\\\n", b"Foo", b"[", b"[X-Foo]\n", b"X-Foo=", b""]
@@ -141,7 +140,7 @@ def value_of(chance, key):
     if key == "OnCalendar":
         return trigger(chance, CALENDARS, NO_CALENDARS, SPECIFIERS + WITH_PERCENT, CALENDARS_WITH)
     if key in MONOTONIC:
-        return trigger(chance, SPANS, NO_SPANS, SPECIFIERS, SPANS_WITH)
+        return trigger(chance, SPANS, NO_SPANS, SPECIFIERS + WITH_PERCENT, SPANS_WITH)
     if key == "Unit":
         return chance.choice([*UNITS, *NO_UNITS])
     if key in UNKNOWN_KEYS:

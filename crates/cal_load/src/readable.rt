@@ -12,7 +12,7 @@ ghost use Rattle.cal_timer.specs.rules.Lines.{Line, is_blank_or_return, is_comme
 ghost use Rattle.cal_timer.specs.rules.TimerText.{without_mark};
 ghost use Rattle.cal_timer.specs.rules.TimerView.{shown_assignment};
 ghost use Rattle.cal_read.specs.rules.SectionAssignments.{shown_owned_assignment};
-ghost use Rattle.cal_load.specs.rules.Readable.{StandFor, no_lines, assignments_read, broken_in, broken_line, broken_reason, is_bad_header, is_clean_utf8, is_noncharacter, is_readable, line_in_text, lines_until_broken, reason_in};
+ghost use Rattle.cal_load.specs.rules.Readable.{StandFor, no_lines, assignments_read, broken_in, broken_line, broken_reason, is_bad_header, is_bad_in_header, is_clean_utf8, is_noncharacter, is_readable, line_in_text, lines_until_broken, reason_in};
 
 use cal_read::{Assignment, OwnedAssignment, first_logical, read_assignment, section, trim};
 use cal_timer::LogicalLine;
@@ -289,11 +289,25 @@ fn is_noncharacter(c: char) -> bool
     matches!(c, '\u{FDD0}'..='\u{FDEF}') || c as u32 % 0x1_0000 >= 0xFFFE
 }
 
-/// Returns whether the line begins with `[`, but doesn't end with `]`.
+/// Returns whether the line begins with `[`, but doesn't end with `]`, or has a byte that a section header can't have.
 fn is_bad_header(line: &str) -> bool
     ensures { result ≡ is_bad_header line.now }
 {
-    matches!(line.as_bytes(), [b'[', ..]) && section(line).is_none()
+    matches!(line.as_bytes(), [b'[', ..]) && (section(line).is_none() || has_bad_byte(line))
+}
+
+/// Returns whether the line has a byte that a section header can't have.
+fn has_bad_byte(line: &str) -> bool
+    ensures { result ≡ list_any is_bad_in_header line.now }
+{
+    line.as_bytes().iter().any(|byte| is_bad_in_header(*byte))
+}
+
+/// Returns whether a section header can't have this byte: whether it is a control character, a quote or a backslash.
+fn is_bad_in_header(byte: u8) -> bool
+    ensures { result ≡ is_bad_in_header byte }
+{
+    byte.is_ascii_control() || matches!(byte, b'"' | b'\'' | b'\\')
 }
 
 /// Appends the assignment in a logical line, if the line has one and a section `Timer` is open. `inside` says whether

@@ -2,7 +2,7 @@
 -- line that isn't UTF-8, that begins with `[` but isn't a section header, or that is too long: what comes before this
 -- line counts, and the rest of the file is lost. The lines are logical lines, without leading and trailing blanks.
 -- Comments aren't among them, so they can contain any bytes.
-use Rattle.std.specs.Prelude.{◌≡◌, ℕ, ◌==◌, nat_le, Bool, false, true, not, ◌&&◌, ◌||◌, ◌%◌, if◌then◌else◌, List, [], ◌∷◌, Option, None, Some, length, slice_get, slice_index}
+use Rattle.std.specs.Prelude.{◌≡◌, ℕ, ◌==◌, nat_le, nat_lt, Bool, false, true, not, ◌&&◌, ◌||◌, ◌%◌, if◌then◌else◌, List, [], ◌∷◌, Option, None, Some, length, slice_get, slice_index}
 use Rattle.std.specs.List.{before_first, filter_map, list_any}
 use Rattle.std.specs.Option.{is_some, option_map, option_or}
 use Rattle.std.specs.Str.{chars, is_utf8}
@@ -14,9 +14,13 @@ use Rattle.cal_load.specs.declared.readable.BrokenLine.{BrokenLine}
 use Rattle.cal_load.specs.declared.readable.BrokenReason.{BrokenReason}
 use Rattle.cal_load.specs.declared.readable.BrokenReason.TheVariants.{NotUtf8, BadHeader, TooLong}
 
--- a section header that isn't closed: the line begins with `[`, but doesn't end with `]`
+-- whether a section header can't have this byte: a control character, a quote or a backslash
+abbrev pub is_bad_in_header : ℕ → Bool
+is_bad_in_header b = nat_lt b 32 || (b == 34) || (b == 39) || (b == 92) || (b == 127)
+
+-- an invalid section header: the line begins with `[`, but doesn't end with `]` or has a byte that a header can't have
 abbrev pub is_bad_header : List ℕ → Bool
-is_bad_header text = (slice_index text 0 == 91) && not (is_header text)
+is_bad_header text = (slice_index text 0 == 91) && (not (is_header text) || list_any is_bad_in_header text)
 
 -- the noncharacters of Unicode, which systemd rejects like bytes that aren't UTF-8: U+FDD0 to U+FDEF, and the last two
 -- code points of each plane
