@@ -26,7 +26,8 @@ Some things are left out, since calendar-timers has other rules for them:
 - No comment is 1 MiB long: systemd stops reading a file at such a comment.
 - In `Unit=`, there are no specifiers that unescape names, which systemd doesn't know there.
 - There are no spans such as `+5`, which only systemd accepts, or `5.`, which only calendar-timers accepts.
-- There are no calendar expressions on which the two differ (see docs/DIFFERENCES.md) or that end in a zone.
+- There are no calendar expressions on which the two differ (see docs/DIFFERENCES.md), and none that end in a word that
+  could be the name of a zone: systemd ignores a line with an unknown zone, and calendar-timers doesn't load the timer.
 - No specifier depends on the running system: calendar-timers doesn't guess its value.
 - All exceptions are valid, since systemd doesn't know the key.
 
@@ -238,18 +239,27 @@ class Tree(unit_trees.Tree):
         os.mkdir(f"{folder}/timers.target.wants")
         os.symlink(f"../{self.stem}.timer", f"{folder}/timers.target.wants/{self.stem}.timer")
         self.own = f"{folder}/{chance.choice([self.stem, template(self.stem) or self.stem])}.timer"
-        self.add(self.own, contents(chance))
+        self.add(self.own, chance)
         if template(self.stem) and self.stem in self.own:
             self.write(f"{folder}/{template(self.stem)}.timer", "[Timer\n")
         for name in sorted(chance.sample(DROP_INS, chance.choice([0, 1, 1, 2]))):
             unit = chance.choice([f"{self.stem}.timer", f"{template(self.stem) or self.stem}.timer", "timer"])
-            self.add(f"{folder}/{unit}.d/{name}", contents(chance))
+            self.add(f"{folder}/{unit}.d/{name}", chance)
 
-    def add(self, path, file):
+    def add(self, path, chance):
+        file = contents(chance)
+        while any(key == "OnCalendar" and names_zone(value, self.stem) for _, key, value in assignments(file)[0]):
+            file = contents(chance)
         os.makedirs(os.path.dirname(path), exist_ok=True)
         with open(path, "wb") as opened:
             opened.write(file)
         self.read[path] = file
+
+
+def names_zone(value, stem):
+    """Returns whether calendar-timers takes the last word of an expression for the name of a zone."""
+    words = (filled_in(value, specifiers(stem)) or value).split()
+    return len(words) > 1 and re.fullmatch(r"[A-Za-z][A-Za-z0-9/+_-]*", words[-1]) and words[-1] != "UTC"
 
 
 def is_comment(line):
