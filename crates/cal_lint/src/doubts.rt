@@ -28,7 +28,7 @@ pub enum Doubt {
     /// `1-5 09:00` stands for January 5, and not for Monday to Friday.
     MonthDay,
     /// The name of the zone looks like an abbreviation, such as `CET`: see [`looks_like_abbreviation`]. If it is one of
-    /// the two abbreviations of the machine's own zone, systemd interprets it as winter time or summer time alone, and
+    /// the two abbreviations of the machine's own zone, systemd takes it for winter time or for summer time only, and
     /// the timer elapses only in one half of the year. Otherwise it stands for the zone file of this name.
     Abbreviation,
 }

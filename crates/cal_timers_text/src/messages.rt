@@ -86,7 +86,7 @@ fn doubt_words(doubt: Doubt) -> &'static str {
         Doubt::HourList => "this is an hour and a list of minutes, not a list of times",
         Doubt::MonthDay => "this is a month and a day, not a range of weekdays",
         Doubt::Abbreviation => {
-            "this is an abbreviation, which systemd may take for winter or summer time alone"
+            "this is an abbreviation, which systemd may take for winter time or summer time only"
         }
     }
 }
