@@ -4,13 +4,14 @@ ghost use Rattle.std.specs.Prelude.{◌≡◌, ◌∷◌, ◌++◌, ◌||◌, []
 ghost use Rattle.std.specs.Option.{option_to_list};
 ghost use Rattle.cal_read.specs.rules.SectionAssignments.{shown_owned_assignment};
 ghost use Rattle.cal_timer.specs.rules.TimerText.{is_exception, is_expression};
-ghost use Rattle.cal_load.specs.rules.Resolved.{after_reset, is_usable, may_have_specifiers, resolved, resolved_by, resolved_in, unclear_in, unclear_of, unclear_with, unusable};
+ghost use Rattle.cal_load.specs.rules.Resolved.{after_reset, is_usable, may_have_specifiers, resolved, resolved_by, resolved_in, unclear_in, unclear_of, unclear_with, unusable, value_filled};
+ghost use Rattle.cal_load.specs.rules.Specifiers.{shown_filled};
 ghost use Rattle.cal_load.specs.rules.Specifiers.Filling.{Text, Unclear};
 
 use crate::calendar::borrowed;
 use crate::notes::last_part;
 use crate::setting_kind::has_percent;
-use crate::specifiers::{Filled, fill};
+use crate::specifiers::{Filled, fill, fill_unit};
 use cal_bytes::is_among;
 use cal_read::OwnedAssignment;
 use std::alloc::{AllocError, Global};
@@ -39,9 +40,10 @@ pub(crate) struct Resolved {
 /// Fills in the specifiers in the assignments of the timer with this name. `name` is the name of a unit, or the path of
 /// a file that is read by itself: then the timer's own name is the part after the last slash.
 ///
-/// Assignments without specifiers are kept. For the others:
+/// Assignments without specifiers are kept. For the others, where a specifier that systemd doesn't know in `Unit=` is
+/// invalid there:
 ///
-/// - If the specifiers depend on the timer's name alone, they are filled in.
+/// - If the specifiers stand for the timer's name or parts of it, they are filled in.
 /// - If they depend on anything else, an expression is moved to `unclear`. Any other assignment is kept as it is.
 /// - If they are invalid, or if the filled-in value is empty or still has a `%`, an expression or exception is kept as it
 ///   is, and is then invalid because of its `%`. Any other assignment is dropped.
@@ -83,7 +85,7 @@ impl Resolved {
         if !may_have_specifiers(&assignment) {
             return self.add_plain(assignment);
         }
-        match fill(alloc, own, assignment.value.as_str())? {
+        match fill_value(alloc, own, &assignment)? {
             Filled::Text(text) => push_filled(&mut self.assignments, assignment, text),
             Filled::Unclear => self.add_unclear(assignment),
             Filled::Invalid => push_unusable(&mut self.assignments, assignment),
@@ -119,6 +121,17 @@ impl Resolved {
         }
         Ok(())
     }
+}
+
+/// Fills in the specifiers in the value of an assignment of the timer with the name `own`.
+fn fill_value(alloc: Global, own: &str, assignment: &OwnedAssignment) -> Result<Filled, AllocError>
+    ensures { IfOk result (λ filled. shown_filled filled ≡ value_filled own.now (shown_owned_assignment assignment.now)) }
+{
+    let value = assignment.value.as_str();
+    if assignment.key.as_str() == "Unit" {
+        return fill_unit(alloc, own, value);
+    }
+    fill(alloc, own, value)
 }
 
 /// Appends the assignment with `text`, its filled-in value. If this value can't be used, does what [`push_unusable`]

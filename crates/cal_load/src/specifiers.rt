@@ -2,9 +2,9 @@
 
 ghost use Rattle.std.specs.Prelude.{◌≡◌, ◌<◌, ◌∷◌, [], IfOk, IsTrue, MatchOption, OnOk, length};
 ghost use Rattle.std.specs.Char.{digit_value};
-ghost use Rattle.std.specs.List.{after_last};
+ghost use Rattle.std.specs.List.{after_last, list_any};
 ghost use Rattle.cal_unit_index.specs.rules.UnitName.{is_template, without_suffix};
-ghost use Rattle.cal_load.specs.rules.Specifiers.{after_backslash, checked, ends_specifier, filled_of, filling_of, hex_value, instance_in, is_dash, is_escape, is_hex, is_of_instance, is_of_system, is_unclear, joined, known_in, last_component_in, parts_of, prefix_in, shown_draft, shown_filled, slash_for_dash, slashed, specified, unescaped};
+ghost use Rattle.cal_load.specs.rules.Specifiers.{after_backslash, checked, ends_specifier, filled_of, filling_of, hex_value, instance_in, is_dash, is_escape, is_hex, is_of_instance, is_of_system, is_strange_part, is_unclear, is_unknown_in_unit, joined, known_in, last_component_in, parts_of, prefix_in, shown_draft, shown_filled, slash_for_dash, slashed, specified, unescaped, unit_filled_of};
 ghost use Rattle.cal_load.specs.rules.Specifiers.Filling.{Text, Unclear, Invalid};
 
 use crate::notes::without_suffix;
@@ -67,6 +67,45 @@ pub(crate) fn fill(alloc: Global, name: &str, value: &str) -> Result<Filled, All
     Ok(draft.finish())
 }
 
+/// Like [`fill`], for a value of `Unit=`. There, systemd 252 knows fewer specifiers, and the others are invalid.
+pub(crate) fn fill_unit(alloc: Global, name: &str, value: &str) -> Result<Filled, AllocError>
+    ensures { IfOk result (λ filled. shown_filled filled ≡ unit_filled_of name.now value.now) }
+{
+    if has_strange_part(value) {
+        return Ok(Filled::Invalid);
+    }
+    fill(alloc, name, value)
+}
+
+/// Returns whether a value has a specifier that systemd doesn't know in `Unit=`.
+fn has_strange_part(value: &str) -> bool
+    ensures { result ≡ list_any is_strange_part (parts_of value.now) }
+{
+    let mut rest = value.as_bytes();
+    while let Some((part, after)) = first_part(rest) {
+        if is_strange_part(part) {
+            return true;
+        }
+        rest = after;
+    }
+    false
+}
+
+fn is_strange_part(part: Part) -> bool
+    ensures { result ≡ is_strange_part part }
+{
+    match part {
+        Part::Byte(_) => false,
+        Part::Specifier(letter) => is_unknown_in_unit(letter),
+    }
+}
+
+fn is_unknown_in_unit(letter: u8) -> bool
+    ensures { result ≡ is_unknown_in_unit letter }
+{
+    b"cCdEfhIJLPrRsStTVyY".contains(&letter)
+}
+
 /// Returns the first part of a value and the bytes after it, or `None` if the value is empty.
 fn first_part(value: &[u8]) -> Option<(Part, &[u8])>
     ensures { MatchOption result (parts_of value.now ≡ []) (λ found.
@@ -119,7 +158,7 @@ impl Draft {
         self.push_known(name, letter)
     }
 
-    /// Appends what the specifier with this letter stands for. It must depend on the timer's name alone; any other
+    /// Appends what the specifier with this letter stands for, if it is the timer's name or a part of it. Any other
     /// specifier is taken as invalid.
     fn push_known(&mut self, name: &str, letter: u8) -> Result<(), AllocError>
         ensures { OnOk result (shown_draft self.new ≡ joined (shown_draft self.old) (known_in name.now letter)) }

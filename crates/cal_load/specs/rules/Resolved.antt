@@ -7,8 +7,11 @@ use Rattle.cal_timer.specs.rules.Assignments.{Assignment}
 use Rattle.cal_timer.specs.rules.TimerText.{exception_key, is_exception, is_expression, is_reset, timer_keys}
 use Rattle.cal_unit_index.specs.rules.Destinations.{last_part}
 use Rattle.cal_load.specs.rules.Notes.{has_percent}
-use Rattle.cal_load.specs.rules.Specifiers.{Filling, filled_of}
+use Rattle.cal_load.specs.rules.Specifiers.{Filling, filled_of, unit_filled_of}
 use Rattle.cal_load.specs.rules.Specifiers.Filling.{Text, Unclear, Invalid}
+
+abbrev pub is_unit_key : List ℕ → Bool
+is_unit_key key = bytes_eq key (codes "Unit")
 
 -- whether the value of the assignment may have specifiers
 abbrev pub may_have_specifiers : Assignment → Bool
@@ -18,7 +21,7 @@ may_have_specifiers a =
 
 -- the value of an assignment of the timer with the name `own`, with its specifiers filled in
 abbrev pub value_filled : List ℕ → Assignment → Filling
-value_filled own a = filled_of own a.value
+value_filled own a = if is_unit_key a.key then unit_filled_of own a.value else filled_of own a.value
 
 -- whether a value can be used after its specifiers were filled in; an empty one doesn't count, and no expression, time
 -- span or name of a unit has a `%`

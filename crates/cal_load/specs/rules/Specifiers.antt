@@ -1,6 +1,6 @@
 -- Specifiers in the values of a timer's files, and what systemd 252 fills in for them: systemd.unit(5), Specifiers. Only
 -- the timer's own name is known here.
-use Rattle.std.specs.Prelude.{ℕ, ◌+◌, ◌*◌, ◌==◌, nat_lt, Bool, ◌&&◌, ◌||◌, if◌then◌else◌, List, [], ◌∷◌, ◌++◌, codes, map, string_bytes}
+use Rattle.std.specs.Prelude.{ℕ, ◌+◌, ◌*◌, ◌==◌, nat_lt, Bool, false, ◌&&◌, ◌||◌, if◌then◌else◌, List, [], ◌∷◌, ◌++◌, codes, map, string_bytes}
 use Rattle.std.specs.Char.{digit_value}
 use Rattle.std.specs.List.{after_last, list_any, slice_split}
 use Rattle.std.specs.Map.{lookup}
@@ -109,7 +109,7 @@ is_of_instance letter = list_any (λ other. other == letter) (codes "iInN")
 abbrev pub is_unclear : List ℕ → ℕ → Bool
 is_unclear name letter = is_of_system letter || (is_template (without_suffix name) && is_of_instance letter)
 
--- the specifiers that depend on the timer's name alone, by their letters, and what they stand for
+-- the specifiers that stand for the timer's name or a part of it, by their letters, and what they stand for
 abbrev pub known_specifiers : List ℕ → List (List ℕ × Filling)
 known_specifiers name =
     (codes "n", Text name)
@@ -123,7 +123,7 @@ known_specifiers name =
     ∷ (codes "%", Text (codes "%"))
     ∷ []
 
--- what the specifier with this letter stands for if it depends on the timer's name alone; any other is invalid
+-- what the specifier with this letter stands for if it stands for the timer's name or a part of it; any other is invalid
 abbrev pub known_in : List ℕ → ℕ → Filling
 known_in name letter = unwrap_or (lookup (bytes_eq (letter ∷ [])) (known_specifiers name)) Invalid
 
@@ -162,6 +162,21 @@ checked Invalid = Invalid
 -- what a value in the files of the timer with this name stands for
 abbrev pub filled_of : List ℕ → List ℕ → Filling
 filled_of name value = checked (all_joined (map (filling_of name) (parts_of value)))
+
+-- ## Values of `Unit=`
+
+-- whether systemd 252 doesn't know the specifier with this letter in `Unit=`, though it knows it elsewhere
+unfoldable pub is_unknown_in_unit : ℕ → Bool
+is_unknown_in_unit letter = list_any (λ other. other == letter) (codes "cCdEfhIJLPrRsStTVyY")
+
+-- whether a part of a value is a specifier that systemd doesn't know in `Unit=`
+abbrev pub is_strange_part : Part → Bool
+is_strange_part (Byte b) = false
+is_strange_part (Specifier letter) = is_unknown_in_unit letter
+
+-- what a value of `Unit=` in the files of the timer with this name stands for
+abbrev pub unit_filled_of : List ℕ → List ℕ → Filling
+unit_filled_of name value = if list_any is_strange_part (parts_of value) then Invalid else filled_of name value
 
 -- ## Results of functions
 

@@ -1,0 +1,11 @@
+use Rattle.std.proofs.Common.{◌≡◌, length}
+use Rattle.std.specs.List.{list_any}
+use Rattle.cal_load.specs.rules.Specifiers.{is_strange_part, parts_of}
+use Rattle.cal_load.proofs.specifiers.has_strange_part.Given as goal
+
+-- none of the parts so far is such a specifier
+abbrev pub invariant-loop-part : goal.invariant-loop-part
+invariant-loop-part l = list_any is_strange_part (parts_of l.rest) ≡ list_any is_strange_part (parts_of l.value)
+
+abbrev pub decreases-loop-part : goal.decreases-loop-part
+decreases-loop-part l = length l.rest
