@@ -12,9 +12,10 @@ use Rattle.cal_read.specs.declared.section_assignments.OwnedAssignment.{OwnedAss
 use Rattle.cal_read.specs.rules.SectionAssignments.{shown_owned_assignment}
 use Rattle.cal_timer.specs.rules.Assignments.{Assignment}
 use Rattle.cal_timer.specs.rules.TimerText.{is_reset}
-use Rattle.cal_load.specs.declared.setting_kind.SettingKind.{SettingKind}
-use Rattle.cal_load.specs.declared.setting_kind.SettingKind.TheVariants.{Monotonic, Change, Switch, Delay, Accuracy, Started}
-use Rattle.cal_load.specs.rules.Notes.{is_noted, is_noted_as, is_taken, kept_in, kept_with, kind_of, noted_of, replaces, service_of, starts, starts_as, undoes, unit_line}
+use Rattle.cal_settings.specs.declared.setting_kind.SettingKind.{SettingKind}
+use Rattle.cal_settings.specs.declared.setting_kind.SettingKind.TheVariants.{Monotonic, Change, Switch, Delay, Accuracy, Started, Flag}
+use Rattle.cal_settings.specs.rules.Settings.{kind_of}
+use Rattle.cal_load.specs.rules.Notes.{is_noted, is_noted_as, is_taken, kept_in, kept_with, noted_of, replaces, service_of, starts, starts_as, undoes, unit_line}
 
 kept_first : (s : Bool) (a : Assignment) → (if s && true then (a ∷ []) else []) ≡ (if s then (a ∷ []) else [])
 kept_first true a = refl
@@ -100,6 +101,7 @@ starting_as (Some Switch) service unit a e = absurd (cc)
 starting_as (Some Delay) service unit a e = absurd (cc)
 starting_as (Some Accuracy) service unit a e = absurd (cc)
 starting_as (Some Started) service unit a e = absurd (cc)
+starting_as (Some Flag) service unit a e = absurd (cc)
 
 starting : (service : List ℕ) (unit : Option ℕ) (a : Assignment) → starts a ≡ true → is_noted service unit a ≡ true
 unfolding starts is_noted
@@ -121,23 +123,3 @@ any_filtered test keep h (a ∷ rest) = any_step (test a) (keep a) test a rest (
 pub noted_start : (own : List ℕ) (kept : List Assignment) → list_any starts (noted_of own kept) ≡ list_any starts kept
 unfolding noted_of
 noted_start own kept = any_filtered starts (is_noted (service_of own) (unit_line own kept)) (starting (service_of own) (unit_line own kept)) kept
-
--- ## Searching lists
-
-next_word : (test : List ℕ → Bool) (words : List (Bor (List ℕ))) (i : ℕ) (word : Bor (List ℕ)) → i < length words
-    → list_any test (map (λ word. word.now) (drop i words)) ≡ (test (get_or words i word).now || list_any test (map (λ word. word.now) (drop (i + 1) words)))
-next_word test words i word h = rw (add-one, drop-cons words i word h) refl
-
-pub word_found : (test : List ℕ → Bool) (words : List (Bor (List ℕ))) (i : ℕ) (word : Bor (List ℕ)) → i < length words → test (get_or words i word).now ≡ true
-    → list_any test (map (λ word. word.now) (drop i words)) ≡ list_any test (map (λ word. word.now) words) → true ≡ list_any test (map (λ word. word.now) words)
-word_found test words i word h e all =
-    ap (λ here. here || list_any test (map (λ word. word.now) (drop (i + 1) words))) (sym e) ∙ sym (next_word test words i word h) ∙ all
-
-pub word_passed : (test : List ℕ → Bool) (words : List (Bor (List ℕ))) (i : ℕ) (word : Bor (List ℕ)) → i < length words → test (get_or words i word).now ≡ false
-    → list_any test (map (λ word. word.now) (drop i words)) ≡ list_any test (map (λ word. word.now) words)
-    → list_any test (map (λ word. word.now) (drop (i + 1) words)) ≡ list_any test (map (λ word. word.now) words)
-word_passed test words i word h e all =
-    ap (λ here. here || list_any test (map (λ word. word.now) (drop (i + 1) words))) (sym e) ∙ sym (next_word test words i word h) ∙ all
-
-pub same_word : (r : Bool) (value word : List ℕ) → Decides r (str_to_ascii_lowercase value ≡ str_to_ascii_lowercase word) → r ≡ str_eq_ignore_ascii_case value word
-same_word r value word h = same_from_decides r (str_eq_ignore_ascii_case value word) h (bytes_eq-Decides (str_to_ascii_lowercase value) (str_to_ascii_lowercase word))

@@ -12,7 +12,6 @@ mod notes;
 mod paths;
 mod readable;
 mod resolved;
-mod setting_kind;
 mod specifiers;
 mod target_fault;
 mod texts;

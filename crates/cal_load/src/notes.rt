@@ -9,10 +9,11 @@ ghost use Rattle.cal_read.specs.rules.SectionAssignments.{shown_owned_assignment
 ghost use Rattle.cal_unit_index.specs.rules.Destinations.{last_part};
 ghost use Rattle.cal_unit_index.specs.rules.SearchPath.{is_slash};
 ghost use Rattle.cal_unit_index.specs.rules.UnitName.{without_suffix};
-ghost use Rattle.cal_load.specs.rules.Notes.{is_at, is_monotonic, is_noted, is_started, is_taken, kept_in, kept_with, kind_of, last_counts, names_unit, note_text, noted_of, notes_in, replaces, service_of, starts, starts_unit, undoes, unit_line};
+ghost use Rattle.cal_settings.specs.rules.Settings.{kind_of};
+ghost use Rattle.cal_load.specs.rules.Notes.{is_at, is_monotonic, is_noted, is_started, is_taken, kept_in, kept_with, last_counts, names_unit, note_text, noted_of, notes_in, replaces, service_of, starts, starts_unit, undoes, unit_line};
 
-use crate::setting_kind::{SettingKind, is_longer, is_taken_as, is_yes, kind_of};
 use cal_read::{Assignment, OwnedAssignment};
+use cal_settings::{SettingKind, is_longer, is_taken_as, is_yes, kind_of};
 use std::alloc::{AllocError, Global};
 
 /// How accurate a timer is by default, in microseconds: one minute.
@@ -239,6 +240,7 @@ fn is_noted(service: &str, unit: Option<u32>, assignment: &OwnedAssignment) -> b
         Some(SettingKind::Delay) => is_longer(0, value),
         Some(SettingKind::Accuracy) => is_longer(DEFAULT_ACCURACY, value),
         Some(SettingKind::Started) => is_at(unit, assignment.number) && value != service,
+        Some(SettingKind::Flag) => false,
     }
 }
 

@@ -10,10 +10,10 @@ ghost use Rattle.cal_load.specs.rules.Specifiers.Filling.{Text, Unclear};
 
 use crate::calendar::borrowed;
 use crate::notes::last_part;
-use crate::setting_kind::has_percent;
 use crate::specifiers::{Filled, fill, fill_unit};
 use cal_bytes::is_among;
 use cal_read::OwnedAssignment;
+use cal_settings::has_percent;
 use std::alloc::{AllocError, Global};
 
 /// The keys in whose values specifiers are filled in.

@@ -8,7 +8,7 @@ ghost use Rattle.cal_load.specs.rules.Specifiers.{after_backslash, checked, ends
 ghost use Rattle.cal_load.specs.rules.Specifiers.Filling.{Text, Unclear, Invalid};
 
 use crate::notes::without_suffix;
-use crate::setting_kind::stem_base;
+use cal_settings::stem_base;
 use cal_spec::first_piece;
 use cal_unit_index::{UnitKind, unit_kind_of};
 use std::alloc::{AllocError, Global};

@@ -6,7 +6,7 @@ use Rattle.std.specs.Str.{bytes_eq}
 use Rattle.cal_timer.specs.rules.Assignments.{Assignment}
 use Rattle.cal_timer.specs.rules.TimerText.{exception_key, is_exception, is_expression, is_reset, timer_keys}
 use Rattle.cal_unit_index.specs.rules.Destinations.{last_part}
-use Rattle.cal_load.specs.rules.Notes.{has_percent}
+use Rattle.cal_settings.specs.rules.Settings.{has_percent}
 use Rattle.cal_load.specs.rules.Specifiers.{Filling, filled_of, unit_filled_of}
 use Rattle.cal_load.specs.rules.Specifiers.Filling.{Text, Unclear, Invalid}
 

@@ -1,0 +1,99 @@
+-- The settings in the section `Timer` besides expressions and exceptions: of which kind they are, and which values systemd
+-- takes (systemd.timer(5), Options).
+use Rattle.std.specs.Prelude.{ℕ, nat_eq, nat_lt, nat_le, Bool, true, false, find, ◌&&◌, ◌||◌, List, [], ◌∷◌, length, Option, Some, None, Ok, Err, Result, codes}
+use Rattle.std.specs.List.{ends_with, list_all, list_any}
+use Rattle.std.specs.Str.{bytes_eq, str_eq_ignore_ascii_case}
+use Rattle.cal_span.specs.computed.SpanValue.{span_of}
+use Rattle.cal_span.specs.declared.span.fault.SpanFault.{SpanFault}
+use Rattle.cal_unit_index.specs.rules.UnitName.{is_name_byte, max_name, stem_base}
+use Rattle.cal_settings.specs.declared.setting_kind.SettingKind.{SettingKind}
+use Rattle.cal_settings.specs.declared.setting_kind.SettingKind.TheVariants.{Monotonic, Change, Switch, Delay, Accuracy, Started, Flag}
+
+-- ## Keys
+
+-- the keys of a kind of settings
+unfoldable pub keys_of : SettingKind → List (List ℕ)
+keys_of Monotonic =
+    codes "OnActiveSec" ∷ codes "OnBootSec" ∷ codes "OnStartupSec" ∷ codes "OnUnitActiveSec" ∷ codes "OnUnitInactiveSec" ∷ []
+keys_of Change = codes "OnClockChange" ∷ codes "OnTimezoneChange" ∷ []
+keys_of Switch = codes "Persistent" ∷ codes "FixedRandomDelay" ∷ []
+keys_of Delay = codes "RandomizedDelaySec" ∷ []
+keys_of Accuracy = codes "AccuracySec" ∷ []
+keys_of Started = codes "Unit" ∷ []
+keys_of Flag = codes "WakeSystem" ∷ codes "RemainAfterElapse" ∷ []
+
+abbrev pub all_kinds : List SettingKind
+all_kinds = Monotonic ∷ Change ∷ Switch ∷ Delay ∷ Accuracy ∷ Started ∷ Flag ∷ []
+
+-- the kind of the settings with this key, or None if they are of no kind
+unfoldable pub kind_of : List ℕ → Option SettingKind
+kind_of key = find (λ kind. list_any (bytes_eq key) (keys_of kind)) all_kinds
+
+-- ## Values
+
+-- whether the value is true (systemd.syntax(7)), ignoring case
+abbrev pub is_yes : List ℕ → Bool
+is_yes value =
+    list_any (str_eq_ignore_ascii_case value)
+    (codes "1" ∷ codes "yes" ∷ codes "y" ∷ codes "true" ∷ codes "t" ∷ codes "on" ∷ [])
+
+-- whether the value is false
+abbrev pub is_no : List ℕ → Bool
+is_no value =
+    list_any (str_eq_ignore_ascii_case value)
+    (codes "0" ∷ codes "no" ∷ codes "n" ∷ codes "false" ∷ codes "f" ∷ codes "off" ∷ [])
+
+abbrev pub is_valid_span : Result ℕ SpanFault → Bool
+is_valid_span (Ok micros) = true
+is_valid_span (Err fault) = false
+
+abbrev pub is_infinity : List ℕ → Bool
+is_infinity value = bytes_eq value (codes "infinity")
+
+-- whether the value is a time span (systemd.time(7)), or `infinity`
+abbrev pub is_span : List ℕ → Bool
+is_span value = is_infinity value || is_valid_span (span_of value)
+
+abbrev pub is_span_over : ℕ → Result ℕ SpanFault → Bool
+is_span_over least (Ok micros) = nat_lt least micros
+is_span_over least (Err fault) = false
+
+-- whether the value is a time span of more than `least` microseconds; `infinity` is longer than all others
+abbrev pub is_longer : ℕ → List ℕ → Bool
+is_longer least value = is_infinity value || is_span_over least (span_of value)
+
+-- whether the value may have a specifier (systemd.unit(5), Specifiers)
+abbrev pub has_percent : List ℕ → Bool
+has_percent value = list_any (nat_eq 37) value
+
+-- the suffixes of units (systemd.unit(5), Description)
+abbrev pub unit_suffixes : List (List ℕ)
+unit_suffixes =
+    codes ".service" ∷ codes ".socket" ∷ codes ".device" ∷ codes ".mount" ∷ codes ".automount" ∷ codes ".swap"
+    ∷ codes ".target" ∷ codes ".path" ∷ codes ".timer" ∷ codes ".slice" ∷ codes ".scope" ∷ []
+
+abbrev pub is_before_suffix : List ℕ → List ℕ → Bool
+is_before_suffix name suffix = nat_lt (length suffix) (length name) && ends_with nat_eq name suffix
+
+unfoldable pub has_unit_suffix : List ℕ → Bool
+has_unit_suffix name = list_any (is_before_suffix name) unit_suffixes
+
+-- whether the value is the name of a unit or of a template (systemd.unit(5), Description)
+unfoldable pub is_unit_name : List ℕ → Bool
+is_unit_name name =
+    nat_le (length name) max_name
+    && (nat_lt 0 (length (stem_base name)) && (list_all is_name_byte name && has_unit_suffix name))
+
+-- ## Values of each kind
+
+-- Whether systemd takes this value for a setting of this kind; it ignores an assignment with any other value. A value of
+-- a monotonic timer or of `Unit=` that still has a `%` depends on the running system, and is taken as valid.
+abbrev pub is_taken_as : Option SettingKind → List ℕ → Bool
+is_taken_as None value = false
+is_taken_as (Some Monotonic) value = has_percent value || is_span value
+is_taken_as (Some Change) value = is_yes value || is_no value
+is_taken_as (Some Switch) value = is_yes value || is_no value
+is_taken_as (Some Delay) value = is_span value
+is_taken_as (Some Accuracy) value = is_span value
+is_taken_as (Some Started) value = has_percent value || is_unit_name value
+is_taken_as (Some Flag) value = is_yes value || is_no value

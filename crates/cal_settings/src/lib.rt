@@ -1,0 +1,8 @@
+//! The settings of a timer besides its expressions and exceptions: of which kind they are, and which values systemd takes.
+#![tactic(auto)]
+
+mod setting_kind;
+mod values;
+
+pub use setting_kind::{SettingKind, is_taken_as, kind_of};
+pub use values::{has_percent, is_longer, is_yes, stem_base};
