@@ -41,8 +41,14 @@ struct Rewritten {
 }
 
 /// Replaces each word of `text` that is a known mistake. Returns a hint with the first of these mistakes and the new
-/// text, or `None` if no word is a known mistake.
+/// text, or `None` if no word is a known mistake. There is no new text if `am` or `pm` is a word by itself.
 pub(crate) fn rewrite_words(alloc: Global, text: &str) -> Result<Option<Hint>, AllocError> {
+    if has_noon_word(text) {
+        return Ok(Some(Hint {
+            mistake: Mistake::TwelveHours,
+            instead: None,
+        }));
+    }
     let mut joined = String::new(alloc);
     let mut mistake = None;
     for word in text.split_whitespace() {
@@ -60,6 +66,16 @@ pub(crate) fn rewrite_words(alloc: Global, text: &str) -> Result<Option<Hint>, A
         })),
         None => Ok(None),
     }
+}
+
+/// Returns whether `am` or `pm` is a word of the text, ignoring case.
+fn has_noon_word(text: &str) -> bool {
+    for word in text.split_whitespace() {
+        if word.eq_ignore_ascii_case("am") || word.eq_ignore_ascii_case("pm") {
+            return true;
+        }
+    }
+    false
 }
 
 /// Appends a word, or what to write instead if the word is a known mistake. Returns the mistake, if there is one.
@@ -267,19 +283,23 @@ fn push_day(alloc: Global, days: &mut String, name: &str) -> Result<bool, AllocE
     }
 }
 
-/// Returns the short name of the first weekday that `name` resembles, ignoring case: the full name of the weekday
-/// begins with `name`, or differs from `name` by at most one edit, as in [`find_near`]. Returns `None` if there is no
-/// such weekday, or if `name` has fewer than two bytes.
+/// Returns the short name of the weekday that `name` resembles, ignoring case: the full name of the weekday begins with
+/// `name`, or differs from `name` by at most one edit, as in [`find_near`]. Returns `None` if there is no such weekday,
+/// if there are several (`sonday` resembles Monday and Sunday), or if `name` has fewer than two bytes.
 fn find_day_like(alloc: Global, name: &str) -> Result<Option<&'static str>, AllocError> {
     let mut lower = String::from_str(alloc, name)?;
     lower.make_ascii_lowercase();
     if lower.len() < 2 {
         return Ok(None);
     }
+    let mut found = None;
     for (full, short) in &DAYS {
         if full.starts_with(lower.as_str()) || osa_distance(alloc, lower.as_str(), full)? <= 1 {
-            return Ok(Some(*short));
+            if found.is_some() {
+                return Ok(None);
+            }
+            found = Some(*short);
         }
     }
-    Ok(None)
+    Ok(found)
 }

@@ -1,21 +1,24 @@
 //! What to write instead of an invalid calendar expression.
 //!
-//! Hints depend only on the form of the text. If a suggestion would not be a valid expression, the hint has no
-//! suggestion.
+//! Hints depend only on the form of the text. A suggestion is always a valid expression that systemd 252 accepts: if
+//! there is none, the hint has no suggestion.
 
 ghost use Rattle.std.specs.Prelude.{◌≡◌, IfOk, IfSome, Some, false, is_ok, string_bytes, true};
 ghost use Rattle.std.specs.List.{list_any};
-ghost use Rattle.std.specs.Option.{option_map, option_copied};
+ghost use Rattle.std.specs.Option.{option_map};
 ghost use Rattle.std.specs.Char.{is_ascii_alphabetic};
 ghost use Rattle.cal_bytes.specs.rules.Trim.{trim_matches};
 ghost use Rattle.cal_bytes.specs.rules.Separators.{is_blank};
 ghost use Rattle.cal_spec.specs.computed.Expr.{expr_in};
 ghost use Rattle.cal_lint.specs.rules.Hints.{is_comment_mark, is_span, mistake_in};
+ghost use Rattle.cal_lint.specs.rules.Systemd252.{IsAccepted};
 ghost use Rattle.cal_lint.specs.declared.hints.Mistake.{Mistake};
 
+use crate::accepted::accepted_text;
 use crate::crontab::from_crontab;
 use crate::hint_words::rewrite_words;
-use cal_bytes::trim_blanks;
+use cal_bytes::{trim_blanks, trim_blanks_end};
+use cal_civil::is_utc_name;
 use cal_span::read_span;
 use cal_spec::{SpecFault, read_expr};
 use std::alloc::{AllocError, Global};
@@ -54,7 +57,7 @@ pub enum Mistake {
 #[derive(Debug, Drop)]
 pub struct Hint {
     pub mistake: Mistake,
-    /// A valid expression to write instead, if one is known.
+    /// An expression to write instead, if one is known. systemd 252 accepts it.
     pub instead: Option<String>,
 }
 
@@ -65,7 +68,7 @@ pub fn find_hint(alloc: Global, text: &str) -> Result<Option<Hint>, AllocError>
     ensures mistake { IfOk result (λ found. is_ok (expr_in text.now) ≡ false → (mistake : Mistake)
         → mistake_in (trim_matches is_blank text.now) ≡ Some mistake → option_map (λ hint. hint.mistake) found ≡ Some mistake) }
     ensures instead { IfOk result (λ found. IfSome found (λ hint. IfSome hint.instead (λ instead.
-        is_ok (expr_in (string_bytes instead)) ≡ true))) }
+        IsAccepted (string_bytes instead)))) }
 {
     if is_valid_expression(alloc, text)? {
         return Ok(None);
@@ -74,7 +77,7 @@ pub fn find_hint(alloc: Global, text: &str) -> Result<Option<Hint>, AllocError>
         return Ok(None);
     };
     let Hint { mistake, instead } = found;
-    let instead = keep_valid(alloc, instead)?;
+    let instead = keep_accepted(alloc, instead)?;
     Ok(Some(Hint { mistake, instead }))
 }
 
@@ -89,17 +92,32 @@ pub(crate) fn is_valid_expression(alloc: Global, text: &str) -> Result<bool, All
     }
 }
 
-/// Returns `text` if it is a valid expression, and otherwise `None`.
-fn keep_valid(alloc: Global, text: Option<String>) -> Result<Option<String>, AllocError>
-    ensures { IfOk result (λ kept. IfSome kept (λ text. is_ok (expr_in (string_bytes text)) ≡ true)) }
+/// Returns `text` if systemd 252 accepts it, or else its normal form if systemd 252 accepts this. Returns `None` for
+/// anything else, and if the last word is the name of a zone that may be a mistake: `9 Uhr` is rewritten to
+/// `09:00 Uhr`, but there is no zone `Uhr`.
+fn keep_accepted(alloc: Global, text: Option<String>) -> Result<Option<String>, AllocError>
+    ensures { IfOk result (λ kept. IfSome kept (λ text. IsAccepted (string_bytes text))) }
 {
     let Some(text) = text else {
         return Ok(None);
     };
-    if is_valid_expression(alloc, text.as_str())? {
-        Ok(Some(text))
-    } else {
-        Ok(None)
+    if !has_likely_zone(alloc, text.as_str())? {
+        return Ok(None);
+    }
+    accepted_text(alloc, text)
+}
+
+/// Returns whether a text is a valid expression, and its zone, if it has one, is `UTC` or has a `/` in its name, as
+/// most zones have.
+fn has_likely_zone(alloc: Global, text: &str) -> Result<bool, AllocError> {
+    let expr = match read_expr(alloc, text) {
+        Ok(expr) => expr,
+        Err(SpecFault::NoMemory) => return Err(AllocError),
+        Err(_) => return Ok(false),
+    };
+    match expr.zone_name() {
+        Some(name) => Ok(is_utc_name(name) || name.as_bytes().contains(&b'/')),
+        None => Ok(true),
     }
 }
 
@@ -136,15 +154,19 @@ fn mistake_in(text: &str) -> Option<Mistake>
 
 /// Returns a hint with this mistake. If the mistake is an assignment in place of its value, the hint suggests the
 /// value. If it is a comment after the expression, the hint suggests the text before the comment. In both cases,
-/// mistakes in single words of the suggestion are corrected, too. If the mistake is neither of these two, there is no
+/// further mistakes in the suggestion are corrected, too. If the mistake is neither of these two, there is no
 /// suggestion.
 fn hint_with(alloc: Global, mistake: Mistake, text: &str) -> Result<Option<Hint>, AllocError>
     ensures { IfOk result (λ found. option_map (λ hint. hint.mistake) found ≡ Some mistake) }
 {
-    let instead = match mistake {
-        Mistake::Assignment => rewritten(alloc, after_equals(text))?,
-        Mistake::Comment => rewritten(alloc, before_comment(text))?,
+    let expression = match mistake {
+        Mistake::Assignment => assigned_expression(text),
+        Mistake::Comment => before_comment(text),
         _ => None,
+    };
+    let instead = match expression {
+        Some(expression) => rewritten(alloc, expression)?,
+        None => None,
     };
     Ok(Some(Hint { mistake, instead }))
 }
@@ -161,27 +183,35 @@ fn hint_for_words(alloc: Global, text: &str) -> Result<Option<Hint>, AllocError>
     }
 }
 
-/// Returns `text` without surrounding blanks, and with each word replaced that is a known mistake.
+/// Returns `text` without surrounding blanks, and with its mistakes corrected as [`hint_for_words`] does.
 fn rewritten(alloc: Global, text: &str) -> Result<Option<String>, AllocError> {
     let text = trim_blanks(text);
-    match rewrite_words(alloc, text)? {
+    match hint_for_words(alloc, text)? {
         Some(hint) => Ok(hint.instead),
         None => Ok(Some(String::from_str(alloc, text)?)),
     }
 }
 
-fn after_equals(text: &str) -> &str {
-    match text.split_once('=') {
-        Some((_, value)) => value,
-        None => text,
+/// Returns the value of an assignment if its key, ignoring case, is one of those that expressions follow. If anything
+/// else is before the `=`, the value may be only a part of the expression.
+fn assigned_expression(text: &str) -> Option<&str> {
+    let (key, value) = text.split_once('=')?;
+    let key = trim_blanks(key).as_bytes();
+    if key.eq_ignore_ascii_case(b"OnCalendar") || key.eq_ignore_ascii_case(b"X-ExceptOnCalendar") {
+        Some(value)
+    } else {
+        None
     }
 }
 
-/// Returns the text before the first `#`, or before the first `;` if there is no `#`.
-fn before_comment(text: &str) -> &str {
-    match text.split_once('#').or(text.split_once(';')) {
-        Some((before, _)) => before,
-        None => text,
+/// Returns the text before the first `#` if a blank is before the `#`. Returns `None` if there is no `#`: a `;` may
+/// divide two expressions.
+fn before_comment(text: &str) -> Option<&str> {
+    let (before, _) = text.split_once('#')?;
+    if trim_blanks_end(before).len() < before.len() {
+        Some(before)
+    } else {
+        None
     }
 }
 

@@ -2,6 +2,7 @@
 //! valid expressions that may not mean what their author thinks, and keys that systemd 252 doesn't know.
 #![tactic(auto)]
 
+mod accepted;
 mod crontab;
 mod doubts;
 mod hint_words;

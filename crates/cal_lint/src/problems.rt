@@ -14,16 +14,17 @@ ghost use Rattle.cal_lint.specs.rules.Systemd252.{rejection_in};
 ghost use Rattle.cal_lint.specs.rules.Findings.{advice, fault_on, findings_in, found_problems, if_valid, is_checked, is_on, is_percent, problem_at, problem_kind_of, shown_finding, timer_faults};
 ghost use Rattle.cal_lint.specs.declared.problems.Problem.TheVariants.{Doubtful, Invalid, Rejected};
 
+use crate::accepted::accepted_form;
 use crate::doubts::{Doubt, find_doubt};
 use crate::hints::{Hint, Mistake, find_hint};
 use crate::older_systemd::{Rejection, systemd_252};
 use crate::unknown_keys::is_unknown_key;
-use cal_bytes::{Port, last_word, trim_blanks_end};
+use cal_bytes::{last_word, trim_blanks_end};
 use cal_read::{
     Assignment, Assignments, FileFault, NumberedText, OwnedAssignment, TimerFault, find_faults,
     without_mark,
 };
-use cal_spec::{Expr, SpecFault, fault_span, read_expr, write_expr};
+use cal_spec::{SpecFault, fault_span};
 use std::alloc::{AllocError, Global};
 
 /// How serious a problem is.
@@ -74,7 +75,7 @@ pub struct Finding {
     pub problem: Problem,
     /// The known mistake that an invalid expression resembles, if there is one.
     pub mistake: Option<Mistake>,
-    /// A valid expression to write instead, if one is known.
+    /// An expression to write instead, if one is known. systemd 252 accepts it.
     pub suggestion: Option<String>,
 }
 
@@ -218,28 +219,6 @@ fn push_doubt(
         found.push(plain_finding(line, column, Problem::Doubtful(doubt)))?;
     }
     Ok(())
-}
-
-/// Returns the normal form of a valid expression. Returns `None` if systemd 252 rejects the normal form, or if `value`
-/// is not a valid expression.
-fn accepted_form(alloc: Global, value: &str) -> Result<Option<String>, AllocError> {
-    let normal = match read_expr(alloc, value) {
-        Ok(expr) => normal_form(alloc, &expr)?,
-        Err(SpecFault::NoMemory) => return Err(AllocError),
-        Err(_) => return Ok(None),
-    };
-    match rejection_of(alloc, normal.as_str())? {
-        Some(_) => Ok(None),
-        None => Ok(Some(normal)),
-    }
-}
-
-fn normal_form(alloc: Global, expr: &Expr) -> Result<String, AllocError> {
-    let mut out = Port::new(Vec::new(alloc));
-    if write_expr(&mut out, expr).is_err() {
-        return Err(AllocError);
-    }
-    String::from_utf8_lossy(alloc, out.into_inner().as_slice())
 }
 
 /// Returns a finding whose `mistake` is `None`.

@@ -59,7 +59,7 @@ pub fn mistake_words(mistake: Mistake) -> &'static str {
         Mistake::TwelveHours => "hours are counted from 0 to 23, without am and pm",
         Mistake::Point => "hours and minutes are separated by a colon",
         Mistake::BareHour => "an hour without minutes",
-        Mistake::ShortOffset => "a UTC offset is written +hh:mm or -hh:mm",
+        Mistake::ShortOffset => "a UTC offset, which systemd doesn't accept as the zone",
         Mistake::YearMonth => "a year and a month without a day",
         Mistake::Weekday => "unknown weekday",
         Mistake::Shorthand => "unknown shorthand",

@@ -1,6 +1,6 @@
 -- What systemd 252 rejects in calendar expressions that are valid here: systemd.time(7), Calendar Events, and "What is
 -- accepted" in docs/DIFFERENCES.md. The definitions are only about valid expressions.
-use Rattle.std.specs.Prelude.{ℕ, ◌-◌, ◌==◌, nat_le, nat_lt, Bool, true, false, not, ◌&&◌, ◌||◌, List, [], ◌∷◌, take, drop, Option, None, Some, is_some, unwrap_or, Result, Ok}
+use Rattle.std.specs.Prelude.{◌≡◌, ℕ, ◌-◌, ◌==◌, nat_le, nat_lt, Bool, true, false, not, ◌&&◌, ◌||◌, List, [], ◌∷◌, take, drop, Option, None, Some, is_some, unwrap_or, Result, Ok}
 use Rattle.std.specs.List.{after_first, find, list_all, list_any, prefix_len, slice_split}
 use Rattle.std.specs.Option.{option_map_or}
 use Rattle.std.specs.Char.{is_ascii_digit}
@@ -173,3 +173,7 @@ first_rejection text f = find (is_rejected_for text f) rejections
 -- expression, the error
 unfoldable pub rejection_in : List ℕ → Result (Option Rejection) SpecFault
 rejection_in text = expr_in text >>= λ f. Ok (first_rejection text f)
+
+-- systemd 252 accepts the expression `text`, which is valid here, too
+abbrev pub IsAccepted : List ℕ → Type 0
+IsAccepted text = rejection_in text ≡ Ok None
