@@ -11,7 +11,7 @@ ghost use Rattle.cal_read.specs.rules.SectionAssignments.{shown_owned_assignment
 ghost use Rattle.cal_timer.specs.rules.TimerView.{shown_assignment};
 ghost use Rattle.cal_lint.specs.rules.Doubts.{doubt_in};
 ghost use Rattle.cal_lint.specs.rules.Systemd252.{rejection_in};
-ghost use Rattle.cal_lint.specs.rules.Findings.{advice, fault_on, findings_in, found_problems, if_valid, is_checked, is_on, is_percent, problem_at, problem_kind_of, shown_finding, timer_faults};
+ghost use Rattle.cal_lint.specs.rules.Findings.{advice, fault_on, findings_in, found_problems, if_valid, is_checked, is_on, is_percent, problem_at, problem_kind_of, rejections_of, shown_finding, timer_faults};
 ghost use Rattle.cal_lint.specs.declared.problems.Problem.TheVariants.{Doubtful, Invalid, Rejected};
 
 use crate::accepted::accepted_form;
@@ -43,7 +43,7 @@ pub enum Problem {
     Invalid(TimerFault),
     /// The key is unknown, as [`crate::find_unknown_keys`] defines it.
     UnknownKey,
-    /// systemd 252 rejects the expression or the exception, which is valid here.
+    /// systemd 252 rejects the expression, which is valid here.
     Rejected(Rejection),
     /// The expression or the exception is valid, but may not mean what its author thinks.
     Doubtful(Doubt),
@@ -83,9 +83,9 @@ pub struct Finding {
 /// order of their lines. The first line has the number 1. `text` must have fewer than 2^32 - 1 bytes.
 ///
 /// The problems are unknown keys, as [`crate::find_unknown_keys`] defines them; invalid lines, as [`find_faults`]
-/// returns them; and what [`systemd_252`] and [`find_doubt`] return for valid expressions and exceptions. Expressions
-/// and exceptions with a `%` are not checked, since systemd replaces specifiers when it loads the unit
-/// (systemd.unit(5), Specifiers). Fails only if allocation fails.
+/// returns them; what [`systemd_252`] returns for valid expressions; and what [`find_doubt`] returns for valid
+/// expressions and exceptions. Expressions and exceptions with a `%` are not checked, since systemd replaces specifiers
+/// when it loads the unit (systemd.unit(5), Specifiers). Fails only if allocation fails.
 pub fn findings(alloc: Global, text: &str) -> Result<Vec<Finding>, AllocError>
     requires { 1 + length text.now < 2 ^ 32 }
     ensures { IfOk result (λ found. map shown_finding found.items ≡ findings_in text.now) }
@@ -95,13 +95,8 @@ pub fn findings(alloc: Global, text: &str) -> Result<Vec<Finding>, AllocError>
     let mut found = Vec::new(alloc);
     let mut assignments = Assignments::new("Timer", 1, without_mark(text));
     while let Some(assignment) = assignments.next(alloc)? {
-        add_findings(
-            alloc,
-            &mut found,
-            &faults,
-            &assignment,
-            physical_line(&lines, assignment.number),
-        )?;
+        let line = physical_line(&lines, assignment.number);
+        add_findings(alloc, &mut found, &faults, borrowed(&assignment), line)?;
     }
     Ok(found)
 }
@@ -114,19 +109,30 @@ fn timer_faults(alloc: Global, text: &str) -> Result<Vec<FileFault>, AllocError>
     find_faults(alloc, &[NumberedText { first: 1, text }])
 }
 
+/// Returns the same assignment, which borrows its key and value.
+fn borrowed(assignment: &OwnedAssignment) -> Assignment<'_>
+    ensures { shown_assignment result ≡ shown_owned_assignment assignment.now }
+{
+    Assignment {
+        number: assignment.number,
+        key: assignment.key.as_str(),
+        value: assignment.value.as_str(),
+    }
+}
+
 /// Appends the problems of an assignment. `line` is the assignment's first physical line.
 fn add_findings(
     alloc: Global,
     found: &mut Vec<Finding>,
     faults: &[FileFault],
-    assignment: &OwnedAssignment,
+    assignment: Assignment<'_>,
     line: &str,
 ) -> Result<(), AllocError>
     ensures { OnOk result (map shown_finding found.new.items
-        ≡ map shown_finding found.old.items ++ found_problems faults.now (shown_owned_assignment assignment.now)) }
+        ≡ map shown_finding found.old.items ++ found_problems faults.now (shown_assignment assignment.entry)) }
 {
-    if is_unknown_key(assignment.key.as_str()) {
-        let column = key_column(line, assignment.key.as_str());
+    if is_unknown_key(assignment.key) {
+        let column = key_column(line, assignment.key);
         found.push(plain_finding(assignment.number, column, Problem::UnknownKey))?;
         return Ok(());
     }
@@ -143,14 +149,14 @@ fn add_findings(
 fn add_invalid(
     alloc: Global,
     found: &mut Vec<Finding>,
-    assignment: &OwnedAssignment,
+    assignment: Assignment<'_>,
     line: &str,
     fault: TimerFault,
 ) -> Result<(), AllocError>
     ensures { OnOk result (map shown_finding found.new.items
-        ≡ map shown_finding found.old.items ++ problem_at assignment.now.number (Invalid fault) ∷ []) }
+        ≡ map shown_finding found.old.items ++ problem_at assignment.entry.number (Invalid fault) ∷ []) }
 {
-    let value = assignment.value.as_str();
+    let value = assignment.value;
     let start = fault_start(alloc, value)?;
     let (mistake, suggestion) = advice_for(alloc, fault, value)?;
     found.push(Finding {
@@ -164,24 +170,40 @@ fn add_invalid(
     Ok(())
 }
 
-/// If the assignment's value is a valid expression, appends the reason why systemd 252 rejects it and the doubt about
-/// its meaning, each only if there is one.
+/// If the assignment's value is a valid expression, appends the reason why systemd 252 rejects it, unless it is an
+/// exception, and the doubt about its meaning, each only if there is one.
 fn add_advice(
     alloc: Global,
     found: &mut Vec<Finding>,
-    assignment: &OwnedAssignment,
+    assignment: Assignment<'_>,
     line: &str,
 ) -> Result<(), AllocError>
     ensures { OnOk result (map shown_finding found.new.items ≡ map shown_finding found.old.items
-        ++ map (problem_at assignment.now.number) (advice (shown_owned_assignment assignment.now).value)) }
+        ++ map (problem_at assignment.entry.number) (advice (shown_assignment assignment.entry))) }
 {
-    let value = assignment.value.as_str();
+    let value = assignment.value;
     let column = value_column(line, value, 0);
-    let rejected = rejection_of(alloc, value)?;
+    let rejected = rejection_by_systemd(alloc, assignment)?;
     let doubt = doubt_of(alloc, value)?;
     push_rejection(alloc, found, assignment.number, column, rejected, value)?;
     let column = value_column(line, value, doubt_start(doubt, value));
     push_doubt(found, assignment.number, column, doubt)
+}
+
+/// Returns why systemd 252 rejects a valid expression. Returns `None` if systemd 252 accepts the expression, if the value
+/// is not a valid expression, and for an exception: systemd doesn't read exceptions.
+fn rejection_by_systemd(
+    alloc: Global,
+    assignment: Assignment<'_>,
+) -> Result<Option<Rejection>, AllocError>
+    ensures { IfOk result (λ found. option_to_list (option_map Rejected found)
+        ≡ rejections_of (shown_assignment assignment.entry)) }
+{
+    if assignment.is_exception() {
+        Ok(None)
+    } else {
+        rejection_of(alloc, assignment.value)
+    }
 }
 
 /// Appends the reason in `rejected`, if there is one. Suggests the normal form of the expression if systemd 252 accepts
@@ -283,15 +305,10 @@ fn advice_for(
 }
 
 /// Returns whether the assignment is an expression or an exception without specifiers. A specifier begins with `%`.
-fn is_checked(assignment: &OwnedAssignment) -> bool
-    ensures { result ≡ is_checked (shown_owned_assignment assignment.now) }
+fn is_checked(assignment: Assignment<'_>) -> bool
+    ensures { result ≡ is_checked (shown_assignment assignment.entry) }
 {
-    let borrowed = Assignment {
-        number: assignment.number,
-        key: assignment.key.as_str(),
-        value: assignment.value.as_str(),
-    };
-    (borrowed.is_expression() || borrowed.is_exception())
+    (assignment.is_expression() || assignment.is_exception())
         && !assignment.value.as_bytes().contains(&b'%')
 }
 

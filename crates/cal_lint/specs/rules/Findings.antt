@@ -48,22 +48,24 @@ abbrev pub if_valid : {A : Type 0} → Result (Option A) SpecFault → Option A
 if_valid (Ok x) = x
 if_valid (Err e) = None
 
--- the problems of a value that is a valid expression: why systemd 252 rejects it, and why it may not mean what its
--- author thinks; none if the value is not a valid expression
-abbrev pub advice : List ℕ → List Problem
-advice value =
-    option_to_list (option_map Rejected (if_valid (rejection_in value)))
-    ++ option_to_list (option_map Doubtful (if_valid (doubt_in value)))
+-- why systemd 252 rejects a valid expression; an exception is never rejected, since systemd doesn't read it
+abbrev pub rejections_of : Assignment → List Problem
+rejections_of a = if is_exception a then [] else option_to_list (option_map Rejected (if_valid (rejection_in a.value)))
 
-abbrev pub value_problems : Option TimerFault → List ℕ → List Problem
-value_problems (Some fault) value = Invalid fault ∷ []
-value_problems None value = advice value
+-- the problems of a valid expression or exception: why systemd 252 rejects the expression, and why the expression or
+-- exception may not mean what its author thinks; none if the value is not a valid expression
+abbrev pub advice : Assignment → List Problem
+advice a = rejections_of a ++ option_to_list (option_map Doubtful (if_valid (doubt_in a.value)))
+
+abbrev pub value_problems : Option TimerFault → Assignment → List Problem
+value_problems (Some fault) a = Invalid fault ∷ []
+value_problems None a = advice a
 
 -- the problems of an assignment; `faults` are all errors of the timer that has this assignment
 abbrev pub problems_of : List FileFault → Assignment → List Problem
 problems_of faults a =
     if is_unknown_key a.key then UnknownKey ∷ []
-    else (if is_checked a then value_problems (fault_on faults a.number) a.value else [])
+    else (if is_checked a then value_problems (fault_on faults a.number) a else [])
 
 abbrev pub problem_kind_of : Problem → ProblemKind
 problem_kind_of (Invalid fault) = Error
