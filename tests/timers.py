@@ -10,8 +10,9 @@ PROGRAM is calendar-analyze, and TIMERS is calendar-timers.
 - `next` prints the instants that `systemd-analyze calendar` prints, for 300 random expressions in two zones that `TZ`
   names.
 - `list` prints the next elapse that `calendar-analyze timer` prints for the joined files, for random units with drop-ins.
-- `lint` finds errors in exactly those of 100 random units in which `systemd-analyze verify` finds invalid settings,
-  unknown keys or nothing that starts the unit.
+- `lint` finds errors in exactly those of 100 random units in which `systemd-analyze verify` finds invalid settings or
+  nothing that starts the unit, and warns of unknown keys, unknown sections, lines outside of sections and lines that
+  aren't settings exactly where it does.
 - `list` finds units in exactly the folders that `systemd-analyze unit-paths` prints, and of several with one name the one
   in the first folder, for the system and for users, with ten settings of SYSTEMD_UNIT_PATH, HOME and the XDG variables.
 - A thousand units take less than twenty times as long as a hundred.
@@ -44,6 +45,9 @@ ZONES = ["UTC", "+05:30", "posix:CET-1CEST,M3.5.0,M10.5.0/3"]
 DAYS = ["", "Mon ", "Sat,Sun ", "Mon..Fri ", "Tue,Thu "]
 DATES = ["", "*-*-* ", "*-*-1 ", "*-2-29 ", "2024-*-15 ", "*-1/3-1..7 ", "*-*~1 ", "2031-12-31 "]
 TIMES = ["2:30", "0:00", "*:0/15", "9..17:00", "23:59:59", "12:00:00/20", "2:17,58", "0/6:00"]
+# Lines that systemd ignores, or after which it ignores others, and what it says of them.
+IGNORED = ["OnCalender=daily\n", "[Foo]\nX\n", "[X-Foo]\nx\n", "[Install]\n", "[Timer]\n", "rubbish\n", " = x\n", "X-a=b\n", "Wants\n"]
+WARNED = re.compile(r"made\.timer:(\d+): (?:Unknown key '[^']*' in section \[Timer\]|Unknown section|Assignment outside of section|Missing)")
 # Settings of the variables for which search paths are compared.
 SYSTEM_VARIABLES = [
     {},
@@ -175,14 +179,19 @@ class Tests:
         for number in range(100):
             values = self.random.sample(sorted(VALUES), self.random.choice([1, 1, 2]))
             text = "[Timer]\n" + "".join(f"OnCalendar={value}\n" for value in values) + "Unit=made.service\n"
-            if self.random.random() < 0.1:
-                text += "OnCalender=daily\n"
+            for line in IGNORED:
+                if self.random.random() < 0.1:
+                    text = line + text if self.random.random() < 0.3 else text + line
             path = f"{folder}/made.timer"
             write(path, text)
             env = {**os.environ, "SYSTEMD_UNIT_PATH": folder}
             said = run(["systemd-analyze", "verify", path], env=env).stderr
-            wanted = any(words in said for words in ["Failed to parse", "lacks value", "Unknown key"])
-            self.expect(f"lint of {text!r}, of which systemd says {said!r}", run([self.timers, "lint", path]).returncode, int(wanted))
+            wanted = any(words in said for words in ["Failed to parse", "lacks value"])
+            ended = run([self.timers, "lint", path, "--json"])
+            rows = json.loads(ended.stdout)
+            found = [row["line"] for row in rows if row["message"].endswith(("[Timer]", "systemd ignores", "the line"))]
+            self.expect(f"lint of {text!r}, of which systemd says {said!r}", ended.returncode, int(wanted))
+            self.expect(f"warnings of {text!r}", sorted(found), sorted(int(line) for line in WARNED.findall(said)))
 
     def search_path(self):
         if not shutil.which("systemd-analyze"):

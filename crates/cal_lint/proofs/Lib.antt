@@ -1,4 +1,6 @@
 mod DigitLemmas
 mod DoubtsRows
 mod FindingsLemmas
+mod SectionsLemmas
+mod SectionsRows
 mod Systemd252Rows

@@ -2,5 +2,6 @@
 pub mod Doubts
 pub mod Findings
 pub mod Hints
+pub mod Sections
 pub mod Systemd252
 pub mod UnknownKeys

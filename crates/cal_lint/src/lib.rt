@@ -1,5 +1,5 @@
 //! Advice on timer units beyond the errors in them: what systemd 252 rejects, what to write instead of common mistakes,
-//! valid expressions that may not mean what their author thinks, and keys that systemd 252 doesn't know.
+//! valid expressions that may not mean what their author thinks, and keys, sections and lines that systemd 252 ignores.
 #![tactic(auto)]
 
 mod accepted;
@@ -9,6 +9,7 @@ mod hint_words;
 mod hints;
 mod older_systemd;
 mod problems;
+mod sections;
 mod unknown_keys;
 
 pub use doubts::{Doubt, find_doubt, looks_like_abbreviation};

@@ -1,5 +1,4 @@
-//! All problems in the assignments of a timer unit, as data for programs that print the problems or mark them in an
-//! editor.
+//! All problems in the lines of a timer unit, as data for programs that print the problems or mark them in an editor.
 //!
 //! An exception is an expression after this project's key `X-ExceptOnCalendar=`. When an exception elapses, the timer
 //! doesn't.
@@ -7,22 +6,24 @@
 ghost use Rattle.std.specs.Prelude.{◌≡◌, ◌+◌, ◌<◌, ◌^◌, ◌++◌, ◌∷◌, [], IfOk, OnOk, length, map};
 ghost use Rattle.std.specs.List.{find, list_any};
 ghost use Rattle.std.specs.Option.{option_map, option_to_list};
-ghost use Rattle.cal_read.specs.rules.SectionAssignments.{shown_owned_assignment};
+ghost use Rattle.cal_timer.specs.rules.Assignments.{assignment_of};
+ghost use Rattle.cal_timer.specs.rules.LineView.{line_at};
 ghost use Rattle.cal_timer.specs.rules.TimerView.{shown_assignment};
 ghost use Rattle.cal_lint.specs.rules.Doubts.{doubt_in};
 ghost use Rattle.cal_lint.specs.rules.Systemd252.{rejection_in};
-ghost use Rattle.cal_lint.specs.rules.Findings.{advice, fault_on, findings_in, found_problems, if_valid, is_checked, is_on, is_percent, problem_at, problem_kind_of, rejections_of, shown_finding, timer_faults};
+ghost use Rattle.cal_lint.specs.rules.Findings.{advice, assigned_problems, begins_with_bracket, fault_on, findings_in, found_problems, header_problem, if_valid, is_checked, is_on, is_percent, is_timer, placed_line, problem_at, problem_kind_of, problems_of, rejections_of, shown_finding, timer_faults};
 ghost use Rattle.cal_lint.specs.declared.problems.Problem.TheVariants.{Doubtful, Invalid, Rejected};
 
 use crate::accepted::accepted_form;
 use crate::doubts::{Doubt, find_doubt};
 use crate::hints::{Hint, Mistake, find_hint};
 use crate::older_systemd::{Rejection, systemd_252};
+use crate::sections::{Section, header_name, is_unknown_section, section_after};
 use crate::unknown_keys::is_unknown_key;
 use cal_bytes::{last_word, trim_blanks_end};
 use cal_read::{
-    Assignment, Assignments, FileFault, NumberedText, OwnedAssignment, TimerFault, find_faults,
-    without_mark,
+    Assignment, FileFault, NumberedText, TimerFault, find_faults, first_logical, read_assignment,
+    trim, without_mark,
 };
 use cal_spec::{SpecFault, fault_span};
 use std::alloc::{AllocError, Global};
@@ -30,13 +31,13 @@ use std::alloc::{AllocError, Global};
 /// How serious a problem is.
 #[derive(Clone, Copy, PartialEq, Eq, Debug)]
 pub enum ProblemKind {
-    /// This project or systemd 252 rejects the assignment, or the key is unknown.
+    /// This project or systemd 252 rejects the expression, or systemd 252 stops reading the file.
     Error,
-    /// The assignment is accepted, but may not mean what its author thinks.
+    /// systemd 252 ignores the line, or the expression is accepted but may not mean what its author thinks.
     Warning,
 }
 
-/// What is wrong with an assignment.
+/// What is wrong with a line (systemd.syntax(7)).
 #[derive(Clone, Copy, PartialEq, Eq, Debug)]
 pub enum Problem {
     /// The expression or the exception is invalid, or its list is full.
@@ -47,6 +48,19 @@ pub enum Problem {
     Rejected(Rejection),
     /// The expression or the exception is valid, but may not mean what its author thinks.
     Doubtful(Doubt),
+    /// The line begins with `[`, but isn't a section header: it doesn't end with `]`, or it has a control character, a
+    /// quote or a backslash. systemd doesn't read the file any further, and doesn't load the unit unless the file is a
+    /// drop-in.
+    BadHeader,
+    /// The line opens a section that systemd doesn't know in timers, and whose name doesn't begin with `X-`. systemd
+    /// ignores the lines in it.
+    UnknownSection,
+    /// The line comes before the first section.
+    OutsideSection,
+    /// The line has no `=`.
+    NoEquals,
+    /// The line begins with `=`.
+    NoKey,
 }
 
 impl Problem {
@@ -55,8 +69,8 @@ impl Problem {
         ensures { result ≡ problem_kind_of self }
     {
         match self {
-            Problem::Doubtful(_) => ProblemKind::Warning,
-            _ => ProblemKind::Error,
+            Problem::Invalid(_) | Problem::Rejected(_) | Problem::BadHeader => ProblemKind::Error,
+            _ => ProblemKind::Warning,
         }
     }
 }
@@ -64,12 +78,13 @@ impl Problem {
 /// A problem of a unit file, and where it is.
 #[derive(Debug, Drop)]
 pub struct Finding {
-    /// The number of the assignment's line, from 1. A continued line has the number of its first physical line.
+    /// The number of the line, from 1. A continued line has the number of its first physical line.
     pub line: u32,
-    /// The byte of the line, counted from 1, at which the problem begins. This is the first byte of the unknown key, of
-    /// the word at fault in an invalid expression (see [`fault_span`]), of the abbreviation ([`Doubt::Abbreviation`]),
-    /// or otherwise of the value. The column is 1 if the problem is in the value and the line doesn't contain the whole
-    /// value, which happens only if the line is continued.
+    /// The byte of the line, counted from 1, at which the problem begins. For an expression or an exception, this is
+    /// the first byte of the word at fault if it is invalid (see [`fault_span`]), of the abbreviation
+    /// ([`Doubt::Abbreviation`]), or otherwise of the value. The column is 1 if the problem is in the value and the
+    /// line doesn't contain the whole value, which happens only if the line is continued. For all other problems, this
+    /// is the first byte after the line's leading blanks.
     pub column: u32,
     pub kind: ProblemKind,
     pub problem: Problem,
@@ -79,24 +94,50 @@ pub struct Finding {
     pub suggestion: Option<String>,
 }
 
-/// Returns all problems of the assignments in the sections `Timer` of a unit file (systemd.timer(5), Options), in the
-/// order of their lines. The first line has the number 1. `text` must have fewer than 2^32 - 1 bytes.
+/// A logical line of a unit file.
+#[derive(Clone, Copy)]
+struct UnitLine<'l> {
+    /// The section that is open before the line.
+    section: Section,
+    number: u32,
+    /// The text of the line, without blanks at its start and its end.
+    text: &'l str,
+    /// The first physical line.
+    physical: &'l str,
+}
+
+/// Returns all problems of the lines of a unit file (systemd.timer(5), Options; systemd.syntax(7)), in the order of the
+/// lines. The first line has the number 1. `text` must have fewer than 2^32 - 1 bytes.
 ///
-/// The problems are unknown keys, as [`crate::find_unknown_keys`] defines them; invalid lines, as [`find_faults`]
-/// returns them; what [`systemd_252`] returns for valid expressions; and what [`find_doubt`] returns for valid
-/// expressions and exceptions. Expressions and exceptions with a `%` are not checked, since systemd replaces specifiers
-/// when it loads the unit (systemd.unit(5), Specifiers). Fails only if allocation fails.
+/// In the sections `Timer`, the problems are unknown keys, as [`crate::find_unknown_keys`] defines them; invalid lines,
+/// as [`find_faults`] returns them; what [`systemd_252`] returns for valid expressions; and what [`find_doubt`] returns
+/// for valid expressions and exceptions. Expressions and exceptions with a `%` are not checked, since systemd replaces
+/// specifiers when it loads the unit (systemd.unit(5), Specifiers).
+///
+/// In all sections that systemd knows in timers, which are `Unit`, `Timer` and `Install`, lines that aren't assignments
+/// are problems, too, and so are lines before the first section and unknown sections. Bytes that aren't UTF-8 and lines
+/// that are too long for systemd are no concern of this function. Fails only if allocation fails.
 pub fn findings(alloc: Global, text: &str) -> Result<Vec<Finding>, AllocError>
     requires { 1 + length text.now < 2 ^ 32 }
     ensures { IfOk result (λ found. map shown_finding found.items ≡ findings_in text.now) }
 {
     let faults = timer_faults(alloc, text)?;
-    let lines: Vec<&str> = without_mark(text).lines().collect(alloc)?;
+    let physical: Vec<&str> = without_mark(text).lines().collect(alloc)?;
     let mut found = Vec::new(alloc);
-    let mut assignments = Assignments::new("Timer", 1, without_mark(text));
-    while let Some(assignment) = assignments.next(alloc)? {
-        let line = physical_line(&lines, assignment.number);
-        add_findings(alloc, &mut found, &faults, borrowed(&assignment), line)?;
+    let mut section = Section::Outside;
+    let mut number = 1;
+    let mut rest = without_mark(text);
+    while let Some(logical) = first_logical(alloc, number, rest)? {
+        let line = UnitLine {
+            section,
+            number: logical.number,
+            text: trim(logical.text.as_str()),
+            physical: physical_line(&physical, logical.number),
+        };
+        add_line(alloc, &mut found, &faults, line)?;
+        section = section_after(section, line.text);
+        number = logical.next;
+        rest = logical.rest;
     }
     Ok(found)
 }
@@ -109,18 +150,101 @@ fn timer_faults(alloc: Global, text: &str) -> Result<Vec<FileFault>, AllocError>
     find_faults(alloc, &[NumberedText { first: 1, text }])
 }
 
-/// Returns the same assignment, which borrows its key and value.
-fn borrowed(assignment: &OwnedAssignment) -> Assignment<'_>
-    ensures { shown_assignment result ≡ shown_owned_assignment assignment.now }
+/// Appends the problems of a line.
+fn add_line(
+    alloc: Global,
+    found: &mut Vec<Finding>,
+    faults: &[FileFault],
+    line: UnitLine<'_>,
+) -> Result<(), AllocError>
+    ensures { OnOk result (map shown_finding found.new.items
+        ≡ map shown_finding found.old.items ++ found_problems faults.now (placed_line line.entry)) }
 {
-    Assignment {
-        number: assignment.number,
-        key: assignment.key.as_str(),
-        value: assignment.value.as_str(),
+    if line.text.is_empty() {
+        return Ok(());
+    }
+    if begins_with_bracket(line.text) {
+        return add_header(found, line);
+    }
+    match line.section {
+        Section::Outside => push_line_problem(found, line, Problem::OutsideSection),
+        Section::Ignored => Ok(()),
+        Section::Timer | Section::Other => add_assigned(alloc, found, faults, line),
     }
 }
 
-/// Appends the problems of an assignment. `line` is the assignment's first physical line.
+fn begins_with_bracket(text: &str) -> bool
+    ensures { result ≡ begins_with_bracket text.now }
+{
+    matches!(text.as_bytes(), [b'[', ..])
+}
+
+/// Appends the problem of a line that begins with `[`, if it has one.
+fn add_header(found: &mut Vec<Finding>, line: UnitLine<'_>) -> Result<(), AllocError>
+    ensures { OnOk result (map shown_finding found.new.items ≡ map shown_finding found.old.items
+        ++ map (problem_at line.entry.number) (option_to_list (header_problem line.entry.text.now))) }
+{
+    if let Some(problem) = header_problem(line.text) {
+        push_line_problem(found, line, problem)?;
+    }
+    Ok(())
+}
+
+/// Returns the problem of a line that begins with `[`, if it has one.
+fn header_problem(text: &str) -> Option<Problem>
+    ensures { result ≡ header_problem text.now }
+{
+    match header_name(text) {
+        None => Some(Problem::BadHeader),
+        Some(name) if is_unknown_section(name) => Some(Problem::UnknownSection),
+        Some(_) => None,
+    }
+}
+
+/// Appends the problems of a line in a section that systemd knows. The line isn't a header.
+fn add_assigned(
+    alloc: Global,
+    found: &mut Vec<Finding>,
+    faults: &[FileFault],
+    line: UnitLine<'_>,
+) -> Result<(), AllocError>
+    ensures { OnOk result (map shown_finding found.new.items ≡ map shown_finding found.old.items
+        ++ map (problem_at line.entry.number)
+        (assigned_problems faults.now line.entry.section (assignment_of (line_at line.entry.number line.entry.text.now)))) }
+{
+    let Some(assignment) = read_assignment(line.number, line.text) else {
+        return push_line_problem(found, line, Problem::NoEquals);
+    };
+    if assignment.key.is_empty() {
+        return push_line_problem(found, line, Problem::NoKey);
+    }
+    if !is_timer(line.section) {
+        return Ok(());
+    }
+    add_findings(alloc, found, faults, assignment, line.physical)
+}
+
+fn is_timer(section: Section) -> bool
+    ensures { result ≡ is_timer section }
+{
+    matches!(section, Section::Timer)
+}
+
+/// Appends a problem of a line as a whole.
+fn push_line_problem(
+    found: &mut Vec<Finding>,
+    line: UnitLine<'_>,
+    problem: Problem,
+) -> Result<(), AllocError>
+    ensures { OnOk result (map shown_finding found.new.items
+        ≡ map shown_finding found.old.items ++ problem_at line.entry.number problem ∷ []) }
+{
+    let column = first_column(line.physical);
+    found.push(plain_finding(line.number, column, problem))?;
+    Ok(())
+}
+
+/// Appends the problems of an assignment in a section `Timer`. `line` is the assignment's first physical line.
 fn add_findings(
     alloc: Global,
     found: &mut Vec<Finding>,
@@ -128,11 +252,11 @@ fn add_findings(
     assignment: Assignment<'_>,
     line: &str,
 ) -> Result<(), AllocError>
-    ensures { OnOk result (map shown_finding found.new.items
-        ≡ map shown_finding found.old.items ++ found_problems faults.now (shown_assignment assignment.entry)) }
+    ensures { OnOk result (map shown_finding found.new.items ≡ map shown_finding found.old.items
+        ++ map (problem_at assignment.entry.number) (problems_of faults.now (shown_assignment assignment.entry))) }
 {
     if is_unknown_key(assignment.key) {
-        let column = key_column(line, assignment.key);
+        let column = first_column(line);
         found.push(plain_finding(assignment.number, column, Problem::UnknownKey))?;
         return Ok(());
     }
@@ -190,8 +314,8 @@ fn add_advice(
     push_doubt(found, assignment.number, column, doubt)
 }
 
-/// Returns why systemd 252 rejects a valid expression. Returns `None` if systemd 252 accepts the expression, if the value
-/// is not a valid expression, and for an exception: systemd doesn't read exceptions.
+/// Returns why systemd 252 rejects a valid expression. Returns `None` if systemd 252 accepts the expression, if the
+/// value is not a valid expression, and for an exception: systemd doesn't read exceptions.
 fn rejection_by_systemd(
     alloc: Global,
     assignment: Assignment<'_>,
@@ -363,12 +487,13 @@ fn physical_line<'t>(lines: &[&'t str], number: u32) -> &'t str {
     }
 }
 
-/// Returns the column of the first byte of the key, or 1 if the line doesn't contain the key.
-fn key_column(line: &str, key: &str) -> u32 {
-    match line.find(key) {
-        Some(start) => column_at(start, 0),
-        None => 1,
-    }
+/// Returns the column of the first byte after the leading blanks of a line.
+fn first_column(line: &str) -> u32 {
+    let blanks = line
+        .as_bytes()
+        .iter()
+        .take_while(|byte| matches!(**byte, b' ' | b'\t' | b'\r'));
+    column_at(blanks.count(), 0)
 }
 
 /// Returns the column of the byte at `index` in the value. Returns 1 if the line doesn't contain the whole value, which

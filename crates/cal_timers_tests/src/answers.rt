@@ -155,7 +155,7 @@ OnCalendar=1-5 9:00
 OnCalendar=Sat..Mon
            ^~~~~~~~
   write instead: Mon,Sat,Sun *-*-* 00:00:00
-/t/wrong.timer:5:1: \x1b[1;31merror:\x1b[0m unknown key in section [Timer]
+/t/wrong.timer:5:1: warning: unknown key in section [Timer]
 OnCalender=daily
 ^~~~~~~~~~
 ",

@@ -113,27 +113,35 @@ fn physical_line(text: &str, number: u32) -> &str {
         .unwrap_or("")
 }
 
-/// Returns the text before the word at the column of the problem, and the word. For an unknown key, the word is the
-/// key. Returns `None` if the column isn't known, because the value continues on the next line, or if the line doesn't
-/// have this column.
+/// Returns the text before the word at the column of the problem, and the word. If the problem isn't in a value, the
+/// word is the key, or the whole line if it has none. Returns `None` if the column isn't known, because the value
+/// continues on the next line, or if the line doesn't have this column.
 fn word_at_fault<'t>(line: &'t str, finding: &Finding) -> Option<(&'t str, &'t str)> {
-    let is_key = matches!(finding.problem, Problem::UnknownKey);
-    if finding.column <= 1 && !is_key {
+    let is_in_value = is_in_value(finding.problem);
+    if finding.column <= 1 && is_in_value {
         return None;
     }
     let (before, after) = line.split_at_checked((finding.column as usize).saturating_sub(1))?;
-    if is_key {
+    if !is_in_value {
         Some((before, key_of(after)))
     } else {
         Some((before, first_word(after).map_or("", |(word, _)| word)))
     }
 }
 
-/// Returns the key of a setting: the text before the first `=`, without blanks at its end, or all of the text if it has
+/// Returns whether a problem is in the value of a setting.
+fn is_in_value(problem: Problem) -> bool {
+    matches!(
+        problem,
+        Problem::Invalid(_) | Problem::Rejected(_) | Problem::Doubtful(_)
+    )
+}
+
+/// Returns the key of a setting, without blanks at its end: the text before the first `=`, or all of the text if it has
 /// no `=`.
 fn key_of(setting: &str) -> &str {
     match setting.split_once('=') {
         Some((key, _)) => trim_blanks_end(key),
-        None => setting,
+        None => trim_blanks_end(setting),
     }
 }

@@ -31,6 +31,13 @@ pub(crate) fn push_message(
             out.push_str(rejection_words(rejection))
         }
         Problem::Doubtful(doubt) => out.push_str(doubt_words(doubt)),
+        Problem::BadHeader => out.push_str("bad section header, at which systemd stops reading"),
+        Problem::UnknownSection => out.push_str("unknown section, which systemd ignores"),
+        Problem::OutsideSection => {
+            out.push_str("a line before the first section, which systemd ignores")
+        }
+        Problem::NoEquals => out.push_str("a line without =, which systemd ignores"),
+        Problem::NoKey => out.push_str("nothing before the =, so systemd ignores the line"),
     }
 }
 

@@ -1,26 +1,32 @@
--- All problems of a timer's assignments, in the order of their lines: systemd.timer(5), Options. An exception is an
--- expression after this project's key `X-ExceptOnCalendar=`. When an exception elapses, the timer doesn't.
-use Rattle.std.specs.Prelude.{ℕ, ◌==◌, Bool, false, not, ◌&&◌, ◌||◌, if◌then◌else◌, List, [], ◌∷◌, ◌++◌, codes, map, Option, None, Some, Result, Ok, Err}
+-- All problems of the lines of a unit file, in their order: systemd.timer(5), Options, and systemd.syntax(7). An
+-- exception is an expression after this project's key `X-ExceptOnCalendar=`. When an exception elapses, the timer
+-- doesn't.
+use Rattle.std.specs.Prelude.{ℕ, ◌==◌, Bool, false, true, not, ◌&&◌, ◌||◌, if◌then◌else◌, List, [], ◌∷◌, ◌++◌, codes, length, map, slice_index, Option, None, Some, Result, Ok, Err}
 use Rattle.std.specs.List.{find, flat_map, list_any}
 use Rattle.std.specs.Option.{option_map, option_to_list}
-use Rattle.cal_timer.specs.rules.Lines.{logical_lines}
+use Rattle.cal_timer.specs.rules.Lines.{Line, logical_lines}
 use Rattle.cal_spec.specs.computed.Expr.{expr_in}
 use Rattle.cal_spec.specs.declared.spec_fault.SpecFault.{SpecFault}
 use Rattle.cal_timer.specs.rules.TimerFault.{line_of}
-use Rattle.cal_timer.specs.rules.Assignments.{Assignment}
+use Rattle.cal_timer.specs.rules.Assignments.{Assignment, assignment_of, section_of, trimmed}
+use Rattle.cal_timer.specs.rules.LineView.{line_at}
 use Rattle.cal_timer.specs.rules.TimerText.{is_exception, is_expression, without_mark}
 use Rattle.cal_timer.specs.declared.fault.TimerFault.{TimerFault}
 use Rattle.cal_read.specs.rules.SectionAssignments.{section_assignments}
 use Rattle.cal_read.specs.rules.TimerFaults.{all_faults, in_file}
 use Rattle.cal_read.specs.declared.texts.FileFault.{FileFault}
 use Rattle.cal_lint.specs.rules.Doubts.{doubt_in}
+use Rattle.cal_lint.specs.rules.Sections.{PlacedLine, is_bad_header, is_unknown_section, placed_lines}
 use Rattle.cal_lint.specs.rules.Systemd252.{rejection_in}
 use Rattle.cal_lint.specs.rules.UnknownKeys.{is_unknown_key}
 use Rattle.cal_lint.specs.declared.problems.Finding.{Finding}
 use Rattle.cal_lint.specs.declared.problems.ProblemKind.{ProblemKind}
+use Rattle.cal_lint.specs.declared.problems.UnitLine.{UnitLine}
 use Rattle.cal_lint.specs.declared.problems.ProblemKind.TheVariants.{Error, Warning}
 use Rattle.cal_lint.specs.declared.problems.Problem.{Problem}
-use Rattle.cal_lint.specs.declared.problems.Problem.TheVariants.{Invalid, UnknownKey, Rejected, Doubtful}
+use Rattle.cal_lint.specs.declared.problems.Problem.TheVariants.{Invalid, UnknownKey, Rejected, Doubtful, BadHeader, UnknownSection, OutsideSection, NoEquals, NoKey}
+use Rattle.cal_lint.specs.declared.sections.Section.{Section}
+use Rattle.cal_lint.specs.declared.sections.Section.TheVariants.{Outside, Timer, Ignored}
 
 -- whether the byte is a percent sign, which begins a specifier: systemd.unit(5), Specifiers
 abbrev pub is_percent : ℕ → Bool
@@ -61,17 +67,59 @@ abbrev pub value_problems : Option TimerFault → Assignment → List Problem
 value_problems (Some fault) a = Invalid fault ∷ []
 value_problems None a = advice a
 
--- the problems of an assignment; `faults` are all errors of the timer that has this assignment
+-- the problems of an assignment in a section `Timer`; `faults` are all errors of the timer that has this assignment
 abbrev pub problems_of : List FileFault → Assignment → List Problem
 problems_of faults a =
     if is_unknown_key a.key then UnknownKey ∷ []
     else (if is_checked a then value_problems (fault_on faults a.number) a else [])
 
+-- the problem of a line that begins with `[`, if it has one: it isn't a section header, or systemd doesn't know the
+-- section
+abbrev pub header_problem : List ℕ → Option Problem
+header_problem text =
+    if is_bad_header text then Some BadHeader
+    else (if is_unknown_section (section_of text) then Some UnknownSection else None)
+
+abbrev pub is_timer : Section → Bool
+is_timer Timer = true
+is_timer section = false
+
+-- the problems of a line in a section that systemd knows, given the assignment in it; the assignments of other sections
+-- than `Timer` have no problems
+abbrev pub assigned_problems : List FileFault → Section → Option Assignment → List Problem
+assigned_problems faults section None = NoEquals ∷ []
+assigned_problems faults section (Some a) =
+    if length a.key == 0 then NoKey ∷ [] else (if is_timer section then problems_of faults a else [])
+
+-- the problems of a line that is neither empty nor begins with `[`: systemd reads only lines in sections, and ignores
+-- all lines in sections that it doesn't know
+abbrev pub plain_problems : List FileFault → Section → Line → List Problem
+plain_problems faults Outside line = OutsideSection ∷ []
+plain_problems faults Ignored line = []
+plain_problems faults section line = assigned_problems faults section (assignment_of line)
+
+abbrev pub begins_with_bracket : List ℕ → Bool
+begins_with_bracket text = slice_index text 0 == 91
+
+-- the problems of a logical line without blanks at its start and its end
+abbrev pub line_problems : List FileFault → PlacedLine → List Problem
+line_problems faults placed =
+    if length placed.line.text == 0 then []
+    else (if begins_with_bracket placed.line.text then option_to_list (header_problem placed.line.text)
+    else plain_problems faults placed.section placed.line)
+
+-- the errors are expressions that the timer loses, and headers at which systemd stops reading the file; what systemd
+-- ignores otherwise is a warning
 abbrev pub problem_kind_of : Problem → ProblemKind
 problem_kind_of (Invalid fault) = Error
-problem_kind_of UnknownKey = Error
+problem_kind_of UnknownKey = Warning
 problem_kind_of (Rejected rejection) = Error
 problem_kind_of (Doubtful doubt) = Warning
+problem_kind_of BadHeader = Error
+problem_kind_of UnknownSection = Warning
+problem_kind_of OutsideSection = Warning
+problem_kind_of NoEquals = Warning
+problem_kind_of NoKey = Warning
 
 -- what contracts see of a finding: its line, its kind and its problem
 pub record FoundProblem : Type 0 where
@@ -85,8 +133,17 @@ problem_at number problem = record { line = number; kind = problem_kind_of probl
 abbrev pub shown_finding : Finding → FoundProblem
 shown_finding finding = record { line = finding.line; kind = finding.kind; problem = finding.problem }
 
-abbrev pub found_problems : List FileFault → Assignment → List FoundProblem
-found_problems faults a = map (problem_at a.number) (problems_of faults a)
+abbrev pub found_problems : List FileFault → PlacedLine → List FoundProblem
+found_problems faults placed = map (problem_at placed.line.number) (line_problems faults placed)
+
+-- how contracts see a line with its section: without its physical line, and without its address in memory
+abbrev pub placed_line : UnitLine → PlacedLine
+placed_line line = record { section = line.section; line = line_at line.number line.text.now }
+
+-- the logical lines of a unit file, without blanks at their starts and ends, with their sections; the first physical
+-- line has the number 1
+abbrev pub unit_lines : List ℕ → List PlacedLine
+unit_lines text = placed_lines Outside (map trimmed (logical_lines 1 (without_mark text)))
 
 -- the assignments in the sections `Timer` of a unit file, whose lines are numbered from 1
 abbrev pub timer_assignments : List ℕ → List Assignment
@@ -96,6 +153,6 @@ timer_assignments text = section_assignments (codes "Timer") false (logical_line
 abbrev pub timer_faults : List ℕ → List FileFault
 timer_faults text = map (in_file 0) (all_faults expr_in [] (timer_assignments text))
 
--- the problems of all assignments, in order
+-- the problems of all lines, in order
 abbrev pub findings_in : List ℕ → List FoundProblem
-findings_in text = flat_map (found_problems (timer_faults text)) (timer_assignments text)
+findings_in text = flat_map (found_problems (timer_faults text)) (unit_lines text)
