@@ -3,15 +3,15 @@
 //! An exception is an expression after this project's key `X-ExceptOnCalendar=`. When an exception elapses, the timer
 //! doesn't.
 
-ghost use Rattle.std.specs.Prelude.{◌≡◌, ◌+◌, ◌<◌, ◌^◌, ◌++◌, ◌∷◌, [], IfOk, OnOk, length, map};
+ghost use Rattle.std.specs.Prelude.{◌≡◌, ◌+◌, ◌<◌, ◌^◌, ◌++◌, ◌∷◌, [], All, IfOk, IfSome, None, OnOk, length, map, string_bytes};
 ghost use Rattle.std.specs.List.{find, list_any};
 ghost use Rattle.std.specs.Option.{option_map, option_to_list};
 ghost use Rattle.cal_timer.specs.rules.Assignments.{assignment_of};
 ghost use Rattle.cal_timer.specs.rules.LineView.{line_at};
 ghost use Rattle.cal_timer.specs.rules.TimerView.{shown_assignment};
 ghost use Rattle.cal_lint.specs.rules.Doubts.{doubt_in};
-ghost use Rattle.cal_lint.specs.rules.Systemd252.{rejection_in};
-ghost use Rattle.cal_lint.specs.rules.Findings.{advice, assigned_problems, begins_with_bracket, fault_on, findings_in, found_problems, header_problem, if_valid, is_checked, is_on, is_percent, is_timer, placed_line, problem_at, problem_kind_of, problems_of, rejections_of, shown_finding, timer_faults};
+ghost use Rattle.cal_lint.specs.rules.Systemd252.{IsAccepted, rejection_in};
+ghost use Rattle.cal_lint.specs.rules.Findings.{HasAccepted, advice, assigned_problems, begins_with_bracket, fault_on, findings_in, found_problems, header_problem, if_valid, is_checked, is_on, is_percent, is_timer, placed_line, problem_at, problem_kind_of, problems_of, rejections_of, shown_finding, timer_faults};
 ghost use Rattle.cal_lint.specs.declared.problems.Problem.TheVariants.{Doubtful, Invalid, Rejected};
 
 use crate::accepted::accepted_form;
@@ -115,11 +115,14 @@ struct UnitLine<'l> {
 /// specifiers when it loads the unit (systemd.unit(5), Specifiers).
 ///
 /// In all sections that systemd knows in timers, which are `Unit`, `Timer` and `Install`, lines that aren't assignments
-/// are problems, too, and so are lines before the first section and unknown sections. Bytes that aren't UTF-8 and lines
-/// that are too long for systemd are no concern of this function. Fails only if allocation fails.
+/// are problems, too, and so are lines before the first section, unknown sections and invalid section headers. This
+/// function doesn't examine whether lines are UTF-8 or too long for systemd.
+///
+/// systemd 252 accepts each suggestion. Fails only if allocation fails.
 pub fn findings(alloc: Global, text: &str) -> Result<Vec<Finding>, AllocError>
     requires { 1 + length text.now < 2 ^ 32 }
-    ensures { IfOk result (λ found. map shown_finding found.items ≡ findings_in text.now) }
+    ensures problems { IfOk result (λ found. map shown_finding found.items ≡ findings_in text.now) }
+    ensures suggestions { IfOk result (λ found. All HasAccepted found.items) }
 {
     let faults = timer_faults(alloc, text)?;
     let physical: Vec<&str> = without_mark(text).lines().collect(alloc)?;
@@ -157,8 +160,9 @@ fn add_line(
     faults: &[FileFault],
     line: UnitLine<'_>,
 ) -> Result<(), AllocError>
-    ensures { OnOk result (map shown_finding found.new.items
+    ensures problems { OnOk result (map shown_finding found.new.items
         ≡ map shown_finding found.old.items ++ found_problems faults.now (placed_line line.entry)) }
+    ensures suggestions { OnOk result (All HasAccepted found.old.items → All HasAccepted found.new.items) }
 {
     if line.text.is_empty() {
         return Ok(());
@@ -181,8 +185,9 @@ fn begins_with_bracket(text: &str) -> bool
 
 /// Appends the problem of a line that begins with `[`, if it has one.
 fn add_header(found: &mut Vec<Finding>, line: UnitLine<'_>) -> Result<(), AllocError>
-    ensures { OnOk result (map shown_finding found.new.items ≡ map shown_finding found.old.items
+    ensures problems { OnOk result (map shown_finding found.new.items ≡ map shown_finding found.old.items
         ++ map (problem_at line.entry.number) (option_to_list (header_problem line.entry.text.now))) }
+    ensures suggestions { OnOk result (All HasAccepted found.old.items → All HasAccepted found.new.items) }
 {
     if let Some(problem) = header_problem(line.text) {
         push_line_problem(found, line, problem)?;
@@ -208,9 +213,10 @@ fn add_assigned(
     faults: &[FileFault],
     line: UnitLine<'_>,
 ) -> Result<(), AllocError>
-    ensures { OnOk result (map shown_finding found.new.items ≡ map shown_finding found.old.items
+    ensures problems { OnOk result (map shown_finding found.new.items ≡ map shown_finding found.old.items
         ++ map (problem_at line.entry.number)
         (assigned_problems faults.now line.entry.section (assignment_of (line_at line.entry.number line.entry.text.now)))) }
+    ensures suggestions { OnOk result (All HasAccepted found.old.items → All HasAccepted found.new.items) }
 {
     let Some(assignment) = read_assignment(line.number, line.text) else {
         return push_line_problem(found, line, Problem::NoEquals);
@@ -236,8 +242,9 @@ fn push_line_problem(
     line: UnitLine<'_>,
     problem: Problem,
 ) -> Result<(), AllocError>
-    ensures { OnOk result (map shown_finding found.new.items
+    ensures problems { OnOk result (map shown_finding found.new.items
         ≡ map shown_finding found.old.items ++ problem_at line.entry.number problem ∷ []) }
+    ensures suggestions { OnOk result (All HasAccepted found.old.items → All HasAccepted found.new.items) }
 {
     let column = first_column(line.physical);
     found.push(plain_finding(line.number, column, problem))?;
@@ -252,8 +259,9 @@ fn add_findings(
     assignment: Assignment<'_>,
     line: &str,
 ) -> Result<(), AllocError>
-    ensures { OnOk result (map shown_finding found.new.items ≡ map shown_finding found.old.items
+    ensures problems { OnOk result (map shown_finding found.new.items ≡ map shown_finding found.old.items
         ++ map (problem_at assignment.entry.number) (problems_of faults.now (shown_assignment assignment.entry))) }
+    ensures suggestions { OnOk result (All HasAccepted found.old.items → All HasAccepted found.new.items) }
 {
     if is_unknown_key(assignment.key) {
         let column = first_column(line);
@@ -277,8 +285,9 @@ fn add_invalid(
     line: &str,
     fault: TimerFault,
 ) -> Result<(), AllocError>
-    ensures { OnOk result (map shown_finding found.new.items
+    ensures problems { OnOk result (map shown_finding found.new.items
         ≡ map shown_finding found.old.items ++ problem_at assignment.entry.number (Invalid fault) ∷ []) }
+    ensures suggestions { OnOk result (All HasAccepted found.old.items → All HasAccepted found.new.items) }
 {
     let value = assignment.value;
     let start = fault_start(alloc, value)?;
@@ -302,8 +311,9 @@ fn add_advice(
     assignment: Assignment<'_>,
     line: &str,
 ) -> Result<(), AllocError>
-    ensures { OnOk result (map shown_finding found.new.items ≡ map shown_finding found.old.items
+    ensures problems { OnOk result (map shown_finding found.new.items ≡ map shown_finding found.old.items
         ++ map (problem_at assignment.entry.number) (advice (shown_assignment assignment.entry))) }
+    ensures suggestions { OnOk result (All HasAccepted found.old.items → All HasAccepted found.new.items) }
 {
     let value = assignment.value;
     let column = value_column(line, value, 0);
@@ -340,8 +350,9 @@ fn push_rejection(
     rejected: Option<Rejection>,
     value: &str,
 ) -> Result<(), AllocError>
-    ensures { OnOk result (map shown_finding found.new.items
+    ensures problems { OnOk result (map shown_finding found.new.items
         ≡ map shown_finding found.old.items ++ map (problem_at line) (option_to_list (option_map Rejected rejected))) }
+    ensures suggestions { OnOk result (All HasAccepted found.old.items → All HasAccepted found.new.items) }
 {
     if let Some(rejection) = rejected {
         let suggestion = accepted_form(alloc, value)?;
@@ -358,8 +369,9 @@ fn push_doubt(
     column: u32,
     doubt: Option<Doubt>,
 ) -> Result<(), AllocError>
-    ensures { OnOk result (map shown_finding found.new.items
+    ensures problems { OnOk result (map shown_finding found.new.items
         ≡ map shown_finding found.old.items ++ map (problem_at line) (option_to_list (option_map Doubtful doubt))) }
+    ensures suggestions { OnOk result (All HasAccepted found.old.items → All HasAccepted found.new.items) }
 {
     if let Some(doubt) = doubt {
         found.push(plain_finding(line, column, Problem::Doubtful(doubt)))?;
@@ -369,7 +381,8 @@ fn push_doubt(
 
 /// Returns a finding whose `mistake` is `None`.
 fn finding_with(line: u32, column: u32, problem: Problem, suggestion: Option<String>) -> Finding
-    ensures { shown_finding result ≡ problem_at line problem }
+    ensures problem { shown_finding result ≡ problem_at line problem }
+    ensures suggestion { result.suggestion ≡ suggestion }
 {
     Finding {
         line,
@@ -383,7 +396,8 @@ fn finding_with(line: u32, column: u32, problem: Problem, suggestion: Option<Str
 
 /// Returns a finding whose `mistake` and `suggestion` are `None`.
 fn plain_finding(line: u32, column: u32, problem: Problem) -> Finding
-    ensures { shown_finding result ≡ problem_at line problem }
+    ensures problem { shown_finding result ≡ problem_at line problem }
+    ensures suggestion { result.suggestion ≡ None }
 {
     finding_with(line, column, problem, None)
 }
@@ -418,7 +432,9 @@ fn advice_for(
     alloc: Global,
     fault: TimerFault,
     value: &str,
-) -> Result<(Option<Mistake>, Option<String>), AllocError> {
+) -> Result<(Option<Mistake>, Option<String>), AllocError>
+    ensures { IfOk result (λ advice. IfSome advice.1 (λ text. IsAccepted (string_bytes text))) }
+{
     match fault {
         TimerFault::BadLine(_, _) => match find_hint(alloc, value)? {
             Some(Hint { mistake, instead }) => Ok((Some(mistake), instead)),

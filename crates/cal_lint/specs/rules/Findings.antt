@@ -1,7 +1,7 @@
 -- All problems of the lines of a unit file, in their order: systemd.timer(5), Options, and systemd.syntax(7). An
 -- exception is an expression after this project's key `X-ExceptOnCalendar=`. When an exception elapses, the timer
 -- doesn't.
-use Rattle.std.specs.Prelude.{ℕ, ◌==◌, Bool, false, true, not, ◌&&◌, ◌||◌, if◌then◌else◌, List, [], ◌∷◌, ◌++◌, codes, length, map, slice_index, Option, None, Some, Result, Ok, Err}
+use Rattle.std.specs.Prelude.{ℕ, ◌==◌, Bool, false, true, not, ◌&&◌, ◌||◌, if◌then◌else◌, List, [], ◌∷◌, ◌++◌, codes, length, map, slice_index, Option, None, Some, IfSome, string_bytes, Result, Ok, Err}
 use Rattle.std.specs.List.{find, flat_map, list_any}
 use Rattle.std.specs.Option.{option_map, option_to_list}
 use Rattle.cal_timer.specs.rules.Lines.{Line, logical_lines}
@@ -17,7 +17,7 @@ use Rattle.cal_read.specs.rules.TimerFaults.{all_faults, in_file}
 use Rattle.cal_read.specs.declared.texts.FileFault.{FileFault}
 use Rattle.cal_lint.specs.rules.Doubts.{doubt_in}
 use Rattle.cal_lint.specs.rules.Sections.{PlacedLine, is_bad_header, is_unknown_section, placed_lines}
-use Rattle.cal_lint.specs.rules.Systemd252.{rejection_in}
+use Rattle.cal_lint.specs.rules.Systemd252.{IsAccepted, rejection_in}
 use Rattle.cal_lint.specs.rules.UnknownKeys.{is_unknown_key}
 use Rattle.cal_lint.specs.declared.problems.Finding.{Finding}
 use Rattle.cal_lint.specs.declared.problems.ProblemKind.{ProblemKind}
@@ -132,6 +132,10 @@ problem_at number problem = record { line = number; kind = problem_kind_of probl
 
 abbrev pub shown_finding : Finding → FoundProblem
 shown_finding finding = record { line = finding.line; kind = finding.kind; problem = finding.problem }
+
+-- systemd 252 accepts the suggestion of a finding, if there is one
+abbrev pub HasAccepted : Finding → Type 0
+HasAccepted finding = IfSome finding.suggestion (λ text. IsAccepted (string_bytes text))
 
 abbrev pub found_problems : List FileFault → PlacedLine → List FoundProblem
 found_problems faults placed = map (problem_at placed.line.number) (line_problems faults placed)

@@ -7,8 +7,8 @@ use Rattle.cal_lint.specs.rules.Findings.{is_timer, shown_finding}
 use Rattle.cal_lint.proofs.SectionsLemmas.{assigned_are}
 use Rattle.cal_lint.proofs.problems.add_assigned.Goals as goal
 
-pub returns : goal.returns
-returns c =
+pub returns-clause-problems : goal.returns-clause-problems
+returns-clause-problems c =
     let line = line_at c.args.line.number c.args.line.text.now in
     let a = shown_assignment c.in-Some.assignment in
     let is : assignment_of line ≡ Some a = sym (rw c.in-Some.is at c.read_assignment.ensures) in
@@ -16,4 +16,4 @@ returns c =
     let timer : is_timer c.args.line.section ≡ true = sym c.is_timer.ensures ∙ c.if-not-is_timer.false in
     on_ok_weaker c.add_findings.result
     (λ h. h ∙ ap (λ more. map shown_finding c.args.found.now.items ++ more) (sym (assigned_are c.args.faults.now c.args.line.section line a is key timer)))
-    c.add_findings.ensures
+    c.add_findings.ensures.problems
