@@ -1,6 +1,9 @@
+mod ClosedFormLemmas
+mod ClosedPartLemmas
 mod DigitLemmas
 mod DoubtsRows
 mod FindingsLemmas
+mod OpenStepRows
 mod SectionsLemmas
 mod SectionsRows
 mod Systemd252Rows

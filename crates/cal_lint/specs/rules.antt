@@ -1,7 +1,9 @@
 -- What the manuals and this project's own rules say. The laws and the contracts of this crate cite these definitions.
+pub mod ClosedSteps
 pub mod Doubts
 pub mod Findings
 pub mod Hints
+pub mod OpenSteps
 pub mod Sections
 pub mod Systemd252
 pub mod UnknownKeys

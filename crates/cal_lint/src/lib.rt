@@ -3,17 +3,21 @@
 #![tactic(auto)]
 
 mod accepted;
+mod closed_steps;
 mod crontab;
 mod doubts;
 mod hint_words;
 mod hints;
 mod older_systemd;
+mod open_steps;
 mod problems;
 mod sections;
 mod unknown_keys;
 
+pub use closed_steps::closed_form;
 pub use doubts::{Doubt, find_doubt, looks_like_abbreviation};
 pub use hints::{Hint, Mistake, find_hint};
 pub use older_systemd::{Rejection, systemd_252};
+pub use open_steps::{OpenStepFlaw, find_open_step_flaw, open_step_flaw};
 pub use problems::{Finding, Problem, ProblemKind, findings};
 pub use unknown_keys::find_unknown_keys;
