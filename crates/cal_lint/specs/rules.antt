@@ -3,6 +3,7 @@ pub mod ClosedSteps
 pub mod Doubts
 pub mod Findings
 pub mod Hints
+pub mod IgnoredValues
 pub mod OpenSteps
 pub mod Sections
 pub mod Systemd252

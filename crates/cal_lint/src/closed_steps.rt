@@ -181,7 +181,7 @@ fn push_component(
     Ok(())
 }
 
-/// Appends a part with numbers of two digits, or more if they need more.
+/// Appends a part. Its start and its end have at least two digits.
 fn push_part(alloc: Global, text: &mut String, part: Part) -> Result<(), AllocError> {
     let start = part.start;
     let number = format!(in alloc; "{start:02}")?;

@@ -94,8 +94,8 @@ fn push_field(
     Ok(true)
 }
 
-/// Appends an item of a field as a part of a component. Returns `false` if the item is neither `*` nor a number nor a
-/// range, or if it is a number with a step: the manual of cron knows steps only after `*` and after ranges.
+/// Appends an item of a field as a part of a component. Returns `false` if the step after a `*` isn't from 1 to 9999, or
+/// if a single number has a step: crontab(5) has steps only after `*` and ranges. Anything else isn't checked here.
 fn push_item(expr: &mut String, limits: Limits, item: &str) -> Result<bool, AllocError> {
     let (values, step) = match item.split_once('/') {
         Some((values, step)) => (values, Some(step)),
@@ -115,8 +115,8 @@ fn push_item(expr: &mut String, limits: Limits, item: &str) -> Result<bool, Allo
     Ok(true)
 }
 
-/// Appends all values of a component, or each value that is a multiple of `step` after the least one. Returns `false`
-/// if the step isn't a number.
+/// Appends all values of a component or, with a step, every `step`-th value from the least one on. Returns `false` if
+/// the step isn't a number from 1 to 9999.
 fn push_all(expr: &mut String, limits: Limits, step: Option<&str>) -> Result<bool, AllocError> {
     let Some(digits) = step else {
         expr.push('*')?;

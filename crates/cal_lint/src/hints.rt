@@ -107,7 +107,7 @@ fn keep_accepted(alloc: Global, text: Option<String>) -> Result<Option<String>, 
     accepted_text(alloc, text)
 }
 
-/// Returns whether a text is a valid expression, and its zone, if it has one, is `UTC` or has a `/` in its name, as
+/// Returns whether a text is a valid expression that names no zone, or a zone that is `UTC` or has a `/` in its name, as
 /// most zones have.
 fn has_likely_zone(alloc: Global, text: &str) -> Result<bool, AllocError> {
     let expr = match read_expr(alloc, text) {
@@ -204,8 +204,8 @@ fn assigned_expression(text: &str) -> Option<&str> {
     }
 }
 
-/// Returns the text before the first `#` if a blank is before the `#`. Returns `None` if there is no `#`: a `;` may
-/// divide two expressions.
+/// Returns the text before the first `#`, or `None` if there is no `#` or no blank before it. A `;` isn't taken as the
+/// start of a comment, since it may separate two expressions.
 fn before_comment(text: &str) -> Option<&str> {
     let (before, _) = text.split_once('#')?;
     if trim_blanks_end(before).len() < before.len() {

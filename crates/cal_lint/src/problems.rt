@@ -11,13 +11,18 @@ ghost use Rattle.cal_timer.specs.rules.LineView.{line_at};
 ghost use Rattle.cal_timer.specs.rules.TimerView.{shown_assignment};
 ghost use Rattle.cal_lint.specs.rules.Doubts.{doubt_in};
 ghost use Rattle.cal_lint.specs.rules.Systemd252.{IsAccepted, rejection_in};
-ghost use Rattle.cal_lint.specs.rules.Findings.{HasAccepted, advice, assigned_problems, begins_with_bracket, fault_on, findings_in, found_problems, header_problem, if_valid, is_checked, is_on, is_percent, is_timer, placed_line, problem_at, problem_kind_of, problems_of, rejections_of, shown_finding, timer_faults};
-ghost use Rattle.cal_lint.specs.declared.problems.Problem.TheVariants.{Doubtful, Invalid, Rejected};
+ghost use Rattle.cal_lint.specs.rules.Findings.{HasAccepted, advice, assigned_problems, begins_with_bracket, concerns, fault_on, findings_in, flaws_of, found_problems, header_problem, if_valid, is_checked, is_on, is_percent, is_timer, placed_line, problem_at, problem_kind_of, problems_of, rejections_of, reported_flaw, shown_finding, timer_faults};
+ghost use Rattle.cal_lint.specs.rules.IgnoredValues.{ignored_setting};
+ghost use Rattle.cal_lint.specs.rules.OpenSteps.{flaw_in};
+ghost use Rattle.cal_lint.specs.declared.problems.Problem.TheVariants.{Doubtful, IgnoredValue, Invalid, OpenStep, Rejected};
 
-use crate::accepted::accepted_form;
+use crate::accepted::{accepted_form, accepted_text};
+use crate::closed_steps::closed_form;
 use crate::doubts::{Doubt, find_doubt};
 use crate::hints::{Hint, Mistake, find_hint};
+use crate::ignored_values::ignored_setting;
 use crate::older_systemd::{Rejection, systemd_252};
+use crate::open_steps::{OpenStepFlaw, find_open_step_flaw};
 use crate::sections::{Section, header_name, is_unknown_section, section_after};
 use crate::unknown_keys::is_unknown_key;
 use cal_bytes::{last_word, trim_blanks_end};
@@ -25,7 +30,8 @@ use cal_read::{
     Assignment, FileFault, NumberedText, TimerFault, find_faults, first_logical, read_assignment,
     trim, without_mark,
 };
-use cal_spec::{SpecFault, fault_span};
+use cal_settings::SettingKind;
+use cal_spec::{SpecFault, fault_span, read_expr};
 use std::alloc::{AllocError, Global};
 
 /// How serious a problem is.
@@ -33,7 +39,8 @@ use std::alloc::{AllocError, Global};
 pub enum ProblemKind {
     /// This project or systemd 252 rejects the expression, or systemd 252 stops reading the file.
     Error,
-    /// systemd 252 ignores the line, or the expression is accepted but may not mean what its author thinks.
+    /// systemd 252 ignores the line, or accepts the expression but computes it wrongly, or the expression may not mean what
+    /// its author thinks.
     Warning,
 }
 
@@ -61,6 +68,10 @@ pub enum Problem {
     NoEquals,
     /// The line begins with `=`.
     NoKey,
+    /// systemd ignores the setting, which is of this kind, because of its value.
+    IgnoredValue(SettingKind),
+    /// systemd 252 computes the elapses of the expression wrongly, because of a step without an end.
+    OpenStep(OpenStepFlaw),
 }
 
 impl Problem {
@@ -80,11 +91,11 @@ impl Problem {
 pub struct Finding {
     /// The number of the line, from 1. A continued line has the number of its first physical line.
     pub line: u32,
-    /// The byte of the line, counted from 1, at which the problem begins. For an expression or an exception, this is
-    /// the first byte of the word at fault if it is invalid (see [`fault_span`]), of the abbreviation
-    /// ([`Doubt::Abbreviation`]), or otherwise of the value. The column is 1 if the problem is in the value and the
-    /// line doesn't contain the whole value, which happens only if the line is continued. For all other problems, this
-    /// is the first byte after the line's leading blanks.
+    /// The byte of the line, counted from 1, at which the problem begins. For an invalid expression or exception, this is
+    /// the first byte of the word at fault (see [`fault_span`]); for [`Doubt::Abbreviation`], that of the abbreviation.
+    /// For all other problems of a value, it is the first byte of the value. If the line is continued and doesn't
+    /// contain the whole value, the column is 1. For problems of a key, a header or a whole line, it is the first byte
+    /// after the line's leading blanks.
     pub column: u32,
     pub kind: ProblemKind,
     pub problem: Problem,
@@ -110,9 +121,10 @@ struct UnitLine<'l> {
 /// lines. The first line has the number 1. `text` must have fewer than 2^32 - 1 bytes.
 ///
 /// In the sections `Timer`, the problems are unknown keys, as [`crate::find_unknown_keys`] defines them; invalid lines,
-/// as [`find_faults`] returns them; what [`systemd_252`] returns for valid expressions; and what [`find_doubt`] returns
-/// for valid expressions and exceptions. Expressions and exceptions with a `%` are not checked, since systemd replaces
-/// specifiers when it loads the unit (systemd.unit(5), Specifiers).
+/// as [`find_faults`] returns them; what [`systemd_252`] and [`find_open_step_flaw`] return for valid expressions, except
+/// for [`OpenStepFlaw::FailsAtMidnightChanges`]; what [`find_doubt`] returns for valid expressions and exceptions; and
+/// other settings whose values systemd ignores. Expressions and exceptions with a `%` are not checked, since systemd
+/// replaces specifiers when it loads the unit (systemd.unit(5), Specifiers).
 ///
 /// In all sections that systemd knows in timers, which are `Unit`, `Timer` and `Install`, lines that aren't assignments
 /// are problems, too, and so are lines before the first section, unknown sections and invalid section headers. This
@@ -269,12 +281,30 @@ fn add_findings(
         return Ok(());
     }
     if !is_checked(assignment) {
-        return Ok(());
+        return add_ignored_value(found, assignment, line);
     }
     match fault_on(faults, assignment.number) {
         Some(fault) => add_invalid(alloc, found, assignment, line, fault),
         None => add_advice(alloc, found, assignment, line),
     }
+}
+
+/// Appends the problem of an assignment that is neither an expression nor an exception, if systemd ignores it because of
+/// its value.
+fn add_ignored_value(
+    found: &mut Vec<Finding>,
+    assignment: Assignment<'_>,
+    line: &str,
+) -> Result<(), AllocError>
+    ensures problems { OnOk result (map shown_finding found.new.items ≡ map shown_finding found.old.items
+        ++ map (problem_at assignment.entry.number) (option_to_list (option_map IgnoredValue (ignored_setting (shown_assignment assignment.entry))))) }
+    ensures suggestions { OnOk result (All HasAccepted found.old.items → All HasAccepted found.new.items) }
+{
+    if let Some(kind) = ignored_setting(assignment) {
+        let column = value_column(line, assignment.value, 0);
+        found.push(plain_finding(assignment.number, column, Problem::IgnoredValue(kind)))?;
+    }
+    Ok(())
 }
 
 /// Appends the error of an expression or exception.
@@ -318,10 +348,71 @@ fn add_advice(
     let value = assignment.value;
     let column = value_column(line, value, 0);
     let rejected = rejection_by_systemd(alloc, assignment)?;
-    let doubt = doubt_of(alloc, value)?;
     push_rejection(alloc, found, assignment.number, column, rejected, value)?;
+    add_concerns(alloc, found, assignment, line)
+}
+
+/// If the assignment's value is a valid expression, appends what systemd 252 computes wrongly, unless it is an exception,
+/// and the doubt about its meaning, each only if there is one.
+fn add_concerns(
+    alloc: Global,
+    found: &mut Vec<Finding>,
+    assignment: Assignment<'_>,
+    line: &str,
+) -> Result<(), AllocError>
+    ensures problems { OnOk result (map shown_finding found.new.items ≡ map shown_finding found.old.items
+        ++ map (problem_at assignment.entry.number) (concerns (shown_assignment assignment.entry))) }
+    ensures suggestions { OnOk result (All HasAccepted found.old.items → All HasAccepted found.new.items) }
+{
+    let value = assignment.value;
+    let column = value_column(line, value, 0);
+    let flaw = flaw_by_systemd(alloc, assignment)?;
+    let doubt = doubt_of(alloc, value)?;
+    push_flaw(alloc, found, assignment.number, column, flaw, value)?;
     let column = value_column(line, value, doubt_start(doubt, value));
     push_doubt(found, assignment.number, column, doubt)
+}
+
+/// Returns what systemd 252 computes wrongly in a valid expression, except for failures when the clock is set forward at
+/// midnight, as it is in few zones. Returns `None` if the value is not a valid expression, and for an exception: systemd
+/// doesn't read exceptions.
+fn flaw_by_systemd(
+    alloc: Global,
+    assignment: Assignment<'_>,
+) -> Result<Option<OpenStepFlaw>, AllocError>
+    ensures { IfOk result (λ found. option_to_list (option_map OpenStep found)
+        ≡ flaws_of (shown_assignment assignment.entry)) }
+{
+    if assignment.is_exception() {
+        Ok(None)
+    } else {
+        flaw_of(alloc, assignment.value)
+    }
+}
+
+fn flaw_of(alloc: Global, value: &str) -> Result<Option<OpenStepFlaw>, AllocError>
+    ensures { IfOk result (λ found. found ≡ reported_flaw (if_valid (flaw_in value.now))) }
+{
+    match find_open_step_flaw(alloc, value) {
+        Ok(flaw) => Ok(reported_flaw(flaw)),
+        Err(SpecFault::NoMemory) => Err(AllocError),
+        Err(_) => Ok(None),
+    }
+}
+
+/// Returns the flaw to report. Returns `None` for [`OpenStepFlaw::FailsAtMidnightChanges`], since few zones set the clock
+/// forward at midnight.
+pub fn reported_flaw(flaw: Option<OpenStepFlaw>) -> Option<OpenStepFlaw>
+    ensures { result ≡ reported_flaw flaw }
+{
+    match flaw {
+        Some(OpenStepFlaw::LosesElapses(field)) => Some(OpenStepFlaw::LosesElapses(field)),
+        Some(OpenStepFlaw::FailsAtClockChanges(field)) => {
+            Some(OpenStepFlaw::FailsAtClockChanges(field))
+        }
+        Some(OpenStepFlaw::FailsAtMidnightChanges) => None,
+        None => None,
+    }
 }
 
 /// Returns why systemd 252 rejects a valid expression. Returns `None` if systemd 252 accepts the expression, if the
@@ -360,6 +451,41 @@ fn push_rejection(
         found.push(finding_with(line, column, problem, suggestion))?;
     }
     Ok(())
+}
+
+/// Appends what systemd 252 computes wrongly, if there is anything. Suggests ranges in place of steps without an end.
+fn push_flaw(
+    alloc: Global,
+    found: &mut Vec<Finding>,
+    line: u32,
+    column: u32,
+    flaw: Option<OpenStepFlaw>,
+    value: &str,
+) -> Result<(), AllocError>
+    ensures problems { OnOk result (map shown_finding found.new.items
+        ≡ map shown_finding found.old.items ++ map (problem_at line) (option_to_list (option_map OpenStep flaw))) }
+    ensures suggestions { OnOk result (All HasAccepted found.old.items → All HasAccepted found.new.items) }
+{
+    if let Some(flaw) = flaw {
+        let suggestion = closed_suggestion(alloc, value)?;
+        found.push(finding_with(line, column, Problem::OpenStep(flaw), suggestion))?;
+    }
+    Ok(())
+}
+
+/// Returns a valid expression with ranges in place of steps without an end, if systemd 252 accepts it.
+fn closed_suggestion(alloc: Global, value: &str) -> Result<Option<String>, AllocError>
+    ensures { IfOk result (λ found. IfSome found (λ text. IsAccepted (string_bytes text))) }
+{
+    let expr = match read_expr(alloc, value) {
+        Ok(expr) => expr,
+        Err(SpecFault::NoMemory) => return Err(AllocError),
+        Err(_) => return Ok(None),
+    };
+    match closed_form(alloc, &expr)? {
+        Some(closed) => accepted_text(alloc, closed),
+        None => Ok(None),
+    }
 }
 
 /// Appends the doubt about a valid expression, if there is one.

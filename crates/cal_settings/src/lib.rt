@@ -1,4 +1,5 @@
-//! The settings of a timer besides its expressions and exceptions: of which kind they are, and which values systemd takes.
+//! The settings of a timer besides its expressions and exceptions: of which kind they are, and which values systemd
+//! accepts.
 #![tactic(auto)]
 
 mod setting_kind;

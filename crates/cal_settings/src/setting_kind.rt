@@ -1,4 +1,5 @@
-//! The kinds of settings in the section `Timer`, and whether systemd takes a value for them (systemd.timer(5), Options).
+//! The kinds of settings in the section `Timer`, and whether systemd accepts a value for them (systemd.timer(5),
+//! Options).
 
 ghost use Rattle.std.specs.Prelude.{◌≡◌, Some, find, map};
 ghost use Rattle.std.specs.List.{list_any};
@@ -82,8 +83,8 @@ fn find_kind(kinds: &[SettingKind], key: &[u8]) -> Option<SettingKind>
     None
 }
 
-/// Returns whether systemd takes the value for a setting of this kind; it ignores an assignment with any other value. A
-/// value of a monotonic timer or of `Unit=` that still has a `%` depends on the running system, and is taken as valid.
+/// Returns whether systemd accepts the value for a setting of this kind; it ignores an assignment with any other value.
+/// A value of a monotonic timer or of `Unit=` that still has a `%` depends on the running system, and is taken as valid.
 pub fn is_taken_as(kind: SettingKind, value: &str) -> bool
     ensures { result ≡ is_taken_as (Some kind) value.now }
 {

@@ -18,7 +18,7 @@ pub use elapse_lines::{between_text, same_text};
 pub use fault_lines::{broken_text, fault_text, ignored_text, zones_text};
 pub use finding_lines::{finding_text, idle_text};
 pub use list::list_text;
-pub use messages::{idle_words, message_of, mistake_words};
+pub use messages::{idle_words, invalid_words, message_of, mistake_words};
 pub use show::show_text;
 pub use style::Style;
 pub use times::{instant_text, left_text, normal_text};

@@ -1,9 +1,17 @@
 //! Messages about the settings of a timer.
 
-use cal_lint::{Doubt, Mistake, Problem, Rejection};
+ghost use Rattle.std.specs.Prelude.{◌≡◌};
+ghost use Rattle.cal_timers_text.specs.rules.FlawWords.{flaw_words, loss_words};
+
+use cal_lint::{Doubt, Mistake, OpenStepFlaw, Problem, Rejection};
+use cal_settings::SettingKind;
+use cal_spec::Field;
 use cal_tasks::IdleKind;
 use cal_timer::TimerFault;
 use std::alloc::{AllocError, Global};
+
+/// How messages about invalid expressions begin.
+const INVALID_EXPRESSION: &str = "not a valid calendar expression: ";
 
 /// Returns the message about a problem. If an expression is invalid, the message says why: it describes `mistake` if
 /// the expression resembles a known mistake, and otherwise the error.
@@ -38,6 +46,56 @@ pub(crate) fn push_message(
         }
         Problem::NoEquals => out.push_str("a line without =, which systemd ignores"),
         Problem::NoKey => out.push_str("nothing before the =, so systemd ignores the line"),
+        Problem::IgnoredValue(kind) => {
+            out.push_str(value_words(kind))?;
+            out.push_str(", so systemd ignores the line")
+        }
+        Problem::OpenStep(flaw) => out.push_str(flaw_words(flaw)),
+    }
+}
+
+/// Returns the message about an expression that systemd 252 computes wrongly because of a step without an end.
+#[tactic(auto, unfolding(crate::specs::rules::FlawWords::flaw_words))]
+pub(crate) fn flaw_words(flaw: OpenStepFlaw) -> &'static str
+    ensures { result.now ≡ flaw_words flaw }
+{
+    match flaw {
+        OpenStepFlaw::LosesElapses(field) => loss_words(field),
+        OpenStepFlaw::FailsAtClockChanges(_) => {
+            "systemd 252 may fail before a clock change: give the step an end, such as 2..23/12 for hours"
+        }
+        OpenStepFlaw::FailsAtMidnightChanges => {
+            "systemd 252 may fail where the clock is set forward at midnight: give the step an end, as in 0..23/6"
+        }
+    }
+}
+
+fn loss_words(field: Field) -> &'static str
+    ensures { result.now ≡ loss_words field }
+{
+    match field {
+        Field::Year | Field::Month => "systemd 252 loses elapses: give the step an end",
+        Field::Day => {
+            "systemd 252 loses elapses in January: give the step of the days an end, as in 1..31/8"
+        }
+        Field::Hour => {
+            "systemd 252 loses elapses on the first day of a month: give the step of the hours an end, as in 0..23/5"
+        }
+        Field::Minute => {
+            "systemd 252 loses elapses at the start of a day: give the step of the minutes an end, as in 0..59/7"
+        }
+        Field::Second => {
+            "systemd 252 loses elapses at the start of an hour: give the step of the seconds an end, as in 0..59/7"
+        }
+    }
+}
+
+/// Returns what is wrong with a value that systemd doesn't take for a setting of this kind, as the start of a message.
+fn value_words(kind: SettingKind) -> &'static str {
+    match kind {
+        SettingKind::Monotonic | SettingKind::Delay | SettingKind::Accuracy => "not a time span",
+        SettingKind::Change | SettingKind::Switch | SettingKind::Flag => "not a boolean",
+        SettingKind::Started => "not the name of a unit",
     }
 }
 
@@ -47,12 +105,17 @@ fn push_invalid(
     mistake: Option<Mistake>,
 ) -> Result<(), AllocError> {
     if matches!(fault, TimerFault::BadLine(_, _)) {
-        out.push_str("not a valid calendar expression: ")?;
+        out.push_str(INVALID_EXPRESSION)?;
     }
     match mistake {
         Some(mistake) => out.push_str(mistake_words(mistake)),
         None => out.push_str(fault.words()),
     }
+}
+
+/// Returns the message that an expression is invalid, for this reason.
+pub fn invalid_words(alloc: Global, why: &str) -> Result<String, AllocError> {
+    format!(in alloc; "{INVALID_EXPRESSION}{why}")
 }
 
 /// Returns what an invalid expression looks like, or what is wrong with it, as the end of a message.

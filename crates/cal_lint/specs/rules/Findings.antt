@@ -16,15 +16,19 @@ use Rattle.cal_read.specs.rules.SectionAssignments.{section_assignments}
 use Rattle.cal_read.specs.rules.TimerFaults.{all_faults, in_file}
 use Rattle.cal_read.specs.declared.texts.FileFault.{FileFault}
 use Rattle.cal_lint.specs.rules.Doubts.{doubt_in}
+use Rattle.cal_lint.specs.rules.IgnoredValues.{ignored_setting}
+use Rattle.cal_lint.specs.rules.OpenSteps.{flaw_in}
 use Rattle.cal_lint.specs.rules.Sections.{PlacedLine, is_bad_header, is_unknown_section, placed_lines}
 use Rattle.cal_lint.specs.rules.Systemd252.{IsAccepted, rejection_in}
 use Rattle.cal_lint.specs.rules.UnknownKeys.{is_unknown_key}
+use Rattle.cal_lint.specs.declared.open_steps.OpenStepFlaw.{OpenStepFlaw}
+use Rattle.cal_lint.specs.declared.open_steps.OpenStepFlaw.TheVariants.{LosesElapses, FailsAtClockChanges, FailsAtMidnightChanges}
 use Rattle.cal_lint.specs.declared.problems.Finding.{Finding}
 use Rattle.cal_lint.specs.declared.problems.ProblemKind.{ProblemKind}
 use Rattle.cal_lint.specs.declared.problems.UnitLine.{UnitLine}
 use Rattle.cal_lint.specs.declared.problems.ProblemKind.TheVariants.{Error, Warning}
 use Rattle.cal_lint.specs.declared.problems.Problem.{Problem}
-use Rattle.cal_lint.specs.declared.problems.Problem.TheVariants.{Invalid, UnknownKey, Rejected, Doubtful, BadHeader, UnknownSection, OutsideSection, NoEquals, NoKey}
+use Rattle.cal_lint.specs.declared.problems.Problem.TheVariants.{Invalid, UnknownKey, Rejected, Doubtful, BadHeader, UnknownSection, OutsideSection, NoEquals, NoKey, IgnoredValue, OpenStep}
 use Rattle.cal_lint.specs.declared.sections.Section.{Section}
 use Rattle.cal_lint.specs.declared.sections.Section.TheVariants.{Outside, Timer, Ignored}
 
@@ -58,10 +62,26 @@ if_valid (Err e) = None
 abbrev pub rejections_of : Assignment → List Problem
 rejections_of a = if is_exception a then [] else option_to_list (option_map Rejected (if_valid (rejection_in a.value)))
 
--- the problems of a valid expression or exception: why systemd 252 rejects the expression, and why the expression or
--- exception may not mean what its author thinks; none if the value is not a valid expression
+-- the flaw to report; `FailsAtMidnightChanges` is left out, since few zones set the clock forward at midnight
+abbrev pub reported_flaw : Option OpenStepFlaw → Option OpenStepFlaw
+reported_flaw None = None
+reported_flaw (Some (LosesElapses field)) = Some (LosesElapses field)
+reported_flaw (Some (FailsAtClockChanges field)) = Some (FailsAtClockChanges field)
+reported_flaw (Some FailsAtMidnightChanges) = None
+
+-- what systemd 252 computes wrongly in a valid expression; it doesn't compute exceptions
+abbrev pub flaws_of : Assignment → List Problem
+flaws_of a = if is_exception a then [] else option_to_list (option_map OpenStep (reported_flaw (if_valid (flaw_in a.value))))
+
+-- what systemd 252 computes wrongly in a valid expression, and why the expression or exception may not mean what its
+-- author thinks
+abbrev pub concerns : Assignment → List Problem
+concerns a = flaws_of a ++ option_to_list (option_map Doubtful (if_valid (doubt_in a.value)))
+
+-- the problems of a valid expression or exception: why systemd 252 rejects the expression, and what may be wrong with its
+-- meaning; none if the value is not a valid expression
 abbrev pub advice : Assignment → List Problem
-advice a = rejections_of a ++ option_to_list (option_map Doubtful (if_valid (doubt_in a.value)))
+advice a = rejections_of a ++ concerns a
 
 abbrev pub value_problems : Option TimerFault → Assignment → List Problem
 value_problems (Some fault) a = Invalid fault ∷ []
@@ -71,7 +91,8 @@ value_problems None a = advice a
 abbrev pub problems_of : List FileFault → Assignment → List Problem
 problems_of faults a =
     if is_unknown_key a.key then UnknownKey ∷ []
-    else (if is_checked a then value_problems (fault_on faults a.number) a else [])
+    else (if is_checked a then value_problems (fault_on faults a.number) a
+    else option_to_list (option_map IgnoredValue (ignored_setting a)))
 
 -- the problem of a line that begins with `[`, if it has one: it isn't a section header, or systemd doesn't know the
 -- section
@@ -84,8 +105,8 @@ abbrev pub is_timer : Section → Bool
 is_timer Timer = true
 is_timer section = false
 
--- the problems of a line in a section that systemd knows, given the assignment in it; the assignments of other sections
--- than `Timer` have no problems
+-- the problems of a line in a section that systemd knows, given the assignment in it; outside sections `Timer`, only a
+-- missing `=` or an empty key is a problem
 abbrev pub assigned_problems : List FileFault → Section → Option Assignment → List Problem
 assigned_problems faults section None = NoEquals ∷ []
 assigned_problems faults section (Some a) =
@@ -108,8 +129,8 @@ line_problems faults placed =
     else (if begins_with_bracket placed.line.text then option_to_list (header_problem placed.line.text)
     else plain_problems faults placed.section placed.line)
 
--- the errors are expressions that the timer loses, and headers at which systemd stops reading the file; what systemd
--- ignores otherwise is a warning
+-- invalid or rejected expressions are errors, as are invalid exceptions and headers at which systemd stops reading the
+-- file; all other problems are warnings
 abbrev pub problem_kind_of : Problem → ProblemKind
 problem_kind_of (Invalid fault) = Error
 problem_kind_of UnknownKey = Warning
@@ -120,6 +141,8 @@ problem_kind_of UnknownSection = Warning
 problem_kind_of OutsideSection = Warning
 problem_kind_of NoEquals = Warning
 problem_kind_of NoKey = Warning
+problem_kind_of (IgnoredValue kind) = Warning
+problem_kind_of (OpenStep flaw) = Warning
 
 -- what contracts see of a finding: its line, its kind and its problem
 pub record FoundProblem : Type 0 where

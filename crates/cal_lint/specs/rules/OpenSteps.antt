@@ -120,8 +120,8 @@ may_change (Some (at_offset seconds)) = false
 
 -- Whether the search fails, or loses an elapse, around a clock change. When it goes on past the field's first number,
 -- systemd 252 returns to the first one, but interprets it in summer time or winter time as at the number that the step
--- reached. If the clock changes in between, it can return to the previous day, and search forever. For days this
--- depends on the length of the month; any number past the last can be one past the first.
+-- reached. If the clock changes in between, it can return to the previous day, and search forever.
+-- For days, the number at which the search goes on depends on the length of the month, so any such number counts here.
 abbrev pub fails_at_changes : Fields → Field → Bool
 fails_at_changes f Month = is_before (Some 1) (resumes_at f Month)
 fails_at_changes f Day = is_some (resumes_at f Day)

@@ -1,5 +1,5 @@
 -- The settings in the section `Timer` besides expressions and exceptions: of which kind they are, and which values systemd
--- takes (systemd.timer(5), Options).
+-- accepts (systemd.timer(5), Options).
 use Rattle.std.specs.Prelude.{ℕ, nat_eq, nat_lt, nat_le, Bool, true, false, find, ◌&&◌, ◌||◌, List, [], ◌∷◌, length, Option, Some, None, Ok, Err, Result, codes}
 use Rattle.std.specs.List.{ends_with, list_all, list_any}
 use Rattle.std.specs.Str.{bytes_eq, str_eq_ignore_ascii_case}
@@ -86,7 +86,7 @@ is_unit_name name =
 
 -- ## Values of each kind
 
--- Whether systemd takes this value for a setting of this kind; it ignores an assignment with any other value. A value of
+-- Whether systemd accepts this value for a setting of this kind; it ignores an assignment with any other value. A value of
 -- a monotonic timer or of `Unit=` that still has a `%` depends on the running system, and is taken as valid.
 abbrev pub is_taken_as : Option SettingKind → List ℕ → Bool
 is_taken_as None value = false
