@@ -1,10 +1,10 @@
 -- Lemmas on timers that are made of calendar expressions, without files.
-use Rattle.std.proofs.Common.{◌≡◌, ◌+◌, ◌<◌, ◌∙◌, ◌||◌, ℕ, Bool, Bor, List, Option, [], ◌∷◌, ◌++◌, None, Some, All, Ok, Err, true, false, ap, append-nil, cond, drop, get_or, inr, length, map, refl, string_bytes, subst, sym, take}
+use Rattle.std.proofs.Common.{◌≡◌, ◌+◌, ◌<◌, ◌∙◌, ◌||◌, ℕ, Bool, Bor, List, Option, [], ◌∷◌, ◌++◌, None, Some, All, Ok, Err, true, false, ap, cond, drop, get_or, inr, length, map, refl, string_bytes, subst, sym, take}
 use Rattle.std.proofs.lemmas.List.{drop_more, map-append, take-append-drop, take_more}
 use Rattle.std.proofs.lemmas.List.Elements.{All-head, All-tail}
 use Rattle.std.proofs.lemmas.List.Folds.{find-append, list_any-append, list_any-from_Any}
 use Rattle.std.proofs.lemmas.Slice.Eq.{bytes_eq-Decides}
-use Rattle.std.specs.List.{Contains, find, list_any}
+use Rattle.std.specs.List.{find, list_any}
 use Rattle.std.specs.Option.{option_or, option_to_list}
 use Rattle.std.specs.Prelude.{String, is_ok, not, option_copied, option_map}
 use Rattle.std.specs.Str.{bytes_eq}
@@ -127,7 +127,7 @@ zone_found zone (entry ∷ entries) h =
 
 -- the only error is about a zone file that can't be used
 pub zone_only : (Shows : Machine → Type 0) (texts : List (List ℕ)) (entries : List (TimerLine Fields)) (path : String Global) (reason : FileReason) (loaded : Loaded)
-    → AreOf texts entries → ((machine : Machine) → Shows machine → IsZonesError machine (zone_names_in entries ++ []) (zone_faults.At path reason))
+    → AreOf texts entries → ((machine : Machine) → Shows machine → IsZonesError machine (zone_names_in entries) (zone_faults.At path reason))
     → HasOnlyZoneFault entries path reason loaded → IsTimerOrReason Shows texts loaded
 zone_only Shows texts entries path reason loaded are error h =
     let single = h.1 in
@@ -135,7 +135,7 @@ zone_only Shows texts entries path reason loaded are error h =
     let same : ExpressionZone path reason ≡ single.fault.reason = cc in
     let on_machine : (machine : Machine) → Shows machine → IsUnusableZone machine entries (string_bytes single.fault.target) (string_bytes path) reason = λ machine shows.
     let found = error machine shows in
-    let has : Contains (zone_names_in entries) found.0 = subst (λ names. Contains names found.0) (append-nil (zone_names_in entries)) found.1 in
+    let has = found.1 in
     let first = zone_found found.0 entries (list_any-from_Any (bytes_eq found.0) (zone_names_in entries) (has.0, found.0, has.1, has.2, (bytes_eq-Decides found.0 found.0).1 refl)) in
     record {
       zone = found.0;

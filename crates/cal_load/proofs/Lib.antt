@@ -17,3 +17,5 @@ pub mod TextFaultLemmas
 pub mod TextLemmas
 pub mod TimerLemmas
 pub mod UnitLemmas
+pub mod UnusableZoneLemmas
+pub mod ZonedTimerLemmas

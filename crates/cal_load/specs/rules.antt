@@ -12,3 +12,4 @@ pub mod Readable
 pub mod Resolved
 pub mod Specifiers
 pub mod TextFaults
+pub mod UnusableZones

@@ -1,14 +1,17 @@
 //! The calendar of a timer, and how it is read from the timer's assignments.
 
-ghost use Rattle.std.specs.Prelude.{◌≡◌, ◌∷◌, ◌++◌, [], List, IfOk, OnOk, false, map, true};
+ghost use Rattle.std.specs.Prelude.{◌≡◌, ◌∷◌, ◌++◌, [], List, IfOk, OnOk, false, filter, map, true};
 ghost use Rattle.cal_timer.specs.rules.Assignments as assignments;
 ghost use Rattle.cal_timer.specs.rules.TimerView.{shown, shown_assignment};
 ghost use Rattle.cal_read.specs.rules.SectionAssignments.{shown_owned_assignment};
 ghost use Rattle.cal_load.specs.rules.Loaded.{AreReadFrom, entries_after, exceptions_in, expressions_in, ignored_more};
+ghost use Rattle.cal_load.specs.rules.UnusableZones.{has_zone};
 
+use crate::zones::retain_zoned;
 use cal_read::{Assignment, OwnedAssignment};
 use cal_spec::{SpecFault, read_expr};
 use cal_timer::TimerLine;
+use cal_zone::ZoneTable;
 use std::alloc::{AllocError, Global};
 
 /// The calendar expressions of a timer, and its exceptions.
@@ -58,6 +61,15 @@ impl Calendar {
         ensures { map shown result.now ≡ exceptions_in self.now }
     {
         self.exceptions.as_slice()
+    }
+
+    /// Removes the expressions and exceptions whose zone isn't in the table.
+    pub(crate) fn retain_zoned(&mut self, zones: &ZoneTable)
+        ensures expressions { expressions_in self.new ≡ filter (has_zone zones.now) (expressions_in self.old) }
+        ensures exceptions { exceptions_in self.new ≡ filter (has_zone zones.now) (exceptions_in self.old) }
+    {
+        retain_zoned(&mut self.lines, zones);
+        retain_zoned(&mut self.exceptions, zones);
     }
 }
 

@@ -89,7 +89,7 @@ fn with_zones<T: Tree>(
         (map (λ text. text.now) expressions.now)) }
     ensures grows { (machine : Machine) → T.shows tree.new machine → T.shows tree.old machine }
 {
-    match load_named_zones(alloc, tree, lines.as_slice(), &[]) {
+    match load_named_zones(alloc, tree, lines.as_slice()) {
         Ok(zones) => only_timer(alloc, join_with_commas(alloc, expressions)?, lines, zones),
         Err(ZonesFault::At(zone, reason)) => only_zone_fault(alloc, lines, zone, reason),
         // Of the other errors, only the one for running out of memory can occur. The rest are about the local zone,
@@ -116,6 +116,7 @@ fn only_timer(
         broken: Vec::new(alloc),
         calendar: Calendar::of_expressions(alloc, lines),
         ignored: Vec::new(alloc),
+        unusable_zones: Vec::new(alloc),
         zones,
         notes: Vec::new(alloc),
     })?;

@@ -27,3 +27,4 @@ pub use paths::is_path;
 pub use readable::{BrokenLine, BrokenReason};
 pub use target_fault::{TargetFault, TargetReason};
 pub use timers::load_timers;
+pub use zones::UnusableZone;

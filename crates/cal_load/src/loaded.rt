@@ -11,6 +11,7 @@ use crate::fault::{TargetLoadFault, push_fault};
 use crate::names::has_unit;
 use crate::readable::BrokenLine;
 use crate::target_fault::TargetFault;
+use crate::zones::UnusableZone;
 use cal_timer::TimerLine;
 use cal_unit_index::UnitText;
 use cal_zone::ZoneTable;
@@ -30,11 +31,15 @@ pub struct LoadedTimer {
     /// For each file, the line at which systemd stops reading the file, or `None`. The first is always `None`: a timer
     /// isn't loaded if systemd stops in its own file. In a drop-in, only the lines above the broken one count.
     pub broken: Vec<Option<BrokenLine>>,
-    /// The valid expressions and exceptions in these files, or the expressions that were given by themselves. Each of
-    /// the latter has its index, counted from 1, as its line number.
+    /// The valid expressions and exceptions in these files whose zone can be used, or the expressions that were given
+    /// by themselves. Each of the latter has its index, counted from 1, as its line number.
     pub calendar: Calendar,
     /// The lines with the invalid expressions and exceptions in these files, in order. They are ignored.
     pub ignored: Vec<IgnoredLine>,
+    /// The lines with valid expressions and exceptions in these files that are ignored because their zone can't be
+    /// used: first those with expressions, and then those with exceptions, each in order. Lines that are cleared
+    /// later aren't listed. Empty for expressions.
+    pub unusable_zones: Vec<UnusableZone>,
     /// The zones that the expressions and exceptions name.
     pub zones: ZoneTable,
     /// The expressions whose specifiers depend on more than the timer's name, and then the other settings that decide

@@ -40,8 +40,8 @@ pub(crate) struct Resolved {
 /// Fills in the specifiers in the assignments of the timer with this name. `name` is the name of a unit, or the path of
 /// a file that is read by itself: then the timer's own name is the part after the last slash.
 ///
-/// Assignments without specifiers are kept. For the others, where a specifier that systemd doesn't know in `Unit=` is
-/// invalid there:
+/// Assignments without specifiers are kept. In `Unit=`, a specifier that systemd doesn't know there is invalid. For
+/// assignments with specifiers:
 ///
 /// - If the specifiers stand for the timer's name or parts of it, they are filled in.
 /// - If they depend on anything else, an expression is moved to `unclear`. Any other assignment is kept as it is.

@@ -158,7 +158,7 @@ impl Draft {
         self.push_known(name, letter)
     }
 
-    /// Appends what the specifier with this letter stands for, if it is the timer's name or a part of it. Any other
+    /// Appends what the specifier with this letter stands for: `%`, the timer's name, or a part of the name. Any other
     /// specifier is taken as invalid.
     fn push_known(&mut self, name: &str, letter: u8) -> Result<(), AllocError>
         ensures { OnOk result (shown_draft self.new ≡ joined (shown_draft self.old) (known_in name.now letter)) }

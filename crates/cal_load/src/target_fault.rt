@@ -27,8 +27,9 @@ pub enum TargetReason {
     Line(String, u32, TimerFault),
     /// The timer has neither a calendar expression nor another setting that starts its unit.
     NothingToDo,
-    /// This line of the file at the first path names a zone whose file, at the second path, can't be used for this
-    /// reason.
+    /// Nothing starts the timer's unit, no line is ignored as invalid, and at least one is ignored because of its zone. The
+    /// values are the path of the timer's file, the number of the line, the path of the zone file, and why the zone file
+    /// can't be used. The line is the first one with such an expression or, if there is none, with such an exception.
     Zone(String, u32, String, FileReason),
     /// The expression, which was given instead of a timer, is invalid.
     Expression(SpecFault),
@@ -56,7 +57,10 @@ impl TargetFault {
     {
         matches!(
             self.reason,
-            TargetReason::Line(..) | TargetReason::NothingToDo | TargetReason::Broken(..)
+            TargetReason::Line(..)
+                | TargetReason::NothingToDo
+                | TargetReason::Zone(..)
+                | TargetReason::Broken(..)
         )
     }
 }

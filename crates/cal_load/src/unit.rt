@@ -1,6 +1,6 @@
 //! Reading a timer from its files.
 
-ghost use Rattle.std.specs.Prelude.{◌≡◌, ◌∷◌, ◌++◌, ℕ, List, None, Some, IfOk, OnOk, map, string_bytes};
+ghost use Rattle.std.specs.Prelude.{◌≡◌, ◌∷◌, ◌++◌, [], ℕ, List, None, Some, IfOk, OnOk, map, slice_get, string_bytes};
 ghost use Rattle.cal_machine.specs.rules.Machine.{Machine};
 ghost use Rattle.std.specs.Result.{IfErr};
 ghost use Rattle.cal_unit_index.specs.rules.DropIns.{drop_ins};
@@ -10,13 +10,15 @@ ghost use Rattle.cal_unit_index.specs.rules.Files.{UnitText as FileText, file_at
 ghost use Rattle.cal_unit_index.specs.rules.Index.{IsIndexOf};
 ghost use Rattle.cal_unit_index.specs.rules.Names.{names_on};
 ghost use Rattle.cal_unit_index.specs.rules.Units.{unit_on};
-ghost use Rattle.cal_zone_files.specs.rules.ZoneFiles.{zone_path};
-ghost use Rattle.cal_load.specs.rules.Notes.{note_text};
+ghost use Rattle.cal_zone.specs.rules.ZoneTable.{ZoneMap};
+ghost use Rattle.cal_zone_files.specs.rules.ZoneFiles.{HasZonesOf};
+ghost use Rattle.cal_load.specs.rules.Notes.{note_text, starts_unit};
 ghost use Rattle.cal_load.specs.rules.Position.{AreFirstLines, HasLine, IsLineIn};
-ghost use Rattle.cal_load.specs.rules.TextFaults.{IsAssignmentFault, IsFirstWithZone, IsReadFault, IsTextFault, IsZonesError, StartNothing, ignored_of_files, zone_names_of};
+ghost use Rattle.cal_load.specs.rules.TextFaults.{IsAssignmentReason, IsReadFault, IsTextFault, StartNothing, ignored_of_files};
 ghost use Rattle.cal_load.specs.rules.AllTargets.{IsReadAt};
 ghost use Rattle.cal_load.specs.rules.AllUnits.{IsFileFault, IsTimerFileFault, IsUnitFault, IsUnusableFault, unit_name};
-ghost use Rattle.cal_load.specs.rules.Loaded.{IsCalendarOf, IsStarted, IsTimerReadFrom, broken_of_files, broken_own, noted_in_files, unit_texts};
+ghost use Rattle.cal_load.specs.rules.Loaded.{IsCalendarBy, IsStartedBy, IsTimerReadFrom, broken_of_files, broken_own, entries_of_files, noted_in_files, timer_assignments, unclear_of_files, unit_texts};
+ghost use Rattle.cal_load.specs.rules.UnusableZones.{AreUnusableLines, IsFirstUnusable};
 ghost use Rattle.cal_load.specs.rules.LoadedTarget.{IsFoundTarget, IsLoadedFile, IsLoadedUnit, IsOwnFile};
 
 use crate::calendar::{Calendar, CalendarLines, IgnoredLine, read_calendar};
@@ -27,14 +29,13 @@ use crate::readable::BrokenLine;
 use crate::resolved::{Resolved, resolve};
 use crate::target_fault::TargetReason;
 use crate::texts::{ReadFiles, append, read_files};
-use crate::zones::{first_with_zone, load_named_zones};
+use crate::zones::{CalendarZones, UnusableZone, load_calendar_zones};
 use cal_machine::Tree;
 use cal_read::TimerFault;
 use cal_unit_index::{
     DropInTexts, DropIns, FileRead, Reason, Unit, UnitFault, UnitFile, UnitIndex, UnitText,
     find_drop_ins, find_unit, names_of, read_drop_ins, read_file,
 };
-use cal_zone_files::ZonesFault;
 use std::alloc::{AllocError, Global};
 
 /// What was read of the files of a timer.
@@ -44,6 +45,9 @@ struct ParsedFiles {
     broken: Vec<Option<BrokenLine>>,
     calendar: Calendar,
     ignored: Vec<IgnoredLine>,
+    /// Whether an expression that depends on more than the timer's name, or a setting that isn't an expression,
+    /// starts the timer's unit.
+    is_started: bool,
     notes: Vec<String>,
 }
 
@@ -187,7 +191,8 @@ pub(crate) fn read_timer_file<T: Tree>(
     Ok(LoadedTarget::Timer(timer_from_files(alloc, tree, name, files)?))
 }
 
-/// Parses the files of a timer, and loads the zones that they name.
+/// Parses the files of a timer, and loads the zones that they name. Fails if systemd doesn't read the timer's own
+/// file to the end, if a file is too large, or if nothing starts the timer's unit.
 fn timer_from_files<T: Tree>(
     alloc: Global,
     tree: &mut T,
@@ -201,19 +206,21 @@ fn timer_from_files<T: Tree>(
         → IsTextFault machine (string_bytes name) (map shown_unit_text files.items) fault) }
     ensures grows { (machine : Machine) → T.shows tree.new machine → T.shows tree.old machine }
 {
-    let parsed = parse_files(alloc, name.as_str(), files.as_slice())?;
-    let calendar = &parsed.calendar;
-    let zones = match load_named_zones(alloc, tree, calendar.lines(), calendar.exceptions()) {
-        Ok(zones) => zones,
-        Err(fault) => return Err(zone_fault(alloc, files.as_slice(), &parsed, fault)),
-    };
+    let mut parsed = parse_files(alloc, name.as_str(), files.as_slice())?;
+    let found = load_calendar_zones(alloc, tree, &mut parsed.calendar)?;
+    if !parsed.is_started && parsed.calendar.lines().is_empty() {
+        let reason = start_reason(alloc, files.as_slice(), &parsed, found.unusable.as_slice())?;
+        return Err(TargetLoadFault::Target(reason));
+    }
     let ParsedFiles {
         first_lines,
         broken,
         calendar,
         ignored,
         notes,
+        ..
     } = parsed;
+    let CalendarZones { zones, unusable } = found;
     Ok(LoadedTimer {
         name,
         files,
@@ -221,13 +228,14 @@ fn timer_from_files<T: Tree>(
         broken,
         calendar,
         ignored,
+        unusable_zones: unusable,
         zones,
         notes,
     })
 }
 
-/// Parses the files of the timer with this name. Fails if systemd doesn't read the timer's own file to the end, if a
-/// file is too large, or if nothing starts the timer's unit.
+/// Parses the files of the timer with this name. Fails if systemd doesn't read the timer's own file to the end, or if a
+/// file is too large.
 fn parse_files(
     alloc: Global,
     name: &str,
@@ -235,8 +243,9 @@ fn parse_files(
 ) -> Result<ParsedFiles, TargetLoadFault>
     ensures whole { OnOk result (broken_own (map shown_unit_text files.now) ≡ None) }
     ensures broken { IfOk result (λ parsed. parsed.broken.items ≡ broken_of_files (map shown_unit_text files.now)) }
-    ensures calendar { IfOk result (λ parsed. IsCalendarOf name.now (map shown_unit_text files.now) parsed.calendar) }
-    ensures starts { OnOk result (IsStarted name.now (map shown_unit_text files.now)) }
+    ensures calendar { IfOk result (λ parsed. IsCalendarBy (timer_assignments name.now (map shown_unit_text files.now)) parsed.calendar) }
+    ensures starts { IfOk result (λ parsed. IsStartedBy (unclear_of_files name.now (map shown_unit_text files.now))
+        (starts_unit (timer_assignments name.now (map shown_unit_text files.now))) parsed.is_started) }
     ensures ignored { IfOk result (λ parsed. parsed.ignored.items ≡ ignored_of_files name.now (map shown_unit_text files.now)) }
     ensures numbered { IfOk result (λ parsed. AreFirstLines (map shown_unit_text files.now) parsed.first_lines.items) }
     ensures notes { IfOk result (λ parsed. map string_bytes parsed.notes.items
@@ -257,9 +266,7 @@ fn parse_files(
     } = resolve(alloc, name, assignments)?;
     let CalendarLines { calendar, ignored } = read_calendar(alloc, assignments.as_slice())?;
     let notes = notes_of(alloc, name, assignments)?;
-    if calendar.lines().is_empty() && unclear.is_empty() && !can_start(notes.as_slice()) {
-        return Err(start_fault(alloc, files, first_lines.as_slice(), ignored.as_slice()));
-    }
+    let is_started = !unclear.is_empty() || can_start(notes.as_slice());
     let mut noted = unclear;
     append(&mut noted, notes)?;
     Ok(ParsedFiles {
@@ -267,6 +274,7 @@ fn parse_files(
         broken,
         calendar,
         ignored,
+        is_started,
         notes: shown_notes(alloc, noted.as_slice())?,
     })
 }
@@ -292,29 +300,64 @@ fn broken_fault(alloc: Global, files: &[UnitText], line: BrokenLine) -> TargetLo
     }
 }
 
-/// Returns the error for a timer whose unit nothing starts. It is the error of the first ignored line, with the line's
-/// number in the file that has it, or [`TargetReason::NothingToDo`] if no line is ignored.
-fn start_fault(
+/// Returns why a timer whose unit nothing starts can't be loaded. The reason is the first line that is ignored as
+/// invalid, or else the first one whose zone can't be used. If there is neither, it is [`TargetReason::NothingToDo`].
+fn start_reason(
+    alloc: Global,
+    files: &[UnitText],
+    parsed: &ParsedFiles,
+    unusable: &[UnusableZone],
+) -> Result<TargetReason, AllocError>
+    requires { AreFirstLines (map shown_unit_text files.now) parsed.now.first_lines.items }
+    ensures { IfOk result (λ reason. (machine : Machine) (name : List ℕ) (table : ZoneMap)
+        → parsed.now.ignored.items ≡ ignored_of_files name (map shown_unit_text files.now)
+        → HasZonesOf machine table → AreUnusableLines machine table (entries_of_files name (map shown_unit_text files.now)) unusable.now
+        → StartNothing machine name (map shown_unit_text files.now) → IsAssignmentReason machine name (map shown_unit_text files.now) reason) }
+{
+    let first_lines = parsed.first_lines.as_slice();
+    if let Some(first) = parsed.ignored.first() {
+        return line_reason(alloc, files, first_lines, *first);
+    }
+    match unusable.first() {
+        Some(first) => zone_reason(alloc, files, first_lines, first),
+        None => Ok(TargetReason::NothingToDo),
+    }
+}
+
+/// Returns [`TargetReason::Line`] for `first`, the first line that is ignored as invalid, with its number in its file.
+fn line_reason(
     alloc: Global,
     files: &[UnitText],
     first_lines: &[u32],
-    ignored: &[IgnoredLine],
-) -> TargetLoadFault
+    first: IgnoredLine,
+) -> Result<TargetReason, AllocError>
     requires { AreFirstLines (map shown_unit_text files.now) first_lines.now }
-    ensures { (name : List ℕ) → ignored.now ≡ ignored_of_files name (map shown_unit_text files.now)
-        → StartNothing name (map shown_unit_text files.now) → IsAssignmentFault name (map shown_unit_text files.now) result }
+    ensures { IfOk result (λ reason. (machine : Machine) (name : List ℕ)
+        → slice_get (ignored_of_files name (map shown_unit_text files.now)) 0 ≡ Some first
+        → StartNothing machine name (map shown_unit_text files.now) → IsAssignmentReason machine name (map shown_unit_text files.now) reason) }
 {
-    let Some(first) = ignored.first() else {
-        return TargetLoadFault::Target(TargetReason::NothingToDo);
-    };
     let (path, line) = line_in(files, first_lines, first.number);
-    match String::from_str(alloc, path) {
-        Ok(path) => {
-            let fault = TimerFault::BadLine(line, first.fault);
-            TargetLoadFault::Target(TargetReason::Line(path, line, fault))
-        }
-        Err(_) => TargetLoadFault::NoMemory,
-    }
+    let path = String::from_str(alloc, path)?;
+    Ok(TargetReason::Line(path, line, TimerFault::BadLine(line, first.fault)))
+}
+
+/// Returns [`TargetReason::Zone`] for `first`, the first line whose zone can't be used, with its number in its file.
+fn zone_reason(
+    alloc: Global,
+    files: &[UnitText],
+    first_lines: &[u32],
+    first: &UnusableZone,
+) -> Result<TargetReason, AllocError>
+    requires { AreFirstLines (map shown_unit_text files.now) first_lines.now }
+    ensures { IfOk result (λ reason. (machine : Machine) (name : List ℕ) (entry : TimerLine Fields) → first.now.number ≡ entry.number
+        → IsFirstUnusable machine (entries_of_files name (map shown_unit_text files.now)) entry (string_bytes first.now.path) first.now.reason
+        → ignored_of_files name (map shown_unit_text files.now) ≡ [] → StartNothing machine name (map shown_unit_text files.now)
+        → IsAssignmentReason machine name (map shown_unit_text files.now) reason) }
+{
+    let (path, line) = line_in(files, first_lines, first.number);
+    let path = String::from_str(alloc, path)?;
+    let zone = String::from_str(alloc, first.path.as_str())?;
+    Ok(TargetReason::Zone(path, line, zone, first.reason))
 }
 
 /// Returns the path of the file that has the line with this continued number, and the line's number in that file,
@@ -327,44 +370,5 @@ fn line_in<'f>(files: &'f [UnitText], first_lines: &[u32], number: u32) -> (&'f 
     match position_in(files, first_lines, number) {
         Some(position) => position,
         None => ("", number),
-    }
-}
-
-/// Returns the error for a timer whose zones can't be loaded.
-fn zone_fault(
-    alloc: Global,
-    files: &[UnitText],
-    parsed: &ParsedFiles,
-    fault: ZonesFault,
-) -> TargetLoadFault
-    requires { AreFirstLines (map shown_unit_text files.now) parsed.now.first_lines.items }
-    ensures { (machine : Machine) (name : List ℕ) → IsCalendarOf name (map shown_unit_text files.now) parsed.now.calendar
-        → IsZonesError machine (zone_names_of parsed.now.calendar) fault
-        → IsTextFault machine name (map shown_unit_text files.now) result }
-{
-    match fault {
-        ZonesFault::At(zone, reason) => {
-            let number = line_with_zone(&parsed.calendar, zone.as_str());
-            let (path, line) = line_in(files, parsed.first_lines.as_slice(), number);
-            match String::from_str(alloc, path) {
-                Ok(path) => TargetLoadFault::Target(TargetReason::Zone(path, line, zone, reason)),
-                Err(_) => TargetLoadFault::NoMemory,
-            }
-        }
-        // Of the other errors, only the one for running out of memory can occur. The rest are about the local zone,
-        // which isn't looked up here.
-        _ => TargetLoadFault::NoMemory,
-    }
-}
-
-/// Returns the continued number of the line with the first expression that names the zone whose file is at `path`, or,
-/// if no expression names it, of the line with the first exception that names it.
-fn line_with_zone(calendar: &Calendar, path: &str) -> u32
-    ensures { (zone : List ℕ) (entry : TimerLine Fields) → path.now ≡ zone_path zone
-        → IsFirstWithZone calendar.now zone entry → result ≡ entry.number }
-{
-    match first_with_zone(calendar.lines(), path).or(first_with_zone(calendar.exceptions(), path)) {
-        Some(line) => line.number,
-        None => 1,
     }
 }

@@ -1,42 +1,169 @@
 //! The zones that the expressions of a timer name.
 
-ghost use Rattle.std.specs.Prelude.{◌≡◌, ◌++◌, ℕ, List, IfOk, OnOk, map, option_copied, string_bytes};
+ghost use Rattle.std.specs.Prelude.{◌≡◌, ◌∷◌, ◌++◌, [], ℕ, List, IfOk, OnOk, filter, map, not, option_copied, string_bytes};
 ghost use Rattle.std.specs.List.{find};
 ghost use Rattle.std.specs.Option.{option_to_list};
 ghost use Rattle.std.specs.Result.{IfErr};
+ghost use Rattle.cal_spec.specs.rules.Fields.{Fields};
 ghost use Rattle.cal_zone_files.specs.rules.ZoneFiles.{HasZonesOf, zone_path};
+ghost use Rattle.cal_timer.specs.rules.TimerEntries.{TimerLine as Entry};
 ghost use Rattle.cal_timer.specs.rules.TimerView.{shown};
 ghost use Rattle.cal_machine.specs.rules.Machine.{Machine};
 ghost use Rattle.cal_load.specs.rules.Expressions.{names_zone};
-ghost use Rattle.cal_load.specs.rules.Loaded.{HasNames, zone_names_in};
+ghost use Rattle.cal_load.specs.rules.Loaded.{HasNames, IsTried, IsZoned, is_loaded, zone_names_in};
 ghost use Rattle.cal_load.specs.rules.TextFaults.{IsZonesError};
+ghost use Rattle.cal_load.specs.rules.UnusableZones.{has_zone};
 
+use crate::calendar::Calendar;
 use cal_machine::{Tree, after_prefix};
 use cal_timer::TimerLine;
 use cal_zone::ZoneTable;
-use cal_zone_files::{ZonesFault, load_zones};
+use cal_zone_files::{FileReason, ZonesFault, load_zone, load_zones};
 use std::alloc::{AllocError, Global};
+
+/// A line with an expression or an exception that is ignored because the zone that it names can't be used.
+#[derive(Debug, Drop)]
+pub struct UnusableZone {
+    /// The number of the line. Line numbers continue from file to file.
+    pub number: u32,
+    /// The path of the zone file.
+    pub path: String,
+    /// Why the zone file can't be used.
+    pub reason: FileReason,
+}
+
+/// The zones of a calendar that were loaded, and the lines whose zone can't be used.
+#[derive(Drop)]
+pub(crate) struct CalendarZones {
+    pub(crate) zones: ZoneTable,
+    /// First the lines with expressions, and then those with exceptions, each in order.
+    pub(crate) unusable: Vec<UnusableZone>,
+}
 
 /// The folder of the zone files, from which [`load_zones`] reads them.
 const ZONE_FOLDER: &str = "/usr/share/zoneinfo/";
 
-/// Loads the zones that the expressions and the exceptions name.
+/// Loads the zones that a calendar names, each by itself. As in systemd, a line whose zone can't be used is ignored: it
+/// is removed from the calendar, and the others stay. Fails only if allocation fails.
+pub(crate) fn load_calendar_zones<T: Tree>(
+    alloc: Global,
+    tree: &mut T,
+    calendar: &mut Calendar,
+) -> Result<CalendarZones, AllocError>
+    ensures known { IfOk result (λ found. (machine : Machine) → T.shows tree.new machine
+        → IsZoned machine calendar.old calendar.new found) }
+    ensures grows { (machine : Machine) → T.shows tree.new machine → T.shows tree.old machine }
+{
+    let mut found = CalendarZones {
+        zones: ZoneTable::new(alloc),
+        unusable: Vec::new(alloc),
+    };
+    try_zones(alloc, tree, &mut found, calendar.lines())?;
+    try_zones(alloc, tree, &mut found, calendar.exceptions())?;
+    let CalendarZones {
+        zones,
+        mut unusable,
+    } = found;
+    calendar.retain_zoned(&zones);
+    retain_unloaded(&mut unusable, &zones);
+    Ok(CalendarZones { zones, unusable })
+}
+
+/// Loads the zones that these lines name. Adds each line whose zone can't be used to the unusable zones.
+fn try_zones<T: Tree>(
+    alloc: Global,
+    tree: &mut T,
+    found: &mut CalendarZones,
+    lines: &[TimerLine],
+) -> Result<(), AllocError>
+    ensures tried { OnOk result ((machine : Machine) (before : List (Entry Fields)) → T.shows tree.new machine
+        → IsTried machine before found.old → IsTried machine (before ++ map shown lines.now) found.new) }
+    ensures grows { (machine : Machine) → T.shows tree.new machine → T.shows tree.old machine }
+{
+    for line in lines {
+        try_zone(alloc, tree, found, line)?;
+    }
+    Ok(())
+}
+
+/// Loads the zone that the line names, if it names one. If the zone can't be used, adds the line to the unusable zones.
+fn try_zone<T: Tree>(
+    alloc: Global,
+    tree: &mut T,
+    found: &mut CalendarZones,
+    line: &TimerLine,
+) -> Result<(), AllocError>
+    ensures tried { OnOk result ((machine : Machine) (before : List (Entry Fields)) → T.shows tree.new machine
+        → IsTried machine before found.old → IsTried machine (before ++ shown line.now ∷ []) found.new) }
+    ensures grows { (machine : Machine) → T.shows tree.new machine → T.shows tree.old machine }
+{
+    let Some(name) = line.expr.zone_name() else {
+        return Ok(());
+    };
+    let number = line.number;
+    match load_zone(alloc, tree, &mut found.zones, name) {
+        Ok(()) => Ok(()),
+        Err(ZonesFault::At(path, reason)) => {
+            found.unusable.push(UnusableZone {
+                number,
+                path,
+                reason,
+            })?;
+            Ok(())
+        }
+        // Of the other errors, only the one for running out of memory can occur. The rest are about the local zone,
+        // which isn't looked up here.
+        Err(_) => Err(AllocError),
+    }
+}
+
+/// Removes the lines whose zone isn't in the table.
+pub(crate) fn retain_zoned(lines: &mut Vec<TimerLine>, zones: &ZoneTable)
+    ensures { map shown lines.new.items ≡ filter (has_zone zones.now) (map shown lines.old.items) }
+{
+    lines.retain(|line| has_zone(zones, line));
+}
+
+fn has_zone(zones: &ZoneTable, line: &TimerLine) -> bool
+    ensures { result ≡ has_zone zones.now (shown line.now) }
+{
+    match line.expr.zone_name() {
+        Some(name) => zones.find(name).is_some(),
+        None => true,
+    }
+}
+
+/// Removes the lines whose zone is in the table after all: it could be loaded for a later line, because its file
+/// changed in between.
+fn retain_unloaded(unusable: &mut Vec<UnusableZone>, zones: &ZoneTable)
+    ensures { unusable.new.items ≡ filter (λ line. not (is_loaded zones.now line)) unusable.old.items }
+{
+    unusable.retain(|line| !is_loaded(zones, line));
+}
+
+fn is_loaded(zones: &ZoneTable, line: &UnusableZone) -> bool
+    ensures { result ≡ is_loaded zones.now line.now }
+{
+    match after_prefix(ZONE_FOLDER, line.path.as_str()) {
+        Some(name) => zones.find(name).is_some(),
+        None => true,
+    }
+}
+
+/// Loads the zones that these lines name. Fails if one of them can't be loaded.
 pub(crate) fn load_named_zones<T: Tree>(
     alloc: Global,
     tree: &mut T,
     lines: &[TimerLine],
-    exceptions: &[TimerLine],
 ) -> Result<ZoneTable, ZonesFault>
-    ensures names { IfOk result (λ table.
-        HasNames table (zone_names_in (map shown lines.now) ++ zone_names_in (map shown exceptions.now))) }
+    ensures names { IfOk result (λ table. HasNames table (zone_names_in (map shown lines.now))) }
     ensures zones { IfOk result (λ table. (machine : Machine) → T.shows tree.new machine → HasZonesOf machine table) }
-    ensures fault { IfErr result (λ fault. (machine : Machine) → T.shows tree.new machine → IsZonesError machine
-        (zone_names_in (map shown lines.now) ++ zone_names_in (map shown exceptions.now)) fault) }
+    ensures fault { IfErr result (λ fault. (machine : Machine) → T.shows tree.new machine
+        → IsZonesError machine (zone_names_in (map shown lines.now)) fault) }
     ensures grows { (machine : Machine) → T.shows tree.new machine → T.shows tree.old machine }
 {
     let mut names = Vec::new(alloc);
     push_zone_names(alloc, &mut names, lines)?;
-    push_zone_names(alloc, &mut names, exceptions)?;
     load_zones(alloc, tree, names.as_slice())
 }
 

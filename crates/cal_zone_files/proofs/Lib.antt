@@ -1,2 +1,2 @@
-mod ZoneLemmas
+pub mod ZoneLemmas
 mod ZoneRows

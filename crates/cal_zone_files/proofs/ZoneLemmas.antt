@@ -24,7 +24,7 @@ use Rattle.cal_zone_files.specs.declared.fault.FileReason.TheVariants as reasons
 use Rattle.cal_zone.specs.rules.AddedZones.{is_taken}
 use Rattle.cal_zone.specs.rules.ZoneTable.{ZoneMap, zone_named}
 use Rattle.cal_zone.proofs.ZoneMapLemmas.{zone_named-here, zone_named-elsewhere}
-use Rattle.cal_zone_files.specs.rules.ZoneFiles.{HasZonesOf, IsFirstError, IsLoadError, IsMachineZone, IsReasonOn, IsZoneAdded, IsZoneIn, IsZoneOn, bytes_in, rejection, zone_file, zone_path}
+use Rattle.cal_zone_files.specs.rules.ZoneFiles.{HasZone, HasZonesOf, IsFirstError, IsLoadError, IsMachineZone, IsReasonOn, IsZoneAdded, IsZoneIn, IsZoneOn, bytes_in, rejection, zone_file, zone_path}
 use Rattle.cal_zone_files.specs.rules.MachineLocalZone.{IsResultOf, MachineLocalZone, localtime, unread_fault}
 use Rattle.cal_zone_files.specs.rules.MachineLocalZone.MachineLocalZone.{UnreadIn}
 use Rattle.cal_zone_files.specs.declared.fault.FileReason.{FileReason}
@@ -133,7 +133,8 @@ added_zones machine old new name IsZone a on held other utc =
 either_of : (a b : Bool) → a ≡ false → b ≡ true → (a || b) ≡ true
 either_of a b off on = rw (off, on) refl
 
-usable_of : (machine : Machine) (other : List ℕ) (o : Option TimeZone) → is_some o ≡ true → IfSome o (IsZoneOn machine other) → (zone : TimeZone) × IsZoneOn machine other zone
+-- if the table has a zone for this name, the machine has it too
+pub usable_of : (machine : Machine) (other : List ℕ) (o : Option TimeZone) → is_some o ≡ true → IfSome o (IsZoneOn machine other) → HasZone machine other
 usable_of machine other None there on = absurd (false≢true there)
 usable_of machine other (Some zone) there on = (zone, on)
 

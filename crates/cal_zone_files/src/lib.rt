@@ -8,4 +8,4 @@ mod texts;
 
 pub use clock::{MachineLocalZone, find_local_zone};
 pub use fault::{FileReason, Origin, ZonesFault};
-pub use load::{load_machine_zone, load_zones};
+pub use load::{load_machine_zone, load_zone, load_zones};

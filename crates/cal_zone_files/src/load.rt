@@ -1,6 +1,6 @@
 //! Loading the machine's own zone, and the zones that expressions name.
 
-ghost use Rattle.std.specs.Prelude.{◌≡◌, ◌||◌, ℕ, List, IfErr, IfOk, OnOk, false, is_some, map, string_bytes};
+ghost use Rattle.std.specs.Prelude.{◌≡◌, ◌||◌, ℕ, List, IfErr, IfOk, OnErr, OnOk, false, is_some, map, string_bytes};
 ghost use Rattle.std.specs.List.{list_any};
 ghost use Rattle.std.specs.Str.{bytes_eq};
 ghost use Rattle.cal_civil.specs.rules.ZoneName.{is_utc_name};
@@ -38,11 +38,38 @@ pub fn load_zones<T: Tree>(
 {
     let mut table = ZoneTable::new(alloc);
     for name in names {
-        if let Err(fault) = load_name(alloc, tree, &mut table, name.as_str()) {
+        if let Err(fault) = load_zone(alloc, tree, &mut table, name.as_str()) {
             return Err(fault);
         }
     }
     Ok(table)
+}
+
+/// Loads the zone of this name into the table, unless the table already has it. The zone is loaded from its file
+/// `/usr/share/zoneinfo/NAME` (RFC 8536). The name `UTC`, ignoring case, needs no file.
+///
+/// Fails with [`ZonesFault::At`] and the path of the file if the file can't be used, for the same reasons as in
+/// [`load_zones`], and with [`ZonesFault::NoMemory`] if allocation fails. On failure the table is unchanged.
+pub fn load_zone<T: Tree>(
+    alloc: Global,
+    tree: &mut T,
+    table: &mut ZoneTable,
+    name: &str,
+) -> Result<(), ZonesFault>
+    ensures names { OnOk result ((other : List ℕ) → is_some (zone_named table.new other)
+        ≡ (is_some (zone_named table.old other) || bytes_eq other name.now)) }
+    ensures zones { OnOk result ((machine : Machine) → T.shows tree.new machine
+        → HasZonesOf machine table.old → HasZonesOf machine table.new) }
+    ensures unchanged { OnErr result (table.new ≡ table.old) }
+    ensures missing { OnErr result (is_some (zone_named table.old name.now) ≡ false) }
+    ensures fault { IfErr result (λ fault. (machine : Machine) → T.shows tree.new machine
+        → IsLoadError machine name.now fault) }
+    ensures grows { (machine : Machine) → T.shows tree.new machine → T.shows tree.old machine }
+{
+    if table.find(name).is_some() {
+        return Ok(());
+    }
+    add_zone(alloc, tree, table, name)
 }
 
 /// Returns the machine's own zone: the one in the zone file to which `/etc/localtime` leads (localtime(5), RFC 8536).
@@ -71,27 +98,6 @@ fn zone_in(alloc: Global, bytes: &[u8]) -> Result<Option<Rules>, AllocError>
     }
 }
 
-/// Loads the zone of this name into the table, unless the table already has it.
-fn load_name<T: Tree>(
-    alloc: Global,
-    tree: &mut T,
-    table: &mut ZoneTable,
-    name: &str,
-) -> Result<(), ZonesFault>
-    ensures names { OnOk result ((other : List ℕ) → is_some (zone_named table.new other)
-        ≡ (is_some (zone_named table.old other) || bytes_eq other name.now)) }
-    ensures zones { OnOk result ((machine : Machine) → T.shows tree.new machine
-        → HasZonesOf machine table.old → HasZonesOf machine table.new) }
-    ensures fault { IfErr result (λ fault. (machine : Machine) → T.shows tree.new machine
-        → IsLoadError machine name.now fault) }
-    ensures grows { (machine : Machine) → T.shows tree.new machine → T.shows tree.old machine }
-{
-    if table.find(name).is_some() {
-        return Ok(());
-    }
-    add_zone(alloc, tree, table, name)
-}
-
 /// Loads the zone of this name into the table. The caller has checked that the table doesn't have the zone yet.
 fn add_zone<T: Tree>(
     alloc: Global,
@@ -102,6 +108,7 @@ fn add_zone<T: Tree>(
     requires { is_some (zone_named table.old name.now) ≡ false }
     ensures added { OnOk result (IsZoneAdded table.old table.new name.now
         (λ zone. (machine : Machine) → T.shows tree.new machine → IsZoneOn machine name.now zone)) }
+    ensures unchanged { OnErr result (table.new ≡ table.old) }
     ensures fault { IfErr result (λ fault. (machine : Machine) → T.shows tree.new machine
         → IsLoadError machine name.now fault) }
     ensures grows { (machine : Machine) → T.shows tree.new machine → T.shows tree.old machine }
@@ -155,6 +162,7 @@ fn zone_file<T: Tree>(
 fn add_file(alloc: Global, table: &mut ZoneTable, name: &str, bytes: &[u8]) -> Result<(), ZoneFault>
     requires { is_some (zone_named table.old name.now) ≡ false }
     ensures added { OnOk result (IsZoneAdded table.old table.new name.now (IsFileZone name.now bytes.now)) }
+    ensures unchanged { OnErr result (table.new ≡ table.old) }
     ensures fault { IfErr result (IsFileFault name.now bytes.now) }
 {
     let Some(name) = ZoneName::new(name) else {

@@ -29,18 +29,19 @@ abbrev pub AreOf : List (List ℕ) → List (TimerLine Fields) → Type 0
 AreOf texts entries =
     (map (λ entry. entry.text) entries ≡ texts) × All (λ entry. expr_in entry.text ≡ Ok entry.expr) entries
 
--- the timer has these entries as its expressions, no exceptions, this table of zones, and no lines that are ignored
+-- the timer has these entries as its expressions, no exceptions, this table of zones, and no lines that are ignored as
+-- invalid or for their zone
 abbrev pub IsTimerOf : List (TimerLine Fields) → ZoneMap → LoadedTimer → Type 0
 IsTimerOf entries table timer =
     (expressions_in timer.calendar ≡ entries) × (exceptions_in timer.calendar ≡ []) × (timer.zones ≡ table)
-    × (timer.ignored.items ≡ [])
+    × (timer.ignored.items ≡ []) × (timer.unusable_zones.items ≡ [])
 
 -- the timer has these expressions and no exceptions, the zones of the machine that the expressions name, and no lines
--- that are ignored
+-- that are ignored as invalid or for their zone
 abbrev pub IsMadeOf : Machine → List (List ℕ) → LoadedTimer → Type 0
 IsMadeOf machine texts timer =
     AreOf texts (expressions_in timer.calendar) × (exceptions_in timer.calendar ≡ [])
-    × HasZones machine timer.calendar timer.zones × (timer.ignored.items ≡ [])
+    × HasZones machine timer.calendar timer.zones × (timer.ignored.items ≡ []) × (timer.unusable_zones.items ≡ [])
 
 -- ## Errors
 

@@ -1,11 +1,13 @@
 -- Timers that are loaded from the files of a machine: systemd.unit(5), Description, and systemd.timer(5), OnCalendar=.
-use Rattle.std.specs.Prelude.{◌≡◌, ◌⊎◌, ◌+◌, ◌||◌, ℕ, Bool, true, if◌then◌else◌, List, [], ◌∷◌, ◌++◌, Option, None, Some, Result, Ok, Err, codes, filter, is_some, length, map, string_bytes}
+use Rattle.std.specs.Prelude.{◌≡◌, ◌⊎◌, ◌+◌, ◌||◌, ℕ, Bool, false, true, if◌then◌else◌, List, [], ◌∷◌, ◌++◌, Option, None, Some, Result, Ok, Err, codes, filter, is_some, length, map, string_bytes}
 use Rattle.std.specs.List.{filter_map, flat_map, list_any}
 use Rattle.std.specs.Option.{option_to_list}
 use Rattle.std.specs.Str.{bytes_eq}
 use Rattle.std.specs.Str.Lines.{lines}
 use Rattle.cal_civil.specs.rules.ZoneName.{is_utc_name}
 use Rattle.cal_unit_index.specs.rules.DropIns.{drop_ins}
+use Rattle.cal_machine.specs.rules.Prefix.{after_prefix}
+use Rattle.cal_zone_files.specs.rules.MachineLocalZone.{zone_folder}
 use Rattle.cal_zone_files.specs.rules.ZoneFiles.{HasZonesOf}
 use Rattle.cal_spec.specs.computed.Expr.{expr_in}
 use Rattle.cal_spec.specs.declared.spec_fault.SpecFault.{SpecFault}
@@ -31,6 +33,9 @@ use Rattle.cal_load.specs.rules.Notes.{note_text, notes_in, starts_unit}
 use Rattle.cal_load.specs.rules.Position.{AreFirstLines}
 use Rattle.cal_load.specs.rules.Readable.{assignments_read, broken_line}
 use Rattle.cal_load.specs.rules.Resolved.{resolved_in, unclear_in}
+use Rattle.cal_load.specs.rules.UnusableZones.{AreUnusableLines, IsUnusableLine, has_zone, is_zone_in}
+use Rattle.cal_load.specs.declared.zones.CalendarZones.{CalendarZones}
+use Rattle.cal_load.specs.declared.zones.UnusableZone.{UnusableZone}
 use Rattle.cal_load.specs.declared.readable.BrokenLine.{BrokenLine}
 
 -- The files of the unit whose own file is at the path `file`: this file, and then its drop-ins, in the order in which
@@ -96,21 +101,28 @@ expressions_in calendar = map shown calendar.lines.items
 abbrev pub exceptions_in : calendars.Calendar → List (TimerLine Fields)
 exceptions_in calendar = map shown calendar.exceptions.items
 
--- the calendar has those expressions and exceptions of these assignments that are valid and aren't cleared later, and no
--- others
-abbrev pub IsCalendarBy : List Assignment → calendars.Calendar → Type 0
-IsCalendarBy assignments calendar =
-    (expressions_in calendar ≡ entries_of expr_in (listed assignments))
-    × (exceptions_in calendar ≡ entries_of expr_in (excepted assignments))
+-- the expressions of the timer `name` that are valid and aren't cleared later
+abbrev pub expressions_of_files : List ℕ → List UnitText → List (TimerLine Fields)
+expressions_of_files name files = entries_of expr_in (listed (timer_assignments name files))
 
-abbrev pub IsCalendarOf : List ℕ → List UnitText → calendars.Calendar → Type 0
-IsCalendarOf name files calendar = IsCalendarBy (timer_assignments name files) calendar
+-- the exceptions of the timer `name` that are valid and aren't cleared later
+abbrev pub exceptions_of_files : List ℕ → List UnitText → List (TimerLine Fields)
+exceptions_of_files name files = entries_of expr_in (excepted (timer_assignments name files))
 
--- The files of the timer `name` start its unit: by a valid expression that isn't cleared later, or else by one that
--- depends on more than the timer's name, or by another setting.
-abbrev pub IsStarted : List ℕ → List UnitText → Type 0
-IsStarted name files =
-    entries_of expr_in (listed (timer_assignments name files)) ≡ [] → unclear_of_files name files ≡ []
+abbrev pub entries_of_files : List ℕ → List UnitText → List (TimerLine Fields)
+entries_of_files name files = expressions_of_files name files ++ exceptions_of_files name files
+
+-- the calendar has those of the timer's expressions and exceptions whose zone is in the table
+abbrev pub IsCalendarOf : List ℕ → List UnitText → ZoneMap → calendars.Calendar → Type 0
+IsCalendarOf name files table calendar =
+    (expressions_in calendar ≡ filter (has_zone table) (expressions_of_files name files))
+    × (exceptions_in calendar ≡ filter (has_zone table) (exceptions_of_files name files))
+
+-- The files of the timer `name` start its unit: by a valid expression that isn't cleared later and whose zone is in the
+-- table, or else by one that depends on more than the timer's name, or by another setting.
+abbrev pub IsStarted : List ℕ → List UnitText → ZoneMap → Type 0
+IsStarted name files table =
+    filter (has_zone table) (expressions_of_files name files) ≡ [] → unclear_of_files name files ≡ []
     → starts_unit (timer_assignments name files) ≡ true
 
 -- the line of an assignment that is ignored because its expression is invalid, given the result of parsing it
@@ -147,10 +159,11 @@ pub record IsTimerReadFrom (machine : Machine) (files : List UnitText) (timer : 
   pub has_first_lines : AreFirstLines files timer.first_lines.items
   pub is_whole : broken_own files ≡ None
   pub has_broken : timer.broken.items ≡ broken_of_files files
-  pub has_calendar : IsCalendarOf (string_bytes timer.name) files timer.calendar
-  pub is_started : IsStarted (string_bytes timer.name) files
+  pub has_calendar : IsCalendarOf (string_bytes timer.name) files timer.zones timer.calendar
+  pub is_started : IsStarted (string_bytes timer.name) files timer.zones
   pub has_ignored : timer.ignored.items ≡ ignored_in expr_in (timer_assignments (string_bytes timer.name) files)
   pub has_zones : HasZones machine timer.calendar timer.zones
+  pub has_unusable_zones : AreUnusableLines machine timer.zones (entries_of_files (string_bytes timer.name) files) timer.unusable_zones.items
   pub has_notes : map string_bytes timer.notes.items ≡ map note_text (noted_in_files (string_bytes timer.name) files)
 
 -- the timer is the unit that is found for this stem: it has the unit's name, and was read from its file and its drop-ins
@@ -173,10 +186,23 @@ IsStoredOn machine file = file_at machine (string_bytes file.path) ≡ Text file
 
 -- ## Steps
 
+-- the calendar has those expressions and exceptions of these assignments that are valid and aren't cleared later, and
+-- no others
+abbrev pub IsCalendarBy : List Assignment → calendars.Calendar → Type 0
+IsCalendarBy assignments calendar =
+    (expressions_in calendar ≡ entries_of expr_in (listed assignments))
+    × (exceptions_in calendar ≡ entries_of expr_in (excepted assignments))
+
 -- the calendar has the valid expressions and exceptions of these assignments, and the lines of the others are ignored
 abbrev pub AreReadFrom : List Assignment → CalendarLines → Type 0
 AreReadFrom assignments read =
     IsCalendarBy assignments read.calendar × (read.ignored.items ≡ ignored_in expr_in assignments)
+
+-- `is_started` says whether a unit is started by one of its unclear expressions or, as `starts` says, by another
+-- setting
+abbrev pub IsStartedBy : List Assignment → Bool → Bool → Type 0
+IsStartedBy unclear starts is_started =
+    (is_started ≡ true → unclear ≡ [] → starts ≡ true) × (is_started ≡ false → (unclear ≡ []) × (starts ≡ false))
 
 -- a list of entries after one more assignment, which adds its entry to the list, or clears the list, or does neither
 abbrev pub entries_after : Bool → Bool → List (TimerLine Fields) → Assignment → List (TimerLine Fields)
@@ -186,3 +212,32 @@ entries_after adds empties entries a =
 -- the lines that are ignored because of one more assignment, which may add an entry to a list
 abbrev pub ignored_more : Bool → Assignment → List IgnoredLine
 ignored_more adds a = if adds then option_to_list (ignored_line a (expr_in a.value)) else []
+
+-- Each of the entries has a zone in the table or names none, or one of the lines is for it. The lines are in the order
+-- of the entries.
+abbrev pub AreTried : Machine → ZoneMap → List (TimerLine Fields) → List UnusableZone → Type 0
+AreTried machine table [] lines = lines ≡ []
+AreTried machine table (entry ∷ entries) lines =
+    ((has_zone table entry ≡ true) × AreTried machine table entries lines)
+    ⊎ ((line : UnusableZone) × (rest : List UnusableZone) × (lines ≡ line ∷ rest) × IsUnusableLine machine entry line
+    × AreTried machine table entries rest)
+
+-- whether the table has the zone of the zone file at the line's path
+abbrev pub is_loaded : ZoneMap → UnusableZone → Bool
+is_loaded table line = is_zone_in table (after_prefix zone_folder (string_bytes line.path))
+
+-- The zones that the entries name were loaded into the table, as they are in the machine's zone files, and no other
+-- zones. The unusable zones are those of lines whose zone couldn't be loaded.
+pub record IsTried (machine : Machine) (entries : List (TimerLine Fields)) (found : CalendarZones) : Type 0 where
+  pub names : (name : List ℕ) → is_some (zone_named found.zones name) ≡ true
+      → (is_utc_name name || list_any (bytes_eq name) (zone_names_in entries)) ≡ true
+  pub zones : HasZonesOf machine found.zones
+  pub lines : AreTried machine found.zones entries found.unusable.items
+
+-- `new` is the calendar `old` without the expressions and exceptions whose zone can't be used, and has the zones that
+-- the others name
+pub record IsZoned (machine : Machine) (old new : calendars.Calendar) (found : CalendarZones) : Type 0 where
+  pub expressions : expressions_in new ≡ filter (has_zone found.zones) (expressions_in old)
+  pub exceptions : exceptions_in new ≡ filter (has_zone found.zones) (exceptions_in old)
+  pub zones : HasZones machine new found.zones
+  pub unusable : AreUnusableLines machine found.zones (expressions_in old ++ exceptions_in old) found.unusable.items

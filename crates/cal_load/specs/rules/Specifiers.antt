@@ -109,7 +109,7 @@ is_of_instance letter = list_any (λ other. other == letter) (codes "iInN")
 abbrev pub is_unclear : List ℕ → ℕ → Bool
 is_unclear name letter = is_of_system letter || (is_template (without_suffix name) && is_of_instance letter)
 
--- the specifiers that stand for the timer's name or a part of it, by their letters, and what they stand for
+-- `%%`, and the specifiers that stand for the timer's name or a part of it, by their letters, with what they stand for
 abbrev pub known_specifiers : List ℕ → List (List ℕ × Filling)
 known_specifiers name =
     (codes "n", Text name)
@@ -123,7 +123,7 @@ known_specifiers name =
     ∷ (codes "%", Text (codes "%"))
     ∷ []
 
--- what the specifier with this letter stands for if it stands for the timer's name or a part of it; any other is invalid
+-- what a specifier of this list stands for, by its letter; any other specifier is invalid
 abbrev pub known_in : List ℕ → ℕ → Filling
 known_in name letter = unwrap_or (lookup (bytes_eq (letter ∷ [])) (known_specifiers name)) Invalid
 

@@ -44,6 +44,10 @@ shown_file (Err reason) = Err reason
 abbrev pub IsZoneOn : Machine → List ℕ → TimeZone → Type 0
 IsZoneOn machine name zone = MatchResult (zone_file machine name) (λ bytes. IsFileZone name bytes zone) (λ reason. ⊥)
 
+-- whether the machine's zone file for this name is a valid zone file
+abbrev pub HasZone : Machine → List ℕ → Type 0
+HasZone machine name = (zone : TimeZone) × IsZoneOn machine name zone
+
 -- whether each zone of the table, except UTC, is the one in the machine's zone file for its name
 abbrev pub HasZonesOf : Machine → ZoneMap → Type 0
 HasZonesOf machine table =
@@ -93,8 +97,7 @@ pub record IsFirstError (machine : Machine) (names : List (List ℕ)) (fault : Z
   pub after : List (List ℕ)
   pub is_at : drop index names ≡ name ∷ after
   pub is_error : IsLoadError machine name fault
-  pub earlier : (other : List ℕ) → list_any (bytes_eq other) (take index names) ≡ true → is_utc_name other ≡ false
-      → (zone : TimeZone) × IsZoneOn machine other zone
+  pub earlier : (other : List ℕ) → list_any (bytes_eq other) (take index names) ≡ true → is_utc_name other ≡ false → HasZone machine other
 
 -- the error for the zone file at this path, which was rejected with `fault`
 abbrev pub rejection : String Global → ZoneFault → ZonesFault

@@ -1,4 +1,4 @@
-use Rattle.std.proofs.Common.{◌++◌, [], map, subst}
+use Rattle.std.proofs.Common.{map, subst}
 use Rattle.std.proofs.lemmas.Result.{IfOk-weaker}
 use Rattle.cal_timer.specs.rules.TimerView.{shown}
 use Rattle.cal_load.proofs.ExpressionLemmas.{zone_only}
@@ -9,11 +9,11 @@ use Rattle.cal_load.proofs.expressions.with_zones.Goals as goal
 
 pub returns-in-Err-At-clause-outcome : goal.returns-in-Err-At-clause-outcome
 returns-in-Err-At-clause-outcome g c =
-    let names = zone_names_in (map shown c.as_slice.result.now) ++ [] in
+    let names = zone_names_in (map shown c.as_slice.result.now) in
     IfOk-weaker c.only_zone_fault.result _ _ (λ loaded single.
     zone_only _ (map (λ text. text.now) c.args.expressions.now) (map shown c.args.lines.items) c.in-Err-At.zone c.in-Err-At.reason loaded c.requires
     (λ machine shows.
-    subst (λ lines. IsZonesError machine (zone_names_in (map shown lines) ++ []) (At c.in-Err-At.zone c.in-Err-At.reason)) c.as_slice.ensures.value
+    subst (λ lines. IsZonesError machine (zone_names_in (map shown lines)) (At c.in-Err-At.zone c.in-Err-At.reason)) c.as_slice.ensures.value
     (subst (IsZonesError machine names) c.in-Err-At.field-0-is (c.in-Err-At.ensures.fault machine shows)))
     single)
     c.only_zone_fault.ensures

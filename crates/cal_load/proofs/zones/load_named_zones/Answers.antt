@@ -9,11 +9,8 @@ use Rattle.cal_load.proofs.zones.load_named_zones.Goals as goal
 pub returns-clause-fault : goal.returns-clause-fault
 returns-clause-fault g c =
     let lines = zone_names_in (map shown c.args.lines.now) in
-    let exceptions = zone_names_in (map shown c.args.exceptions.now) in
-    let names : map string_bytes c.as_slice.result.now ≡ lines ++ exceptions =
-    ap (map string_bytes) c.as_slice.ensures.value
-    ∙ c.in_ok-push_zone_names-2.ensures
-    ∙ ap (λ all. all ++ exceptions) (c.in_ok-push_zone_names.ensures ∙ ap (λ all. map string_bytes all ++ lines) c.new-names.ensures.items) in
+    let names : map string_bytes c.as_slice.result.now ≡ lines =
+    ap (map string_bytes) c.as_slice.ensures.value ∙ c.in_ok-push_zone_names.ensures ∙ ap (λ all. map string_bytes all ++ lines) c.new-names.ensures.items in
     IfErr-weaker c.load_zones.result _ _ (λ found first machine shows.
     subst (λ all. IsZonesError machine all found) names (first_named machine (map string_bytes c.as_slice.result.now) found (first machine shows)))
     c.load_zones.ensures.fault

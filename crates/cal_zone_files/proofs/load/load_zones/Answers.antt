@@ -11,4 +11,4 @@ returns-in-Err-clause-fault g c machine shows =
     let next = items_next string_bytes c.args.names.now c.loop-name.name-index c.name-item.result _ (omega arith) c.name-item.is refl in
     let known = c.loop-name.invariant in
     let error = rw c.as_str.ensures.value at c.in-Err.ensures.fault machine shows in
-    error_at machine c.args.names.now c.loop-name.name-index _ _ _ _ next error known.0 (known.1 machine (c.load_name.ensures.grows machine shows))
+    error_at machine c.args.names.now c.loop-name.name-index _ _ _ _ next error known.0 (known.1 machine (c.load_zone.ensures.grows machine shows))

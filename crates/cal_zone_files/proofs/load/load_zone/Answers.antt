@@ -1,6 +1,6 @@
 use Rattle.std.proofs.lemmas.Result.{on_ok_weaker}
 use Rattle.cal_zone_files.proofs.ZoneLemmas.{added_names, added_zones}
-use Rattle.cal_zone_files.proofs.load.load_name.Goals as goal
+use Rattle.cal_zone_files.proofs.load.load_zone.Goals as goal
 
 pub returns-clause-names : goal.returns-clause-names
 returns-clause-names g c = on_ok_weaker c.add_zone.result (λ added other. added_names _ _ _ _ other added) c.add_zone.ensures.added

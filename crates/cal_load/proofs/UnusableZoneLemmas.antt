@@ -1,0 +1,406 @@
+-- Lemmas on the lines whose zone can't be used, and on the calendar without them.
+use Rattle.std.proofs.Common.{◌≡◌, ◌∙◌, ◌||◌, ◌&&◌, ℕ, All, Bool, List, Option, [], ◌∷◌, ◌++◌, None, Some, false, true, not, ap, append-nil, cond, filter, inl, inr, map, refl, string_bytes, subst, sym}
+use Rattle.std.proofs.lemmas.Bool.{false≢true}
+use Rattle.std.proofs.lemmas.List.Concat.{flat_map-append}
+use Rattle.std.proofs.lemmas.List.Elements.{All-cons, All-nil, filter-append}
+use Rattle.std.proofs.lemmas.List.Folds.{list_any-append}
+use Rattle.std.proofs.lemmas.Option.{same_Some}
+use Rattle.std.proofs.lemmas.Slice.Eq.{bytes_eq-Decides}
+use Rattle.std.specs.FinMap.{empty}
+use Rattle.std.specs.List.{AllZip, list_any}
+use Rattle.std.specs.Option.{IsSomeAnd, option_to_list}
+use Rattle.std.specs.Prelude.{IfSome, is_some, slice_get}
+use Rattle.std.specs.Str.{bytes_eq}
+use Rattle.cal_civil.specs.rules.ZoneName.{is_utc_name}
+use Rattle.cal_machine.specs.rules.Machine.{Machine}
+use Rattle.cal_machine.specs.rules.Prefix.{after_prefix}
+use Rattle.cal_spec.specs.rules.Fields.{Fields}
+use Rattle.cal_spec.specs.rules.ZoneSuffix.{name_in}
+use Rattle.cal_timer.specs.declared.timer.TimerLine as declared_line
+use Rattle.cal_timer.specs.rules.TimerEntries.{TimerLine}
+use Rattle.cal_timer.specs.rules.TimerView.{shown}
+use Rattle.cal_unit_index.specs.rules.Files.{UnitText}
+use Rattle.cal_zone.specs.rules.ZoneTable.{ZoneMap, zone_named}
+use Rattle.cal_zone_files.specs.declared.fault.FileReason.{FileReason}
+use Rattle.cal_zone_files.specs.rules.MachineLocalZone.{zone_folder}
+use Rattle.cal_zone_files.specs.rules.ZoneFiles.{HasZone, HasZonesOf, IsReasonOn, zone_path}
+use Rattle.cal_load.specs.declared.calendar.Calendar as calendars
+use Rattle.cal_load.specs.declared.zones.CalendarZones.{CalendarZones}
+use Rattle.cal_load.specs.declared.zones.UnusableZone.{UnusableZone}
+use Rattle.cal_load.specs.rules.Expressions.{names_zone}
+use Rattle.cal_load.specs.rules.Loaded.{AreTried, HasNames, IsCalendarBy, IsCalendarOf, IsStartedBy, IsTried, IsZoned, entries_of_files, exceptions_in, exceptions_of_files, expressions_in, expressions_of_files, is_loaded, timer_assignments, unclear_of_files, zone_names_in}
+use Rattle.cal_load.specs.rules.Notes.{starts_unit}
+use Rattle.cal_load.specs.rules.TextFaults.{StartNothing}
+use Rattle.cal_load.specs.rules.UnusableZones.{AreUnusableLines, HasUsableZone, IsFirstUnusable, IsUnusableLine, IsUnusableZoneOf, NamesUnusableZone, has_zone, is_zone_in}
+use Rattle.cal_zone_files.proofs.ZoneLemmas.{empty_has, empty_has_none, usable_of}
+use Rattle.cal_load.proofs.ExpressionLemmas.{zone_of_path}
+
+-- ## Filters
+
+shown_step : (c : Bool) (line : declared_line.TimerLine) (kept : List declared_line.TimerLine) (all : List (TimerLine Fields)) → map shown kept ≡ all
+    → map shown (cond c (line ∷ kept) kept) ≡ cond c (shown line ∷ all) all
+shown_step true line kept all e = ap (λ rest. shown line ∷ rest) e
+shown_step false line kept all e = e
+
+pub filtered_shown : (keep : TimerLine Fields → Bool) (old new : List declared_line.TimerLine) → new ≡ filter (λ line. keep (shown line)) old
+    → map shown new ≡ filter keep (map shown old)
+filtered_shown keep old new e = ap (map shown) e ∙ shown_all old
+  where
+    shown_all : (lines : List declared_line.TimerLine) → map shown (filter (λ line. keep (shown line)) lines) ≡ filter keep (map shown lines)
+    shown_all [] = refl
+    shown_all (line ∷ lines) = shown_step (keep (shown line)) line _ _ (shown_all lines)
+
+-- ## One more entry
+
+zone_in_more : (old new : ZoneMap) (name : Option (List ℕ)) → ((other : List ℕ) → is_some (zone_named old other) ≡ true → is_some (zone_named new other) ≡ true)
+    → is_zone_in old name ≡ true → is_zone_in new name ≡ true
+zone_in_more old new None more h = refl
+zone_in_more old new (Some name) more h = more name h
+
+-- the same lines if the table has more zones
+tried_more : (machine : Machine) (old new : ZoneMap) (entries : List (TimerLine Fields)) (lines : List UnusableZone)
+    → ((other : List ℕ) → is_some (zone_named old other) ≡ true → is_some (zone_named new other) ≡ true)
+    → AreTried machine old entries lines → AreTried machine new entries lines
+tried_more machine old new [] lines more h = h
+tried_more machine old new (entry ∷ entries) lines more h =
+    elim h [
+      | inl kept ↦ inl (zone_in_more old new (name_in entry.expr.zone) more kept.0, tried_more machine old new entries lines more kept.1)
+      | inr left ↦ inr (left.0, left.1, left.2, left.3, tried_more machine old new entries left.1 more left.4)
+    ]
+
+kept_tried : (machine : Machine) (table : ZoneMap) (entries : List (TimerLine Fields)) (entry : TimerLine Fields) (lines : List UnusableZone)
+    → has_zone table entry ≡ true → AreTried machine table entries lines → AreTried machine table (entries ++ entry ∷ []) lines
+kept_tried machine table [] entry lines e h = inl (e, h)
+kept_tried machine table (first ∷ entries) entry lines e h =
+    elim h [
+      | inl kept ↦ inl (kept.0, kept_tried machine table entries entry lines e kept.1)
+      | inr left ↦ inr (left.0, left.1, left.2, left.3, kept_tried machine table entries entry left.1 e left.4)
+    ]
+
+left_tried : (machine : Machine) (table : ZoneMap) (entries : List (TimerLine Fields)) (entry : TimerLine Fields) (lines : List UnusableZone) (line : UnusableZone)
+    → IsUnusableLine machine entry line → AreTried machine table entries lines → AreTried machine table (entries ++ entry ∷ []) (lines ++ line ∷ [])
+left_tried machine table [] entry lines line is h = inr (line, [], ap (λ all. all ++ line ∷ []) h, is, refl)
+left_tried machine table (first ∷ entries) entry lines line is h =
+    elim h [
+      | inl kept ↦ inl (kept.0, left_tried machine table entries entry lines line is kept.1)
+      | inr left ↦ inr (left.0, left.1 ++ line ∷ [], ap (λ all. all ++ line ∷ []) left.2, left.3, left_tried machine table entries entry left.1 line is left.4)
+    ]
+
+-- a name is in the entries with one more entry if it was in them, or if this entry names it
+named_more : (entries : List (TimerLine Fields)) (entry : TimerLine Fields) (name : List ℕ)
+    → list_any (bytes_eq name) (zone_names_in (entries ++ entry ∷ [])) ≡ (list_any (bytes_eq name) (zone_names_in entries) || names_zone name entry)
+named_more entries entry name =
+    let own = option_to_list (name_in entry.expr.zone) in
+    ap (list_any (bytes_eq name)) (flat_map-append (λ (entry : TimerLine Fields). option_to_list (name_in entry.expr.zone)) entries (entry ∷ []) ∙ ap (λ last. zone_names_in entries ++ last) (append-nil own))
+    ∙ list_any-append (bytes_eq name) (zone_names_in entries) own
+
+or_more : (u a c : Bool) → (u || a) ≡ true → (u || (a || c)) ≡ true
+or_more true a c h = refl
+or_more false true c h = refl
+or_more false false c h = absurd (cc)
+
+or_last : (u a c : Bool) → c ≡ true → (u || (a || c)) ≡ true
+or_last true a c h = refl
+or_last false true c h = refl
+or_last false false c h = h
+
+one_named : (name : List ℕ) (found : Option (List ℕ)) → found ≡ Some name → list_any (bytes_eq name) (option_to_list found) ≡ true
+one_named name found e = rw (e, (bytes_eq-Decides name name).1 refl) refl
+
+-- a line that names no zone is kept
+pub none_tried : (machine : Machine) (before : List (TimerLine Fields)) (entry : TimerLine Fields) (tried : CalendarZones) → name_in entry.expr.zone ≡ None
+    → IsTried machine before tried → IsTried machine (before ++ entry ∷ []) tried
+none_tried machine before entry tried none h = record {
+  names = λ name has. ap (λ c. is_utc_name name || c) (named_more before entry name) ∙ or_more (is_utc_name name) _ (names_zone name entry) (h.names name has);
+  zones = h.zones;
+  lines = kept_tried machine tried.zones before entry tried.unusable.items (ap (is_zone_in tried.zones) none) h.lines;
+}
+
+or_either : (a b : Bool) → (a || b) ≡ true → b ≡ false → a ≡ true
+or_either true b h e = refl
+or_either false b h e = absurd (cc)
+
+or_first : (a b : Bool) → a ≡ true → (a || b) ≡ true
+or_first a b e = rw e refl
+
+-- a name that the table has after a zone was loaded is that of the zone, or the table had it before
+name_known : (before : List (TimerLine Fields)) (entry : TimerLine Fields) (name other : List ℕ) (t had : Bool) → name_in entry.expr.zone ≡ Some name
+    → bytes_eq other name ≡ t → (had || t) ≡ true
+    → (had ≡ true → (is_utc_name other || list_any (bytes_eq other) (zone_names_in before)) ≡ true)
+    → (is_utc_name other || list_any (bytes_eq other) (zone_names_in (before ++ entry ∷ []))) ≡ true
+name_known before entry name other true had is e has known =
+    let same : other ≡ name = (bytes_eq-Decides other name).0 e in
+    ap (λ c. is_utc_name other || c) (named_more before entry other)
+    ∙ or_last (is_utc_name other) _ (names_zone other entry) (one_named other (name_in entry.expr.zone) (is ∙ ap Some (sym same)))
+name_known before entry name other false had is e has known =
+    ap (λ c. is_utc_name other || c) (named_more before entry other)
+    ∙ or_more (is_utc_name other) _ (names_zone other entry) (known (or_either had false has refl))
+
+-- a line whose zone was loaded is kept
+pub zone_tried : (machine : Machine) (before : List (TimerLine Fields)) (entry : TimerLine Fields) (name : List ℕ) (old new : CalendarZones)
+    → name_in entry.expr.zone ≡ Some name → new.unusable ≡ old.unusable
+    → ((other : List ℕ) → is_some (zone_named new.zones other) ≡ (is_some (zone_named old.zones other) || bytes_eq other name))
+    → (HasZonesOf machine old.zones → HasZonesOf machine new.zones)
+    → IsTried machine before old → IsTried machine (before ++ entry ∷ []) new
+zone_tried machine before entry name old new is same names zones h = record {
+  names = λ other has. name_known before entry name other (bytes_eq other name) (is_some (zone_named old.zones other)) is refl (sym (names other) ∙ has) (h.names other);
+  zones = zones h.zones;
+  lines =
+      let more : (other : List ℕ) → is_some (zone_named old.zones other) ≡ true → is_some (zone_named new.zones other) ≡ true =
+      λ other has. names other ∙ or_first _ _ has in
+      let here : has_zone new.zones entry ≡ true =
+      ap (is_zone_in new.zones) is ∙ names name ∙ ap (λ c. is_some (zone_named old.zones name) || c) ((bytes_eq-Decides name name).1 refl) ∙ or_true (is_some (zone_named old.zones name)) in
+      subst (AreTried machine new.zones (before ++ entry ∷ [])) (ap (λ list. list.items) (sym same))
+      (kept_tried machine new.zones before entry old.unusable.items here (tried_more machine old.zones new.zones before old.unusable.items more h.lines));
+}
+  where
+    or_true : (b : Bool) → (b || true) ≡ true
+    or_true true = refl
+    or_true false = refl
+
+-- a line whose zone couldn't be loaded is added to the unusable zones
+pub unusable_tried : (machine : Machine) (before : List (TimerLine Fields)) (entry : TimerLine Fields) (name : List ℕ) (old new : CalendarZones) (line : UnusableZone)
+    → name_in entry.expr.zone ≡ Some name → new.zones ≡ old.zones → new.unusable.items ≡ old.unusable.items ++ line ∷ [] → line.number ≡ entry.number
+    → is_utc_name name ≡ false → (string_bytes line.path ≡ zone_path name) × IsReasonOn machine name line.reason
+    → IsTried machine before old → IsTried machine (before ++ entry ∷ []) new
+unusable_tried machine before entry name old new line is zones added number other reason h =
+    let unusable : IsUnusableZoneOf machine entry (string_bytes line.path) line.reason =
+    subst (λ zone. IsSomeAnd zone (λ name. (is_utc_name name ≡ false) × (string_bytes line.path ≡ zone_path name) × IsReasonOn machine name line.reason)) (sym is)
+    (other, reason.0, reason.1) in
+    record {
+      names = λ name has.
+          ap (λ c. is_utc_name name || c) (named_more before entry name)
+          ∙ or_more (is_utc_name name) _ (names_zone name entry) (h.names name (ap (λ table. is_some (zone_named table name)) (sym zones) ∙ has));
+      zones = subst (HasZonesOf machine) (sym zones) h.zones;
+      lines =
+          subst (λ table. AreTried machine table (before ++ entry ∷ []) new.unusable.items) (sym zones)
+          (subst (AreTried machine old.zones (before ++ entry ∷ [])) (sym added)
+          (left_tried machine old.zones before entry old.unusable.items line (number, unusable) h.lines));
+    }
+
+-- ## All entries
+
+-- before any zone is loaded
+pub nothing_tried : (machine : Machine) (tried : CalendarZones) → tried.zones ≡ empty → tried.unusable.items ≡ [] → IsTried machine [] tried
+nothing_tried machine tried none no_lines = record {
+  names = λ name has. known (is_utc_name name) (sym (empty_has name) ∙ ap (λ table. is_some (zone_named table name)) (sym none) ∙ has);
+  zones = subst (HasZonesOf machine) (sym none) (empty_has_none machine);
+  lines = no_lines;
+}
+  where
+    known : (utc : Bool) → utc ≡ true → (utc || false) ≡ true
+    known utc e = rw e refl
+
+path_zone : (machine : Machine) (zone : Option (List ℕ)) (path : List ℕ) (reason : FileReason)
+    → IsSomeAnd zone (λ name. (is_utc_name name ≡ false) × (path ≡ zone_path name) × IsReasonOn machine name reason) → after_prefix zone_folder path ≡ zone
+path_zone machine None path reason h = absurd h
+path_zone machine (Some name) path reason h = zone_of_path path name h.1
+
+zip_step : (machine : Machine) (c : Bool) (entry : TimerLine Fields) (entries : List (TimerLine Fields)) (line : UnusableZone) (lines : List UnusableZone)
+    → IsUnusableLine machine entry line → AllZip (IsUnusableLine machine) entries lines
+    → AllZip (IsUnusableLine machine) (cond c (entry ∷ entries) entries) (cond c (line ∷ lines) lines)
+zip_step machine true entry entries line lines is h = (is, h)
+zip_step machine false entry entries line lines is h = h
+
+-- the lines whose zone isn't in the table in the end
+left_lines : (machine : Machine) (table : ZoneMap) (entries : List (TimerLine Fields)) (lines : List UnusableZone) → AreTried machine table entries lines
+    → AreUnusableLines machine table entries (filter (λ line. not (is_loaded table line)) lines)
+left_lines machine table [] lines h = rw h tt
+left_lines machine table (entry ∷ entries) lines h =
+    elim h [
+      | inl kept ↦ rw (kept.0) (left_lines machine table entries lines kept.1)
+      | inr left ↦
+          let line = left.0 in
+          let same : is_loaded table line ≡ has_zone table entry = ap (is_zone_in table) (path_zone machine (name_in entry.expr.zone) (string_bytes line.path) line.reason left.3.1) in
+          rw (left.2, same) (zip_step machine (not (has_zone table entry)) entry _ line _ left.3 (left_lines machine table entries left.1 left.4))
+    ]
+
+-- ## Names
+
+named_zone : (table : ZoneMap) (name : List ℕ) (zone : Option (List ℕ)) → list_any (bytes_eq name) (option_to_list zone) ≡ true
+    → is_zone_in table zone ≡ is_some (zone_named table name)
+named_zone table name None h = absurd (false≢true h)
+named_zone table name (Some other) h =
+    let same : name ≡ other = (bytes_eq-Decides name other).0 (only_one (bytes_eq name other) h) in
+    ap (λ zone. is_some (zone_named table zone)) (sym same)
+  where
+    only_one : (b : Bool) → (b || false) ≡ true → b ≡ true
+    only_one true h = refl
+    only_one false h = absurd (false≢true h)
+
+and_false : (b : Bool) → (b && false) ≡ false
+and_false true = refl
+and_false false = refl
+
+-- whether the kept entries name a zone, for one more entry: `keeps` says whether the entry is kept, `names` whether it
+-- names the zone, and `has` whether the table has the zone
+kept_step : (keeps names has all : Bool) (name : List ℕ) (entry : TimerLine Fields) (kept : List (TimerLine Fields)) → names_zone name entry ≡ names
+    → (names ≡ true → keeps ≡ has) → list_any (bytes_eq name) (zone_names_in kept) ≡ (all && has)
+    → list_any (bytes_eq name) (zone_names_in (cond keeps (entry ∷ kept) kept)) ≡ ((names || all) && has)
+kept_step true true has all name entry kept is f e =
+    list_any-append (bytes_eq name) (option_to_list (name_in entry.expr.zone)) (zone_names_in kept)
+    ∙ ap (λ b. b || list_any (bytes_eq name) (zone_names_in kept)) is ∙ f refl
+kept_step true false has all name entry kept is f e =
+    list_any-append (bytes_eq name) (option_to_list (name_in entry.expr.zone)) (zone_names_in kept)
+    ∙ ap (λ b. b || list_any (bytes_eq name) (zone_names_in kept)) is ∙ e
+kept_step false true has all name entry kept is f e = e ∙ ap (λ b. all && b) (sym (f refl)) ∙ and_false all ∙ f refl
+kept_step false false has all name entry kept is f e = e
+
+-- the entries whose zone is in the table name exactly those of the zones that are in the table
+kept_names : (table : ZoneMap) (name : List ℕ) (entries : List (TimerLine Fields))
+    → list_any (bytes_eq name) (zone_names_in (filter (has_zone table) entries)) ≡ (list_any (bytes_eq name) (zone_names_in entries) && is_some (zone_named table name))
+kept_names table name [] = refl
+kept_names table name (entry ∷ entries) =
+    kept_step (has_zone table entry) (names_zone name entry) (is_some (zone_named table name)) (list_any (bytes_eq name) (zone_names_in entries)) name entry
+    (filter (has_zone table) entries) refl (named_zone table name (name_in entry.expr.zone)) (kept_names table name entries)
+    ∙ ap (λ b. b && is_some (zone_named table name)) (sym (list_any-append (bytes_eq name) (option_to_list (name_in entry.expr.zone)) (zone_names_in entries)))
+
+utc_named : (table : ZoneMap) (name : List ℕ) → is_utc_name name ≡ true → is_some (zone_named table name) ≡ true
+unfolding zone_named
+utc_named table name e = rw e refl
+
+known_if : (has utc named : Bool) → (has ≡ true → (utc || named) ≡ true) → (utc ≡ true → has ≡ true) → has ≡ (utc || (named && has))
+known_if true true named f g = refl
+known_if true false named f g = rw (f refl) refl
+known_if false true named f g = g refl
+known_if false false named f g = sym (and_false named)
+
+kept_has_names : (table : ZoneMap) (expressions exceptions : List (TimerLine Fields))
+    → ((name : List ℕ) → is_some (zone_named table name) ≡ true → (is_utc_name name || list_any (bytes_eq name) (zone_names_in (expressions ++ exceptions))) ≡ true)
+    → HasNames table (zone_names_in (filter (has_zone table) expressions) ++ zone_names_in (filter (has_zone table) exceptions))
+kept_has_names table expressions exceptions known name =
+    let all : zone_names_in (filter (has_zone table) (expressions ++ exceptions)) ≡ zone_names_in (filter (has_zone table) expressions) ++ zone_names_in (filter (has_zone table) exceptions) =
+    ap zone_names_in (filter-append (has_zone table) expressions exceptions)
+    ∙ flat_map-append (λ (entry : TimerLine Fields). option_to_list (name_in entry.expr.zone)) (filter (has_zone table) expressions) (filter (has_zone table) exceptions) in
+    known_if (is_some (zone_named table name)) (is_utc_name name) (list_any (bytes_eq name) (zone_names_in (expressions ++ exceptions))) (known name) (utc_named table name)
+    ∙ ap (λ b. is_utc_name name || b) (sym (kept_names table name (expressions ++ exceptions)) ∙ ap (list_any (bytes_eq name)) all)
+
+-- the calendar without the lines whose zone isn't in the table
+pub zoned_calendar : (machine : Machine) (old new : calendars.Calendar) (tried found : CalendarZones) → found.zones ≡ tried.zones
+    → expressions_in new ≡ filter (has_zone tried.zones) (expressions_in old) → exceptions_in new ≡ filter (has_zone tried.zones) (exceptions_in old)
+    → found.unusable.items ≡ filter (λ line. not (is_loaded tried.zones line)) tried.unusable.items
+    → IsTried machine (expressions_in old ++ exceptions_in old) tried → IsZoned machine old new found
+zoned_calendar machine old new tried found same expressions exceptions unusable h =
+    let names : HasNames tried.zones (zone_names_in (expressions_in new) ++ zone_names_in (exceptions_in new)) =
+    rw (expressions, exceptions) (kept_has_names tried.zones (expressions_in old) (exceptions_in old) h.names) in
+    record {
+      expressions = expressions ∙ ap (λ table. filter (has_zone table) (expressions_in old)) (sym same);
+      exceptions = exceptions ∙ ap (λ table. filter (has_zone table) (exceptions_in old)) (sym same);
+      zones = (
+        subst (λ table. HasNames table (zone_names_in (expressions_in new) ++ zone_names_in (exceptions_in new))) (sym same) names,
+        subst (HasZonesOf machine) (sym same) h.zones,
+      );
+      unusable =
+          subst (λ table. AreUnusableLines machine table (expressions_in old ++ exceptions_in old) found.unusable.items) (sym same)
+          (subst (AreUnusableLines machine tried.zones (expressions_in old ++ exceptions_in old)) (sym unusable)
+          (left_lines machine tried.zones (expressions_in old ++ exceptions_in old) tried.unusable.items h.lines));
+    }
+
+-- the calendar of files
+pub zoned_files : (machine : Machine) (name : List ℕ) (files : List UnitText) (old new : calendars.Calendar) (found : CalendarZones)
+    → IsCalendarBy (timer_assignments name files) old → IsZoned machine old new found → IsCalendarOf name files found.zones new
+zoned_files machine name files old new found by zoned = (
+  zoned.expressions ∙ ap (filter (has_zone found.zones)) by.0,
+  zoned.exceptions ∙ ap (filter (has_zone found.zones)) by.1,
+)
+
+-- the lines of files whose zone can't be used
+pub unusable_of_files : (machine : Machine) (name : List ℕ) (files : List UnitText) (old new : calendars.Calendar) (found : CalendarZones)
+    → IsCalendarBy (timer_assignments name files) old → IsZoned machine old new found
+    → AreUnusableLines machine found.zones (entries_of_files name files) found.unusable.items
+unusable_of_files machine name files old new found by zoned =
+    subst (λ entries. AreUnusableLines machine found.zones entries found.unusable.items)
+    (ap (λ all. all ++ exceptions_in old) by.0 ∙ ap (λ all. expressions_of_files name files ++ all) by.1) zoned.unusable
+
+-- ## Why nothing starts a unit
+
+all_left : (machine : Machine) (keeps : Bool) (entry : TimerLine Fields) (kept rest : List (TimerLine Fields)) (lines : List UnusableZone) → cond keeps (entry ∷ kept) kept ≡ []
+    → AllZip (IsUnusableLine machine) (cond (not keeps) (entry ∷ rest) rest) lines
+    → (kept ≡ []) × NamesUnusableZone machine entry × ((others : List UnusableZone) × AllZip (IsUnusableLine machine) rest others)
+all_left machine true entry kept rest lines e h = absurd (cc)
+all_left machine false entry kept rest [] e h = absurd h
+all_left machine false entry kept rest (line ∷ lines) e h = (e, (string_bytes line.path, line.reason, h.0.1), (lines, h.1))
+
+-- if no expression has a zone in the table, each one names a zone that can't be used
+pub none_usable : (machine : Machine) (table : ZoneMap) (expressions exceptions : List (TimerLine Fields)) (lines : List UnusableZone)
+    → filter (has_zone table) expressions ≡ [] → AreUnusableLines machine table (expressions ++ exceptions) lines → All (NamesUnusableZone machine) expressions
+none_usable machine table [] exceptions lines e h = All-nil (NamesUnusableZone machine)
+none_usable machine table (entry ∷ expressions) exceptions lines e h =
+    let left = all_left machine (has_zone table entry) entry (filter (has_zone table) expressions)
+    (filter (λ entry. not (has_zone table entry)) (expressions ++ exceptions)) lines e h in
+    All-cons (NamesUnusableZone machine) entry expressions left.1 (none_usable machine table expressions exceptions left.2.0 left.0 left.2.1)
+
+usable_name : (machine : Machine) (zone : Option (List ℕ)) (table : ZoneMap) → HasZonesOf machine table → is_zone_in table zone ≡ true
+    → IfSome zone (λ name. is_utc_name name ≡ false → HasZone machine name)
+usable_name machine None table zones h = tt
+usable_name machine (Some name) table zones h = λ other. usable_of machine name (zone_named table name) h (zones name other)
+
+usable_entry : (machine : Machine) (table : ZoneMap) (entry : TimerLine Fields) → HasZonesOf machine table → has_zone table entry ≡ true → HasUsableZone machine entry
+usable_entry machine table entry zones h = usable_name machine (name_in entry.expr.zone) table zones h
+
+usable_step : (machine : Machine) (keeps : Bool) (entry : TimerLine Fields) (entries left : List (TimerLine Fields)) → (keeps ≡ true → HasUsableZone machine entry)
+    → (AllZip (IsUnusableLine machine) left [] → All (HasUsableZone machine) entries)
+    → AllZip (IsUnusableLine machine) (cond (not keeps) (entry ∷ left) left) [] → All (HasUsableZone machine) (entry ∷ entries)
+usable_step machine true entry entries left usable rest h = All-cons (HasUsableZone machine) entry entries (usable refl) (rest h)
+usable_step machine false entry entries left usable rest h = absurd h
+
+-- if there are no lines whose zone can't be used, the zones of all entries can be used
+pub all_usable : (machine : Machine) (table : ZoneMap) (entries : List (TimerLine Fields)) → HasZonesOf machine table → AreUnusableLines machine table entries []
+    → All (HasUsableZone machine) entries
+all_usable machine table [] zones h = All-nil (HasUsableZone machine)
+all_usable machine table (entry ∷ entries) zones h =
+    usable_step machine (has_zone table entry) entry entries (filter (λ entry. not (has_zone table entry)) entries) (usable_entry machine table entry zones)
+    (all_usable machine table entries zones) h
+
+abbrev pub FirstUnusable : Machine → List (TimerLine Fields) → UnusableZone → Type 0
+FirstUnusable machine entries line = (entry : TimerLine Fields) × (line.number ≡ entry.number) × IsFirstUnusable machine entries entry (string_bytes line.path) line.reason
+
+one_more : (machine : Machine) (first : TimerLine Fields) (entries : List (TimerLine Fields)) (line : UnusableZone) → HasUsableZone machine first
+    → FirstUnusable machine entries line → FirstUnusable machine (first ∷ entries) line
+one_more machine first entries line usable h = (
+  h.0,
+  h.1,
+  record {
+    before = first ∷ h.2.before;
+    after = h.2.after;
+    divided = ap (λ rest. first ∷ rest) h.2.divided;
+    are_usable = All-cons (HasUsableZone machine) first h.2.before usable h.2.are_usable;
+    is_unusable = h.2.is_unusable;
+  },
+)
+
+first_step : (machine : Machine) (keeps : Bool) (entry : TimerLine Fields) (entries left : List (TimerLine Fields)) (line : UnusableZone) (lines : List UnusableZone)
+    → (keeps ≡ true → HasUsableZone machine entry) → (AllZip (IsUnusableLine machine) left (line ∷ lines) → FirstUnusable machine entries line)
+    → AllZip (IsUnusableLine machine) (cond (not keeps) (entry ∷ left) left) (line ∷ lines) → FirstUnusable machine (entry ∷ entries) line
+first_step machine true entry entries left line lines usable rest h = one_more machine entry entries line (usable refl) (rest h)
+first_step machine false entry entries left line lines usable rest h = (
+  entry,
+  h.0.0,
+  record { before = []; after = entries; divided = refl; are_usable = All-nil (HasUsableZone machine); is_unusable = h.0.1 },
+)
+
+first_unusable : (machine : Machine) (table : ZoneMap) (entries : List (TimerLine Fields)) (line : UnusableZone) (lines : List UnusableZone) → HasZonesOf machine table
+    → AreUnusableLines machine table entries (line ∷ lines) → FirstUnusable machine entries line
+first_unusable machine table [] line lines zones h = absurd h
+first_unusable machine table (entry ∷ entries) line lines zones h =
+    first_step machine (has_zone table entry) entry entries (filter (λ entry. not (has_zone table entry)) entries) line lines (usable_entry machine table entry zones)
+    (first_unusable machine table entries line lines zones) h
+
+-- the first line whose zone can't be used is that of the first entry whose zone can't be used
+pub first_is_unusable : (machine : Machine) (table : ZoneMap) (entries : List (TimerLine Fields)) (lines : List UnusableZone) (line : UnusableZone) → HasZonesOf machine table
+    → slice_get lines 0 ≡ Some line → AreUnusableLines machine table entries lines → FirstUnusable machine entries line
+first_is_unusable machine table entries [] line zones e h = absurd (cc)
+first_is_unusable machine table entries (first ∷ lines) line zones e h =
+    subst (FirstUnusable machine entries) (same_Some first line e) (first_unusable machine table entries first lines zones h)
+
+-- nothing starts the unit of files if no expression is left and nothing else starts it
+pub nothing_starts : (machine : Machine) (name : List ℕ) (files : List UnitText) (old new : calendars.Calendar) (found : CalendarZones) (is_started : Bool)
+    → IsCalendarBy (timer_assignments name files) old → IsZoned machine old new found
+    → IsStartedBy (unclear_of_files name files) (starts_unit (timer_assignments name files)) is_started → is_started ≡ false → expressions_in new ≡ []
+    → StartNothing machine name files
+nothing_starts machine name files old new found is_started by zoned started off none = (
+  none_usable machine found.zones (expressions_of_files name files) (exceptions_of_files name files) found.unusable.items
+      (sym (zoned_files machine name files old new found by zoned).0 ∙ none) (unusable_of_files machine name files old new found by zoned),
+  (started.1 off).0,
+  (started.1 off).1,
+)
