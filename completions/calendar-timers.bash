@@ -118,7 +118,7 @@ _calendar_timers() {
     case $verb in
     show) options='--count= --zone= --utc --in= --now= --root= --user --json --help' ;;
     next) options='--count= --zone= --utc --in= --now= --root= --json --help' ;;
-    lint) options='--all --zone= --utc --now= --root= --user --json --help' ;;
+    lint) options='--all --strict --zone= --utc --now= --root= --user --json --help' ;;
     same) options='--zone= --utc --in= --now= --root= --user --json --help' ;;
     help) ;;
     *) options='--all --zone= --utc --in= --now= --root= --user --json --help' ;;

@@ -117,7 +117,7 @@ calendar-timers_lint_units/ -> units/clean.timer
 calendar-timers_logrotate_li -> list.timer
 calendar-timers_-- -> --all --zone= --utc --in= --now= --root= --user --json --help --version
 calendar-timers_list_-- -> --all --zone= --utc --in= --now= --root= --user --json --help
-calendar-timers_lint_-- -> --all --zone= --utc --now= --root= --user --json --help
+calendar-timers_lint_-- -> --all --strict --zone= --utc --now= --root= --user --json --help
 calendar-timers_-n_3_show_-- -> --count= --zone= --utc --in= --now= --root= --user --json --help
 calendar-timers_next_-- -> --count= --zone= --utc --in= --now= --root= --json --help
 calendar-timers_next_d -> daily
@@ -158,7 +158,7 @@ calendar-timers_lint_./ba -> ./backup.timer
 calendar-timers_logrotate_li -> list.timer
 calendar-timers_-- -> --all --zone --utc --in --now --root --user --json --help --version
 calendar-timers_list_-- -> --all --zone --utc --in --now --root --user --json --help
-calendar-timers_lint_-- -> --all --zone --utc --now --root --user --json --help
+calendar-timers_lint_-- -> --all --strict --zone --utc --now --root --user --json --help
 calendar-timers_show_-- -> --count --zone --utc --in --now --root --user --json --help
 calendar-timers_next_-- -> --count --zone --utc --in --now --root --json --help
 calendar-timers_next_d -> daily
@@ -189,7 +189,7 @@ calendar-timers_lint_./ba -> backup.timer
 calendar-timers_logrotate_li -> list.timer
 calendar-timers_-- -> --all --zone --utc --in --now --root --user --json --help --version
 calendar-timers_list_-- -> --all --zone --utc --in --now --root --user --json --help
-calendar-timers_lint_-- -> --all --zone --utc --now --root --user --json --help
+calendar-timers_lint_-- -> --all --strict --zone --utc --now --root --user --json --help
 calendar-timers_show_-- -> --count --zone --utc --in --now --root --user --json --help
 calendar-timers_next_-- -> --count --zone --utc --in --now --root --json --help
 calendar-timers_next_d -> daily

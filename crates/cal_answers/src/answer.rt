@@ -14,11 +14,11 @@ use cal_load::{Loaded, LoadedTimer, TargetFault};
 use cal_plan::PlanFault;
 use cal_tasks::Clocked;
 use cal_timers_command::Question;
-use cal_timers_text::{Style, broken_text, fault_text, ignored_text};
+use cal_timers_text::{Style, broken_text, fault_text, ignored_text, unusable_zone_text};
 use std::alloc::{AllocError, Global};
 
 /// The exit status if a timer can't be loaded (except by `same`), a line of its files is ignored, a file or folder can't be
-/// read, folders have no timers, `lint` finds an error, or two timers differ.
+/// read, folders have no timers, `lint` finds an error or, with `--strict`, a warning, or two timers differ.
 pub(crate) const INVALID: u8 = 1;
 
 /// The exit status if the question can't be answered at all, for example because the local zone isn't known, or because
@@ -36,8 +36,8 @@ pub struct Answer {
     /// The error lines, for standard error.
     pub err: String,
     /// The exit status: 0 for success; 1 if a timer can't be loaded, a line of its files is ignored, a file or folder
-    /// can't be read, folders have no timers, `lint` finds an error, or two timers differ; 2 if the question can't be
-    /// answered at all, for example because the local zone isn't known.
+    /// can't be read, folders have no timers, `lint` finds an error or, with `--strict`, a warning, or two timers differ;
+    /// 2 if the question can't be answered at all, for example because the local zone isn't known.
     pub status: u8,
 }
 
@@ -56,6 +56,8 @@ pub(crate) struct Asked<'a> {
     pub count: u32,
     /// Whether a question without targets is about all units, not only about those that other units start.
     pub is_all: bool,
+    /// Whether a warning of `lint` gives the status [`INVALID`].
+    pub is_strict: bool,
     pub is_json: bool,
     pub style: Style,
 }
@@ -86,6 +88,7 @@ pub fn answer_question(
         targets: question.targets.as_slice(),
         count: question.count.unwrap_or(DEFAULT_COUNT),
         is_all: question.is_all,
+        is_strict: question.is_strict,
         is_json: question.is_json,
         style,
     };
@@ -182,12 +185,24 @@ fn push_ignored_of(
         let line = ignored_text(alloc, timer, ignored)?;
         push_line_once(lines, line.as_str())?;
     }
+    push_unusable_zones(alloc, lines, timer)
+}
+
+fn push_unusable_zones(
+    alloc: Global,
+    lines: &mut String,
+    timer: &LoadedTimer,
+) -> Result<(), AllocError> {
+    for zone in &timer.unusable_zones {
+        let line = unusable_zone_text(alloc, timer, zone)?;
+        push_line_once(lines, line.as_str())?;
+    }
     Ok(())
 }
 
 /// Appends an error line about each drop-in of the timers that systemd stops reading at some line. If several timers
 /// have the drop-in, it has only one error line.
-pub(crate) fn push_broken_lines(
+fn push_broken_lines(
     alloc: Global,
     lines: &mut String,
     timers: &[LoadedTimer],

@@ -11,10 +11,12 @@ mod index;
 mod lint;
 mod loading;
 mod local_clock;
+mod problems;
 mod range_zones;
 mod reading;
 mod remarks;
 mod search_path;
+mod timer_problems;
 mod timers;
 
 pub use answer::{Answer, answer_question};

@@ -92,6 +92,13 @@ pub(crate) const ALL: Argument = Argument {
     help: "Without UNIT, FILE and DIR,{n}also take timers that no other unit starts",
 };
 
+pub(crate) const STRICT: Argument = Argument {
+    name: "strict",
+    form: ArgumentForm::Flag,
+    value_name: "",
+    help: "Exit with status 1 for warnings, too",
+};
+
 pub(crate) const JSON: Argument = Argument {
     name: "json",
     form: ArgumentForm::Flag,
@@ -162,7 +169,7 @@ const OTHER_SIDE: Argument = Argument {
 
 static LIST_ARGUMENTS: [Argument; 9] = [ALL, ZONE, UTC, IN, NOW, ROOT, USER, JSON, ANY_TIMERS];
 
-static LINT_ARGUMENTS: [Argument; 8] = [ALL, ZONE, UTC, NOW, ROOT, USER, JSON, ANY_TIMERS];
+static LINT_ARGUMENTS: [Argument; 9] = [ALL, STRICT, ZONE, UTC, NOW, ROOT, USER, JSON, ANY_TIMERS];
 
 static SHOW_ARGUMENTS: [Argument; 9] = [COUNT, ZONE, UTC, IN, NOW, ROOT, USER, JSON, TIMERS];
 

@@ -3,7 +3,7 @@
 ghost use Rattle.std.specs.Prelude.{IfErr};
 ghost use Rattle.cal_timers_command.specs.rules.Questions.{HasText, IsUsageOf, no_question};
 
-use crate::arguments::{ALL, FIRST, JSON, SECOND, TARGET, USER};
+use crate::arguments::{ALL, FIRST, JSON, SECOND, STRICT, TARGET, USER};
 use crate::command_fault::CommandFault;
 use crate::command_line::parse;
 use crate::question::{Question, Verb};
@@ -42,6 +42,7 @@ impl Question {
     /// - `--user`, for all verbs except `next`: the user's units instead of the system's.
     /// - `--all` or `-a`, for `list`, `lint` and `between`: without units, files and folders, also timers that no other
     ///   unit starts.
+    /// - `--strict`, for `lint`: warnings give status 1, too.
     /// - `--json`: output as JSON.
     ///
     /// Fails with [`CommandFault::Help`] if the arguments ask for help or the version, with [`CommandFault::NoMemory`]
@@ -82,6 +83,7 @@ fn question_of(alloc: Global, verb: Verb, values: &ArgMatches<'_>) -> Result<Que
         root: root_of(alloc, values)?,
         is_user: values.get_flag(USER.name),
         is_all: values.get_flag(ALL.name),
+        is_strict: values.get_flag(STRICT.name),
         is_json: values.get_flag(JSON.name),
     })
 }

@@ -59,6 +59,8 @@ pub struct Question {
     /// Whether `--all` is given, so that a question without units, files and folders is about all units. Only `list`,
     /// `lint` and `between` have this option.
     pub is_all: bool,
+    /// Whether `--strict` is given, so that a warning of `lint`, the only verb with this option, gives status 1.
+    pub is_strict: bool,
     /// Whether to print JSON.
     pub is_json: bool,
     ghost fits: { fits_verb verb (vec_len targets) ≡ true },

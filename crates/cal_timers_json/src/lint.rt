@@ -10,10 +10,10 @@ use std::alloc::{AllocError, Global};
 /// A problem in a file.
 #[derive(Clone, Copy, PartialEq, Eq, Debug, Serialize)]
 pub struct LintRow<'a> {
-    /// The path of the file.
+    /// The path of the file or, for a problem of the timer as a whole, the name of the timer.
     pub file: &'a str,
-    /// The number of the line with the problem, from 1.
-    pub line: u32,
+    /// The number of the line with the problem, from 1. `None` for a problem of the timer as a whole.
+    pub line: Option<u32>,
     /// The byte of the line, counted from 1, at which the problem begins, or 1 if the problem is in a value that
     /// continues on the next line. `None` if only the line is known.
     pub column: Option<u32>,

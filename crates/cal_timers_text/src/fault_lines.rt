@@ -2,12 +2,17 @@
 
 use crate::cells::push_printable;
 use cal_lint::looks_like_abbreviation;
-use cal_load::{BrokenLine, BrokenReason, IgnoredLine, LoadedTimer, TargetFault, TargetReason};
+use cal_load::{
+    BrokenLine, BrokenReason, IgnoredLine, LoadedTimer, TargetFault, TargetReason, UnusableZone,
+};
 use cal_machine::Unreadable;
 use cal_timer::TimerFault;
 use cal_unit_index::Reason;
 use cal_zone_files::{FileReason, Origin, ZonesFault};
 use std::alloc::{AllocError, Global};
+
+/// The message about a timer whose unit nothing starts.
+pub const NOTHING_TO_DO: &str = "no setting starts its unit";
 
 /// What follows the message about a zone without a file if the zone's name looks like an abbreviation.
 const ABBREVIATION_HINT: &str =
@@ -36,7 +41,7 @@ pub fn fault_text(alloc: Global, fault: &TargetFault) -> Result<String, AllocErr
             *line,
             fault,
         ),
-        TargetReason::NothingToDo => push_fault(&mut out, target, "no setting starts its unit"),
+        TargetReason::NothingToDo => push_fault(&mut out, target, NOTHING_TO_DO),
         TargetReason::Zone(path, line, zone, reason) => push_zone_line(
             &mut out,
             path.as_str(),
@@ -70,6 +75,42 @@ pub fn ignored_text(
     out.push_str("ignored: ")?;
     out.push_str(ignored.fault.words())?;
     Ok(out)
+}
+
+/// Returns the error line about a line in the files of a timer that is ignored because of its zone, without a line feed.
+/// It begins as that of [`ignored_text`].
+pub fn unusable_zone_text(
+    alloc: Global,
+    timer: &LoadedTimer,
+    zone: &UnusableZone,
+) -> Result<String, AllocError> {
+    let mut out = String::new(alloc);
+    let (path, line) = timer
+        .position(zone.number)
+        .unwrap_or((timer.name.as_str(), zone.number));
+    push_position(&mut out, path, line)?;
+    out.push_str("ignored: ")?;
+    push_zone_fault(&mut out, zone.path.as_str(), zone.reason)?;
+    Ok(out)
+}
+
+/// Returns the message about a zone file that can't be used for this reason. `zone` is the path of the file.
+pub fn zone_words(alloc: Global, zone: &str, reason: FileReason) -> Result<String, AllocError> {
+    let mut out = String::new(alloc);
+    push_zone_fault(&mut out, zone, reason)?;
+    Ok(out)
+}
+
+/// Returns the message about the line at which systemd stops reading a timer's own file.
+pub fn broken_file_words(alloc: Global, reason: BrokenReason) -> Result<String, AllocError> {
+    let words = broken_words(reason);
+    format!(in alloc; "{words}, so the timer fails to load")
+}
+
+/// Returns the message about the line at which systemd stops reading a drop-in.
+pub fn broken_drop_in_words(alloc: Global, reason: BrokenReason) -> Result<String, AllocError> {
+    let words = broken_words(reason);
+    format!(in alloc; "{words}, so the drop-in is ignored from this line on")
 }
 
 /// Returns the error line about a drop-in of a timer, without a line feed, for the line at which systemd stops reading

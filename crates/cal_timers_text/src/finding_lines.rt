@@ -1,14 +1,19 @@
 //! The output of `lint`: problems of timers, with the lines of the files that have them.
 
 use crate::cells::{push_blanks, push_printable, push_times, shown_width};
-use crate::messages::{idle_words, push_message};
+use crate::messages::push_message;
 use crate::style::{Emphasis, Style};
 use cal_bytes::{first_word, trim_blanks_end};
 use cal_lint::{Finding, Problem, ProblemKind};
-use cal_load::LoadedTimer;
-use cal_tasks::IdleLine;
 use cal_timer::without_mark;
 use std::alloc::{AllocError, Global};
+
+/// How many problems `lint` found.
+#[derive(Clone, Copy, PartialEq, Eq, Debug)]
+pub struct ProblemCounts {
+    pub errors: usize,
+    pub warnings: usize,
+}
 
 /// Returns the lines about a problem in the file at `path`, whose content is `text`.
 ///
@@ -23,7 +28,7 @@ pub fn finding_text(
     style: Style,
 ) -> Result<String, AllocError> {
     let mut out = String::new(alloc);
-    push_place(&mut out, path, finding.line, Some(finding.column))?;
+    push_place(&mut out, path, finding.line, finding.column)?;
     push_kind(&mut out, finding.kind, style)?;
     push_message(&mut out, finding.problem, finding.mistake)?;
     out.push('\n')?;
@@ -31,36 +36,56 @@ pub fn finding_text(
     Ok(out)
 }
 
-/// Returns the line about an expression or an exception that has no effect.
-pub fn idle_text(
+/// Returns the line about a problem that has no column, or not even a line. `file` is the path of the file, or the name of
+/// the timer if the problem has no line.
+pub fn problem_text(
     alloc: Global,
-    timer: &LoadedTimer,
-    idle: IdleLine,
+    file: &str,
+    line: Option<u32>,
+    kind: ProblemKind,
+    message: &str,
     style: Style,
 ) -> Result<String, AllocError> {
     let mut out = String::new(alloc);
-    let (path, line) = timer
-        .position(idle.number)
-        .unwrap_or((timer.name.as_str(), idle.number));
-    push_place(&mut out, path, line, None)?;
-    push_kind(&mut out, ProblemKind::Warning, style)?;
-    out.push_str(idle_words(idle.kind))?;
+    push_printable(&mut out, file)?;
+    match line {
+        Some(line) => write!(out, ":{line}: "),
+        None => out.push_str(": "),
+    }?;
+    push_kind(&mut out, kind, style)?;
+    out.push_str(message)?;
     out.push('\n')?;
     Ok(out)
 }
 
-/// Appends a path, the number of a line, and a column if there is one, each with a colon after it, and a blank.
-fn push_place(
-    out: &mut String,
-    path: &str,
-    line: u32,
-    column: Option<u32>,
-) -> Result<(), AllocError> {
-    push_printable(out, path)?;
-    match column {
-        Some(column) => write!(out, ":{line}:{column}: "),
-        None => write!(out, ":{line}: "),
+/// Appends a line with the numbers of errors and warnings, such as `1 error, 2 warnings`. A number that is 0 is left out,
+/// and nothing is appended if both are.
+pub fn push_counts(out: &mut String, counts: ProblemCounts) -> Result<(), AllocError> {
+    let ProblemCounts { errors, warnings } = counts;
+    push_count(out, errors, "error")?;
+    if errors > 0 && warnings > 0 {
+        out.push_str(", ")?;
     }
+    push_count(out, warnings, "warning")?;
+    if errors > 0 || warnings > 0 {
+        out.push('\n')?;
+    }
+    Ok(())
+}
+
+/// Appends a number and a noun in the form for this number, or nothing if the number is 0.
+fn push_count(out: &mut String, count: usize, noun: &str) -> Result<(), AllocError> {
+    match count {
+        0 => Ok(()),
+        1 => write!(out, "1 {noun}"),
+        _ => write!(out, "{count} {noun}s"),
+    }
+}
+
+/// Appends a path, the number of a line and a column, each with a colon after it, and a blank.
+fn push_place(out: &mut String, path: &str, line: u32, column: u32) -> Result<(), AllocError> {
+    push_printable(out, path)?;
+    write!(out, ":{line}:{column}: ")
 }
 
 fn push_kind(out: &mut String, kind: ProblemKind, style: Style) -> Result<(), AllocError> {
@@ -133,7 +158,11 @@ fn word_at_fault<'t>(line: &'t str, finding: &Finding) -> Option<(&'t str, &'t s
 fn is_in_value(problem: Problem) -> bool {
     matches!(
         problem,
-        Problem::Invalid(_) | Problem::Rejected(_) | Problem::Doubtful(_)
+        Problem::Invalid(_)
+            | Problem::Rejected(_)
+            | Problem::Doubtful(_)
+            | Problem::IgnoredValue(_)
+            | Problem::OpenStep(_)
     )
 }
 

@@ -15,8 +15,11 @@ mod style;
 mod times;
 
 pub use elapse_lines::{between_text, same_text};
-pub use fault_lines::{broken_text, fault_text, ignored_text, zones_text};
-pub use finding_lines::{finding_text, idle_text};
+pub use fault_lines::{
+    NOTHING_TO_DO, broken_drop_in_words, broken_file_words, broken_text, fault_text, ignored_text,
+    unusable_zone_text, zone_words, zones_text,
+};
+pub use finding_lines::{ProblemCounts, finding_text, problem_text, push_counts};
 pub use list::list_text;
 pub use messages::{idle_words, invalid_words, message_of, mistake_words};
 pub use show::show_text;
