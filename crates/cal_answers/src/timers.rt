@@ -7,13 +7,14 @@ use cal_load::{Loaded, LoadedTimer};
 use cal_plan::PlanFault;
 use cal_tasks::{ClockNotes, clock_notes, first_elapses, next_of_timers};
 use cal_timers_json::{ShownTimer, list_json, show_json};
-use cal_timers_text::{list_text, show_text};
+use cal_timers_text::{list_text, show_text, warnings_of};
 use cal_zone::Instant;
 use std::alloc::{AllocError, Global};
 
-/// What `show` and `next` compute for a timer: its next elapses, and notes about clock changes.
+/// What `show` and `next` compute for a timer: its next elapses, notes about clock changes, and warnings.
 #[derive(Debug, Drop)]
 struct Elapsing {
+    warnings: Vec<String>,
     elapses: Vec<Instant>,
     clock: ClockNotes,
 }
@@ -55,7 +56,7 @@ pub(crate) fn show(alloc: Global, asked: Asked<'_>, loaded: &Loaded) -> Result<A
     with_error_lines(alloc, loaded, out)
 }
 
-/// Returns for each timer its next elapses, and the notes that [`clock_notes`] returns.
+/// Returns for each timer its next elapses, and what [`clock_notes`] and [`warnings_of`] return.
 fn elapsing_of(
     alloc: Global,
     asked: Asked<'_>,
@@ -65,7 +66,12 @@ fn elapsing_of(
     for timer in timers {
         let elapses = first_elapses(alloc, asked.at, timer, asked.count)?;
         let clock = clock_notes(alloc, asked.at, timer)?;
-        all.push(Elapsing { elapses, clock })?;
+        let warnings = warnings_of(alloc, timer)?;
+        all.push(Elapsing {
+            warnings,
+            elapses,
+            clock,
+        })?;
     }
     Ok(all)
 }
@@ -80,6 +86,7 @@ fn show_loaded_as_json(
     for (timer, found) in timers.iter().zip(elapsing) {
         shown.push(ShownTimer {
             timer,
+            warnings: found.warnings.as_slice(),
             elapses: found.elapses.as_slice(),
             clock: found.clock.first.as_slice(),
         })?;
@@ -99,12 +106,12 @@ fn show_loaded_as_text(
         if !text.is_empty() {
             text.push('\n')?;
         }
-        let elapses = found.elapses.as_slice();
         let shown = show_text(
             alloc,
             asked.shown,
             timer,
-            elapses,
+            found.warnings.as_slice(),
+            found.elapses.as_slice(),
             &found.clock,
             asked.style,
         )?;

@@ -1,4 +1,4 @@
-//! The document of `show` and `next`: the files, expressions, exceptions, elapses and notes of timers.
+//! The document of `show` and `next`: the files, expressions, exceptions, elapses, notes and warnings of timers.
 
 ghost use Rattle.std.specs.Prelude.{◌≡◌, IfOk, map, length, string_bytes};
 ghost use Rattle.cal_spec.specs.rules.ExprText.{expr_text};
@@ -17,6 +17,8 @@ use std::alloc::{AllocError, Global};
 #[derive(Clone, Copy)]
 pub struct ShownTimer<'a> {
     pub timer: &'a LoadedTimer,
+    /// Warnings about expressions that systemd may interpret differently or compute wrongly.
+    pub warnings: &'a [String],
     /// The timer's next elapses.
     pub elapses: &'a [Instant],
     /// Local times that the timer's expressions match, and that one of the next clock changes skips or repeats.
@@ -33,6 +35,7 @@ pub(crate) struct ShowRow<'a> {
     pub(crate) exceptions: Vec<LineRow<'a>>,
     pub(crate) elapses: Vec<ElapseRow>,
     pub(crate) notes: &'a [String],
+    pub(crate) warnings: &'a [String],
     pub(crate) clock: Vec<ClockRow<'a>>,
 }
 
@@ -103,6 +106,7 @@ fn show_row<'a>(
         exceptions: line_rows(alloc, timer, timer.exceptions())?,
         elapses: elapse_rows(alloc, at, shown.elapses)?,
         notes: timer.notes.as_slice(),
+        warnings: shown.warnings,
         clock: clock_rows(alloc, timer, shown.clock)?,
     })
 }

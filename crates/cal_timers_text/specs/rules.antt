@@ -2,3 +2,4 @@
 pub mod FlawWords
 pub mod PrintableText
 pub mod TimeLeft
+pub mod Warnings

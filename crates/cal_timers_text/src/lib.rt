@@ -13,6 +13,7 @@ mod messages;
 mod show;
 mod style;
 mod times;
+mod warnings;
 
 pub use elapse_lines::{between_text, same_text};
 pub use fault_lines::{
@@ -25,3 +26,4 @@ pub use messages::{idle_words, invalid_words, message_of, mistake_words};
 pub use show::show_text;
 pub use style::Style;
 pub use times::{instant_text, left_text, normal_text};
+pub use warnings::warnings_of;

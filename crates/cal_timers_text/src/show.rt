@@ -14,13 +14,14 @@ use std::alloc::{AllocError, Global};
 const LABEL_WIDTH: usize = 13;
 
 /// Returns the name of a timer, its files, its expressions and exceptions in normal form, its notes (the other settings
-/// that decide when it starts a unit, and which unit that is), its next elapses, and the local times that clock changes
-/// skip or repeat. Each of these has lines of its own. If the timer has no calendar expressions, its next elapses are
-/// left out. If there are more local times than `notes` has, the last line says so.
+/// that decide when it starts a unit, and which unit that is), these warnings about it, its next elapses, and the local
+/// times that clock changes skip or repeat. Each of these has lines of its own. If the timer has no calendar expressions,
+/// its next elapses are left out. If there are more local times than `notes` has, the last line says so.
 pub fn show_text(
     alloc: Global,
     at: Clocked<'_>,
     timer: &LoadedTimer,
+    warnings: &[String],
     elapses: &[Instant],
     notes: &ClockNotes,
     style: Style,
@@ -28,6 +29,7 @@ pub fn show_text(
     let mut out = String::new(alloc);
     push_name(&mut out, timer.name.as_str(), style)?;
     push_settings(alloc, &mut out, timer)?;
+    push_texts(&mut out, "  Warning:", warnings)?;
     if !timer.lines().is_empty() {
         push_elapses(&mut out, at, elapses)?;
     }
@@ -46,7 +48,7 @@ fn push_settings(alloc: Global, out: &mut String, timer: &LoadedTimer) -> Result
     push_files(out, &timer.files)?;
     push_lines(alloc, out, "  Calendar:", timer.lines())?;
     push_lines(alloc, out, "  Except:", timer.exceptions())?;
-    push_also(out, &timer.notes)
+    push_texts(out, "  Also:", &timer.notes)
 }
 
 fn push_files(out: &mut String, files: &[UnitText]) -> Result<(), AllocError> {
@@ -73,10 +75,11 @@ fn push_lines(
     Ok(())
 }
 
-fn push_also(out: &mut String, notes: &[String]) -> Result<(), AllocError> {
-    let mut label = "  Also:";
-    for note in notes {
-        push_labeled_line(out, label, note.as_str())?;
+/// Appends a line for each text, the first one with a label.
+fn push_texts(out: &mut String, first_label: &str, texts: &[String]) -> Result<(), AllocError> {
+    let mut label = first_label;
+    for text in texts {
+        push_labeled_line(out, label, text.as_str())?;
         label = "";
     }
     Ok(())

@@ -1,0 +1,108 @@
+//! Warnings of `show` and `next` about expressions that systemd may interpret differently or compute wrongly.
+
+ghost use Rattle.std.specs.Prelude.{◌≡◌, ◌++◌, IfOk, OnOk, map, option_copied, string_bytes};
+ghost use Rattle.cal_load.specs.rules.Loaded.{expressions_in};
+ghost use Rattle.cal_timer.specs.rules.TimerView.{shown};
+ghost use Rattle.cal_timers_text.specs.rules.Warnings.{abbreviation_warning, flaw_warnings, warnings_in, warnings_on, zone_warnings};
+
+use crate::messages::flaw_words;
+use cal_lint::{OpenStepFlaw, looks_like_abbreviation, open_step_flaw, reported_flaw};
+use cal_load::LoadedTimer;
+use cal_timer::TimerLine;
+use std::alloc::{AllocError, Global};
+
+/// How the warning about an abbreviation ends.
+const ABBREVIATION: &str =
+    " is an abbreviation, which systemd may take for winter time or summer time only; write the name of a zone, such as Europe/Berlin";
+
+/// Returns warnings about the calendar expressions of the timer, in order. An expression has a warning if its zone looks
+/// like an abbreviation: systemd takes `CET` for winter time only, if it is an abbreviation of the machine's own zone.
+/// It has another one if systemd 252 computes its elapses wrongly because of a step without an end ([`reported_flaw`]).
+/// Fails only if allocation fails.
+pub fn warnings_of(alloc: Global, timer: &LoadedTimer) -> Result<Vec<String>, AllocError>
+    ensures { IfOk result (λ found. map string_bytes found.items ≡ warnings_in (expressions_in timer.now.calendar)) }
+{
+    let mut warnings = Vec::new(alloc);
+    push_warnings(alloc, &mut warnings, timer.lines())?;
+    Ok(warnings)
+}
+
+fn push_warnings(
+    alloc: Global,
+    warnings: &mut Vec<String>,
+    lines: &[TimerLine],
+) -> Result<(), AllocError>
+    ensures { OnOk result (map string_bytes warnings.new.items
+        ≡ map string_bytes warnings.old.items ++ warnings_in (map shown lines.now)) }
+{
+    for line in lines {
+        push_warnings_on(alloc, warnings, line)?;
+    }
+    Ok(())
+}
+
+fn push_warnings_on(
+    alloc: Global,
+    warnings: &mut Vec<String>,
+    line: &TimerLine,
+) -> Result<(), AllocError>
+    ensures { OnOk result (map string_bytes warnings.new.items
+        ≡ map string_bytes warnings.old.items ++ warnings_on (shown line.now)) }
+{
+    let text = line.text.as_str();
+    push_abbreviation(alloc, warnings, text, line.expr.zone_name())?;
+    push_flaw(
+        alloc,
+        warnings,
+        text,
+        reported_flaw(open_step_flaw(&line.expr)),
+    )
+}
+
+/// Appends the warning about the zone of the expression `text` if there is one.
+fn push_abbreviation(
+    alloc: Global,
+    warnings: &mut Vec<String>,
+    text: &str,
+    zone: Option<&str>,
+) -> Result<(), AllocError>
+    ensures { OnOk result (map string_bytes warnings.new.items
+        ≡ map string_bytes warnings.old.items ++ zone_warnings text.now (option_copied zone.entry)) }
+{
+    match zone {
+        Some(name) if looks_like_abbreviation(name) => {
+            warnings.push(abbreviation_warning(alloc, text, name)?)?;
+            Ok(())
+        }
+        _ => Ok(()),
+    }
+}
+
+/// Appends the warning about the steps of the expression `text` if there is one.
+fn push_flaw(
+    alloc: Global,
+    warnings: &mut Vec<String>,
+    text: &str,
+    flaw: Option<OpenStepFlaw>,
+) -> Result<(), AllocError>
+    ensures { OnOk result (map string_bytes warnings.new.items
+        ≡ map string_bytes warnings.old.items ++ flaw_warnings text.now flaw) }
+{
+    if let Some(flaw) = flaw {
+        let mut warning = String::from_str(alloc, text)?;
+        warning.push_str(": ")?;
+        warning.push_str(flaw_words(flaw))?;
+        warnings.push(warning)?;
+    }
+    Ok(())
+}
+
+fn abbreviation_warning(alloc: Global, text: &str, name: &str) -> Result<String, AllocError>
+    ensures { IfOk result (λ warning. string_bytes warning ≡ abbreviation_warning text.now name.now) }
+{
+    let mut warning = String::from_str(alloc, text)?;
+    warning.push_str(": ")?;
+    warning.push_str(name)?;
+    warning.push_str(ABBREVIATION)?;
+    Ok(warning)
+}
