@@ -24,10 +24,8 @@ Some things are left out, since calendar-timers has other rules for them:
 - A byte order mark is only at the start of a file, and not before a comment. systemd also drops one at the start of a
   later line, and doesn't see the comment after one.
 - No comment is 1 MiB long: systemd stops reading a file at such a comment.
-- In `Unit=`, there are no specifiers that unescape names, which systemd doesn't know there.
 - There are no spans such as `+5`, which only systemd accepts, or `5.`, which only calendar-timers accepts.
-- There are no calendar expressions on which the two differ (see docs/DIFFERENCES.md), and none that end in a word that
-  could be the name of a zone: systemd ignores a line with an unknown zone, and calendar-timers doesn't load the timer.
+- There are no calendar expressions on which the two differ (see docs/DIFFERENCES.md).
 - No specifier depends on the running system: calendar-timers doesn't guess its value.
 - All exceptions are valid, since systemd doesn't know the key.
 
@@ -38,6 +36,7 @@ import json
 import os
 import random
 import re
+import shutil
 import subprocess
 import sys
 import tempfile
@@ -66,7 +65,11 @@ CALENDARS = {
     "2026-02-03 04:05": "2026-02-03 04:05:00",
     "2026-02-30": "2026-02-30 00:00:00",
     "*:0/15": "*-*-* *:00/15:00",
+    "12:00 UTC": "*-*-* 12:00:00 UTC",
+    "Mon 12:00 Europe/Berlin": "Mon *-*-* 12:00:00 Europe/Berlin",
 }
+# The zone files of the trees.
+ZONES = ["Europe/Berlin"]
 LEFT_CALENDARS = {
     "12:00": "*-*-* 12:00:00",
     "12:30": "*-*-* 12:30:00",
@@ -79,6 +82,7 @@ LEFT_CALENDARS = {
     "*:0/12:30": "*-*-* *:00/12:30",
 }
 NO_CALENDARS = ["25:00", "Mo", "Mon..", "never", "daily # x", "daily;", "daily daily", "=daily", "\\", "[Timer]"]
+NO_CALENDARS += ["daily Nowhere/City", "12:00 Europe/berlin", "Mon 12:00 CEST"]
 NO_CALENDARS += ['"daily"', "'daily'", "tägl", "daily\u00a0", "\vdaily", "daily\f"]
 # Values of monotonic timers; valid ones, and those that specifiers leave, as systemd prints them.
 SPANS = {
@@ -100,7 +104,7 @@ TRUE = ["1", "yes", "Y", "true", "T", "on", "ON"]
 FALSE = ["0", "no", "N", "FALSE", "f", "off"]
 NO_BOOLEANS = ["", "2", "01", "+1", "-1", "enable", '"yes"', "yes # x", "%i"]
 UNITS = ["y.service", "z.target", "y.timer", "%p.service", "%N.service", "%j-y.service", "y-%i.service", "%n"]
-NO_UNITS = ["", "y", "/y.service", "y z.service", "y.none", "%Z.service", "é.service"]
+NO_UNITS = ["%I.service", "%J-y.service", "y-%P.service", "", "y", "/y.service", "y z.service", "y.none", "%Z.service", "é.service"]
 # Specifiers, and what isn't one, in values.
 SPECIFIERS = ["%i", "%I", "%j", "%J", "%N", "%p", "%P"] * 2 + ["%n", "%Z", "%1"]
 WITH_PERCENT = ["%%", "%", "%é", "%-"]
@@ -236,6 +240,9 @@ class Tree(unit_trees.Tree):
         [folder], self.stem, self.read = self.folders, chance.choice(STEMS), {}
         for name in NEEDED:
             self.write(f"{folder}/{name}", "[Unit]\nDefaultDependencies=no\n")
+        for zone in ZONES:
+            os.makedirs(os.path.dirname(f"{self.root}/usr/share/zoneinfo/{zone}"))
+            shutil.copy(f"/usr/share/zoneinfo/{zone}", f"{self.root}/usr/share/zoneinfo/{zone}")
         os.mkdir(f"{folder}/timers.target.wants")
         os.symlink(f"../{self.stem}.timer", f"{folder}/timers.target.wants/{self.stem}.timer")
         self.own = f"{folder}/{chance.choice([self.stem, template(self.stem) or self.stem])}.timer"
@@ -248,18 +255,10 @@ class Tree(unit_trees.Tree):
 
     def add(self, path, chance):
         file = contents(chance)
-        while any(key == "OnCalendar" and names_zone(value, self.stem) for _, key, value in assignments(file)[0]):
-            file = contents(chance)
         os.makedirs(os.path.dirname(path), exist_ok=True)
         with open(path, "wb") as opened:
             opened.write(file)
         self.read[path] = file
-
-
-def names_zone(value, stem):
-    """Returns whether calendar-timers takes the last word of an expression for the name of a zone."""
-    words = (filled_in(value, specifiers(stem)) or value).split()
-    return len(words) > 1 and re.fullmatch(r"[A-Za-z][A-Za-z0-9/+_-]*", words[-1]) and words[-1] != "UTC"
 
 
 def is_comment(line):

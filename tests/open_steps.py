@@ -1,20 +1,24 @@
 #!/usr/bin/env python3
-"""Compares what cal_lint says that systemd 252 computes wrongly because of steps without an end, such as `0/7`, with
-what systemd-analyze 252 prints.
+"""Compares what `calendar-timers lint` says that systemd 252 computes wrongly because of steps without an end, such as
+`0/7`, with what systemd-analyze 252 prints.
 
-    tests/open_steps.py
+    tests/open_steps.py [TIMERS]
 
 `loses_elapses` and the functions `fails_*` are the rule of crates/cal_lint/specs/rules/OpenSteps.antt. In UTC,
 systemd-analyze has to leave out an elapse exactly if the rule says so. In zones whose clocks change, it has to fail
 exactly if the rule says so for hours, and only if it does for days and months. The same expressions with ranges have to
-elapse as the manual says. The zones need the package tzdata. The last line is 'N passed, M failed', and the status is 1
-if one failed. If there is no systemd-analyze 252, nothing is compared, and the line ends in ', 1 skipped'."""
+elapse as the manual says. TIMERS, which is calendar-timers, has to warn of exactly the components of which the rule says
+so, for all starts and steps, and to suggest ranges that match the same. The zones need the package tzdata. The last line
+is 'N passed, M failed', and the status is 1 if one failed. If there is no systemd-analyze 252, nothing is compared, and
+the line ends in ', 1 skipped'."""
 
+import json
 import os
 import random
 import shutil
 import subprocess
 import sys
+import tempfile
 from concurrent.futures import ThreadPoolExecutor
 from datetime import datetime, timedelta
 
@@ -205,6 +209,57 @@ def check_months(component):
     return check_zone(component, "Europe/Berlin", "2024-01-01", has_to_fail, fails_at_changes(component))
 
 
+# What calendar-timers says
+
+
+# How many expressions a timer has. It may have 256.
+LISTED = 250
+
+
+def is_reported(component):
+    """Returns whether lint has to warn of the component."""
+    loses = component.field != "month" and loses_elapses(component)
+    return loses or (component.field in ["month", "day", "hour"] and fails_at_changes(component))
+
+
+def suggestions(timers, components):
+    """Returns what lint suggests for the components of which it warns, by their places in the list."""
+    found = {}
+    with tempfile.TemporaryDirectory() as folder:
+        for first in range(0, len(components), LISTED):
+            lines = [f"OnCalendar={component.expression()}\n" for component in components[first : first + LISTED]]
+            with open(f"{folder}/{first}.timer", "w") as file:
+                file.writelines(["[Timer]\n", *lines])
+        command = [timers, "lint", "--json", "--utc", "--now=@1704067200", folder]
+        run = subprocess.run(command, stdout=subprocess.PIPE, text=True)
+        for row in json.loads(run.stdout):
+            if row["message"].startswith(("systemd 252 loses ", "systemd 252 may fail ")):
+                first = int(os.path.basename(row["file"]).removesuffix(".timer"))
+                found[first + row["line"] - 2] = row["suggestion"]
+    return found
+
+
+def normal_forms(expressions):
+    """Returns the normal forms that systemd-analyze prints, without those that it rejects."""
+    run = subprocess.run(["systemd-analyze", "calendar", "--", *expressions], stdout=subprocess.PIPE, text=True)
+    return [line.partition(": ")[2] for line in run.stdout.splitlines() if line.strip().startswith("Normalized form: ")]
+
+
+def check_program(timers):
+    """Yields for each component what is wrong with what lint says of it, or None."""
+    components = [component for field in LAST for component in steps(field)] + steps_from_end()
+    found = suggestions(timers, components)
+    reported = [(component, found[place]) for place, component in enumerate(components) if place in found]
+    for place, component in enumerate(components):
+        is_right = (place in found) == is_reported(component)
+        yield None if is_right else f"{component.expression()}: lint {'warns' if place in found else 'says nothing'}"
+    for first in range(0, len(reported), LISTED):
+        some = reported[first : first + LISTED]
+        wanted = normal_forms([component.closed().expression() for component, _ in some])
+        if normal_forms([suggestion or "none" for _, suggestion in some]) != wanted:
+            yield f"some suggestions from {some[0][0].expression()} to {some[-1][0].expression()} are wrong"
+
+
 # Expressions
 
 
@@ -255,10 +310,7 @@ def is_installed():
     return run.stdout.startswith("systemd 252 ")
 
 
-def main():
-    if len(sys.argv) != 1:
-        print("usage: tests/open_steps.py", file=sys.stderr)
-        return 2
+def main(timers=None):
     if not is_installed():
         print("tests/open_steps.py: nothing compared, since there is no systemd-analyze 252")
         print("0 passed, 0 failed, 1 skipped")
@@ -270,8 +322,12 @@ def main():
             if wrong:
                 failed += 1
                 print(f"tests/open_steps.py: {component.expression()}: {wrong}")
-    print(f"{len(work) - failed} passed, {failed} failed")
+    said = list(check_program(timers)) if timers else []
+    for wrong in filter(None, said):
+        failed += 1
+        print(f"tests/open_steps.py: {wrong}")
+    print(f"{len(work) + len(said) - failed} passed, {failed} failed")
     return 1 if failed else 0
 
 
-sys.exit(main())
+sys.exit(main(*sys.argv[1:]))

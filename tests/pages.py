@@ -195,6 +195,10 @@ def tied():
     return {(crate, name): (home or crate, law) for name, crate, law, home in rows}
 
 
+# What only selects a part of something by its name, and so needs no law.
+SELECTORS = {("cal_spec", "component"), ("cal_spec", "members_of")}
+
+
 def of_folders(tree):
     """Yields the files of definitions that are in neither folder, and what rules cite from specs/computed/ although
     docs/MAP.md names no law for it."""
@@ -204,7 +208,7 @@ def of_folders(tree):
             yield f"{path} is in neither folder"
         module = path.removeprefix("crates/").removesuffix(".antt").replace("/", ".")
         for found, name in cited_by(path, module, all_words(path) if folder == "rules" else ()):
-            if ".computed." in found and (found.split(".")[0], name) not in tied():
+            if ".computed." in found and (found.split(".")[0], name) not in {*tied(), *SELECTORS}:
                 yield f"{path} cites {name} of {found}, for which docs/MAP.md names no law"
 
 

@@ -1,0 +1,114 @@
+#!/usr/bin/env python3
+"""Compares the lines that `calendar-timers lint` reports with those that systemd reports.
+
+    tests/lint.py TIMERS
+
+TIMERS is calendar-timers. The timers are those of tests/loads.py: each has a file of its own and up to two drop-ins, with
+lines that are valid or not in many ways. In each file, up to the line at which systemd stops reading it, `lint` has to report
+exactly the lines that `systemd --test` complains about. It also has to report an error for each timer that fails to load.
+
+What only `lint` reports is left out: exceptions and keys that look like theirs, and what systemd accepts but may not be
+meant. What only systemd reports is left out, too:
+
+- keys of sections other than `Timer`;
+- a second `Unit=`, and one that names the timer itself;
+- values with specifiers, except in expressions.
+
+The last line is 'N passed, M failed', which counts timers, and the status is 1 if one failed. If systemd isn't installed
+or can't be run as another user than root, the script says so, and ', 1 skipped' follows."""
+
+import os
+import random
+import sys
+import tempfile
+
+sys.dont_write_bytecode = True
+sys.path[:0] = [os.path.dirname(os.path.realpath(__file__)), f"{os.path.dirname(os.path.realpath(__file__))}/lib"]
+import loads
+from unit_trees import can_test_systemd, test_systemd
+
+TIMERS = 300
+# What lint says of lines that systemd accepts, and of timers whose lines can all be accepted.
+ACCEPTED = ("this is ", "the expression never elapses", "the exception suppresses", "systemd 252 ")
+# How messages of systemd begin or end that lint has no counterpart for.
+ONLY_SYSTEMD = ("Multiple units to trigger specified", "Units cannot trigger themselves")
+OTHER_SECTIONS = ("in section [Unit], ignoring.", "in section [Install], ignoring.", "in section 'Unit', ignoring.")
+
+
+def assigned(tree):
+    """Returns the key and the value of each assignment by its path and the number of its first line."""
+    return {(path, line): (key, value) for path, file in tree.read.items() for line, key, value in loads.assignments(file)[0]}
+
+
+def is_left_out(place, assigned_at):
+    """Returns whether the line is an exception or looks like one, or has a value with specifiers and isn't an expression."""
+    key, value = assigned_at.get(place, ("", ""))
+    return key.startswith("X-") or (key != "OnCalendar" and "%" in value)
+
+
+def by_systemd(tree, assigned_at):
+    shown, messages = test_systemd(tree.folders)
+    named, lines = loads.lines_named(tree), set()
+    for path, number, message in loads.LINE.findall(messages):
+        first, _ = named.get((path, int(number)), (int(number), None))
+        if not message.startswith(ONLY_SYSTEMD) and not message.endswith(OTHER_SECTIONS):
+            lines.add((path, first))
+    unit = shown.partition(f"\t-> Unit {tree.stem}.timer:\n")[2].partition("\t-> ")[0]
+    return {line for line in lines if not is_left_out(line, assigned_at)}, "\tUnit Load State: loaded" in unit
+
+
+def by_lint(timers, tree, assigned_at):
+    rows, _, status = loads.run_timers(timers, tree, "lint", "--", f"{tree.stem}.timer")
+    lines, loaded = set(), True
+    for row in rows:
+        place, message = (tree.root + row["file"], row["line"]), row["message"]
+        loaded &= message != "no setting starts its unit" and not (place[0] == tree.own and is_broken(message))
+        if row["line"] and not message.startswith(ACCEPTED) and not is_left_out(place, assigned_at):
+            lines.add(place)
+    has_error = any(row["kind"] == "error" for row in rows)
+    return lines, loaded, status == (1 if has_error else 0)
+
+
+def is_broken(message):
+    return message.startswith(tuple(loads.BROKEN.values())) or message.startswith("not a section header")
+
+
+def first_broken(tree):
+    """Returns for each path the line from which on systemd doesn't read the file, if there is one."""
+    return {path: loads.assignments(file)[1][0] for path, file in tree.read.items() if loads.assignments(file)[1]}
+
+
+def compare(timers, tree):
+    """Yields what differs."""
+    assigned_at, ends = assigned(tree), first_broken(tree)
+    (wanted, loads_there), (found, loads_here, is_consistent) = by_systemd(tree, assigned_at), by_lint(timers, tree, assigned_at)
+    found = {(path, line) for path, line in found if line <= ends.get(path, line)}
+    for path, line in sorted(wanted - found):
+        yield f"{path}:{line} isn't reported"
+    for path, line in sorted(found - wanted):
+        yield f"{path}:{line} is reported, and not by systemd"
+    if loads_here != loads_there:
+        yield f"{'loads' if loads_there else 'fails to load'} in systemd only"
+    if not is_consistent:
+        yield "the status doesn't follow from the problems"
+
+
+def main(timers):
+    if not can_test_systemd():
+        print("systemd isn't installed, or can't be run as another user than root")
+        print("0 passed, 0 failed, 1 skipped")
+        return 0
+    failed = 0
+    for number in range(TIMERS):
+        with tempfile.TemporaryDirectory() as root:
+            tree = loads.Tree(root, random.Random(number))
+            wrong = [line.replace(tree.root, "") for line in compare(timers, tree)]
+            for line in wrong:
+                print(f"timer {number}, {tree.stem}.timer: {line}")
+            failed += bool(wrong)
+    print(f"{TIMERS - failed} passed, {failed} failed")
+    return 1 if failed else 0
+
+
+if __name__ == "__main__":
+    sys.exit(main(*sys.argv[1:]))
