@@ -31,21 +31,22 @@ pub(crate) fn lint(
     add_timers(alloc, timers, &mut problems)?;
     add_idle(alloc, asked.at, timers.timers.as_slice(), &mut problems)?;
     let err = error_lines(alloc, files.faults.as_slice(), timers)?;
-    let counts = problems.counts(err.as_str());
+    let counts = problems.counts();
     let out = if asked.is_json {
         problems.json(alloc)?
     } else {
         problems.text(alloc, counts)?
     };
-    let status = lint_status(asked.is_strict, counts);
+    let status = lint_status(asked.is_strict, counts, !err.is_empty());
     Ok(Answer { out, err, status })
 }
 
-/// Returns the exit status for these problems.
-fn lint_status(is_strict: bool, counts: ProblemCounts) -> u8
-    ensures { result ≡ lint_status is_strict counts }
+/// Returns the exit status for these problems. `is_incomplete` says whether there are error lines besides: something
+/// couldn't be read.
+fn lint_status(is_strict: bool, counts: ProblemCounts, is_incomplete: bool) -> u8
+    ensures { result ≡ lint_status is_strict counts is_incomplete }
 {
-    if counts.errors > 0 || (is_strict && counts.warnings > 0) {
+    if is_incomplete || counts.errors > 0 || (is_strict && counts.warnings > 0) {
         INVALID
     } else {
         0

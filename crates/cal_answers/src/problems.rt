@@ -89,11 +89,10 @@ impl Problems {
             && known.file.as_str() == file)
     }
 
-    /// Counts the errors and warnings. Each line of `err` is an error, too.
-    pub(crate) fn counts(&self, err: &str) -> ProblemCounts {
+    pub(crate) fn counts(&self) -> ProblemCounts {
         let errors = self.list.iter().filter(|problem| problem.is_error).count();
         ProblemCounts {
-            errors: errors.saturating_add(err.lines().count()),
+            errors,
             warnings: self.list.len().saturating_sub(errors),
         }
     }

@@ -111,6 +111,7 @@ Mon 2024-01-01 02:00:00 +01:00  1h    notes.timer  disabled
     "exceptions": [],
     "elapses": [],
     "notes": [],
+    "warnings": [],
     "clock": []
   }
 ]
@@ -158,11 +159,12 @@ OnCalendar=Sat..Mon
 /t/wrong.timer:5:1: warning: unknown key in section [Timer]
 OnCalender=daily
 ^~~~~~~~~~
+2 errors, 2 warnings
 ",
     ),
     (
         "lint|/t/idle.timer",
-        "/t/idle.timer:2: warning: the expression never elapses\n",
+        "/t/idle.timer:2: warning: the expression never elapses\n1 warning\n",
     ),
     (
         "lint|--json|/t/idle.timer",
