@@ -12,7 +12,10 @@ meant. What only systemd reports is left out, too:
 
 - keys of sections other than `Timer`;
 - a second `Unit=`, and one that names the timer itself;
-- values with specifiers, except in expressions.
+- values with specifiers, except in expressions;
+- unknown zones in lines that a later line clears;
+- of timers that fail to load: expressions with specifiers or zones, drop-ins if systemd doesn't read the timer's own file to
+  the end, and lines of drop-ins that aren't UTF-8.
 
 The last line is 'N passed, M failed', which counts timers, and the status is 1 if one failed. If systemd isn't installed
 or can't be run as another user than root, the script says so, and ', 1 skipped' follows."""
@@ -47,14 +50,15 @@ def is_left_out(place, assigned_at):
 
 
 def by_systemd(tree, assigned_at):
+    """Returns the lines of which systemd says something, those of which only systemd does, and whether the timer loads."""
     shown, messages = test_systemd(tree.folders)
-    named, lines = loads.lines_named(tree), set()
+    named, lines, only = loads.lines_named(tree), set(), set()
     for path, number, message in loads.LINE.findall(messages):
         first, _ = named.get((path, int(number)), (int(number), None))
-        if not message.startswith(ONLY_SYSTEMD) and not message.endswith(OTHER_SECTIONS):
-            lines.add((path, first))
+        is_only = message.startswith(ONLY_SYSTEMD) or message.endswith(OTHER_SECTIONS)
+        (only if is_only else lines).add((path, first))
     unit = shown.partition(f"\t-> Unit {tree.stem}.timer:\n")[2].partition("\t-> ")[0]
-    return {line for line in lines if not is_left_out(line, assigned_at)}, "\tUnit Load State: loaded" in unit
+    return {line for line in lines if not is_left_out(line, assigned_at)}, only, "\tUnit Load State: loaded" in unit
 
 
 def by_lint(timers, tree, assigned_at):
@@ -78,11 +82,25 @@ def first_broken(tree):
     return {path: loads.assignments(file)[1][0] for path, file in tree.read.items() if loads.assignments(file)[1]}
 
 
+def only_in_loading(tree, lines, assigned_at, ends):
+    """Returns the lines without those of which lint knows only if the timer loads."""
+    if tree.own in ends:
+        lines = {place for place in lines if place[0] == tree.own}
+    else:
+        lines = {place for place in lines if place[1] != ends.get(place[0])}
+    values = {place: assigned_at.get(place, ("", ""))[1] for place in lines}
+    return {place for place, value in values.items() if "%" not in value and not loads.may_name_zone(value, tree.stem)}
+
+
 def compare(timers, tree):
     """Yields what differs."""
     assigned_at, ends = assigned(tree), first_broken(tree)
-    (wanted, loads_there), (found, loads_here, is_consistent) = by_systemd(tree, assigned_at), by_lint(timers, tree, assigned_at)
-    found = {(path, line) for path, line in found if line <= ends.get(path, line)}
+    wanted, only, loads_there = by_systemd(tree, assigned_at)
+    found, loads_here, is_consistent = by_lint(timers, tree, assigned_at)
+    found = {(path, line) for path, line in found if line <= ends.get(path, line)} - loads.cleared_zones(tree) - only
+    wanted -= loads.cleared_zones(tree)
+    if not loads_there:
+        wanted, found = (only_in_loading(tree, lines, assigned_at, ends) for lines in (wanted, found))
     for path, line in sorted(wanted - found):
         yield f"{path}:{line} isn't reported"
     for path, line in sorted(found - wanted):

@@ -27,6 +27,7 @@ Some things are left out, since calendar-timers has other rules for them:
 - There are no spans such as `+5`, which only systemd accepts, or `5.`, which only calendar-timers accepts.
 - There are no calendar expressions on which the two differ (see docs/DIFFERENCES.md).
 - No specifier depends on the running system: calendar-timers doesn't guess its value.
+- An unknown zone in a line that a later line clears isn't compared: calendar-timers doesn't look it up.
 - All exceptions are valid, since systemd doesn't know the key.
 
 The last line is 'N passed, M failed', which counts trees, and the status is 1 if one failed. If systemd isn't
@@ -330,6 +331,24 @@ def filled_in(value, known):
     return SPECIFIER.sub(lambda specifier: known[specifier[1]], value)
 
 
+def cleared_zones(tree):
+    """Returns the lines with expressions that a later line clears and that end in the name of a zone, or in a word that could
+    be one. systemd looks up their zones, and calendar-timers doesn't."""
+    cleared, so_far = set(), set()
+    for path, file in tree.read.items():
+        for line, key, value in assignments(file)[0]:
+            if key in TRIGGERS and not value:
+                cleared |= so_far
+            elif key == "OnCalendar" and may_name_zone(value, tree.stem):
+                so_far.add((path, line))
+    return cleared
+
+
+def may_name_zone(value, stem):
+    words = (filled_in(value, specifiers(stem)) or value).split()
+    return len(words) > 1 and re.fullmatch(r"[A-Za-z][A-Za-z0-9/+_-]*", words[-1])
+
+
 class Timer:
     """What is left of a timer's assignments: the triggers, the true settings and the unit. `ignored` has the paths and lines
     of the `OnCalendar=` assignments that systemd ignores."""
@@ -377,6 +396,7 @@ def answer(tree, loads, ignored, broken, left, status=None):
     """Returns what was found about a timer, as far as it is compared. `broken` has the paths and lines from which on files
     aren't read. The status follows from the rest if it isn't given."""
     found = {"loads": loads, "broken": sorted(line for line in broken if line[0] == tree.own)}
+    ignored = set(ignored) - cleared_zones(tree)
     if loads:
         found |= {"broken": sorted(broken), "ignored": sorted(ignored), "left": sorted(left)}
     is_whole = loads and not broken and not ignored

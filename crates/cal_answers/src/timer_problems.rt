@@ -3,7 +3,7 @@
 
 use crate::problems::Problems;
 use cal_lint::ProblemKind;
-use cal_load::{BrokenLine, Loaded, LoadedTimer, TargetFault, TargetReason};
+use cal_load::{BrokenLine, BrokenReason, Loaded, LoadedTimer, TargetFault, TargetReason};
 use cal_plan::PlanFault;
 use cal_tasks::{Clocked, idle_lines};
 use cal_timers_text::{
@@ -120,22 +120,21 @@ fn add_unusable_zones(
     Ok(())
 }
 
-/// Adds an error for the line at which systemd stops reading a timer's own file, unless the line has an error already.
+/// Adds an error for the line at which systemd stops reading a timer's own file, unless it is reported already.
 fn add_broken_file(
     alloc: Global,
     path: &str,
     line: BrokenLine,
     problems: &mut Problems,
 ) -> Result<(), AllocError> {
-    if problems.has_error_at(path, line.number) {
+    if is_reported(path, line.number, line.reason, problems) {
         return Ok(());
     }
     let message = broken_file_words(alloc, line.reason)?;
     add_error(alloc, path, line.number, message.as_str(), problems)
 }
 
-/// Adds an error for each drop-in of the timer that systemd stops reading at some line, unless the line has an error
-/// already.
+/// Adds an error for each drop-in of the timer that systemd stops reading at some line, unless it is reported already.
 fn add_broken_lines(
     alloc: Global,
     timer: &LoadedTimer,
@@ -156,11 +155,17 @@ fn add_broken_drop_in(
     problems: &mut Problems,
 ) -> Result<(), AllocError> {
     let (path, line) = place_in(timer, broken.number);
-    if problems.has_error_at(path, line) {
+    if is_reported(path, line, broken.reason, problems) {
         return Ok(());
     }
     let message = broken_drop_in_words(alloc, broken.reason)?;
     add_error(alloc, path, line, message.as_str(), problems)
+}
+
+/// Returns whether the line at which systemd stops reading a file is reported already: a bad section header is, among the
+/// problems of the file.
+fn is_reported(path: &str, line: u32, reason: BrokenReason, problems: &Problems) -> bool {
+    matches!(reason, BrokenReason::BadHeader) && problems.has_error_at(path, line)
 }
 
 /// Adds a warning about each expression that never elapses, and about each exception that suppresses nothing.
