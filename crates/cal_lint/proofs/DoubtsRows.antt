@@ -1,12 +1,10 @@
--- Examples that check, by computation, which expressions may not mean what their author thinks, and which keys count as
--- unknown.
+-- Examples that check, by computation, which expressions may not mean what their author thinks.
 use Rattle.std.proofs.Common.{◌≡◌, ℕ, List, true, false, [], ◌∷◌, codes, refl, Option, None, Some}
 use Rattle.cal_bytes.specs.rules.Separators.{words}
 use Rattle.cal_civil.specs.rules.ZoneName.{is_utc_name}
 use Rattle.cal_spec.specs.declared.field.Part.{Part}
 use Rattle.cal_spec.specs.rules.NormalForm.{point}
 use Rattle.cal_lint.specs.rules.Doubts.{has_month_day, is_hour_list, is_hour_range, looks_like_abbreviation}
-use Rattle.cal_lint.specs.rules.UnknownKeys.{is_unknown_key}
 
 abbrev to : ℕ → Option ℕ → List Part
 to end step = record { start = 0; end = Some end; step = step } ∷ []
@@ -50,18 +48,3 @@ two_letters = refl
 
 mixed_case : looks_like_abbreviation (codes "Japan") ≡ false
 mixed_case = refl
-
-known : is_unknown_key (codes "FixedRandomDelay") ≡ false
-known = refl
-
-exceptions : is_unknown_key (codes "X-ExceptOnCalendar") ≡ false
-exceptions = refl
-
-vendor : is_unknown_key (codes "X-Vendor") ≡ false
-vendor = refl
-
-other_case : is_unknown_key (codes "onCalendar") ≡ true
-other_case = refl
-
-misspelled : is_unknown_key (codes "X-ExcepOnCalendar") ≡ true
-misspelled = refl

@@ -3,6 +3,7 @@ mod ClosedPartLemmas
 mod DigitLemmas
 mod DoubtsRows
 mod FindingsLemmas
+mod KeyRows
 mod OpenStepRows
 mod SectionsLemmas
 mod SectionsRows

@@ -6,7 +6,8 @@ use Rattle.cal_timer.specs.rules.LineView.{line_at}
 use Rattle.cal_lint.specs.rules.Findings.{header_problem, line_problems}
 use Rattle.cal_lint.specs.rules.Sections.{is_unknown_section, section_after}
 use Rattle.cal_lint.specs.declared.problems.Problem.TheVariants.{BadHeader, UnknownSection, OutsideSection, NoEquals, NoKey}
-use Rattle.cal_lint.specs.declared.sections.Section.TheVariants.{Outside, Timer, Other, Ignored}
+use Rattle.cal_lint.specs.declared.sections.OpenSection.TheVariants.{Outside, Known, Ignored}
+use Rattle.cal_lint.specs.declared.sections.Section.TheVariants.{Unit, Timer}
 
 known : is_unknown_section (codes "Install") ≡ false
 known = refl
@@ -26,20 +27,20 @@ with_a_comment = refl
 quoted : header_problem (codes "[Ti\"mer]") ≡ Some BadHeader
 quoted = refl
 
-timer : section_after Outside (codes "[Timer]") ≡ Timer
+timer : section_after Outside (codes "[Timer]") ≡ Known Timer
 timer = refl
 
-vendor_section : section_after Timer (codes "[X-Vendor]") ≡ Ignored
+vendor_section : section_after (Known Timer) (codes "[X-Vendor]") ≡ Ignored
 vendor_section = refl
 
 outside : line_problems [] (record { section = Outside; line = line_at 1 (codes "a=b") }) ≡ OutsideSection ∷ []
 outside = refl
 
-no_equals : line_problems [] (record { section = Other; line = line_at 1 (codes "Wants") }) ≡ NoEquals ∷ []
+no_equals : line_problems [] (record { section = Known Unit; line = line_at 1 (codes "Wants") }) ≡ NoEquals ∷ []
 unfolding assignment_of
 no_equals = refl
 
-no_key : line_problems [] (record { section = Timer; line = line_at 1 (codes "=x") }) ≡ NoKey ∷ []
+no_key : line_problems [] (record { section = Known Timer; line = line_at 1 (codes "=x") }) ≡ NoKey ∷ []
 unfolding assignment_of trim_matches trim_start_matches trim_end_matches
 no_key = refl
 

@@ -4,6 +4,7 @@ pub mod Doubts
 pub mod Findings
 pub mod Hints
 pub mod IgnoredValues
+pub mod InstallNames
 pub mod OpenSteps
 pub mod Sections
 pub mod Systemd252

@@ -1,9 +1,9 @@
-//! Expressions that systemd 252 accepts, to write instead of others.
+//! Expressions to write instead of others. "Accepts" and "rejects" stand for what the rules in `Systemd252` say.
 
 ghost use Rattle.std.specs.Prelude.{◌≡◌, IfOk, IfSome, Ok, string_bytes};
 ghost use Rattle.cal_spec.specs.computed.Expr.{expr_in};
 ghost use Rattle.cal_spec.specs.rules.ExprText.{expr_text};
-ghost use Rattle.cal_lint.specs.rules.Systemd252.{IsAccepted};
+ghost use Rattle.cal_lint.specs.rules.Systemd252.{IsNotRejected};
 
 use crate::older_systemd::systemd_252;
 use cal_bytes::Port;
@@ -15,7 +15,7 @@ use std::alloc::{AllocError, Global};
 /// Returns `None` if systemd 252 accepts neither, or if `text` is not a valid expression. Fails only if allocation
 /// fails.
 pub(crate) fn accepted_text(alloc: Global, text: String) -> Result<Option<String>, AllocError>
-    ensures accepted { IfOk result (λ found. IfSome found (λ form. IsAccepted (string_bytes form))) }
+    ensures accepted { IfOk result (λ found. IfSome found (λ form. IsNotRejected (string_bytes form))) }
     ensures same { IfOk result (λ found. IfSome found (λ form.
         expr_in (string_bytes form) ≡ expr_in (string_bytes text))) }
 {
@@ -30,7 +30,7 @@ pub(crate) fn accepted_text(alloc: Global, text: String) -> Result<Option<String
 /// Returns the normal form of a valid expression. Returns `None` if systemd 252 rejects the normal form, or if `text`
 /// is not a valid expression. Fails only if allocation fails.
 pub(crate) fn accepted_form(alloc: Global, text: &str) -> Result<Option<String>, AllocError>
-    ensures accepted { IfOk result (λ found. IfSome found (λ form. IsAccepted (string_bytes form))) }
+    ensures accepted { IfOk result (λ found. IfSome found (λ form. IsNotRejected (string_bytes form))) }
     ensures same { IfOk result (λ found. IfSome found (λ form. expr_in (string_bytes form) ≡ expr_in text.now)) }
 {
     let normal = match read_expr(alloc, text) {

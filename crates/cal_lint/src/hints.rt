@@ -1,7 +1,7 @@
 //! What to write instead of an invalid calendar expression.
 //!
-//! Hints depend only on the form of the text. A suggestion is always a valid expression that systemd 252 accepts: if
-//! there is none, the hint has no suggestion.
+//! Hints depend only on the form of the text. A suggestion is always a valid expression, and no rule of `Systemd252` says
+//! that systemd 252 rejects it: if there is none, the hint has no suggestion.
 
 ghost use Rattle.std.specs.Prelude.{◌≡◌, IfOk, IfSome, Some, false, is_ok, string_bytes, true};
 ghost use Rattle.std.specs.List.{list_any};
@@ -11,7 +11,7 @@ ghost use Rattle.cal_bytes.specs.rules.Trim.{trim_matches};
 ghost use Rattle.cal_bytes.specs.rules.Separators.{is_blank};
 ghost use Rattle.cal_spec.specs.computed.Expr.{expr_in};
 ghost use Rattle.cal_lint.specs.rules.Hints.{is_comment_mark, is_span, mistake_in};
-ghost use Rattle.cal_lint.specs.rules.Systemd252.{IsAccepted};
+ghost use Rattle.cal_lint.specs.rules.Systemd252.{IsNotRejected};
 ghost use Rattle.cal_lint.specs.declared.hints.Mistake.{Mistake};
 
 use crate::accepted::accepted_text;
@@ -57,7 +57,7 @@ pub enum Mistake {
 #[derive(Debug, Drop)]
 pub struct Hint {
     pub mistake: Mistake,
-    /// An expression to write instead, if one is known. systemd 252 accepts it.
+    /// An expression to write instead, if one is known. [`crate::systemd_252`] finds no reason to reject it.
     pub instead: Option<String>,
 }
 
@@ -68,7 +68,7 @@ pub fn find_hint(alloc: Global, text: &str) -> Result<Option<Hint>, AllocError>
     ensures mistake { IfOk result (λ found. is_ok (expr_in text.now) ≡ false → (mistake : Mistake)
         → mistake_in (trim_matches is_blank text.now) ≡ Some mistake → option_map (λ hint. hint.mistake) found ≡ Some mistake) }
     ensures instead { IfOk result (λ found. IfSome found (λ hint. IfSome hint.instead (λ instead.
-        IsAccepted (string_bytes instead)))) }
+        IsNotRejected (string_bytes instead)))) }
 {
     if is_valid_expression(alloc, text)? {
         return Ok(None);
@@ -96,7 +96,7 @@ pub(crate) fn is_valid_expression(alloc: Global, text: &str) -> Result<bool, All
 /// anything else, and if the last word is the name of a zone that may be a mistake: `9 Uhr` is rewritten to
 /// `09:00 Uhr`, but there is no zone `Uhr`.
 fn keep_accepted(alloc: Global, text: Option<String>) -> Result<Option<String>, AllocError>
-    ensures { IfOk result (λ kept. IfSome kept (λ text. IsAccepted (string_bytes text))) }
+    ensures { IfOk result (λ kept. IfSome kept (λ text. IsNotRejected (string_bytes text))) }
 {
     let Some(text) = text else {
         return Ok(None);

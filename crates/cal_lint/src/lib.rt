@@ -4,15 +4,18 @@
 
 mod accepted;
 mod closed_steps;
+mod columns;
 mod crontab;
 mod doubts;
 mod hint_words;
 mod hints;
 mod ignored_values;
+mod install_names;
 mod older_systemd;
 mod open_steps;
 mod problems;
 mod sections;
+mod setting_problems;
 mod unknown_keys;
 
 pub use closed_steps::closed_form;
@@ -20,5 +23,6 @@ pub use doubts::{Doubt, find_doubt, looks_like_abbreviation};
 pub use hints::{Hint, Mistake, find_hint};
 pub use older_systemd::{Rejection, systemd_252};
 pub use open_steps::{OpenStepFlaw, find_open_step_flaw, open_step_flaw};
-pub use problems::{Finding, Problem, ProblemKind, findings, reported_flaw};
-pub use unknown_keys::find_unknown_keys;
+pub use problems::{Finding, Problem, ProblemKind, findings};
+pub use sections::Section;
+pub use setting_problems::reported_flaw;

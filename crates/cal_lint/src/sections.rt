@@ -8,28 +8,33 @@ ghost use Rattle.cal_lint.specs.rules.Sections.{is_bad_header, is_bad_in_header,
 
 use cal_read::section;
 
-const TIMER: &[u8] = b"Timer";
-
 const UNIT: &[u8] = b"Unit";
+
+const TIMER: &[u8] = b"Timer";
 
 const INSTALL: &[u8] = b"Install";
 
-/// The section of a line in a unit file.
+/// A section that systemd reads in a timer.
 #[derive(Clone, Copy, PartialEq, Eq, Debug)]
-pub(crate) enum Section {
+pub enum Section {
+    Unit,
+    Timer,
+    Install,
+}
+
+/// The section in which a line of a unit file stands.
+#[derive(Clone, Copy, PartialEq, Eq, Debug)]
+pub(crate) enum OpenSection {
     /// The line comes before the first section header.
     Outside,
-    /// A section `Timer`.
-    Timer,
-    /// A section `Unit` or `Install`.
-    Other,
+    Known(Section),
     /// A section that systemd ignores.
     Ignored,
 }
 
 /// Returns the section that is open after a line. `before` is the section that is open before it. The line has no
 /// blanks at its start or its end.
-pub(crate) fn section_after(before: Section, line: &str) -> Section
+pub(crate) fn section_after(before: OpenSection, line: &str) -> OpenSection
     ensures { result ≡ section_after before line.now }
 {
     match section(line) {
@@ -70,20 +75,22 @@ pub(crate) fn is_unknown_section(name: &[u8]) -> bool
     is_ignored(section_named(name)) && !name.starts_with(b"X-")
 }
 
-fn section_named(name: &[u8]) -> Section
+fn section_named(name: &[u8]) -> OpenSection
     ensures { result ≡ section_named name.now }
 {
-    if name == TIMER {
-        Section::Timer
-    } else if name == UNIT || name == INSTALL {
-        Section::Other
+    if name == UNIT {
+        OpenSection::Known(Section::Unit)
+    } else if name == TIMER {
+        OpenSection::Known(Section::Timer)
+    } else if name == INSTALL {
+        OpenSection::Known(Section::Install)
     } else {
-        Section::Ignored
+        OpenSection::Ignored
     }
 }
 
-fn is_ignored(section: Section) -> bool
+fn is_ignored(section: OpenSection) -> bool
     ensures { result ≡ is_ignored section }
 {
-    matches!(section, Section::Ignored)
+    matches!(section, OpenSection::Ignored)
 }

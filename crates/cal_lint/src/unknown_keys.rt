@@ -1,73 +1,195 @@
-//! Unknown keys: those in `[Timer]` sections of a unit file that neither systemd 252 nor this project knows.
+//! Unknown keys: those that neither systemd 252 nor this project knows in a section of a timer.
 
-ghost use Rattle.std.specs.Prelude.{◌≡◌, ◌+◌, ◌<◌, ◌-◌, ◌^◌, IfOk, codes, drop, false, filter, length, map, nat_eq, take};
+ghost use Rattle.std.specs.Prelude.{◌≡◌, ◌-◌, codes, drop, length, nat_eq, take};
 ghost use Rattle.std.specs.List.{starts_with};
 ghost use Rattle.std.specs.Str.{str_eq_ignore_ascii_case};
-ghost use Rattle.cal_timer.specs.rules.Lines.{logical_lines};
-ghost use Rattle.cal_timer.specs.rules.TimerText.{without_mark};
-ghost use Rattle.cal_read.specs.rules.SectionAssignments.{section_assignments, shown_owned_assignment};
-ghost use Rattle.cal_lint.specs.rules.UnknownKeys.{has_unknown_key, is_like_exception_key, is_unknown_key};
+ghost use Rattle.cal_lint.specs.rules.UnknownKeys.{is_install_key, is_known_key, is_like_exception_key, is_timer_key, is_unit_key, is_unknown_key, may_be_exception_key};
 
+use crate::sections::Section;
 use cal_bytes::is_among;
-use cal_read::{Assignments, OwnedAssignment, without_mark};
-use std::alloc::{AllocError, Global};
+use cal_settings::kind_of;
 
-/// The keys of the section `Timer` that systemd 252 knows (systemd.timer(5), Options), and then `X-ExceptOnCalendar`,
-/// this project's key for exceptions. When an exception elapses, the timer doesn't.
-const KNOWN_KEYS: [&[u8]; 16] = [
-    b"OnActiveSec",
-    b"OnBootSec",
-    b"OnStartupSec",
-    b"OnUnitActiveSec",
-    b"OnUnitInactiveSec",
-    b"OnCalendar",
-    b"AccuracySec",
-    b"RandomizedDelaySec",
-    b"FixedRandomDelay",
-    b"OnClockChange",
-    b"OnTimezoneChange",
-    b"Unit",
-    b"Persistent",
-    b"WakeSystem",
-    b"RemainAfterElapse",
-    b"X-ExceptOnCalendar",
+/// The keys of the section `Unit` that systemd 252 knows, in the order in which `systemd --dump-configuration-items`
+/// prints them.
+const UNIT_KEYS: [&[u8]; 113] = [
+    b"Description",
+    b"Documentation",
+    b"SourcePath",
+    b"Requires",
+    b"Requisite",
+    b"Wants",
+    b"BindsTo",
+    b"BindTo",
+    b"Upholds",
+    b"Conflicts",
+    b"Before",
+    b"After",
+    b"OnSuccess",
+    b"OnFailure",
+    b"PropagatesReloadTo",
+    b"PropagateReloadTo",
+    b"ReloadPropagatedFrom",
+    b"PropagateReloadFrom",
+    b"PropagatesStopTo",
+    b"StopPropagatedFrom",
+    b"PartOf",
+    b"JoinsNamespaceOf",
+    b"RequiresOverridable",
+    b"RequisiteOverridable",
+    b"RequiresMountsFor",
+    b"StopWhenUnneeded",
+    b"RefuseManualStart",
+    b"RefuseManualStop",
+    b"AllowIsolate",
+    b"DefaultDependencies",
+    b"OnSuccessJobMode",
+    b"OnFailureJobMode",
+    b"OnFailureIsolate",
+    b"IgnoreOnIsolate",
+    b"JobTimeoutSec",
+    b"JobRunningTimeoutSec",
+    b"JobTimeoutAction",
+    b"JobTimeoutRebootArgument",
+    b"StartLimitIntervalSec",
+    b"StartLimitInterval",
+    b"StartLimitBurst",
+    b"StartLimitAction",
+    b"FailureAction",
+    b"SuccessAction",
+    b"FailureActionExitStatus",
+    b"SuccessActionExitStatus",
+    b"RebootArgument",
+    b"ConditionPathExists",
+    b"ConditionPathExistsGlob",
+    b"ConditionPathIsDirectory",
+    b"ConditionPathIsSymbolicLink",
+    b"ConditionPathIsMountPoint",
+    b"ConditionPathIsReadWrite",
+    b"ConditionPathIsEncrypted",
+    b"ConditionDirectoryNotEmpty",
+    b"ConditionFileNotEmpty",
+    b"ConditionFileIsExecutable",
+    b"ConditionNeedsUpdate",
+    b"ConditionFirstBoot",
+    b"ConditionArchitecture",
+    b"ConditionFirmware",
+    b"ConditionVirtualization",
+    b"ConditionHost",
+    b"ConditionKernelCommandLine",
+    b"ConditionKernelVersion",
+    b"ConditionCredential",
+    b"ConditionSecurity",
+    b"ConditionCapability",
+    b"ConditionACPower",
+    b"ConditionMemory",
+    b"ConditionCPUFeature",
+    b"ConditionCPUs",
+    b"ConditionEnvironment",
+    b"ConditionUser",
+    b"ConditionGroup",
+    b"ConditionControlGroupController",
+    b"ConditionOSRelease",
+    b"ConditionMemoryPressure",
+    b"ConditionCPUPressure",
+    b"ConditionIOPressure",
+    b"AssertPathExists",
+    b"AssertPathExistsGlob",
+    b"AssertPathIsDirectory",
+    b"AssertPathIsSymbolicLink",
+    b"AssertPathIsMountPoint",
+    b"AssertPathIsReadWrite",
+    b"AssertPathIsEncrypted",
+    b"AssertDirectoryNotEmpty",
+    b"AssertFileNotEmpty",
+    b"AssertFileIsExecutable",
+    b"AssertNeedsUpdate",
+    b"AssertFirstBoot",
+    b"AssertArchitecture",
+    b"AssertVirtualization",
+    b"AssertHost",
+    b"AssertKernelCommandLine",
+    b"AssertKernelVersion",
+    b"AssertCredential",
+    b"AssertSecurity",
+    b"AssertCapability",
+    b"AssertACPower",
+    b"AssertMemory",
+    b"AssertCPUFeature",
+    b"AssertCPUs",
+    b"AssertEnvironment",
+    b"AssertUser",
+    b"AssertGroup",
+    b"AssertControlGroupController",
+    b"AssertOSRelease",
+    b"AssertMemoryPressure",
+    b"AssertCPUPressure",
+    b"AssertIOPressure",
+    b"CollectMode",
 ];
 
-/// Returns the assignments with unknown keys in the sections `Timer` of a unit file, in order. A key is unknown if
-/// neither systemd 252 (systemd.timer(5), Options) nor this project knows it. The first line of `text` has the number
-/// `first`; `first` plus the number of bytes must be below 2^32.
-///
-/// systemd ignores keys that begin with `X-` (systemd.unit(5)). So they don't count as unknown, unless they look like a
-/// misspelled `X-ExceptOnCalendar`, this project's key for exceptions: they begin with `X-Except` or end with
-/// `OnCalendar`, ignoring case.
-///
-/// Fails only if allocation fails.
-pub fn find_unknown_keys(
-    alloc: Global,
-    first: u32,
-    text: &str,
-) -> Result<Vec<OwnedAssignment>, AllocError>
-    requires { first + length text.now < 2 ^ 32 }
-    ensures { IfOk result (λ found. map shown_owned_assignment found.items ≡ filter has_unknown_key
-        (section_assignments (codes "Timer") false (logical_lines first (without_mark text.now)))) }
-{
-    let mut found = Vec::new(alloc);
-    let mut assignments = Assignments::new("Timer", first, without_mark(text));
-    while let Some(assignment) = assignments.next(alloc)? {
-        if is_unknown_key(assignment.key.as_str()) {
-            found.push(assignment)?;
-        }
-    }
-    Ok(found)
-}
+/// The keys of the section `Install` (systemd.unit(5), [Install] Section Options).
+const INSTALL_KEYS: [&[u8]; 5] = [
+    b"Alias",
+    b"WantedBy",
+    b"RequiredBy",
+    b"Also",
+    b"DefaultInstance",
+];
 
-pub(crate) fn is_unknown_key(key: &str) -> bool
-    ensures { result ≡ is_unknown_key key.now }
+/// The keys of the section `Timer` whose values are expressions. `X-ExceptOnCalendar` is this project's key for
+/// exceptions. When an exception elapses, the timer doesn't.
+const EXPRESSION_KEYS: [&[u8]; 2] = [b"OnCalendar", b"X-ExceptOnCalendar"];
+
+/// Returns whether neither systemd 252 nor this project knows the key in this section.
+///
+/// systemd ignores keys that begin with `X-` (systemd.unit(5)). So they don't count as unknown, unless they stand in the
+/// section `Timer` and look like a misspelled `X-ExceptOnCalendar`: they begin with `X-Except` or end with `OnCalendar`,
+/// ignoring case.
+pub(crate) fn is_unknown_key(section: Section, key: &str) -> bool
+    ensures { result ≡ is_unknown_key section key.now }
 {
-    if is_among(&KNOWN_KEYS, key.as_bytes()) {
+    if is_known_key(section, key) {
         return false;
     }
-    !key.as_bytes().starts_with(b"X-") || is_like_exception_key(key.as_bytes())
+    !key.as_bytes().starts_with(b"X-") || may_be_exception_key(section, key)
+}
+
+fn is_known_key(section: Section, key: &str) -> bool
+    ensures { result ≡ is_known_key section key.now }
+{
+    match section {
+        Section::Unit => is_unit_key(key.as_bytes()),
+        Section::Timer => is_timer_key(key),
+        Section::Install => is_install_key(key),
+    }
+}
+
+fn is_unit_key(key: &[u8]) -> bool
+    ensures { result ≡ is_unit_key key.now }
+{
+    is_among(&UNIT_KEYS, key)
+}
+
+fn is_install_key(key: &str) -> bool
+    ensures { result ≡ is_install_key key.now }
+{
+    is_among(&INSTALL_KEYS, key.as_bytes())
+}
+
+fn is_timer_key(key: &str) -> bool
+    ensures { result ≡ is_timer_key key.now }
+{
+    kind_of(key).is_some() || is_among(&EXPRESSION_KEYS, key.as_bytes())
+}
+
+/// Returns whether a key in this section may be a misspelled `X-ExceptOnCalendar`.
+fn may_be_exception_key(section: Section, key: &str) -> bool
+    ensures { result ≡ may_be_exception_key section key.now }
+{
+    match section {
+        Section::Timer => is_like_exception_key(key.as_bytes()),
+        Section::Unit | Section::Install => false,
+    }
 }
 
 /// Returns whether a key begins with `X-Except` or ends with `OnCalendar`, ignoring case.

@@ -6,4 +6,4 @@ mod setting_kind;
 mod values;
 
 pub use setting_kind::{SettingKind, is_taken_as, kind_of};
-pub use values::{has_percent, is_longer, is_yes, stem_base};
+pub use values::{has_percent, is_longer, is_unit_name, is_yes, stem_base};

@@ -101,7 +101,7 @@ fn is_span_over(least: u64, value: &str) -> bool
 /// Returns whether `name` is the name of a unit or a template: it ends in the suffix of a unit and has something before
 /// it, doesn't begin with `@`, has only ASCII letters, digits and `:-_.\@`, and has at most 255 bytes.
 #[tactic(auto, unfolding(crate::specs::rules::Settings::is_unit_name))]
-pub(crate) fn is_unit_name(name: &str) -> bool
+pub fn is_unit_name(name: &str) -> bool
     ensures { result ≡ is_unit_name name.now }
 {
     name.len() <= MAX_NAME

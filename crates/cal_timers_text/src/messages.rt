@@ -3,7 +3,7 @@
 ghost use Rattle.std.specs.Prelude.{◌≡◌};
 ghost use Rattle.cal_timers_text.specs.rules.FlawWords.{flaw_words, loss_words};
 
-use cal_lint::{Doubt, Mistake, OpenStepFlaw, Problem, Rejection};
+use cal_lint::{Doubt, Mistake, OpenStepFlaw, Problem, Rejection, Section};
 use cal_settings::SettingKind;
 use cal_spec::Field;
 use cal_tasks::IdleKind;
@@ -33,7 +33,7 @@ pub(crate) fn push_message(
 ) -> Result<(), AllocError> {
     match problem {
         Problem::Invalid(fault) => push_invalid(out, fault, mistake),
-        Problem::UnknownKey => out.push_str("unknown key in section [Timer]"),
+        Problem::UnknownKey(section) => push_unknown_key(out, section),
         Problem::Rejected(rejection) => {
             out.push_str("systemd 252 doesn't accept ")?;
             out.push_str(rejection_words(rejection))
@@ -46,11 +46,28 @@ pub(crate) fn push_message(
         }
         Problem::NoEquals => out.push_str("a line without =, which systemd ignores"),
         Problem::NoKey => out.push_str("nothing before the =, so systemd ignores the line"),
+        Problem::BadUnitName => {
+            out.push_str("systemctl enable fails because of a name in this line")
+        }
         Problem::IgnoredValue(kind) => {
             out.push_str(value_words(kind))?;
             out.push_str(", so systemd ignores the line")
         }
         Problem::OpenStep(flaw) => out.push_str(flaw_words(flaw)),
+    }
+}
+
+fn push_unknown_key(out: &mut String, section: Section) -> Result<(), AllocError> {
+    out.push_str("unknown key in section [")?;
+    out.push_str(section_name(section))?;
+    out.push(']')
+}
+
+fn section_name(section: Section) -> &'static str {
+    match section {
+        Section::Unit => "Unit",
+        Section::Timer => "Timer",
+        Section::Install => "Install",
     }
 }
 

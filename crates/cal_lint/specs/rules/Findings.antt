@@ -2,8 +2,9 @@
 -- exception is an expression after this project's key `X-ExceptOnCalendar=`. When an exception elapses, the timer
 -- doesn't.
 use Rattle.std.specs.Prelude.{ℕ, ◌==◌, Bool, false, true, not, ◌&&◌, ◌||◌, if◌then◌else◌, List, [], ◌∷◌, ◌++◌, codes, length, map, slice_index, Option, None, Some, IfSome, string_bytes, Result, Ok, Err}
-use Rattle.std.specs.List.{find, flat_map, list_any}
+use Rattle.std.specs.List.{find, flat_map}
 use Rattle.std.specs.Option.{option_map, option_to_list}
+use Rattle.cal_settings.specs.rules.Settings.{has_percent}
 use Rattle.cal_timer.specs.rules.Lines.{Line, logical_lines}
 use Rattle.cal_spec.specs.computed.Expr.{expr_in}
 use Rattle.cal_spec.specs.declared.spec_fault.SpecFault.{SpecFault}
@@ -17,9 +18,10 @@ use Rattle.cal_read.specs.rules.TimerFaults.{all_faults, in_file}
 use Rattle.cal_read.specs.declared.texts.FileFault.{FileFault}
 use Rattle.cal_lint.specs.rules.Doubts.{doubt_in}
 use Rattle.cal_lint.specs.rules.IgnoredValues.{ignored_setting}
+use Rattle.cal_lint.specs.rules.InstallNames.{has_bad_name}
 use Rattle.cal_lint.specs.rules.OpenSteps.{flaw_in}
 use Rattle.cal_lint.specs.rules.Sections.{PlacedLine, is_bad_header, is_unknown_section, placed_lines}
-use Rattle.cal_lint.specs.rules.Systemd252.{IsAccepted, rejection_in}
+use Rattle.cal_lint.specs.rules.Systemd252.{IsNotRejected, rejection_in}
 use Rattle.cal_lint.specs.rules.UnknownKeys.{is_unknown_key}
 use Rattle.cal_lint.specs.declared.open_steps.OpenStepFlaw.{OpenStepFlaw}
 use Rattle.cal_lint.specs.declared.open_steps.OpenStepFlaw.TheVariants.{LosesElapses, FailsAtClockChanges, FailsAtMidnightChanges}
@@ -28,18 +30,16 @@ use Rattle.cal_lint.specs.declared.problems.ProblemKind.{ProblemKind}
 use Rattle.cal_lint.specs.declared.problems.UnitLine.{UnitLine}
 use Rattle.cal_lint.specs.declared.problems.ProblemKind.TheVariants.{Error, Warning}
 use Rattle.cal_lint.specs.declared.problems.Problem.{Problem}
-use Rattle.cal_lint.specs.declared.problems.Problem.TheVariants.{Invalid, UnknownKey, Rejected, Doubtful, BadHeader, UnknownSection, OutsideSection, NoEquals, NoKey, IgnoredValue, OpenStep}
+use Rattle.cal_lint.specs.declared.problems.Problem.TheVariants.{Invalid, UnknownKey, Rejected, Doubtful, BadHeader, UnknownSection, OutsideSection, NoEquals, NoKey, BadUnitName, IgnoredValue, OpenStep}
+use Rattle.cal_lint.specs.declared.sections.OpenSection.{OpenSection}
+use Rattle.cal_lint.specs.declared.sections.OpenSection.TheVariants.{Outside, Known, Ignored}
 use Rattle.cal_lint.specs.declared.sections.Section.{Section}
-use Rattle.cal_lint.specs.declared.sections.Section.TheVariants.{Outside, Timer, Ignored}
-
--- whether the byte is a percent sign, which begins a specifier: systemd.unit(5), Specifiers
-abbrev pub is_percent : ℕ → Bool
-is_percent b = b == 37
+use Rattle.cal_lint.specs.declared.sections.Section.TheVariants.{Unit, Timer, Install}
 
 -- whether the assignment is an expression or an exception without specifiers; a value with specifiers isn't checked,
 -- since systemd replaces them when it loads the unit
 abbrev pub is_checked : Assignment → Bool
-is_checked a = (is_expression a || is_exception a) && not (list_any is_percent a.value)
+is_checked a = (is_expression a || is_exception a) && not (has_percent a.value)
 
 abbrev pub is_at : ℕ → Option ℕ → Bool
 is_at number None = false
@@ -87,12 +87,22 @@ abbrev pub value_problems : Option TimerFault → Assignment → List Problem
 value_problems (Some fault) a = Invalid fault ∷ []
 value_problems None a = advice a
 
--- the problems of an assignment in a section `Timer`; `faults` are all errors of the timer that has this assignment
-abbrev pub problems_of : List FileFault → Assignment → List Problem
-problems_of faults a =
-    if is_unknown_key a.key then UnknownKey ∷ []
-    else (if is_checked a then value_problems (fault_on faults a.number) a
-    else option_to_list (option_map IgnoredValue (ignored_setting a)))
+-- the problems of a setting in a section `Timer`; `faults` are all errors of the timer that has this setting
+abbrev pub setting_problems : List FileFault → Assignment → List Problem
+setting_problems faults a =
+    if is_checked a then value_problems (fault_on faults a.number) a
+    else option_to_list (option_map IgnoredValue (ignored_setting a))
+
+-- the problems of an assignment with a known key in this section
+abbrev pub known_problems : List FileFault → Section → Assignment → List Problem
+known_problems faults Unit a = []
+known_problems faults Timer a = setting_problems faults a
+known_problems faults Install a = if has_bad_name a then BadUnitName ∷ [] else []
+
+-- the problems of an assignment in this section
+abbrev pub problems_of : List FileFault → Section → Assignment → List Problem
+problems_of faults section a =
+    if is_unknown_key section a.key then UnknownKey section ∷ [] else known_problems faults section a
 
 -- the problem of a line that begins with `[`, if it has one: it isn't a section header, or systemd doesn't know the
 -- section
@@ -101,23 +111,17 @@ header_problem text =
     if is_bad_header text then Some BadHeader
     else (if is_unknown_section (section_of text) then Some UnknownSection else None)
 
-abbrev pub is_timer : Section → Bool
-is_timer Timer = true
-is_timer section = false
-
--- the problems of a line in a section that systemd knows, given the assignment in it; outside sections `Timer`, only a
--- missing `=` or an empty key is a problem
+-- the problems of a line in a section that systemd knows, given the assignment in it
 abbrev pub assigned_problems : List FileFault → Section → Option Assignment → List Problem
 assigned_problems faults section None = NoEquals ∷ []
-assigned_problems faults section (Some a) =
-    if length a.key == 0 then NoKey ∷ [] else (if is_timer section then problems_of faults a else [])
+assigned_problems faults section (Some a) = if length a.key == 0 then NoKey ∷ [] else problems_of faults section a
 
 -- the problems of a line that is neither empty nor begins with `[`: systemd reads only lines in sections, and ignores
 -- all lines in sections that it doesn't know
-abbrev pub plain_problems : List FileFault → Section → Line → List Problem
+abbrev pub plain_problems : List FileFault → OpenSection → Line → List Problem
 plain_problems faults Outside line = OutsideSection ∷ []
+plain_problems faults (Known section) line = assigned_problems faults section (assignment_of line)
 plain_problems faults Ignored line = []
-plain_problems faults section line = assigned_problems faults section (assignment_of line)
 
 abbrev pub begins_with_bracket : List ℕ → Bool
 begins_with_bracket text = slice_index text 0 == 91
@@ -129,11 +133,11 @@ line_problems faults placed =
     else (if begins_with_bracket placed.line.text then option_to_list (header_problem placed.line.text)
     else plain_problems faults placed.section placed.line)
 
--- invalid or rejected expressions are errors, as are invalid exceptions and headers at which systemd stops reading the
--- file; all other problems are warnings
+-- invalid or rejected expressions are errors, as are invalid exceptions, headers at which systemd stops reading the file,
+-- and names for which `systemctl enable` fails; all other problems are warnings
 abbrev pub problem_kind_of : Problem → ProblemKind
 problem_kind_of (Invalid fault) = Error
-problem_kind_of UnknownKey = Warning
+problem_kind_of (UnknownKey section) = Warning
 problem_kind_of (Rejected rejection) = Error
 problem_kind_of (Doubtful doubt) = Warning
 problem_kind_of BadHeader = Error
@@ -141,6 +145,7 @@ problem_kind_of UnknownSection = Warning
 problem_kind_of OutsideSection = Warning
 problem_kind_of NoEquals = Warning
 problem_kind_of NoKey = Warning
+problem_kind_of BadUnitName = Error
 problem_kind_of (IgnoredValue kind) = Warning
 problem_kind_of (OpenStep flaw) = Warning
 
@@ -156,9 +161,9 @@ problem_at number problem = record { line = number; kind = problem_kind_of probl
 abbrev pub shown_finding : Finding → FoundProblem
 shown_finding finding = record { line = finding.line; kind = finding.kind; problem = finding.problem }
 
--- systemd 252 accepts the suggestion of a finding, if there is one
-abbrev pub HasAccepted : Finding → Type 0
-HasAccepted finding = IfSome finding.suggestion (λ text. IsAccepted (string_bytes text))
+-- no rule of systemd 252 rejects the suggestion of a finding, if there is one
+abbrev pub HasGoodSuggestion : Finding → Type 0
+HasGoodSuggestion finding = IfSome finding.suggestion (λ text. IsNotRejected (string_bytes text))
 
 abbrev pub found_problems : List FileFault → PlacedLine → List FoundProblem
 found_problems faults placed = map (problem_at placed.line.number) (line_problems faults placed)

@@ -4,8 +4,9 @@ use Rattle.std.specs.List.{list_any, starts_with}
 use Rattle.std.specs.Str.{bytes_eq}
 use Rattle.cal_timer.specs.rules.Assignments.{is_header, section_of}
 use Rattle.cal_timer.specs.rules.Lines.{Line}
-use Rattle.cal_lint.specs.declared.sections.Section.{Section}
-use Rattle.cal_lint.specs.declared.sections.Section.TheVariants.{Timer, Other, Ignored}
+use Rattle.cal_lint.specs.declared.sections.OpenSection.{OpenSection}
+use Rattle.cal_lint.specs.declared.sections.OpenSection.TheVariants.{Known, Ignored}
+use Rattle.cal_lint.specs.declared.sections.Section.TheVariants.{Unit, Timer, Install}
 
 -- whether a section header can't have this byte: a control character, a quote or a backslash
 abbrev pub is_bad_in_header : ℕ → Bool
@@ -17,12 +18,13 @@ abbrev pub is_bad_header : List ℕ → Bool
 is_bad_header text = not (is_header text) || list_any is_bad_in_header text
 
 -- the section with this name; systemd knows three sections in timers, and ignores all others
-abbrev pub section_named : List ℕ → Section
+abbrev pub section_named : List ℕ → OpenSection
 section_named name =
-    if bytes_eq name (codes "Timer") then Timer
-    else (if bytes_eq name (codes "Unit") || bytes_eq name (codes "Install") then Other else Ignored)
+    if bytes_eq name (codes "Unit") then Known Unit
+    else (if bytes_eq name (codes "Timer") then Known Timer
+    else (if bytes_eq name (codes "Install") then Known Install else Ignored))
 
-abbrev pub is_ignored : Section → Bool
+abbrev pub is_ignored : OpenSection → Bool
 is_ignored Ignored = true
 is_ignored section = false
 
@@ -31,16 +33,16 @@ abbrev pub is_unknown_section : List ℕ → Bool
 is_unknown_section name = is_ignored (section_named name) && not (starts_with nat_eq name (codes "X-"))
 
 -- the section that is open after a line with this text, if `before` is the section that is open before it
-abbrev pub section_after : Section → List ℕ → Section
+abbrev pub section_after : OpenSection → List ℕ → OpenSection
 section_after before text = if is_header text then section_named (section_of text) else before
 
 -- a line, and the section that is open before it
 pub record PlacedLine : Type 0 where
-  pub section : Section
+  pub section : OpenSection
   pub line : Line
 
 -- the lines with their sections; the first line is in the section `before`
-abbrev pub placed_lines : Section → List Line → List PlacedLine
+abbrev pub placed_lines : OpenSection → List Line → List PlacedLine
 placed_lines before [] = []
 placed_lines before (line ∷ lines) =
     record { section = before; line = line } ∷ placed_lines (section_after before line.text) lines

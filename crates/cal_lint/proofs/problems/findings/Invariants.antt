@@ -4,7 +4,7 @@ use denote.Text.{Utf8}
 use Rattle.std.specs.List.{All, flat_map}
 use Rattle.cal_timer.specs.rules.Assignments.{trimmed}
 use Rattle.cal_timer.specs.rules.Lines.{logical_lines}
-use Rattle.cal_lint.specs.rules.Findings.{HasAccepted, findings_in, found_problems, shown_finding, timer_faults}
+use Rattle.cal_lint.specs.rules.Findings.{HasGoodSuggestion, findings_in, found_problems, shown_finding, timer_faults}
 use Rattle.cal_lint.specs.rules.Sections.{placed_lines}
 use Rattle.cal_lint.proofs.problems.findings.Given as goal
 
@@ -15,7 +15,7 @@ invariant-loop-found l = record {
   problems : map shown_finding l.found.items
       ++ flat_map (found_problems (timer_faults l.text)) (placed_lines l.section (map trimmed (logical_lines l.number l.rest)))
       ≡ findings_in l.text;
-  suggestions : All HasAccepted l.found.items;
+  suggestions : All HasGoodSuggestion l.found.items;
   room : l.number + length l.rest < 2 ^ 32;
 }
 

@@ -1,5 +1,5 @@
 use Rattle.std.proofs.lemmas.Result.{on_ok_weaker}
-use Rattle.cal_lint.proofs.problems.add_advice.Goals as goal
+use Rattle.cal_lint.proofs.setting_problems.add_advice.Goals as goal
 
 pub returns-clause-suggestions : goal.returns-clause-suggestions
 returns-clause-suggestions c =

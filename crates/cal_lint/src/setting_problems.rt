@@ -1,0 +1,339 @@
+//! The problems of the settings in a section `Timer`: invalid expressions and exceptions, valid ones that systemd 252 rejects
+//! or computes wrongly or that may not mean what their author thinks, and other settings whose values systemd ignores.
+
+ghost use Rattle.std.specs.Prelude.{◌≡◌, ◌++◌, ◌∷◌, [], All, IfOk, IfSome, OnOk, map, string_bytes};
+ghost use Rattle.std.specs.List.{find};
+ghost use Rattle.std.specs.Option.{option_map, option_to_list};
+ghost use Rattle.cal_timer.specs.rules.TimerView.{shown_assignment};
+ghost use Rattle.cal_lint.specs.rules.Doubts.{doubt_in};
+ghost use Rattle.cal_lint.specs.rules.Systemd252.{IsNotRejected, rejection_in};
+ghost use Rattle.cal_lint.specs.rules.Findings.{HasGoodSuggestion, advice, concerns, fault_on, flaws_of, if_valid, is_checked, is_on, problem_at, rejections_of, reported_flaw, setting_problems, shown_finding};
+ghost use Rattle.cal_lint.specs.rules.IgnoredValues.{ignored_setting};
+ghost use Rattle.cal_lint.specs.rules.OpenSteps.{flaw_in};
+ghost use Rattle.cal_lint.specs.declared.problems.Problem.TheVariants.{Doubtful, IgnoredValue, Invalid, OpenStep, Rejected};
+
+use crate::accepted::{accepted_form, accepted_text};
+use crate::closed_steps::closed_form;
+use crate::columns::{doubt_start, fault_start, value_column};
+use crate::doubts::{Doubt, find_doubt};
+use crate::hints::{Hint, Mistake, find_hint};
+use crate::ignored_values::ignored_setting;
+use crate::older_systemd::{Rejection, systemd_252};
+use crate::open_steps::{OpenStepFlaw, find_open_step_flaw};
+use crate::problems::{Finding, Problem, ProblemKind, finding_with, plain_finding};
+use cal_read::{Assignment, FileFault, TimerFault};
+use cal_settings::has_percent;
+use cal_spec::{SpecFault, read_expr};
+use std::alloc::{AllocError, Global};
+
+/// Appends the problems of a setting in a section `Timer`. `faults` are all errors of the timer that has this setting, and
+/// `line` is the first physical line of the setting.
+pub(crate) fn add_setting_problems(
+    alloc: Global,
+    found: &mut Vec<Finding>,
+    faults: &[FileFault],
+    setting: Assignment<'_>,
+    line: &str,
+) -> Result<(), AllocError>
+    ensures problems { OnOk result (map shown_finding found.new.items ≡ map shown_finding found.old.items
+        ++ map (problem_at setting.entry.number) (setting_problems faults.now (shown_assignment setting.entry))) }
+    ensures suggestions { OnOk result (All HasGoodSuggestion found.old.items → All HasGoodSuggestion found.new.items) }
+{
+    if !is_checked(setting) {
+        return add_ignored_value(found, setting, line);
+    }
+    match fault_on(faults, setting.number) {
+        Some(fault) => add_invalid(alloc, found, setting, line, fault),
+        None => add_advice(alloc, found, setting, line),
+    }
+}
+
+/// Appends the problem of an assignment that is neither an expression nor an exception, if systemd ignores it because of
+/// its value.
+fn add_ignored_value(
+    found: &mut Vec<Finding>,
+    assignment: Assignment<'_>,
+    line: &str,
+) -> Result<(), AllocError>
+    ensures problems { OnOk result (map shown_finding found.new.items ≡ map shown_finding found.old.items
+        ++ map (problem_at assignment.entry.number) (option_to_list (option_map IgnoredValue (ignored_setting (shown_assignment assignment.entry))))) }
+    ensures suggestions { OnOk result (All HasGoodSuggestion found.old.items → All HasGoodSuggestion found.new.items) }
+{
+    if let Some(kind) = ignored_setting(assignment) {
+        let column = value_column(line, assignment.value, 0);
+        found.push(plain_finding(assignment.number, column, Problem::IgnoredValue(kind)))?;
+    }
+    Ok(())
+}
+
+/// Appends the error of an expression or exception.
+fn add_invalid(
+    alloc: Global,
+    found: &mut Vec<Finding>,
+    assignment: Assignment<'_>,
+    line: &str,
+    fault: TimerFault,
+) -> Result<(), AllocError>
+    ensures problems { OnOk result (map shown_finding found.new.items
+        ≡ map shown_finding found.old.items ++ problem_at assignment.entry.number (Invalid fault) ∷ []) }
+    ensures suggestions { OnOk result (All HasGoodSuggestion found.old.items → All HasGoodSuggestion found.new.items) }
+{
+    let value = assignment.value;
+    let start = fault_start(alloc, value)?;
+    let (mistake, suggestion) = advice_for(alloc, fault, value)?;
+    found.push(Finding {
+        line: assignment.number,
+        column: value_column(line, value, start),
+        kind: ProblemKind::Error,
+        problem: Problem::Invalid(fault),
+        mistake,
+        suggestion,
+    })?;
+    Ok(())
+}
+
+/// If the assignment's value is a valid expression, appends the reason why systemd 252 rejects it, unless it is an
+/// exception, and the doubt about its meaning, each only if there is one.
+fn add_advice(
+    alloc: Global,
+    found: &mut Vec<Finding>,
+    assignment: Assignment<'_>,
+    line: &str,
+) -> Result<(), AllocError>
+    ensures problems { OnOk result (map shown_finding found.new.items ≡ map shown_finding found.old.items
+        ++ map (problem_at assignment.entry.number) (advice (shown_assignment assignment.entry))) }
+    ensures suggestions { OnOk result (All HasGoodSuggestion found.old.items → All HasGoodSuggestion found.new.items) }
+{
+    let value = assignment.value;
+    let column = value_column(line, value, 0);
+    let rejected = rejection_by_systemd(alloc, assignment)?;
+    push_rejection(alloc, found, assignment.number, column, rejected, value)?;
+    add_concerns(alloc, found, assignment, line)
+}
+
+/// If the assignment's value is a valid expression, appends what systemd 252 computes wrongly, unless it is an exception,
+/// and the doubt about its meaning, each only if there is one.
+fn add_concerns(
+    alloc: Global,
+    found: &mut Vec<Finding>,
+    assignment: Assignment<'_>,
+    line: &str,
+) -> Result<(), AllocError>
+    ensures problems { OnOk result (map shown_finding found.new.items ≡ map shown_finding found.old.items
+        ++ map (problem_at assignment.entry.number) (concerns (shown_assignment assignment.entry))) }
+    ensures suggestions { OnOk result (All HasGoodSuggestion found.old.items → All HasGoodSuggestion found.new.items) }
+{
+    let value = assignment.value;
+    let column = value_column(line, value, 0);
+    let flaw = flaw_by_systemd(alloc, assignment)?;
+    let doubt = doubt_of(alloc, value)?;
+    push_flaw(alloc, found, assignment.number, column, flaw, value)?;
+    let column = value_column(line, value, doubt_start(doubt, value));
+    push_doubt(found, assignment.number, column, doubt)
+}
+
+/// Returns what systemd 252 computes wrongly in a valid expression, except for failures when the clock is set forward at
+/// midnight, as it is in few zones. Returns `None` if the value is not a valid expression, and for an exception: systemd
+/// doesn't read exceptions.
+fn flaw_by_systemd(
+    alloc: Global,
+    assignment: Assignment<'_>,
+) -> Result<Option<OpenStepFlaw>, AllocError>
+    ensures { IfOk result (λ found. option_to_list (option_map OpenStep found)
+        ≡ flaws_of (shown_assignment assignment.entry)) }
+{
+    if assignment.is_exception() {
+        Ok(None)
+    } else {
+        flaw_of(alloc, assignment.value)
+    }
+}
+
+fn flaw_of(alloc: Global, value: &str) -> Result<Option<OpenStepFlaw>, AllocError>
+    ensures { IfOk result (λ found. found ≡ reported_flaw (if_valid (flaw_in value.now))) }
+{
+    match find_open_step_flaw(alloc, value) {
+        Ok(flaw) => Ok(reported_flaw(flaw)),
+        Err(SpecFault::NoMemory) => Err(AllocError),
+        Err(_) => Ok(None),
+    }
+}
+
+/// Returns the flaw to report. Returns `None` for [`OpenStepFlaw::FailsAtMidnightChanges`], since few zones set the clock
+/// forward at midnight.
+pub fn reported_flaw(flaw: Option<OpenStepFlaw>) -> Option<OpenStepFlaw>
+    ensures { result ≡ reported_flaw flaw }
+{
+    match flaw {
+        Some(OpenStepFlaw::LosesElapses(field)) => Some(OpenStepFlaw::LosesElapses(field)),
+        Some(OpenStepFlaw::FailsAtClockChanges(field)) => {
+            Some(OpenStepFlaw::FailsAtClockChanges(field))
+        }
+        Some(OpenStepFlaw::FailsAtMidnightChanges) => None,
+        None => None,
+    }
+}
+
+/// Returns why systemd 252 rejects a valid expression. Returns `None` if systemd 252 accepts the expression, if the
+/// value is not a valid expression, and for an exception: systemd doesn't read exceptions.
+fn rejection_by_systemd(
+    alloc: Global,
+    assignment: Assignment<'_>,
+) -> Result<Option<Rejection>, AllocError>
+    ensures { IfOk result (λ found. option_to_list (option_map Rejected found)
+        ≡ rejections_of (shown_assignment assignment.entry)) }
+{
+    if assignment.is_exception() {
+        Ok(None)
+    } else {
+        rejection_of(alloc, assignment.value)
+    }
+}
+
+/// Appends the reason in `rejected`, if there is one. Suggests the normal form of the expression if systemd 252 accepts
+/// this form.
+fn push_rejection(
+    alloc: Global,
+    found: &mut Vec<Finding>,
+    line: u32,
+    column: u32,
+    rejected: Option<Rejection>,
+    value: &str,
+) -> Result<(), AllocError>
+    ensures problems { OnOk result (map shown_finding found.new.items
+        ≡ map shown_finding found.old.items ++ map (problem_at line) (option_to_list (option_map Rejected rejected))) }
+    ensures suggestions { OnOk result (All HasGoodSuggestion found.old.items → All HasGoodSuggestion found.new.items) }
+{
+    if let Some(rejection) = rejected {
+        let suggestion = accepted_form(alloc, value)?;
+        let problem = Problem::Rejected(rejection);
+        found.push(finding_with(line, column, problem, suggestion))?;
+    }
+    Ok(())
+}
+
+/// Appends what systemd 252 computes wrongly, if there is anything. Suggests ranges in place of steps without an end.
+fn push_flaw(
+    alloc: Global,
+    found: &mut Vec<Finding>,
+    line: u32,
+    column: u32,
+    flaw: Option<OpenStepFlaw>,
+    value: &str,
+) -> Result<(), AllocError>
+    ensures problems { OnOk result (map shown_finding found.new.items
+        ≡ map shown_finding found.old.items ++ map (problem_at line) (option_to_list (option_map OpenStep flaw))) }
+    ensures suggestions { OnOk result (All HasGoodSuggestion found.old.items → All HasGoodSuggestion found.new.items) }
+{
+    if let Some(flaw) = flaw {
+        let suggestion = closed_suggestion(alloc, value)?;
+        found.push(finding_with(line, column, Problem::OpenStep(flaw), suggestion))?;
+    }
+    Ok(())
+}
+
+/// Returns a valid expression with ranges in place of steps without an end, unless systemd 252 rejects it.
+fn closed_suggestion(alloc: Global, value: &str) -> Result<Option<String>, AllocError>
+    ensures { IfOk result (λ found. IfSome found (λ text. IsNotRejected (string_bytes text))) }
+{
+    let expr = match read_expr(alloc, value) {
+        Ok(expr) => expr,
+        Err(SpecFault::NoMemory) => return Err(AllocError),
+        Err(_) => return Ok(None),
+    };
+    match closed_form(alloc, &expr)? {
+        Some(closed) => accepted_text(alloc, closed),
+        None => Ok(None),
+    }
+}
+
+/// Appends the doubt about a valid expression, if there is one.
+fn push_doubt(
+    found: &mut Vec<Finding>,
+    line: u32,
+    column: u32,
+    doubt: Option<Doubt>,
+) -> Result<(), AllocError>
+    ensures problems { OnOk result (map shown_finding found.new.items
+        ≡ map shown_finding found.old.items ++ map (problem_at line) (option_to_list (option_map Doubtful doubt))) }
+    ensures suggestions { OnOk result (All HasGoodSuggestion found.old.items → All HasGoodSuggestion found.new.items) }
+{
+    if let Some(doubt) = doubt {
+        found.push(plain_finding(line, column, Problem::Doubtful(doubt)))?;
+    }
+    Ok(())
+}
+
+/// Returns why systemd 252 rejects a valid expression. Returns `None` if systemd 252 accepts the expression, or if
+/// `value` is not a valid expression. Fails only if allocation fails.
+fn rejection_of(alloc: Global, value: &str) -> Result<Option<Rejection>, AllocError>
+    ensures { IfOk result (λ found. found ≡ if_valid (rejection_in value.now)) }
+{
+    match systemd_252(alloc, value) {
+        Ok(rejection) => Ok(rejection),
+        Err(SpecFault::NoMemory) => Err(AllocError),
+        Err(_) => Ok(None),
+    }
+}
+
+/// Returns why a valid expression may not mean what its author thinks. Returns `None` if no [`Doubt`] applies to the
+/// expression, or if `value` is not a valid expression. Fails only if allocation fails.
+fn doubt_of(alloc: Global, value: &str) -> Result<Option<Doubt>, AllocError>
+    ensures { IfOk result (λ found. found ≡ if_valid (doubt_in value.now)) }
+{
+    match find_doubt(alloc, value) {
+        Ok(doubt) => Ok(doubt),
+        Err(SpecFault::NoMemory) => Err(AllocError),
+        Err(_) => Ok(None),
+    }
+}
+
+/// Returns the known mistake that an invalid expression resembles, and a valid expression to write instead, each only
+/// if there is one. Returns neither if `fault` is not [`TimerFault::BadLine`].
+fn advice_for(
+    alloc: Global,
+    fault: TimerFault,
+    value: &str,
+) -> Result<(Option<Mistake>, Option<String>), AllocError>
+    ensures { IfOk result (λ advice. IfSome advice.1 (λ text. IsNotRejected (string_bytes text))) }
+{
+    match fault {
+        TimerFault::BadLine(_, _) => match find_hint(alloc, value)? {
+            Some(Hint { mistake, instead }) => Ok((Some(mistake), instead)),
+            None => Ok((None, None)),
+        },
+        _ => Ok((None, None)),
+    }
+}
+
+/// Returns whether the assignment is an expression or an exception without specifiers. A specifier begins with `%`.
+fn is_checked(assignment: Assignment<'_>) -> bool
+    ensures { result ≡ is_checked (shown_assignment assignment.entry) }
+{
+    (assignment.is_expression() || assignment.is_exception()) && !has_percent(assignment.value)
+}
+
+/// Returns the first error in the line with this number, if there is one.
+fn fault_on(faults: &[FileFault], number: u32) -> Option<TimerFault>
+    ensures { result ≡ fault_on faults.now number }
+{
+    match first_on(faults, number) {
+        Some(found) => Some(found.fault),
+        None => None,
+    }
+}
+
+fn first_on(faults: &[FileFault], number: u32) -> Option<FileFault>
+    ensures { result ≡ find (is_on number) faults.now }
+{
+    faults.iter().copied().find(|found| is_on(number, *found))
+}
+
+fn is_on(number: u32, found: FileFault) -> bool
+    ensures { result ≡ is_on number found }
+{
+    match found.fault.line() {
+        Some(line) => line == number,
+        None => false,
+    }
+}
