@@ -7,15 +7,13 @@ TIMERS is calendar-timers. The timers are those of tests/loads.py: each has a fi
 lines that are valid or not in many ways. In each file, up to the line at which systemd stops reading it, `lint` has to report
 exactly the lines that `systemd --test` complains about. It also has to report an error for each timer that fails to load.
 
-What only `lint` reports is left out: exceptions and keys that look like theirs, and what systemd accepts but may not be
-meant. What only systemd reports is left out, too:
+What only `lint` reports is left out: exceptions and keys that look like theirs, units that don't exist, and what systemd
+accepts but may not be meant. What only systemd reports is left out, too:
 
-- keys of sections other than `Timer`;
-- a second `Unit=`, and one that names the timer itself;
-- values with specifiers, except in expressions;
 - unknown zones in lines that a later line clears;
-- of timers that fail to load: expressions with specifiers or zones, drop-ins if systemd doesn't read the timer's own file to
-  the end, and lines of drop-ins that aren't UTF-8.
+- if systemd doesn't read the timer's own file to the end: values with specifiers or zones.
+
+In the second case systemd doesn't read drop-ins, so they aren't compared. tests/findings.py compares the messages.
 
 The last line is 'N passed, M failed', which counts timers, and the status is 1 if one failed. If systemd isn't installed
 or can't be run as another user than root, the script says so, and ', 1 skipped' follows."""
@@ -30,12 +28,9 @@ sys.path[:0] = [os.path.dirname(os.path.realpath(__file__)), f"{os.path.dirname(
 import loads
 from unit_trees import can_test_systemd, test_systemd
 
-TIMERS = 300
+TIMERS = 500
 # What lint says of lines that systemd accepts, and of timers whose lines can all be accepted.
 ACCEPTED = ("this is ", "the expression never elapses", "the exception suppresses", "systemd 252 ")
-# How messages of systemd begin or end that lint has no counterpart for.
-ONLY_SYSTEMD = ("Multiple units to trigger specified", "Units cannot trigger themselves")
-OTHER_SECTIONS = ("in section [Unit], ignoring.", "in section [Install], ignoring.", "in section 'Unit', ignoring.")
 
 
 def assigned(tree):
@@ -44,21 +39,19 @@ def assigned(tree):
 
 
 def is_left_out(place, assigned_at):
-    """Returns whether the line is an exception or looks like one, or has a value with specifiers and isn't an expression."""
-    key, value = assigned_at.get(place, ("", ""))
-    return key.startswith("X-") or (key != "OnCalendar" and "%" in value)
+    """Returns whether the line is an exception or looks like one."""
+    return assigned_at.get(place, ("", ""))[0].startswith("X-")
 
 
 def by_systemd(tree, assigned_at):
-    """Returns the lines of which systemd says something, those of which only systemd does, and whether the timer loads."""
+    """Returns the lines of which systemd says something, and whether the timer loads."""
     shown, messages = test_systemd(tree.folders)
-    named, lines, only = loads.lines_named(tree), set(), set()
-    for path, number, message in loads.LINE.findall(messages):
+    named, lines = loads.lines_named(tree), set()
+    for path, number, _ in loads.LINE.findall(messages):
         first, _ = named.get((path, int(number)), (int(number), None))
-        is_only = message.startswith(ONLY_SYSTEMD) or message.endswith(OTHER_SECTIONS)
-        (only if is_only else lines).add((path, first))
+        lines.add((path, first))
     unit = shown.partition(f"\t-> Unit {tree.stem}.timer:\n")[2].partition("\t-> ")[0]
-    return {line for line in lines if not is_left_out(line, assigned_at)}, only, "\tUnit Load State: loaded" in unit
+    return {line for line in lines if not is_left_out(line, assigned_at)}, "\tUnit Load State: loaded" in unit
 
 
 def by_lint(timers, tree, assigned_at):
@@ -82,25 +75,21 @@ def first_broken(tree):
     return {path: loads.assignments(file)[1][0] for path, file in tree.read.items() if loads.assignments(file)[1]}
 
 
-def only_in_loading(tree, lines, assigned_at, ends):
-    """Returns the lines without those of which lint knows only if the timer loads."""
-    if tree.own in ends:
-        lines = {place for place in lines if place[0] == tree.own}
-    else:
-        lines = {place for place in lines if place[1] != ends.get(place[0])}
-    values = {place: assigned_at.get(place, ("", ""))[1] for place in lines}
+def without_values(tree, lines, assigned_at):
+    """Returns the lines of the timer's own file without those whose values have specifiers or zones."""
+    values = {place: assigned_at.get(place, ("", ""))[1] for place in lines if place[0] == tree.own}
     return {place for place, value in values.items() if "%" not in value and not loads.may_name_zone(value, tree.stem)}
 
 
 def compare(timers, tree):
     """Yields what differs."""
     assigned_at, ends = assigned(tree), first_broken(tree)
-    wanted, only, loads_there = by_systemd(tree, assigned_at)
+    wanted, loads_there = by_systemd(tree, assigned_at)
     found, loads_here, is_consistent = by_lint(timers, tree, assigned_at)
-    found = {(path, line) for path, line in found if line <= ends.get(path, line)} - loads.cleared_zones(tree) - only
+    found = {(path, line) for path, line in found if line <= ends.get(path, line)} - loads.cleared_zones(tree)
     wanted -= loads.cleared_zones(tree)
-    if not loads_there:
-        wanted, found = (only_in_loading(tree, lines, assigned_at, ends) for lines in (wanted, found))
+    if tree.own in ends:
+        wanted, found = (without_values(tree, lines, assigned_at) for lines in (wanted, found))
     for path, line in sorted(wanted - found):
         yield f"{path}:{line} isn't reported"
     for path, line in sorted(found - wanted):
