@@ -4,6 +4,7 @@ mod FileRows
 pub mod ExpressionLemmas
 pub mod FileFaultLemmas
 pub mod FileLemmas
+pub mod IgnoredSettingLemmas
 pub mod NoteLemmas
 mod NoteRows
 pub mod PathLemmas

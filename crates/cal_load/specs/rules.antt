@@ -4,6 +4,7 @@ pub mod AllTargets
 pub mod AllUnits
 pub mod Expressions
 pub mod FileFaults
+pub mod IgnoredSettings
 pub mod Loaded
 pub mod LoadedTarget
 pub mod Notes

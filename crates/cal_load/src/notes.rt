@@ -54,7 +54,7 @@ pub(crate) fn notes_of(
 
 /// Returns those of these assignments that have a key that can be noted and a value that systemd accepts, except those
 /// that a later assignment undoes.
-fn kept_of(
+pub(crate) fn kept_of(
     alloc: Global,
     assignments: Vec<OwnedAssignment>,
 ) -> Result<Vec<OwnedAssignment>, AllocError>
@@ -144,7 +144,7 @@ fn last_counts(kind: Option<SettingKind>) -> bool
 
 /// Returns whether the assignment has a key that can be noted and a value that systemd accepts.
 #[tactic(auto, unfolding(crate::specs::rules::Notes::is_taken))]
-fn is_taken(assignment: &OwnedAssignment) -> bool
+pub(crate) fn is_taken(assignment: &OwnedAssignment) -> bool
     ensures { result ≡ is_taken (shown_owned_assignment assignment.now) }
 {
     match kind_of(assignment.key.as_str()) {
@@ -200,7 +200,7 @@ pub(crate) fn without_suffix(name: &str) -> &str
 }
 
 /// Returns the number of the line whose `Unit=` counts: the first that doesn't name the timer `own` itself.
-fn unit_line(own: &str, kept: &[OwnedAssignment]) -> Option<u32>
+pub(crate) fn unit_line(own: &str, kept: &[OwnedAssignment]) -> Option<u32>
     ensures { result ≡ unit_line own.now (map shown_owned_assignment kept.now) }
 {
     for assignment in kept {

@@ -1,0 +1,76 @@
+-- The settings of a timer that systemd ignores because of the timer's name or of other settings: values that aren't valid
+-- once their specifiers are filled in, and each `Unit=` that can't count (systemd.timer(5), Options; systemd.unit(5),
+-- Specifiers). Values without specifiers that are invalid by themselves aren't among them.
+use Rattle.std.specs.Prelude.{ℕ, nat_lt, Bool, false, not, ◌&&◌, if◌then◌else◌, List, ◌∷◌, [], Option, Some, None, option_map}
+use Rattle.std.specs.List.{filter_map, list_any}
+use Rattle.std.specs.Option.{option_or}
+use Rattle.std.specs.Str.{bytes_eq}
+use Rattle.cal_timer.specs.rules.Assignments.{Assignment}
+use Rattle.cal_unit_index.specs.rules.Destinations.{last_part}
+use Rattle.cal_unit_index.specs.rules.Files.{UnitText}
+use Rattle.cal_settings.specs.declared.setting_kind.SettingKind.{SettingKind}
+use Rattle.cal_settings.specs.declared.setting_kind.SettingKind.TheVariants.{Monotonic, Started}
+use Rattle.cal_settings.specs.rules.Settings.{has_percent, kind_of}
+use Rattle.cal_load.specs.declared.ignored.IgnoredSetting.{IgnoredSetting}
+use Rattle.cal_load.specs.declared.ignored.WhyIgnored.{WhyIgnored}
+use Rattle.cal_load.specs.declared.ignored.WhyIgnored.TheVariants.{BadValue, OwnName, SecondUnit}
+use Rattle.cal_load.specs.rules.Loaded.{assignments_of_files, timer_assignments}
+use Rattle.cal_load.specs.rules.Notes.{is_taken, kept_in, unit_line}
+use Rattle.cal_load.specs.rules.Resolved.{resolved_in}
+
+-- whether the timer `name` has a valid value in this assignment, with specifiers filled in; a value that depends on the
+-- running system is taken as valid
+abbrev pub is_valid_for : List ℕ → Assignment → Bool
+is_valid_for name a = list_any is_taken (resolved_in name (a ∷ []))
+
+abbrev pub has_value : List ℕ → Assignment → Bool
+has_value value a = is_taken a && bytes_eq a.value value
+
+-- whether the timer's own name is the valid value of this assignment, with specifiers filled in
+abbrev pub names_itself : List ℕ → Assignment → Bool
+names_itself name a = list_any (has_value (last_part name)) (resolved_in name (a ∷ []))
+
+-- the reason if the value has specifiers and isn't valid
+abbrev pub value_fault : SettingKind → List ℕ → Assignment → Option WhyIgnored
+value_fault kind name a = if has_percent a.value && not (is_valid_for name a) then Some (BadValue kind) else None
+
+-- the reason if a `Unit=` names the timer itself
+abbrev pub name_fault : List ℕ → Assignment → Option WhyIgnored
+name_fault name a = if names_itself name a then Some OwnName else None
+
+-- whether the line with this number is below the line whose `Unit=` counts; lines are numbered from file to file
+abbrev pub is_below : Option ℕ → ℕ → Bool
+is_below None number = false
+is_below (Some counted) number = nat_lt counted number
+
+-- why systemd ignores a `Unit=` of the timer `name`, if the one in the line `counted` counts: below that line, systemd
+-- doesn't look at its value
+abbrev pub unit_fault : List ℕ → Option ℕ → Assignment → Option WhyIgnored
+unit_fault name counted a =
+    if is_below counted a.number then Some SecondUnit else option_or (value_fault Started name a) (name_fault name a)
+
+abbrev pub fault_as : Option SettingKind → List ℕ → Option ℕ → Assignment → Option WhyIgnored
+fault_as (Some Monotonic) name counted a = value_fault Monotonic name a
+fault_as (Some Started) name counted a = unit_fault name counted a
+fault_as _ name counted a = None
+
+-- why systemd ignores an assignment of the timer `name`, or None if it doesn't, or if its value is invalid by itself
+unfoldable pub why_ignored : List ℕ → Option ℕ → Assignment → Option WhyIgnored
+why_ignored name counted a = fault_as (kind_of a.key) name counted a
+
+abbrev pub setting_at : ℕ → WhyIgnored → IgnoredSetting
+setting_at number why = record { number = number; why = why }
+
+abbrev pub ignored_setting : List ℕ → Option ℕ → Assignment → Option IgnoredSetting
+ignored_setting name counted a = option_map (setting_at a.number) (why_ignored name counted a)
+
+-- the line of these files whose `Unit=` counts for the timer `name`: the first with the valid name of another unit
+abbrev pub counted_line : List ℕ → List UnitText → Option ℕ
+counted_line name files = unit_line (last_part name) (kept_in (timer_assignments name files))
+
+abbrev pub ignored_among : List ℕ → Option ℕ → List Assignment → List IgnoredSetting
+ignored_among name counted assignments = filter_map (ignored_setting name counted) assignments
+
+-- the settings of the timer `name` in these files that systemd ignores, in order
+abbrev pub ignored_settings_in : List ℕ → List UnitText → List IgnoredSetting
+ignored_settings_in name files = ignored_among name (counted_line name files) (assignments_of_files files)
