@@ -12,5 +12,6 @@ pub mod Position
 pub mod Readable
 pub mod Resolved
 pub mod Specifiers
+pub mod StartedUnit
 pub mod TextFaults
 pub mod UnusableZones

@@ -182,7 +182,7 @@ fn retain_noted(alloc: Global, own: &str, kept: &mut Vec<OwnedAssignment>) -> Re
 }
 
 /// Returns the name of the unit that the timer `own` starts without `Unit=`.
-fn service_of(alloc: Global, own: &str) -> Result<String, AllocError>
+pub(crate) fn service_of(alloc: Global, own: &str) -> Result<String, AllocError>
     ensures { IfOk result (λ service. string_bytes service ≡ service_of own.now) }
 {
     let stem = without_suffix(own);
@@ -213,7 +213,7 @@ pub(crate) fn unit_line(own: &str, kept: &[OwnedAssignment]) -> Option<u32>
 
 /// Returns whether the assignment is one of `Unit=` that doesn't name the timer `own` itself.
 #[tactic(auto, unfolding(crate::specs::rules::Notes::names_unit))]
-fn names_unit(own: &str, assignment: &OwnedAssignment) -> bool
+pub(crate) fn names_unit(own: &str, assignment: &OwnedAssignment) -> bool
     ensures { result ≡ names_unit own.now (shown_owned_assignment assignment.now) }
 {
     is_started(assignment.key.as_str()) && assignment.value.as_str() != own

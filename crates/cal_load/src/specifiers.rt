@@ -296,7 +296,7 @@ fn is_template(name: &str) -> bool
 }
 
 /// Returns the prefix of a name: the part before its first `@`, or, if it has no `@`, all of it but its suffix.
-fn prefix_in(name: &str) -> &str
+pub(crate) fn prefix_in(name: &str) -> &str
     ensures { result.now ≡ prefix_in name.now }
 {
     stem_base(without_suffix(name))
@@ -304,7 +304,7 @@ fn prefix_in(name: &str) -> &str
 
 /// Returns the part of a name between its first `@` and its suffix, which is empty if it has no `@`.
 #[tactic(auto, unfolding(cal_unit_index::specs::rules::UnitName::instance_of))]
-fn instance_in(name: &str) -> &str
+pub(crate) fn instance_in(name: &str) -> &str
     ensures { result.now ≡ instance_in name.now }
 {
     match without_suffix(name).split_once('@') {

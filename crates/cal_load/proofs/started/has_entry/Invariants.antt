@@ -1,0 +1,9 @@
+-- One of the remaining folders has the name if and only if one of all has, because none of those so far has.
+use Rattle.std.proofs.Common.{◌≡◌, drop, map}
+use Rattle.cal_unit_index.specs.rules.Index.{shown_folder}
+use Rattle.cal_load.specs.rules.StartedUnit.{has_entry}
+use Rattle.cal_load.proofs.started.has_entry.Given as goal
+
+abbrev pub invariant-loop-folder : goal.invariant-loop-folder
+invariant-loop-folder l =
+    has_entry (map shown_folder (drop l.folder-index l.folders)) l.name ≡ has_entry (map shown_folder l.folders) l.name
