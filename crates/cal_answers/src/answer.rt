@@ -15,6 +15,7 @@ use cal_plan::PlanFault;
 use cal_tasks::Clocked;
 use cal_timers_command::Question;
 use cal_timers_text::{Style, broken_text, fault_text, ignored_text, unusable_zone_text};
+use cal_unit_index::UnitIndex;
 use std::alloc::{AllocError, Global};
 
 /// The exit status if a timer can't be loaded (except by `same`), a line of its files is ignored, a file or folder can't be
@@ -92,7 +93,7 @@ pub fn answer_question(
         is_json: question.is_json,
         style,
     };
-    let answer = answer_loaded(alloc, asked, &known.loaded)?;
+    let answer = answer_loaded(alloc, asked, &known.index, &known.loaded)?;
     let answer = with_unreadable(alloc, known.index.unreadable(), answer)?;
     let answer = with_verb_hint(alloc, question, &known.loaded, answer)?;
     let answer = with_empty_folders(question, &known.loaded, answer)?;
@@ -114,6 +115,7 @@ pub(crate) fn stopped(alloc: Global, reason: &str) -> Result<Answer, PlanFault>
 fn answer_loaded(
     alloc: Global,
     asked: Asked<'_>,
+    index: &UnitIndex,
     loaded: &LoadedByVerb,
 ) -> Result<Answer, PlanFault>
     ensures { IfOk result (λ answer. answer.status ≤ 2) }
@@ -121,7 +123,7 @@ fn answer_loaded(
     match loaded {
         LoadedByVerb::List(timers) => list(alloc, asked, timers),
         LoadedByVerb::Show(timers) | LoadedByVerb::Next(timers) => show(alloc, asked, timers),
-        LoadedByVerb::Lint(files, timers) => lint(alloc, asked, files, timers),
+        LoadedByVerb::Lint(files, timers) => lint(alloc, asked, index, files, timers),
         LoadedByVerb::Between(timers) => between(alloc, asked, timers),
         LoadedByVerb::Same(first, second) => same(alloc, asked, first, second),
     }

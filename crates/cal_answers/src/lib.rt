@@ -16,6 +16,7 @@ mod range_zones;
 mod reading;
 mod remarks;
 mod search_path;
+mod setting_problems;
 mod timer_problems;
 mod timers;
 

@@ -5,11 +5,13 @@ ghost use Rattle.cal_answers.specs.rules.LintStatus.{lint_status};
 
 use crate::answer::{Answer, Asked, INVALID, fault_lines, push_fault_line};
 use crate::problems::Problems;
+use crate::setting_problems::add_settings;
 use crate::timer_problems::{add_idle, add_timers};
 use cal_lint::findings;
 use cal_load::{Loaded, LoadedFiles, TargetFault, TargetReason};
 use cal_plan::PlanFault;
 use cal_timers_text::ProblemCounts;
+use cal_unit_index::UnitIndex;
 use std::alloc::{AllocError, Global};
 
 /// The maximum size of the text of a file, in bytes. A file has at most 1,048,576 bytes, and each byte that isn't UTF-8
@@ -17,10 +19,11 @@ use std::alloc::{AllocError, Global};
 const MAX_TEXT: usize = 3 * 1_048_576;
 
 /// Returns all problems of the files, each file checked by itself; then what is wrong with the timers that are made of
-/// them; and then warnings about expressions and exceptions that have no effect.
+/// them; and then warnings about expressions and exceptions that have no effect. `index` is the index of the search path.
 pub(crate) fn lint(
     alloc: Global,
     asked: Asked<'_>,
+    index: &UnitIndex,
     files: &LoadedFiles,
     timers: &Loaded,
 ) -> Result<Answer, PlanFault>
@@ -29,6 +32,7 @@ pub(crate) fn lint(
     let mut problems = Problems::new(alloc, asked.style);
     add_files(alloc, files, &mut problems)?;
     add_timers(alloc, timers, &mut problems)?;
+    add_settings(alloc, index, timers.timers.as_slice(), &mut problems)?;
     add_idle(alloc, asked.at, timers.timers.as_slice(), &mut problems)?;
     let err = error_lines(alloc, files.faults.as_slice(), timers)?;
     let counts = problems.counts();

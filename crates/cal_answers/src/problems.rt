@@ -82,6 +82,11 @@ impl Problems {
         Ok(())
     }
 
+    /// Returns whether a line of a file has an error or a warning.
+    pub(crate) fn has_problem_at(&self, file: &str, line: u32) -> bool {
+        self.list.iter().any(|known| known.line == Some(line) && known.file.as_str() == file)
+    }
+
     /// Returns whether a line of a file has an error.
     pub(crate) fn has_error_at(&self, file: &str, line: u32) -> bool {
         self.list.iter().any(|known| known.is_error

@@ -192,7 +192,7 @@ pub(crate) fn add_idle(
 
 /// Returns the file of a line, and the line's number in this file. `number` is the line's number in all files of the
 /// timer, counted from file to file. For a timer without files, returns the timer's name and `number`.
-fn place_in(timer: &LoadedTimer, number: u32) -> (&str, u32) {
+pub(crate) fn place_in(timer: &LoadedTimer, number: u32) -> (&str, u32) {
     timer
         .position(number)
         .unwrap_or((timer.name.as_str(), number))

@@ -44,7 +44,7 @@ fn expect(
 }
 
 /// Arguments, and what is printed on a machine with a unit that has an alias and drop-ins, and with two other files.
-static ANSWERS: [(&str, &str); 13] = [
+static ANSWERS: [(&str, &str); 14] = [
     (
         "list",
         "\x1b[1mNEXT                            LEFT  UNIT     NOTES\x1b[0m
@@ -167,6 +167,15 @@ OnCalender=daily
         "/t/idle.timer:2: warning: the expression never elapses\n1 warning\n",
     ),
     (
+        "lint|d",
+        "/etc/systemd/system/d.timer:3: warning: not a time span, so systemd ignores the line
+/etc/systemd/system/d.timer:4: warning: systemd ignores this line, as a timer can't start itself
+/etc/systemd/system/d.timer:6: warning: systemd ignores this line, as another Unit= stands above it
+d.timer: \x1b[1;31merror:\x1b[0m there is no unit e@d.target, so the timer can't start
+1 error, 3 warnings
+",
+    ),
+    (
         "lint|--json|/t/idle.timer",
         r#"[
   {
@@ -209,6 +218,12 @@ fn answers(rt: HostRuntime) -> Result<(), Fail> {
         (
             "/run/systemd/system/b.timer.d/y.conf",
             Item::File(b"[Timer]\nOnCalendar=12:00 Test/Fixed\n"),
+        ),
+        (
+            "/etc/systemd/system/d.timer",
+            Item::File(
+                b"[Timer]\nOnCalendar=daily\nOnBootSec=%i\nUnit=%n\nUnit=e@.target\nUnit=a.service\n",
+            ),
         ),
         (
             "/run/systemd/system/timers.target.wants/b.timer",
@@ -367,6 +382,7 @@ fn expect_unreadable(alloc: Global, row: Row) -> Result<(), Fail> {
             "/usr/lib/systemd/system/a.timer",
             Item::File(b"[Timer]\nOnBootSec=1min\n"),
         ),
+        ("/usr/lib/systemd/system/a.service", Item::File(b"")),
         (
             "/run/systemd/system/b.timer",
             Item::Link("/usr/lib/systemd/system/a.timer"),

@@ -22,7 +22,9 @@ pub use fault_lines::{
 };
 pub use finding_lines::{ProblemCounts, finding_text, problem_text, push_counts};
 pub use list::list_text;
-pub use messages::{idle_words, invalid_words, message_of, mistake_words};
+pub use messages::{
+    idle_words, ignored_setting_words, invalid_words, message_of, missing_unit_words, mistake_words,
+};
 pub use show::show_text;
 pub use style::Style;
 pub use times::{instant_text, left_text, normal_text};

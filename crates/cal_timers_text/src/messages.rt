@@ -3,7 +3,9 @@
 ghost use Rattle.std.specs.Prelude.{◌≡◌};
 ghost use Rattle.cal_timers_text.specs.rules.FlawWords.{flaw_words, loss_words};
 
+use crate::cells::push_printable;
 use cal_lint::{Doubt, Mistake, OpenStepFlaw, Problem, Rejection, Section};
+use cal_load::WhyIgnored;
 use cal_settings::SettingKind;
 use cal_spec::Field;
 use cal_tasks::IdleKind;
@@ -176,6 +178,29 @@ fn doubt_words(doubt: Doubt) -> &'static str {
             "this is an abbreviation, which systemd may take for winter time or summer time only"
         }
     }
+}
+
+/// Returns the message about a setting that systemd ignores in a timer.
+pub fn ignored_setting_words(alloc: Global, why: WhyIgnored) -> Result<String, AllocError> {
+    match why {
+        WhyIgnored::BadValue(kind) => message_of(alloc, Problem::IgnoredValue(kind), None),
+        WhyIgnored::OwnName => String::from_str(
+            alloc,
+            "systemd ignores this line, as a timer can't start itself",
+        ),
+        WhyIgnored::SecondUnit => String::from_str(
+            alloc,
+            "systemd ignores this line, as another Unit= stands above it",
+        ),
+    }
+}
+
+/// Returns the message about a timer that starts a unit with this name if there is no such unit.
+pub fn missing_unit_words(alloc: Global, unit: &str) -> Result<String, AllocError> {
+    let mut out = String::from_str(alloc, "there is no unit ")?;
+    push_printable(&mut out, unit)?;
+    out.push_str(", so the timer can't start")?;
+    Ok(out)
 }
 
 /// Returns the message about an expression or an exception that has no effect.
