@@ -183,7 +183,7 @@ fn push_ignored_of(
     lines: &mut String,
     timer: &LoadedTimer,
 ) -> Result<(), AllocError> {
-    for ignored in &timer.ignored {
+    for ignored in &timer.files.ignored {
         let line = ignored_text(alloc, timer, ignored)?;
         push_line_once(lines, line.as_str())?;
     }
@@ -195,7 +195,7 @@ fn push_unusable_zones(
     lines: &mut String,
     timer: &LoadedTimer,
 ) -> Result<(), AllocError> {
-    for zone in &timer.unusable_zones {
+    for zone in &timer.files.unusable_zones {
         let line = unusable_zone_text(alloc, timer, zone)?;
         push_line_once(lines, line.as_str())?;
     }
@@ -220,7 +220,7 @@ fn push_broken_of(
     lines: &mut String,
     timer: &LoadedTimer,
 ) -> Result<(), AllocError> {
-    for broken in &timer.broken {
+    for broken in &timer.files.broken {
         if let Some(broken) = broken {
             let line = broken_text(alloc, timer, *broken)?;
             push_line_once(lines, line.as_str())?;

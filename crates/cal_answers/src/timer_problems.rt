@@ -3,7 +3,9 @@
 
 use crate::problems::Problems;
 use cal_lint::ProblemKind;
-use cal_load::{BrokenLine, BrokenReason, Loaded, LoadedTimer, TargetFault, TargetReason};
+use cal_load::{
+    BrokenLine, BrokenReason, Loaded, LoadedTimer, TargetFault, TargetReason, TimerFiles,
+};
 use cal_plan::PlanFault;
 use cal_tasks::{Clocked, idle_lines};
 use cal_timers_text::{
@@ -11,7 +13,7 @@ use cal_timers_text::{
 };
 use std::alloc::{AllocError, Global};
 
-/// Adds an error about each timer that fails to load, and errors about the lines of other timers that are ignored although
+/// Adds an error about each timer that fails to load, and errors about the lines of all timers that are ignored although
 /// the file by itself is valid.
 pub(crate) fn add_timers(
     alloc: Global,
@@ -22,15 +24,14 @@ pub(crate) fn add_timers(
         add_fault(alloc, fault, problems)?;
     }
     for timer in &timers.timers {
-        add_ignored(alloc, timer, problems)?;
-        add_unusable_zones(alloc, timer, problems)?;
-        add_broken_lines(alloc, timer, problems)?;
+        add_ignored_in(alloc, timer.name.as_str(), &timer.files, problems)?;
     }
     Ok(())
 }
 
-/// Adds the reason why a timer fails to load: an invalid expression, a zone that can't be used, a line at which systemd
-/// stops reading its file, or that no setting starts its unit. All other reasons are errors about files and are left out.
+/// Adds the reason why a timer fails to load: a line at which systemd stops reading its file, or that no setting starts
+/// its unit, after an error for everything that is ignored in its files. All other reasons are errors about files and are
+/// left out.
 fn add_fault(
     alloc: Global,
     fault: &TargetFault,
@@ -38,18 +39,24 @@ fn add_fault(
 ) -> Result<(), AllocError> {
     match &fault.reason {
         TargetReason::Broken(path, line) => add_broken_file(alloc, path.as_str(), *line, problems),
-        TargetReason::Zone(path, line, zone, reason) => {
-            let message = zone_words(alloc, zone.as_str(), *reason)?;
-            add_error(alloc, path.as_str(), *line, message.as_str(), problems)?;
+        TargetReason::NothingToDo(files) => {
+            add_ignored_in(alloc, fault.target.as_str(), files, problems)?;
             add_idle_timer(alloc, fault, problems)
         }
-        TargetReason::Line(path, line, why) => {
-            add_invalid(alloc, path.as_str(), *line, why.words(), problems)?;
-            add_idle_timer(alloc, fault, problems)
-        }
-        TargetReason::NothingToDo => add_idle_timer(alloc, fault, problems),
         _ => Ok(()),
     }
+}
+
+/// Adds an error for everything that systemd ignores in the files of the timer with this name.
+fn add_ignored_in(
+    alloc: Global,
+    timer: &str,
+    files: &TimerFiles,
+    problems: &mut Problems,
+) -> Result<(), AllocError> {
+    add_ignored(alloc, timer, files, problems)?;
+    add_unusable_zones(alloc, timer, files, problems)?;
+    add_broken_lines(alloc, timer, files, problems)
 }
 
 /// Adds the error that no setting starts the unit of a timer.
@@ -81,11 +88,12 @@ fn add_error(
 /// filled in. Lines without specifiers have their errors already.
 fn add_ignored(
     alloc: Global,
-    timer: &LoadedTimer,
+    timer: &str,
+    files: &TimerFiles,
     problems: &mut Problems,
 ) -> Result<(), AllocError> {
-    for ignored in &timer.ignored {
-        let (path, line) = place_in(timer, ignored.number);
+    for ignored in &files.ignored {
+        let (path, line) = place_in(timer, files, ignored.number);
         add_invalid(alloc, path, line, ignored.fault.words(), problems)?;
     }
     Ok(())
@@ -109,11 +117,12 @@ fn add_invalid(
 /// Adds an error for each line of the timer that is ignored because of its zone.
 fn add_unusable_zones(
     alloc: Global,
-    timer: &LoadedTimer,
+    timer: &str,
+    files: &TimerFiles,
     problems: &mut Problems,
 ) -> Result<(), AllocError> {
-    for zone in &timer.unusable_zones {
-        let (path, line) = place_in(timer, zone.number);
+    for zone in &files.unusable_zones {
+        let (path, line) = place_in(timer, files, zone.number);
         let message = zone_words(alloc, zone.path.as_str(), zone.reason)?;
         add_error(alloc, path, line, message.as_str(), problems)?;
     }
@@ -137,12 +146,13 @@ fn add_broken_file(
 /// Adds an error for each drop-in of the timer that systemd stops reading at some line, unless it is reported already.
 fn add_broken_lines(
     alloc: Global,
-    timer: &LoadedTimer,
+    timer: &str,
+    files: &TimerFiles,
     problems: &mut Problems,
 ) -> Result<(), AllocError> {
-    for broken in &timer.broken {
+    for broken in &files.broken {
         if let Some(broken) = broken {
-            add_broken_drop_in(alloc, timer, *broken, problems)?;
+            add_broken_drop_in(alloc, timer, files, *broken, problems)?;
         }
     }
     Ok(())
@@ -150,11 +160,12 @@ fn add_broken_lines(
 
 fn add_broken_drop_in(
     alloc: Global,
-    timer: &LoadedTimer,
+    timer: &str,
+    files: &TimerFiles,
     broken: BrokenLine,
     problems: &mut Problems,
 ) -> Result<(), AllocError> {
-    let (path, line) = place_in(timer, broken.number);
+    let (path, line) = place_in(timer, files, broken.number);
     if is_reported(path, line, broken.reason, problems) {
         return Ok(());
     }
@@ -177,7 +188,7 @@ pub(crate) fn add_idle(
 ) -> Result<(), PlanFault> {
     for timer in timers {
         for idle in idle_lines(alloc, at, timer)? {
-            let (path, line) = place_in(timer, idle.number);
+            let (path, line) = place_in(timer.name.as_str(), &timer.files, idle.number);
             problems.add(
                 alloc,
                 ProblemKind::Warning,
@@ -192,8 +203,6 @@ pub(crate) fn add_idle(
 
 /// Returns the file of a line, and the line's number in this file. `number` is the line's number in all files of the
 /// timer, counted from file to file. For a timer without files, returns the timer's name and `number`.
-pub(crate) fn place_in(timer: &LoadedTimer, number: u32) -> (&str, u32) {
-    timer
-        .position(number)
-        .unwrap_or((timer.name.as_str(), number))
+pub(crate) fn place_in<'t>(timer: &'t str, files: &'t TimerFiles, number: u32) -> (&'t str, u32) {
+    files.position(number).unwrap_or((timer, number))
 }

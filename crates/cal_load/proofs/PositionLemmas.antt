@@ -1,5 +1,5 @@
 -- Lemmas on lines whose numbers continue from file to file.
-use Rattle.std.proofs.Common.{◌≡◌, ◌∙◌, ◌+◌, ◌-◌, ◌<◌, ◌≤◌, ◌==◌, ℕ, Bool, true, false, All, List, [], ◌∷◌, ◌++◌, None, Some, Result, Ok, Err, add-one, append-nil, arith, ap, drop, drop-cons, get_or, inl, inr, length, map, refl, string_bytes, subst, suc, sym, take, zero}
+use Rattle.std.proofs.Common.{◌≡◌, ◌∙◌, ◌+◌, ◌-◌, ◌<◌, ◌≤◌, ◌^◌, ◌==◌, ℕ, Bool, Bor, true, false, All, List, [], ◌∷◌, ◌++◌, Option, None, Some, Result, Ok, Err, add-one, append-nil, arith, ap, drop, drop-cons, get_or, inl, inr, length, map, refl, string_bytes, subst, suc, sym, take, zero}
 use Rattle.std.proofs.lemmas.Bool.{cases_lt, cases_order}
 use Rattle.std.proofs.lemmas.Bool.Decides.{nat_tests}
 use Rattle.std.proofs.lemmas.List.{get_or-map, get_or_append_left, get_or_push, length-append, length-map, take-append-drop, take_all, take_more}
@@ -8,7 +8,8 @@ use Rattle.std.proofs.lemmas.List.Elements.{All-append, All-cons, All-drop, All-
 use Rattle.std.proofs.lemmas.List.Splits.{length-slice_split}
 use Rattle.std.proofs.lemmas.Option.{get_or_from_slice_get, slice_get-get_or, slice_get_within}
 use Rattle.std.specs.List.{before_first, cons_option, filter_map, flat_map, list_any, onto_first, slice_split}
-use Rattle.std.specs.Prelude.{◌||◌, if◌then◌else◌, not}
+use Rattle.std.specs.Option.{IsSomeAnd}
+use Rattle.std.specs.Prelude.{◌||◌, MatchOption, if◌then◌else◌, not}
 use Rattle.std.specs.Str.Lines.{lines, lines_of_parts}
 use Rattle.cal_bytes.specs.rules.Separators.{is_equals}
 use Rattle.cal_bytes.specs.rules.Trim.{trim_start_matches}
@@ -373,6 +374,18 @@ has_position (file ∷ files) numbers number are has =
       },
       omega arith,
     )
+
+-- what is found for a line of one of the files is the file and the number of the line in it
+pub found_line : (files : List texts.UnitText) (numbers : List ℕ) (number : ℕ) (found : Option (Bor (List ℕ) × ℕ)) → number < 2 ^ 32
+    → AreFirstLines (map shown_unit_text files) numbers → HasLine (map shown_unit_text files) number
+    → MatchOption found ((path : List ℕ) (line : ℕ) → IsPosition files numbers number path line → 2 ^ 32 ≤ line)
+    (λ position. IsPosition files numbers number position.0.now position.1)
+    → IsSomeAnd found (λ position. IsLineIn (map shown_unit_text files) number position.0.now position.1)
+found_line files numbers number None fits are has h =
+    let position = has_position files numbers number are has in
+    let large : 2 ^ 32 ≤ position.1 = h position.0 position.1 position.2 in
+    absurd (omega (arith, position.3))
+found_line files numbers number (Some position) fits are has h = line_at files numbers number position.0.now position.1 are has h
 
 -- only one index is that of the last number that is at most `number`
 pub last_unique : (numbers : List ℕ) (number i j : ℕ) → IsLastUntil numbers number i → IsLastUntil numbers number j → i ≡ j

@@ -2,14 +2,13 @@
 use Rattle.std.proofs.Common.{◌≡◌, ◌∙◌, ◌||◌, ◌&&◌, ℕ, All, Bool, List, Option, [], ◌∷◌, ◌++◌, None, Some, false, true, not, ap, append-nil, cond, filter, inl, inr, map, refl, string_bytes, subst, sym}
 use Rattle.std.proofs.lemmas.Bool.{false≢true}
 use Rattle.std.proofs.lemmas.List.Concat.{flat_map-append}
-use Rattle.std.proofs.lemmas.List.Elements.{All-cons, All-nil, filter-append}
+use Rattle.std.proofs.lemmas.List.Elements.{All-cons, All-head, All-nil, All-tail, filter-append}
 use Rattle.std.proofs.lemmas.List.Folds.{list_any-append}
-use Rattle.std.proofs.lemmas.Option.{same_Some}
 use Rattle.std.proofs.lemmas.Slice.Eq.{bytes_eq-Decides}
 use Rattle.std.specs.FinMap.{empty}
 use Rattle.std.specs.List.{AllZip, list_any}
 use Rattle.std.specs.Option.{IsSomeAnd, option_to_list}
-use Rattle.std.specs.Prelude.{IfSome, is_some, slice_get}
+use Rattle.std.specs.Prelude.{is_some}
 use Rattle.std.specs.Str.{bytes_eq}
 use Rattle.cal_civil.specs.rules.ZoneName.{is_utc_name}
 use Rattle.cal_machine.specs.rules.Machine.{Machine}
@@ -23,7 +22,7 @@ use Rattle.cal_unit_index.specs.rules.Files.{UnitText}
 use Rattle.cal_zone.specs.rules.ZoneTable.{ZoneMap, zone_named}
 use Rattle.cal_zone_files.specs.declared.fault.FileReason.{FileReason}
 use Rattle.cal_zone_files.specs.rules.MachineLocalZone.{zone_folder}
-use Rattle.cal_zone_files.specs.rules.ZoneFiles.{HasZone, HasZonesOf, IsReasonOn, zone_path}
+use Rattle.cal_zone_files.specs.rules.ZoneFiles.{HasZonesOf, IsReasonOn, zone_path}
 use Rattle.cal_load.specs.declared.calendar.Calendar as calendars
 use Rattle.cal_load.specs.declared.zones.CalendarZones.{CalendarZones}
 use Rattle.cal_load.specs.declared.zones.UnusableZone.{UnusableZone}
@@ -31,8 +30,8 @@ use Rattle.cal_load.specs.rules.Expressions.{names_zone}
 use Rattle.cal_load.specs.rules.Loaded.{AreTried, HasNames, IsCalendarBy, IsCalendarOf, IsStartedBy, IsTried, IsZoned, entries_of_files, exceptions_in, exceptions_of_files, expressions_in, expressions_of_files, is_loaded, timer_assignments, unclear_of_files, zone_names_in}
 use Rattle.cal_load.specs.rules.Notes.{starts_unit}
 use Rattle.cal_load.specs.rules.TextFaults.{StartNothing}
-use Rattle.cal_load.specs.rules.UnusableZones.{AreUnusableLines, HasUsableZone, IsFirstUnusable, IsUnusableLine, IsUnusableZoneOf, NamesUnusableZone, has_zone, is_zone_in}
-use Rattle.cal_zone_files.proofs.ZoneLemmas.{empty_has, empty_has_none, usable_of}
+use Rattle.cal_load.specs.rules.UnusableZones.{AreUnusableLines, IsUnusableLine, IsUnusableZoneOf, NamesUnusableZone, has_zone, is_zone_in}
+use Rattle.cal_zone_files.proofs.ZoneLemmas.{empty_has, empty_has_none}
 use Rattle.cal_load.proofs.ExpressionLemmas.{zone_of_path}
 
 -- ## Filters
@@ -312,6 +311,26 @@ unusable_of_files machine name files old new found by zoned =
     subst (λ entries. AreUnusableLines machine found.zones entries found.unusable.items)
     (ap (λ all. all ++ exceptions_in old) by.0 ∙ ap (λ all. expressions_of_files name files ++ all) by.1) zoned.unusable
 
+-- ## The numbers of lines
+
+numbered_step : (machine : Machine) (P : ℕ → Type 0) (keeps : Bool) (entry : TimerLine Fields) (left : List (TimerLine Fields)) (lines : List UnusableZone) → P entry.number
+    → ((others : List UnusableZone) → AllZip (IsUnusableLine machine) left others → All (λ line. P line.number) others)
+    → AllZip (IsUnusableLine machine) (cond (not keeps) (entry ∷ left) left) lines → All (λ line. P line.number) lines
+numbered_step machine P true entry left lines here rest h = rest lines h
+numbered_step machine P false entry left [] here rest h = absurd h
+numbered_step machine P false entry left (line ∷ lines) here rest h =
+    All-cons (λ (line : UnusableZone). P line.number) line lines (subst P (sym h.0.0) here) (rest lines h.1)
+
+-- the lines whose zone can't be used have numbers of entries
+pub unusable_numbered : (machine : Machine) (table : ZoneMap) (P : ℕ → Type 0) (entries : List (TimerLine Fields)) (lines : List UnusableZone)
+    → All (λ entry. P entry.number) entries → AreUnusableLines machine table entries lines → All (λ line. P line.number) lines
+unusable_numbered machine table P [] [] all h = All-nil (λ (line : UnusableZone). P line.number)
+unusable_numbered machine table P [] (line ∷ lines) all h = absurd h
+unusable_numbered machine table P (entry ∷ entries) lines all h =
+    numbered_step machine P (has_zone table entry) entry (filter (λ entry. not (has_zone table entry)) entries) lines
+    (All-head (λ (entry : TimerLine Fields). P entry.number) entry entries all)
+    (λ others rest. unusable_numbered machine table P entries others (All-tail (λ (entry : TimerLine Fields). P entry.number) entry entries all) rest) h
+
 -- ## Why nothing starts a unit
 
 all_left : (machine : Machine) (keeps : Bool) (entry : TimerLine Fields) (kept rest : List (TimerLine Fields)) (lines : List UnusableZone) → cond keeps (entry ∷ kept) kept ≡ []
@@ -329,69 +348,6 @@ none_usable machine table (entry ∷ expressions) exceptions lines e h =
     let left = all_left machine (has_zone table entry) entry (filter (has_zone table) expressions)
     (filter (λ entry. not (has_zone table entry)) (expressions ++ exceptions)) lines e h in
     All-cons (NamesUnusableZone machine) entry expressions left.1 (none_usable machine table expressions exceptions left.2.0 left.0 left.2.1)
-
-usable_name : (machine : Machine) (zone : Option (List ℕ)) (table : ZoneMap) → HasZonesOf machine table → is_zone_in table zone ≡ true
-    → IfSome zone (λ name. is_utc_name name ≡ false → HasZone machine name)
-usable_name machine None table zones h = tt
-usable_name machine (Some name) table zones h = λ other. usable_of machine name (zone_named table name) h (zones name other)
-
-usable_entry : (machine : Machine) (table : ZoneMap) (entry : TimerLine Fields) → HasZonesOf machine table → has_zone table entry ≡ true → HasUsableZone machine entry
-usable_entry machine table entry zones h = usable_name machine (name_in entry.expr.zone) table zones h
-
-usable_step : (machine : Machine) (keeps : Bool) (entry : TimerLine Fields) (entries left : List (TimerLine Fields)) → (keeps ≡ true → HasUsableZone machine entry)
-    → (AllZip (IsUnusableLine machine) left [] → All (HasUsableZone machine) entries)
-    → AllZip (IsUnusableLine machine) (cond (not keeps) (entry ∷ left) left) [] → All (HasUsableZone machine) (entry ∷ entries)
-usable_step machine true entry entries left usable rest h = All-cons (HasUsableZone machine) entry entries (usable refl) (rest h)
-usable_step machine false entry entries left usable rest h = absurd h
-
--- if there are no lines whose zone can't be used, the zones of all entries can be used
-pub all_usable : (machine : Machine) (table : ZoneMap) (entries : List (TimerLine Fields)) → HasZonesOf machine table → AreUnusableLines machine table entries []
-    → All (HasUsableZone machine) entries
-all_usable machine table [] zones h = All-nil (HasUsableZone machine)
-all_usable machine table (entry ∷ entries) zones h =
-    usable_step machine (has_zone table entry) entry entries (filter (λ entry. not (has_zone table entry)) entries) (usable_entry machine table entry zones)
-    (all_usable machine table entries zones) h
-
-abbrev pub FirstUnusable : Machine → List (TimerLine Fields) → UnusableZone → Type 0
-FirstUnusable machine entries line = (entry : TimerLine Fields) × (line.number ≡ entry.number) × IsFirstUnusable machine entries entry (string_bytes line.path) line.reason
-
-one_more : (machine : Machine) (first : TimerLine Fields) (entries : List (TimerLine Fields)) (line : UnusableZone) → HasUsableZone machine first
-    → FirstUnusable machine entries line → FirstUnusable machine (first ∷ entries) line
-one_more machine first entries line usable h = (
-  h.0,
-  h.1,
-  record {
-    before = first ∷ h.2.before;
-    after = h.2.after;
-    divided = ap (λ rest. first ∷ rest) h.2.divided;
-    are_usable = All-cons (HasUsableZone machine) first h.2.before usable h.2.are_usable;
-    is_unusable = h.2.is_unusable;
-  },
-)
-
-first_step : (machine : Machine) (keeps : Bool) (entry : TimerLine Fields) (entries left : List (TimerLine Fields)) (line : UnusableZone) (lines : List UnusableZone)
-    → (keeps ≡ true → HasUsableZone machine entry) → (AllZip (IsUnusableLine machine) left (line ∷ lines) → FirstUnusable machine entries line)
-    → AllZip (IsUnusableLine machine) (cond (not keeps) (entry ∷ left) left) (line ∷ lines) → FirstUnusable machine (entry ∷ entries) line
-first_step machine true entry entries left line lines usable rest h = one_more machine entry entries line (usable refl) (rest h)
-first_step machine false entry entries left line lines usable rest h = (
-  entry,
-  h.0.0,
-  record { before = []; after = entries; divided = refl; are_usable = All-nil (HasUsableZone machine); is_unusable = h.0.1 },
-)
-
-first_unusable : (machine : Machine) (table : ZoneMap) (entries : List (TimerLine Fields)) (line : UnusableZone) (lines : List UnusableZone) → HasZonesOf machine table
-    → AreUnusableLines machine table entries (line ∷ lines) → FirstUnusable machine entries line
-first_unusable machine table [] line lines zones h = absurd h
-first_unusable machine table (entry ∷ entries) line lines zones h =
-    first_step machine (has_zone table entry) entry entries (filter (λ entry. not (has_zone table entry)) entries) line lines (usable_entry machine table entry zones)
-    (first_unusable machine table entries line lines zones) h
-
--- the first line whose zone can't be used is that of the first entry whose zone can't be used
-pub first_is_unusable : (machine : Machine) (table : ZoneMap) (entries : List (TimerLine Fields)) (lines : List UnusableZone) (line : UnusableZone) → HasZonesOf machine table
-    → slice_get lines 0 ≡ Some line → AreUnusableLines machine table entries lines → FirstUnusable machine entries line
-first_is_unusable machine table entries [] line zones e h = absurd (cc)
-first_is_unusable machine table entries (first ∷ lines) line zones e h =
-    subst (FirstUnusable machine entries) (same_Some first line e) (first_unusable machine table entries first lines zones h)
 
 -- nothing starts the unit of files if no expression is left and nothing else starts it
 pub nothing_starts : (machine : Machine) (name : List ℕ) (files : List UnitText) (old new : calendars.Calendar) (found : CalendarZones) (is_started : Bool)

@@ -11,6 +11,7 @@ use crate::calendar::Calendar;
 use crate::fault::{TargetLoadFault, push_fault};
 use crate::loaded::{Loaded, LoadedTimer};
 use crate::target_fault::TargetReason;
+use crate::timer_files::TimerFiles;
 use crate::zones::{first_with_zone, load_named_zones};
 use cal_machine::Tree;
 use cal_spec::{SpecFault, read_expr};
@@ -111,12 +112,8 @@ fn only_timer(
     let mut loaded = Loaded::new(alloc);
     loaded.timers.push(LoadedTimer {
         name,
-        files: Vec::new(alloc),
-        first_lines: Vec::new(alloc),
-        broken: Vec::new(alloc),
+        files: TimerFiles::new(alloc),
         calendar: Calendar::of_expressions(alloc, lines),
-        ignored: Vec::new(alloc),
-        unusable_zones: Vec::new(alloc),
         zones,
         notes: Vec::new(alloc),
     })?;

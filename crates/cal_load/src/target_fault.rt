@@ -4,8 +4,8 @@ ghost use Rattle.std.specs.Prelude.{◌≡◌};
 ghost use Rattle.cal_load.specs.rules.TextFaults.{fails_to_load};
 
 use crate::readable::BrokenLine;
+use crate::timer_files::TimerFiles;
 use cal_spec::SpecFault;
-use cal_timer::TimerFault;
 use cal_unit_index::Reason;
 use cal_zone_files::FileReason;
 
@@ -22,15 +22,9 @@ pub enum TargetReason {
     Path(String, Reason),
     /// systemd stops reading the timer's own file, which is at this path, at this line. So it doesn't load the timer.
     Broken(String, BrokenLine),
-    /// Nothing starts the timer's unit, and this line of the file at this path is the first that is ignored as invalid.
-    /// The error has the same line number.
-    Line(String, u32, TimerFault),
-    /// The timer has neither a calendar expression nor another setting that starts its unit.
-    NothingToDo,
-    /// Nothing starts the timer's unit, no line is ignored as invalid, and at least one is ignored because of its zone. The
-    /// values are the path of the timer's file, the number of the line, the path of the zone file, and why the zone file
-    /// can't be used. The line is the first one with such an expression or, if there is none, with such an exception.
-    Zone(String, u32, String, FileReason),
+    /// Nothing starts the timer's unit: its files have neither a calendar expression that can be used nor another setting
+    /// that starts the unit. The value has the files, with everything that systemd ignores in them.
+    NothingToDo(TimerFiles),
     /// The expression, which was given instead of a timer, is invalid.
     Expression(SpecFault),
     /// The expression, which was given instead of a timer, names a zone whose file at this path can't be used, for
@@ -57,10 +51,7 @@ impl TargetFault {
     {
         matches!(
             self.reason,
-            TargetReason::Line(..)
-                | TargetReason::NothingToDo
-                | TargetReason::Zone(..)
-                | TargetReason::Broken(..)
+            TargetReason::NothingToDo(..) | TargetReason::Broken(..)
         )
     }
 }

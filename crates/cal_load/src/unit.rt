@@ -1,37 +1,32 @@
 //! Reading a timer from its files.
 
-ghost use Rattle.std.specs.Prelude.{◌≡◌, ◌∷◌, ◌++◌, [], ℕ, List, None, Some, IfOk, OnOk, map, slice_get, string_bytes};
+ghost use Rattle.std.specs.Prelude.{◌≡◌, ◌∷◌, ◌++◌, ℕ, List, None, Some, IfOk, OnOk, map, string_bytes};
 ghost use Rattle.cal_machine.specs.rules.Machine.{Machine};
 ghost use Rattle.std.specs.Result.{IfErr};
 ghost use Rattle.cal_unit_index.specs.rules.DropIns.{drop_ins};
-ghost use Rattle.cal_spec.specs.rules.Fields.{Fields};
-ghost use Rattle.cal_timer.specs.rules.TimerEntries.{TimerLine};
 ghost use Rattle.cal_unit_index.specs.rules.Files.{UnitText as FileText, file_at, shown_unit_text, texts_at};
 ghost use Rattle.cal_unit_index.specs.rules.Index.{IsIndexOf};
 ghost use Rattle.cal_unit_index.specs.rules.Names.{names_on};
 ghost use Rattle.cal_unit_index.specs.rules.Units.{unit_on};
-ghost use Rattle.cal_zone.specs.rules.ZoneTable.{ZoneMap};
-ghost use Rattle.cal_zone_files.specs.rules.ZoneFiles.{HasZonesOf};
 ghost use Rattle.cal_load.specs.rules.Notes.{note_text, starts_unit};
-ghost use Rattle.cal_load.specs.rules.Position.{AreFirstLines, HasLine, IsLineIn};
-ghost use Rattle.cal_load.specs.rules.TextFaults.{IsAssignmentReason, IsReadFault, IsTextFault, StartNothing, ignored_of_files};
+ghost use Rattle.cal_load.specs.rules.Position.{AreFirstLines};
+ghost use Rattle.cal_load.specs.rules.TextFaults.{IsReadFault, IsTextFault};
 ghost use Rattle.cal_load.specs.rules.AllTargets.{IsReadAt};
 ghost use Rattle.cal_load.specs.rules.AllUnits.{IsFileFault, IsTimerFileFault, IsUnitFault, IsUnusableFault, unit_name};
-ghost use Rattle.cal_load.specs.rules.Loaded.{IsCalendarBy, IsStartedBy, IsTimerReadFrom, broken_of_files, broken_own, entries_of_files, noted_in_files, timer_assignments, unclear_of_files, unit_texts};
-ghost use Rattle.cal_load.specs.rules.UnusableZones.{AreUnusableLines, IsFirstUnusable};
+ghost use Rattle.cal_load.specs.rules.Loaded.{IsCalendarBy, IsStartedBy, IsTimerReadFrom, broken_of_files, broken_own, ignored_of_files, noted_in_files, timer_assignments, unclear_of_files, unit_texts};
 ghost use Rattle.cal_load.specs.rules.LoadedTarget.{IsFoundTarget, IsLoadedFile, IsLoadedUnit, IsOwnFile};
 
 use crate::calendar::{Calendar, CalendarLines, IgnoredLine, read_calendar};
 use crate::fault::TargetLoadFault;
-use crate::loaded::{LoadedTarget, LoadedTimer, position_in};
+use crate::loaded::{LoadedTarget, LoadedTimer};
 use crate::notes::{can_start, notes_of, shown_notes};
 use crate::readable::BrokenLine;
 use crate::resolved::{Resolved, resolve};
 use crate::target_fault::TargetReason;
 use crate::texts::{ReadFiles, append, read_files};
-use crate::zones::{CalendarZones, UnusableZone, load_calendar_zones};
+use crate::timer_files::TimerFiles;
+use crate::zones::{CalendarZones, load_calendar_zones};
 use cal_machine::Tree;
-use cal_read::TimerFault;
 use cal_unit_index::{
     DropInTexts, DropIns, FileRead, Reason, Unit, UnitFault, UnitFile, UnitIndex, UnitText,
     find_drop_ins, find_unit, names_of, read_drop_ins, read_file,
@@ -208,27 +203,29 @@ fn timer_from_files<T: Tree>(
 {
     let mut parsed = parse_files(alloc, name.as_str(), files.as_slice())?;
     let found = load_calendar_zones(alloc, tree, &mut parsed.calendar)?;
-    if !parsed.is_started && parsed.calendar.lines().is_empty() {
-        let reason = start_reason(alloc, files.as_slice(), &parsed, found.unusable.as_slice())?;
-        return Err(TargetLoadFault::Target(reason));
-    }
     let ParsedFiles {
         first_lines,
         broken,
         calendar,
         ignored,
+        is_started,
         notes,
-        ..
     } = parsed;
     let CalendarZones { zones, unusable } = found;
+    let files = TimerFiles {
+        texts: files,
+        first_lines,
+        broken,
+        ignored,
+        unusable_zones: unusable,
+    };
+    if !is_started && calendar.lines().is_empty() {
+        return Err(TargetLoadFault::Target(TargetReason::NothingToDo(files)));
+    }
     Ok(LoadedTimer {
         name,
         files,
-        first_lines,
-        broken,
         calendar,
-        ignored,
-        unusable_zones: unusable,
         zones,
         notes,
     })
@@ -297,78 +294,5 @@ fn broken_fault(alloc: Global, files: &[UnitText], line: BrokenLine) -> TargetLo
         Some(own) => TargetLoadFault::broken(alloc, own.path.as_str(), line),
         // This can't happen: a unit has a file of its own.
         None => TargetLoadFault::NoMemory,
-    }
-}
-
-/// Returns why a timer whose unit nothing starts can't be loaded. The reason is the first line that is ignored as
-/// invalid, or else the first one whose zone can't be used. If there is neither, it is [`TargetReason::NothingToDo`].
-fn start_reason(
-    alloc: Global,
-    files: &[UnitText],
-    parsed: &ParsedFiles,
-    unusable: &[UnusableZone],
-) -> Result<TargetReason, AllocError>
-    requires { AreFirstLines (map shown_unit_text files.now) parsed.now.first_lines.items }
-    ensures { IfOk result (λ reason. (machine : Machine) (name : List ℕ) (table : ZoneMap)
-        → parsed.now.ignored.items ≡ ignored_of_files name (map shown_unit_text files.now)
-        → HasZonesOf machine table → AreUnusableLines machine table (entries_of_files name (map shown_unit_text files.now)) unusable.now
-        → StartNothing machine name (map shown_unit_text files.now) → IsAssignmentReason machine name (map shown_unit_text files.now) reason) }
-{
-    let first_lines = parsed.first_lines.as_slice();
-    if let Some(first) = parsed.ignored.first() {
-        return line_reason(alloc, files, first_lines, *first);
-    }
-    match unusable.first() {
-        Some(first) => zone_reason(alloc, files, first_lines, first),
-        None => Ok(TargetReason::NothingToDo),
-    }
-}
-
-/// Returns [`TargetReason::Line`] for `first`, the first line that is ignored as invalid, with its number in its file.
-fn line_reason(
-    alloc: Global,
-    files: &[UnitText],
-    first_lines: &[u32],
-    first: IgnoredLine,
-) -> Result<TargetReason, AllocError>
-    requires { AreFirstLines (map shown_unit_text files.now) first_lines.now }
-    ensures { IfOk result (λ reason. (machine : Machine) (name : List ℕ)
-        → slice_get (ignored_of_files name (map shown_unit_text files.now)) 0 ≡ Some first
-        → StartNothing machine name (map shown_unit_text files.now) → IsAssignmentReason machine name (map shown_unit_text files.now) reason) }
-{
-    let (path, line) = line_in(files, first_lines, first.number);
-    let path = String::from_str(alloc, path)?;
-    Ok(TargetReason::Line(path, line, TimerFault::BadLine(line, first.fault)))
-}
-
-/// Returns [`TargetReason::Zone`] for `first`, the first line whose zone can't be used, with its number in its file.
-fn zone_reason(
-    alloc: Global,
-    files: &[UnitText],
-    first_lines: &[u32],
-    first: &UnusableZone,
-) -> Result<TargetReason, AllocError>
-    requires { AreFirstLines (map shown_unit_text files.now) first_lines.now }
-    ensures { IfOk result (λ reason. (machine : Machine) (name : List ℕ) (entry : TimerLine Fields) → first.now.number ≡ entry.number
-        → IsFirstUnusable machine (entries_of_files name (map shown_unit_text files.now)) entry (string_bytes first.now.path) first.now.reason
-        → ignored_of_files name (map shown_unit_text files.now) ≡ [] → StartNothing machine name (map shown_unit_text files.now)
-        → IsAssignmentReason machine name (map shown_unit_text files.now) reason) }
-{
-    let (path, line) = line_in(files, first_lines, first.number);
-    let path = String::from_str(alloc, path)?;
-    let zone = String::from_str(alloc, first.path.as_str())?;
-    Ok(TargetReason::Zone(path, line, zone, first.reason))
-}
-
-/// Returns the path of the file that has the line with this continued number, and the line's number in that file,
-/// counted from 1. One of the files must have the line.
-fn line_in<'f>(files: &'f [UnitText], first_lines: &[u32], number: u32) -> (&'f str, u32)
-    requires { AreFirstLines (map shown_unit_text files.now) first_lines.now }
-    ensures { HasLine (map shown_unit_text files.now) number
-        → IsLineIn (map shown_unit_text files.now) number result.0.now result.1 }
-{
-    match position_in(files, first_lines, number) {
-        Some(position) => position,
-        None => ("", number),
     }
 }

@@ -113,7 +113,7 @@ fn show_row<'a>(
 
 fn file_paths<'a>(alloc: Global, timer: &'a LoadedTimer) -> Result<Vec<&'a str>, AllocError> {
     let mut paths = Vec::new(alloc);
-    for file in &timer.files {
+    for file in &timer.files.texts {
         paths.push(file.path.as_str())?;
     }
     Ok(paths)
@@ -143,7 +143,7 @@ fn line_row<'a>(
     ensures { IfOk result (λ row. string_bytes row.normal ≡ expr_text line.now.expr) }
 {
     let normal = normal_text(alloc, &line.expr)?;
-    let (file, number) = match timer.position(line.number) {
+    let (file, number) = match timer.files.position(line.number) {
         Some((file, number)) => (Some(file), Some(number)),
         None => (None, None),
     };

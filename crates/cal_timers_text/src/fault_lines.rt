@@ -3,10 +3,10 @@
 use crate::cells::push_printable;
 use cal_lint::looks_like_abbreviation;
 use cal_load::{
-    BrokenLine, BrokenReason, IgnoredLine, LoadedTimer, TargetFault, TargetReason, UnusableZone,
+    BrokenLine, BrokenReason, IgnoredLine, LoadedTimer, TargetFault, TargetReason, TimerFiles,
+    UnusableZone,
 };
 use cal_machine::Unreadable;
-use cal_timer::TimerFault;
 use cal_unit_index::Reason;
 use cal_zone_files::{FileReason, Origin, ZonesFault};
 use std::alloc::{AllocError, Global};
@@ -35,20 +35,7 @@ pub fn fault_text(alloc: Global, fault: &TargetFault) -> Result<String, AllocErr
             reason_words(*reason),
         ),
         TargetReason::Broken(path, line) => push_broken(&mut out, path.as_str(), *line),
-        TargetReason::Line(path, line, fault) => push_line_fault(
-            &mut out,
-            path.as_str(),
-            *line,
-            fault,
-        ),
-        TargetReason::NothingToDo => push_fault(&mut out, target, NOTHING_TO_DO),
-        TargetReason::Zone(path, line, zone, reason) => push_zone_line(
-            &mut out,
-            path.as_str(),
-            *line,
-            zone.as_str(),
-            *reason,
-        ),
+        TargetReason::NothingToDo(files) => push_idle(&mut out, target, files),
         TargetReason::Expression(fault) => push_fault(&mut out, target, fault.words()),
         TargetReason::ExpressionZone(zone, reason) => push_expression_zone(
             &mut out,
@@ -68,10 +55,7 @@ pub fn ignored_text(
     ignored: &IgnoredLine,
 ) -> Result<String, AllocError> {
     let mut out = String::new(alloc);
-    let (path, line) = timer
-        .position(ignored.number)
-        .unwrap_or((timer.name.as_str(), ignored.number));
-    push_position(&mut out, path, line)?;
+    push_place(&mut out, timer.name.as_str(), &timer.files, ignored.number)?;
     out.push_str("ignored: ")?;
     out.push_str(ignored.fault.words())?;
     Ok(out)
@@ -85,10 +69,7 @@ pub fn unusable_zone_text(
     zone: &UnusableZone,
 ) -> Result<String, AllocError> {
     let mut out = String::new(alloc);
-    let (path, line) = timer
-        .position(zone.number)
-        .unwrap_or((timer.name.as_str(), zone.number));
-    push_position(&mut out, path, line)?;
+    push_place(&mut out, timer.name.as_str(), &timer.files, zone.number)?;
     out.push_str("ignored: ")?;
     push_zone_fault(&mut out, zone.path.as_str(), zone.reason)?;
     Ok(out)
@@ -121,10 +102,7 @@ pub fn broken_text(
     line: BrokenLine,
 ) -> Result<String, AllocError> {
     let mut out = String::new(alloc);
-    let (path, number) = timer
-        .position(line.number)
-        .unwrap_or((timer.name.as_str(), line.number));
-    push_position(&mut out, path, number)?;
+    push_place(&mut out, timer.name.as_str(), &timer.files, line.number)?;
     out.push_str("ignored from this line on: ")?;
     out.push_str(broken_words(line.reason))?;
     Ok(out)
@@ -191,31 +169,54 @@ fn push_broken(out: &mut String, path: &str, line: BrokenLine) -> Result<(), All
     out.push_str(broken_words(line.reason))
 }
 
-fn push_line_fault(
+/// Appends the error line about a timer whose unit nothing starts. It is about the first line that is ignored as invalid,
+/// or else about the first one whose zone can't be used. If no line is ignored, it is about the timer.
+fn push_idle(out: &mut String, timer: &str, files: &TimerFiles) -> Result<(), AllocError> {
+    if let Some(ignored) = files.ignored.first() {
+        return push_ignored(out, timer, files, *ignored);
+    }
+    match files.unusable_zones.first() {
+        Some(zone) => push_unusable_zone(out, timer, files, zone),
+        None => push_fault(out, timer, NOTHING_TO_DO),
+    }
+}
+
+fn push_ignored(
     out: &mut String,
-    path: &str,
-    line: u32,
-    fault: &TimerFault,
+    timer: &str,
+    files: &TimerFiles,
+    ignored: IgnoredLine,
 ) -> Result<(), AllocError> {
-    push_position(out, path, line)?;
-    out.push_str(fault.words())
+    push_place(out, timer, files, ignored.number)?;
+    out.push_str(ignored.fault.words())
+}
+
+fn push_unusable_zone(
+    out: &mut String,
+    timer: &str,
+    files: &TimerFiles,
+    zone: &UnusableZone,
+) -> Result<(), AllocError> {
+    push_place(out, timer, files, zone.number)?;
+    push_zone_fault(out, zone.path.as_str(), zone.reason)
+}
+
+/// Appends the path of the file that has the line with this continued number, and the number that the line has in this
+/// file, each with a colon after it, and a blank.
+fn push_place(
+    out: &mut String,
+    timer: &str,
+    files: &TimerFiles,
+    number: u32,
+) -> Result<(), AllocError> {
+    let (path, line) = files.position(number).unwrap_or((timer, number));
+    push_position(out, path, line)
 }
 
 /// Appends a path and the number of a line, each with a colon after it, and a blank.
 fn push_position(out: &mut String, path: &str, line: u32) -> Result<(), AllocError> {
     push_printable(out, path)?;
     write!(out, ":{line}: ")
-}
-
-fn push_zone_line(
-    out: &mut String,
-    path: &str,
-    line: u32,
-    zone: &str,
-    reason: FileReason,
-) -> Result<(), AllocError> {
-    push_position(out, path, line)?;
-    push_zone_fault(out, zone, reason)
 }
 
 fn push_expression_zone(

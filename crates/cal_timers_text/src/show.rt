@@ -45,7 +45,7 @@ fn push_name(out: &mut String, name: &str, style: Style) -> Result<(), AllocErro
 }
 
 fn push_settings(alloc: Global, out: &mut String, timer: &LoadedTimer) -> Result<(), AllocError> {
-    push_files(out, &timer.files)?;
+    push_files(out, &timer.files.texts)?;
     push_lines(alloc, out, "  Calendar:", timer.lines())?;
     push_lines(alloc, out, "  Except:", timer.exceptions())?;
     push_texts(out, "  Also:", &timer.notes)

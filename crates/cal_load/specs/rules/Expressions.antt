@@ -20,7 +20,7 @@ use Rattle.cal_load.specs.declared.loaded.Loaded.{Loaded}
 use Rattle.cal_load.specs.declared.loaded.LoadedTimer.{LoadedTimer}
 use Rattle.cal_load.specs.declared.target_fault.TargetFault.{TargetFault}
 use Rattle.cal_load.specs.declared.target_fault.TargetReason.{TargetReason}
-use Rattle.cal_load.specs.declared.target_fault.TargetReason.TheVariants.{NotFound, Template, TooManyAliases, Path, Broken, Line, NothingToDo, Zone, Expression, ExpressionZone}
+use Rattle.cal_load.specs.declared.target_fault.TargetReason.TheVariants.{NotFound, Template, TooManyAliases, Path, Broken, NothingToDo, Expression, ExpressionZone}
 
 -- ## Timers
 
@@ -34,14 +34,14 @@ AreOf texts entries =
 abbrev pub IsTimerOf : List (TimerLine Fields) → ZoneMap → LoadedTimer → Type 0
 IsTimerOf entries table timer =
     (expressions_in timer.calendar ≡ entries) × (exceptions_in timer.calendar ≡ []) × (timer.zones ≡ table)
-    × (timer.ignored.items ≡ []) × (timer.unusable_zones.items ≡ [])
+    × (timer.files.ignored.items ≡ []) × (timer.files.unusable_zones.items ≡ [])
 
 -- the timer has these expressions and no exceptions, the zones of the machine that the expressions name, and no lines
 -- that are ignored as invalid or for their zone
 abbrev pub IsMadeOf : Machine → List (List ℕ) → LoadedTimer → Type 0
 IsMadeOf machine texts timer =
     AreOf texts (expressions_in timer.calendar) × (exceptions_in timer.calendar ≡ [])
-    × HasZones machine timer.calendar timer.zones × (timer.ignored.items ≡ []) × (timer.unusable_zones.items ≡ [])
+    × HasZones machine timer.calendar timer.zones × (timer.files.ignored.items ≡ []) × (timer.files.unusable_zones.items ≡ [])
 
 -- ## Errors
 
@@ -74,9 +74,7 @@ IsExpressionReason Shows texts target Template = ⊥
 IsExpressionReason Shows texts target TooManyAliases = ⊥
 IsExpressionReason Shows texts target (Path place why) = ⊥
 IsExpressionReason Shows texts target (Broken place line) = ⊥
-IsExpressionReason Shows texts target (Line place line fault) = ⊥
-IsExpressionReason Shows texts target NothingToDo = ⊥
-IsExpressionReason Shows texts target (Zone place line zone reason) = ⊥
+IsExpressionReason Shows texts target (NothingToDo read) = ⊥
 IsExpressionReason Shows texts target (Expression fault) = (first_invalid texts ≡ Some target) × (expr_in target ≡ Err fault)
 IsExpressionReason Shows texts target (ExpressionZone path reason) =
     (entries : List (TimerLine Fields)) × AreOf texts entries

@@ -1,5 +1,5 @@
 -- Timers that are loaded from the files of a machine: systemd.unit(5), Description, and systemd.timer(5), OnCalendar=.
-use Rattle.std.specs.Prelude.{◌≡◌, ◌⊎◌, ◌+◌, ◌||◌, ℕ, Bool, false, true, if◌then◌else◌, List, [], ◌∷◌, ◌++◌, Option, None, Some, Result, Ok, Err, codes, filter, is_some, length, map, string_bytes}
+use Rattle.std.specs.Prelude.{◌≡◌, ◌⊎◌, ◌+◌, ◌||◌, ℕ, All, Bool, false, true, if◌then◌else◌, List, [], ◌∷◌, ◌++◌, Option, None, Some, Result, Ok, Err, codes, filter, is_some, length, map, string_bytes}
 use Rattle.std.specs.List.{filter_map, flat_map, list_any}
 use Rattle.std.specs.Option.{option_to_list}
 use Rattle.std.specs.Str.{bytes_eq}
@@ -29,8 +29,9 @@ use Rattle.cal_load.specs.declared.calendar.Calendar as calendars
 use Rattle.cal_load.specs.declared.calendar.CalendarLines.{CalendarLines}
 use Rattle.cal_load.specs.declared.calendar.IgnoredLine.{IgnoredLine}
 use Rattle.cal_load.specs.declared.loaded.LoadedTimer.{LoadedTimer}
+use Rattle.cal_load.specs.declared.timer_files.TimerFiles.{TimerFiles}
 use Rattle.cal_load.specs.rules.Notes.{note_text, notes_in, starts_unit}
-use Rattle.cal_load.specs.rules.Position.{AreFirstLines}
+use Rattle.cal_load.specs.rules.Position.{AreFirstLines, HasLine}
 use Rattle.cal_load.specs.rules.Readable.{assignments_read, broken_line}
 use Rattle.cal_load.specs.rules.Resolved.{resolved_in, unclear_in}
 use Rattle.cal_load.specs.rules.UnusableZones.{AreUnusableLines, IsUnusableLine, has_zone, is_zone_in}
@@ -136,6 +137,10 @@ unfoldable pub ignored_in : {E : Type 0} → (List ℕ → Result E SpecFault) �
 ignored_in read assignments =
     filter_map (λ a. ignored_line a (read a.value)) (filter (λ a. is_expression a || is_exception a) assignments)
 
+-- the lines of the timer's files that are ignored because their expressions are invalid
+abbrev pub ignored_of_files : List ℕ → List UnitText → List IgnoredLine
+ignored_of_files name files = ignored_in expr_in (timer_assignments name files)
+
 -- the names of the zones in these expressions
 abbrev pub zone_names_in : List (TimerLine Fields) → List (List ℕ)
 zone_names_in entries = flat_map (λ entry. option_to_list (name_in entry.expr.zone)) entries
@@ -153,17 +158,25 @@ HasZones machine calendar table =
 abbrev pub noted_in_files : List ℕ → List UnitText → List Assignment
 noted_in_files name files = unclear_of_files name files ++ notes_in name (timer_assignments name files)
 
--- the timer was read from these files of a machine; systemd reads its own file, the first of them, to the end
-pub record IsTimerReadFrom (machine : Machine) (files : List UnitText) (timer : LoadedTimer) : Type 0 where
-  pub has_files : map shown_unit_text timer.files.items ≡ files
-  pub has_first_lines : AreFirstLines files timer.first_lines.items
+-- These are the files of the timer `name`, with everything that systemd ignores in them. It reads the timer's own file,
+-- the first of them, to the end. A line is ignored because of its zone if the zone isn't in the table. Each line that is
+-- ignored is in one of the files.
+pub record AreFilesOf (machine : Machine) (name : List ℕ) (files : List UnitText) (table : ZoneMap) (read : TimerFiles) : Type 0 where
+  pub has_texts : map shown_unit_text read.texts.items ≡ files
+  pub has_first_lines : AreFirstLines files read.first_lines.items
   pub is_whole : broken_own files ≡ None
-  pub has_broken : timer.broken.items ≡ broken_of_files files
+  pub has_broken : read.broken.items ≡ broken_of_files files
+  pub has_ignored : read.ignored.items ≡ ignored_of_files name files
+  pub has_unusable_zones : AreUnusableLines machine table (entries_of_files name files) read.unusable_zones.items
+  pub has_ignored_lines : All (λ line. HasLine files line.number) read.ignored.items
+  pub has_unusable_lines : All (λ line. HasLine files line.number) read.unusable_zones.items
+
+-- the timer was read from these files of a machine
+pub record IsTimerReadFrom (machine : Machine) (files : List UnitText) (timer : LoadedTimer) : Type 0 where
+  pub has_files : AreFilesOf machine (string_bytes timer.name) files timer.zones timer.files
   pub has_calendar : IsCalendarOf (string_bytes timer.name) files timer.zones timer.calendar
   pub is_started : IsStarted (string_bytes timer.name) files timer.zones
-  pub has_ignored : timer.ignored.items ≡ ignored_in expr_in (timer_assignments (string_bytes timer.name) files)
   pub has_zones : HasZones machine timer.calendar timer.zones
-  pub has_unusable_zones : AreUnusableLines machine timer.zones (entries_of_files (string_bytes timer.name) files) timer.unusable_zones.items
   pub has_notes : map string_bytes timer.notes.items ≡ map note_text (noted_in_files (string_bytes timer.name) files)
 
 -- the timer is the unit that is found for this stem: it has the unit's name, and was read from its file and its drop-ins

@@ -1,28 +1,23 @@
 -- Why the files of a timer can't be loaded: systemd.syntax(7) and systemd.timer(5), OnCalendar=.
-use Rattle.std.specs.Prelude.{◌≡◌, ⊤, ◌+◌, ◌≤◌, ◌^◌, ℕ, Bool, false, true, List, [], ◌∷◌, ◌++◌, All, Some, length, slice_get, string_bytes}
+use Rattle.std.specs.Prelude.{◌≡◌, ⊤, ◌+◌, ◌≤◌, ◌^◌, ℕ, Bool, false, true, List, [], ◌∷◌, ◌++◌, All, Some, length, string_bytes}
 use Rattle.std.specs.List.{Contains}
 use Rattle.cal_machine.specs.rules.Machine.{Machine}
-use Rattle.cal_spec.specs.computed.Expr.{expr_in}
-use Rattle.cal_spec.specs.rules.Fields.{Fields}
-use Rattle.cal_timer.specs.rules.TimerEntries.{TimerLine}
-use Rattle.cal_timer.specs.declared.fault.TimerFault.{TimerFault}
-use Rattle.cal_timer.specs.declared.fault.TimerFault.TheVariants as timer_faults
 use Rattle.cal_unit_index.specs.declared.fault.Reason as reasons
 use Rattle.cal_unit_index.specs.rules.Files.{UnitText}
-use Rattle.cal_zone_files.specs.declared.fault.FileReason.{FileReason}
+use Rattle.cal_zone.specs.rules.ZoneTable.{ZoneMap}
 use Rattle.cal_zone_files.specs.declared.fault.ZonesFault.{ZonesFault}
 use Rattle.cal_zone_files.specs.declared.fault.ZonesFault.TheVariants as zone_faults
-use Rattle.cal_zone_files.specs.rules.ZoneFiles.{IsReasonOn, zone_path}
-use Rattle.cal_load.specs.declared.calendar.IgnoredLine.{IgnoredLine}
+use Rattle.cal_zone_files.specs.rules.ZoneFiles.{HasZonesOf, IsReasonOn, zone_path}
 use Rattle.cal_load.specs.declared.readable.BrokenLine.{BrokenLine}
 use Rattle.cal_load.specs.declared.fault.TargetLoadFault.{TargetLoadFault}
 use Rattle.cal_load.specs.declared.fault.TargetLoadFault as faults
 use Rattle.cal_load.specs.declared.target_fault.TargetReason.{TargetReason}
-use Rattle.cal_load.specs.declared.target_fault.TargetReason.TheVariants.{NotFound, Template, TooManyAliases, Path, Broken, Line, NothingToDo, Zone, Expression, ExpressionZone}
-use Rattle.cal_load.specs.rules.Loaded.{broken_own, entries_of_files, expressions_of_files, ignored_in, timer_assignments, unclear_of_files}
+use Rattle.cal_load.specs.declared.timer_files.TimerFiles.{TimerFiles}
+use Rattle.cal_load.specs.declared.target_fault.TargetReason.TheVariants.{NotFound, Template, TooManyAliases, Path, Broken, NothingToDo, Expression, ExpressionZone}
+use Rattle.cal_load.specs.rules.Loaded.{AreFilesOf, broken_own, expressions_of_files, timer_assignments, unclear_of_files}
 use Rattle.cal_load.specs.rules.Notes.{starts_unit}
-use Rattle.cal_load.specs.rules.Position.{IsLineIn, total_lines}
-use Rattle.cal_load.specs.rules.UnusableZones.{HasUsableZone, IsFirstUnusable, NamesUnusableZone}
+use Rattle.cal_load.specs.rules.Position.{total_lines}
+use Rattle.cal_load.specs.rules.UnusableZones.{NamesUnusableZone}
 
 -- ## Texts
 
@@ -48,9 +43,7 @@ IsReadReason files Template = ⊥
 IsReadReason files TooManyAliases = ⊥
 IsReadReason files (Path place why) = HasTooLargeAt files (string_bytes place) × (why ≡ reasons.TheVariants.TooLarge)
 IsReadReason files (Broken place line) = IsBrokenAt files (string_bytes place) line
-IsReadReason files (Line place line fault) = ⊥
-IsReadReason files NothingToDo = ⊥
-IsReadReason files (Zone place line zone reason) = ⊥
+IsReadReason files (NothingToDo read) = ⊥
 IsReadReason files (Expression fault) = ⊥
 IsReadReason files (ExpressionZone zone reason) = ⊥
 
@@ -68,43 +61,12 @@ StartNothing machine name files =
     All (NamesUnusableZone machine) (expressions_of_files name files) × (unclear_of_files name files ≡ [])
     × (starts_unit (timer_assignments name files) ≡ false)
 
--- the lines of the timer's files that are ignored because their expressions are invalid
-abbrev pub ignored_of_files : List ℕ → List UnitText → List IgnoredLine
-ignored_of_files name files = ignored_in expr_in (timer_assignments name files)
-
--- nothing starts the unit, and the first line that is ignored, with this error, is line `line` of the file at `path`
-abbrev pub IsLineFault : Machine → List ℕ → List UnitText → List ℕ → ℕ → TimerFault → Type 0
-IsLineFault machine name files path line fault =
+-- nothing starts the unit of the timer `name`, and `read` has its files, with everything that systemd ignores in them;
+-- only zones whose zone file on the machine is valid are in the table
+abbrev pub HasNothingToDo : Machine → List ℕ → List UnitText → TimerFiles → Type 0
+HasNothingToDo machine name files read =
     StartNothing machine name files
-    × ((first : IgnoredLine) × (slice_get (ignored_of_files name files) 0 ≡ Some first) × IsLineIn files first.number path line
-    × (fault ≡ timer_faults.BadLine line first.fault))
-
--- nothing starts the unit, no line is ignored as invalid, and the first line whose zone can't be used is line `line` of
--- the file at `path`; its zone file, at the path `zone`, can't be used for this reason
-abbrev pub IsZoneFault : Machine → List ℕ → List UnitText → List ℕ → ℕ → List ℕ → FileReason → Type 0
-IsZoneFault machine name files path line zone reason =
-    StartNothing machine name files × (ignored_of_files name files ≡ [])
-    × ((entry : TimerLine Fields) × IsFirstUnusable machine (entries_of_files name files) entry zone reason
-    × IsLineIn files entry.number path line)
-
--- nothing starts the unit, no line is ignored as invalid, and the zones of all expressions and exceptions can be used
-abbrev pub HasNothingToDo : Machine → List ℕ → List UnitText → Type 0
-HasNothingToDo machine name files =
-    StartNothing machine name files × (ignored_of_files name files ≡ []) × All (HasUsableZone machine) (entries_of_files name files)
-
--- why the assignments of files don't make a timer: nothing starts the unit. The reason is the first line that is
--- ignored as invalid, or else the first one whose zone can't be used, if there is one.
-abbrev pub IsAssignmentReason : Machine → List ℕ → List UnitText → TargetReason → Type 0
-IsAssignmentReason machine name files NotFound = ⊥
-IsAssignmentReason machine name files Template = ⊥
-IsAssignmentReason machine name files TooManyAliases = ⊥
-IsAssignmentReason machine name files (Path place why) = ⊥
-IsAssignmentReason machine name files (Broken place line) = ⊥
-IsAssignmentReason machine name files (Line place line fault) = IsLineFault machine name files (string_bytes place) line fault
-IsAssignmentReason machine name files NothingToDo = HasNothingToDo machine name files
-IsAssignmentReason machine name files (Zone place line zone reason) = IsZoneFault machine name files (string_bytes place) line (string_bytes zone) reason
-IsAssignmentReason machine name files (Expression fault) = ⊥
-IsAssignmentReason machine name files (ExpressionZone zone reason) = ⊥
+    × ((table : ZoneMap) × HasZonesOf machine table × AreFilesOf machine name files table read)
 
 -- ## Zones
 
@@ -125,9 +87,7 @@ IsTextReason machine name files Template = ⊥
 IsTextReason machine name files TooManyAliases = ⊥
 IsTextReason machine name files (Path place why) = IsReadReason files (Path place why)
 IsTextReason machine name files (Broken place line) = IsReadReason files (Broken place line)
-IsTextReason machine name files (Line place line fault) = IsAssignmentReason machine name files (Line place line fault)
-IsTextReason machine name files NothingToDo = IsAssignmentReason machine name files NothingToDo
-IsTextReason machine name files (Zone place line zone reason) = IsAssignmentReason machine name files (Zone place line zone reason)
+IsTextReason machine name files (NothingToDo read) = HasNothingToDo machine name files read
 IsTextReason machine name files (Expression fault) = ⊥
 IsTextReason machine name files (ExpressionZone zone reason) = ⊥
 
@@ -142,8 +102,6 @@ fails_to_load Template = false
 fails_to_load TooManyAliases = false
 fails_to_load (Path place why) = false
 fails_to_load (Broken place line) = true
-fails_to_load (Line place line fault) = true
-fails_to_load NothingToDo = true
-fails_to_load (Zone place line zone reason) = true
+fails_to_load (NothingToDo read) = true
 fails_to_load (Expression fault) = false
 fails_to_load (ExpressionZone zone reason) = false

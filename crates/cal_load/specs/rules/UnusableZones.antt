@@ -1,6 +1,6 @@
 -- Lines that are ignored because the zone that they name can't be used, as systemd ignores them: systemd.timer(5),
 -- OnCalendar=, and systemd.time(7), Calendar Events.
-use Rattle.std.specs.Prelude.{◌≡◌, ℕ, Bool, false, true, List, ◌∷◌, ◌++◌, All, IfSome, Option, None, Some, filter, is_some, not, string_bytes}
+use Rattle.std.specs.Prelude.{◌≡◌, ℕ, Bool, false, true, List, Option, None, Some, filter, is_some, not, string_bytes}
 use Rattle.std.specs.List.{AllZip}
 use Rattle.std.specs.Option.{IsSomeAnd}
 use Rattle.cal_civil.specs.rules.ZoneName.{is_utc_name}
@@ -10,7 +10,7 @@ use Rattle.cal_spec.specs.rules.ZoneSuffix.{name_in}
 use Rattle.cal_timer.specs.rules.TimerEntries.{TimerLine}
 use Rattle.cal_zone.specs.rules.ZoneTable.{ZoneMap, zone_named}
 use Rattle.cal_zone_files.specs.declared.fault.FileReason.{FileReason}
-use Rattle.cal_zone_files.specs.rules.ZoneFiles.{HasZone, IsReasonOn, zone_path}
+use Rattle.cal_zone_files.specs.rules.ZoneFiles.{IsReasonOn, zone_path}
 use Rattle.cal_load.specs.declared.zones.UnusableZone.{UnusableZone}
 
 -- ## On a machine
@@ -24,20 +24,6 @@ IsUnusableZoneOf machine entry path reason =
 -- the entry names a zone that can't be used on the machine
 abbrev pub NamesUnusableZone : Machine → TimerLine Fields → Type 0
 NamesUnusableZone machine entry = (path : List ℕ) × (reason : FileReason) × IsUnusableZoneOf machine entry path reason
-
--- the entry names no zone, or UTC, or a zone whose zone file on the machine is valid
-abbrev pub HasUsableZone : Machine → TimerLine Fields → Type 0
-HasUsableZone machine entry =
-    IfSome (name_in entry.expr.zone) (λ name. is_utc_name name ≡ false → HasZone machine name)
-
--- the entry is the first of these entries whose zone can't be used on the machine; `path` is the path of the zone file,
--- and `reason` says why the file can't be used
-pub record IsFirstUnusable (machine : Machine) (entries : List (TimerLine Fields)) (entry : TimerLine Fields) (path : List ℕ) (reason : FileReason) : Type 0 where
-  pub before : List (TimerLine Fields)
-  pub after : List (TimerLine Fields)
-  pub divided : entries ≡ before ++ entry ∷ after
-  pub are_usable : All (HasUsableZone machine) before
-  pub is_unusable : IsUnusableZoneOf machine entry path reason
 
 -- ## In a table
 

@@ -1,6 +1,6 @@
 use Rattle.std.proofs.Common.{◌≡◌, ◌∙◌, ◌+◌, None, ap, get_or, rules, sym}
 use Rattle.cal_load.proofs.PositionLemmas.{last_unique}
-use Rattle.cal_load.proofs.loaded.position_in.Goals as goal
+use Rattle.cal_load.proofs.timer_files.position_in.Goals as goal
 
 pub returns : goal.returns
 returns c = record {

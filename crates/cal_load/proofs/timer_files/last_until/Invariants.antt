@@ -1,6 +1,6 @@
 use Rattle.std.proofs.Common.{ℕ, ◌<◌, ◌≤◌}
 use Rattle.std.specs.Prelude.{MatchOption, slice_index}
-use Rattle.cal_load.proofs.loaded.last_until.Given as goal
+use Rattle.cal_load.proofs.timer_files.last_until.Given as goal
 
 -- If an index was found, it is the index of the last number so far that is at most `number`. Otherwise all numbers so
 -- far are larger.
