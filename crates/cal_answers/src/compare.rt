@@ -50,8 +50,8 @@ fn find_folder<'t>(targets: &'t [String], first: &Loaded, second: &Loaded) -> Op
 }
 
 /// Returns whether a target was loaded as a folder that has a timer or is empty. A file that is a target is named by the
-/// target itself, and a file in a folder by a longer path. Returns `false` if nothing in the folder could be loaded; then
-/// the errors or masked units are reported instead.
+/// target itself, and a timer of a folder by the name of its unit. Returns `false` if nothing in the folder could be
+/// loaded; then the errors or masked units are reported instead.
 fn is_folder(target: &str, loaded: &Loaded) -> bool {
     match loaded.timers.first() {
         Some(timer) => is_path(target) && timer.name.as_str() != target.trim_end_matches('/'),

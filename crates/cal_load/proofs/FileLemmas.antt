@@ -23,7 +23,8 @@ use Rattle.cal_unit_index.specs.declared.fault.Reason.TheVariants as reasons
 use Rattle.cal_unit_index.specs.declared.fault.Reason.{Reason}
 use Rattle.cal_unit_index.specs.declared.fault.UnitFault.{UnitFault}
 use Rattle.cal_unit_index.specs.rules.DropIns.{drop_ins, unread_folders}
-use Rattle.cal_unit_index.specs.rules.Index.{faults_of_listing, shown_fault}
+use Rattle.cal_unit_index.specs.rules.Folders.{end_at}
+use Rattle.cal_unit_index.specs.rules.Index.{Fault, faults_of_listing, shown_fault}
 use Rattle.cal_unit_index.specs.rules.Names.{names_on}
 use Rattle.cal_unit_index.specs.declared.files.UnitText as texts
 use Rattle.cal_unit_index.specs.rules.Files.{FileRead, UnitText, drop_in_fault, file_at, lost_for, shown_unit_text, text_at, texts_at}
@@ -34,12 +35,12 @@ use Rattle.cal_unit_index.specs.rules.Units.Unit.{FoundAt}
 use Rattle.cal_load.specs.declared.files.Reading.{Reading}
 use Rattle.cal_load.specs.declared.files.Taken.{Taken}
 use Rattle.cal_load.specs.declared.files.Taken as taken
-use Rattle.cal_load.specs.declared.names.Wanted.TheVariants.{Texts}
 use Rattle.cal_load.specs.declared.target_fault.TargetReason.{TargetReason}
-use Rattle.cal_load.specs.rules.AllTargets.{IsUnreadReason, is_path, path_in, wanted_at, wanted_in}
-use Rattle.cal_load.specs.rules.AllFiles.{AreTextsAt, AreTried, HasTried, IsTaken, each_once, is_text, paths_by, paths_if_valid, paths_in, paths_of_unit, remembered_of, unit_paths, taken_of, text_of, with_path}
+use Rattle.cal_load.specs.rules.AllTargets.{IsUnreadReason, is_path, path_in, text_names_at, text_names_in, units_in_folder, unread_in_folder, without_slashes}
+use Rattle.cal_load.specs.rules.AllFiles.{AreTextsAt, AreTried, HasTried, IsTaken, each_once, folder_paths, is_text, paths_at, paths_by, paths_if_valid, paths_in, paths_of_unit, remembered_of, unit_paths, taken_of, text_of, with_path}
 use Rattle.cal_load.specs.rules.Loaded.{IsStoredOn}
-use Rattle.cal_load.specs.rules.FileFaults.{AreFaultsOf, AreLostAlso, AreReadAlso, AreReadFor, Cause, IsCause, IsCauseIf, Lost, cause_at, cause_if_valid, cause_of, cause_of_unit, lost_as, lost_by, lost_drop_in, lost_drop_ins, lost_file, lost_folder, lost_if_valid, lost_named, lost_of_unit, lost_path}
+use Rattle.cal_load.specs.rules.LoadedTarget.{is_folder}
+use Rattle.cal_load.specs.rules.FileFaults.{AreFaultsOf, AreLostAlso, AreReadAlso, AreReadFor, Cause, IsCause, IsCauseIf, Lost, cause_at, cause_if_valid, cause_of, cause_of_unit, lost_as, lost_at, lost_by, lost_drop_in, lost_drop_ins, lost_file, lost_folder, lost_if_valid, lost_listed, lost_named, lost_of_unit, lost_path, lost_texts}
 use Rattle.cal_load.specs.rules.FileFaults.Cause.{Absent, UnusableAt}
 use Rattle.cal_load.proofs.FileFaultLemmas.{all_faults, lost_both, lost_none, one_named}
 
@@ -475,29 +476,48 @@ drop_ins_read machine path names paths unread old mid new are unread_are seen fi
 pub unread_read : (machine : Machine) (folder : List ℕ) (names : Result Listing Unreadable) (reason : TargetReason) (old new : Reading)
     → new.seen ≡ old.seen → new.loaded.files.items ≡ old.loaded.files.items → IsUnreadReason folder names reason
     → ((cause : Cause) → IsCause cause reason → AreLostAlso (lost_as folder (Some cause)) old.loaded.faults.items new.loaded.faults.items)
-    → AreReadAlso machine (paths_in folder (seen (wanted_in Texts) names))
-    (map lost_path (faults_of_listing folder names) ++ flat_map (lost_file machine) (paths_in folder (seen (wanted_in Texts) names))) old new
+    → AreReadAlso machine (paths_in folder (seen text_names_in names))
+    (map lost_path (faults_of_listing folder names) ++ flat_map (lost_file machine) (paths_in folder (seen text_names_in names))) old new
 unread_read machine folder (Ok names) reason old new seen files h f = absurd h
 unread_read machine folder (Err why) reason old new seen files h f =
     read_errors machine (lost_as folder (Some (UnusableAt folder (reasons.Unreadable why)))) old new seen files
     (f (UnusableAt folder (reasons.Unreadable why)) h)
 
-names_known : (folder : List ℕ) (names : Result Listing Unreadable) (keys : List (List ℕ)) → seen (wanted_in Texts) names ≡ Ok keys
+names_known : (folder : List ℕ) (names : Result Listing Unreadable) (keys : List (List ℕ)) → seen text_names_in names ≡ Ok keys
     → faults_of_listing folder names ≡ []
 names_known folder (Ok names) keys e = refl
 names_known folder (Err why) keys e = absurd (cc)
 
 -- the files with these names in a folder were tried
-pub folder_read : (machine : Machine) (folder : List ℕ) (keys : List (List ℕ)) (old new : Reading) → wanted_at machine Texts folder ≡ Ok keys
+pub texts_read : (machine : Machine) (folder : List ℕ) (keys : List (List ℕ)) (old new : Reading) → text_names_at machine folder ≡ Ok keys
     → AreReadAlso machine (map (path_in folder) keys) (flat_map (lost_file machine) (map (path_in folder) keys)) old new
-    → AreReadAlso machine (paths_in folder (wanted_at machine Texts folder)) (lost_folder machine folder) old new
-folder_read machine folder keys old new e h =
-    read_as machine (map (path_in folder) keys) (paths_in folder (wanted_at machine Texts folder))
-    (flat_map (lost_file machine) (map (path_in folder) keys)) (lost_folder machine folder) old new
+    → AreReadAlso machine (paths_in folder (text_names_at machine folder)) (lost_texts machine folder) old new
+texts_read machine folder keys old new e h =
+    read_as machine (map (path_in folder) keys) (paths_in folder (text_names_at machine folder))
+    (flat_map (lost_file machine) (map (path_in folder) keys)) (lost_texts machine folder) old new
     (sym (ap (paths_in folder) e))
-    (sym (ap (λ found. map lost_path found ++ flat_map (lost_file machine) (paths_in folder (wanted_at machine Texts folder))) (names_known folder (names_at machine folder) keys e)
+    (sym (ap (λ found. map lost_path found ++ flat_map (lost_file machine) (paths_in folder (text_names_at machine folder))) (names_known folder (names_at machine folder) keys e)
     ∙ ap (λ names. flat_map (lost_file machine) (paths_in folder names)) e))
     h
+
+-- the texts in a folder were tried, and then its units, and what of these can't be read was reported
+pub folder_read : (machine : Machine) (folder : List ℕ) (stems : List (List ℕ)) (unread : List Fault) (old mid last new : Reading)
+    → stems ≡ units_in_folder machine folder → unread ≡ unread_in_folder machine folder
+    → new.seen ≡ last.seen → new.loaded.files ≡ last.loaded.files
+    → AreReadAlso machine (paths_in folder (text_names_at machine folder)) (lost_texts machine folder) old mid
+    → AreReadAlso machine (flat_map (unit_paths machine (folder ∷ [])) stems) (flat_map (lost_listed machine (folder ∷ [])) stems) mid last
+    → AreLostAlso (map lost_path unread) last.loaded.faults.items new.loaded.faults.items
+    → AreReadAlso machine (folder_paths machine folder) (lost_folder machine folder) old new
+folder_read machine folder stems unread old mid last new stems_are unread_are seen files texts units also =
+    let names = paths_in folder (text_names_at machine folder) in
+    let paths = flat_map (unit_paths machine (folder ∷ [])) in
+    let lost = flat_map (lost_listed machine (folder ∷ [])) in
+    read_as machine (names ++ paths stems) (folder_paths machine folder) (lost_texts machine folder ++ (lost stems ++ map lost_path unread)) (lost_folder machine folder) old new
+    (ap (λ stems. names ++ paths stems) stems_are)
+    (ap (λ stems. lost_texts machine folder ++ (lost stems ++ map lost_path unread)) stems_are
+    ∙ ap (λ unread. lost_texts machine folder ++ (lost (units_in_folder machine folder) ++ map lost_path unread)) unread_are)
+    (read_both machine names (paths stems) (lost_texts machine folder) (lost stems ++ map lost_path unread) old mid new texts
+    (read_besides machine (paths stems) (lost stems) (map lost_path unread) mid last new seen files units also))
 
 -- ## Targets
 
@@ -505,3 +525,25 @@ pub named_by : (machine : Machine) (path : List (List ℕ)) (target : List ℕ) 
     → AreReadAlso machine (paths_if_valid machine path (unit_stem target)) (lost_named machine path target) old new
     → AreReadAlso machine (paths_by machine path target) (lost_by machine path target) old new
 named_by machine path target old new e h = rw e h
+
+folder_paths_by : (machine : Machine) (path : List (List ℕ)) (target folder : List ℕ) → is_path target ≡ true → folder ≡ without_slashes target
+    → is_folder (end_at machine folder) ≡ true → folder_paths machine folder ≡ paths_by machine path target
+folder_paths_by machine path target folder e is folders =
+    let at : folder_paths machine folder ≡ paths_at machine folder = rw folders refl in
+    let by : paths_at machine folder ≡ paths_by machine path target = rw e (ap (paths_at machine) is) in
+    at ∙ by
+
+folder_lost_by : (machine : Machine) (path : List (List ℕ)) (target folder : List ℕ) → is_path target ≡ true → folder ≡ without_slashes target
+    → is_folder (end_at machine folder) ≡ true → lost_folder machine folder ≡ lost_by machine path target
+folder_lost_by machine path target folder e is folders =
+    let at : lost_folder machine folder ≡ lost_at machine folder = rw folders refl in
+    let by : lost_at machine folder ≡ lost_by machine path target = rw e (ap (lost_at machine) is) in
+    at ∙ by
+
+pub folder_by : (machine : Machine) (path : List (List ℕ)) (target folder : List ℕ) (old new : Reading) → is_path target ≡ true
+    → folder ≡ without_slashes target → is_folder (end_at machine folder) ≡ true
+    → AreReadAlso machine (folder_paths machine folder) (lost_folder machine folder) old new
+    → AreReadAlso machine (paths_by machine path target) (lost_by machine path target) old new
+folder_by machine path target folder old new e is folders h =
+    read_as machine (folder_paths machine folder) (paths_by machine path target) (lost_folder machine folder) (lost_by machine path target) old new
+    (folder_paths_by machine path target folder e is folders) (folder_lost_by machine path target folder e is folders) h

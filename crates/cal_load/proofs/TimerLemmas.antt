@@ -30,8 +30,14 @@ unit_found machine path asked targets.TheVariants.Masked h = tt
 
 -- if what was found is a file of the machine (`IsLoadedFile`), then `IsLoadedTarget` holds
 pub file_found : (machine : Machine) (path : List (List ℕ)) (found : targets.LoadedTarget) → IsLoadedFile machine found → IsLoadedTarget machine path found
-file_found machine path (targets.TheVariants.Timer timer) h = inr h
+file_found machine path (targets.TheVariants.Timer timer) h = inr (inl h)
 file_found machine path targets.TheVariants.Masked h = tt
+
+-- if what was found is a unit of a folder, then `IsLoadedTarget` holds
+pub folder_unit_found : (machine : Machine) (path : List (List ℕ)) (folder asked : List ℕ) (found : targets.LoadedTarget)
+    → IsLoadedUnit machine (folder ∷ []) asked found → IsLoadedTarget machine path found
+folder_unit_found machine path folder asked (targets.TheVariants.Timer timer) h = inr (inr (folder, asked, h))
+folder_unit_found machine path folder asked targets.TheVariants.Masked h = tt
 
 -- what was found of the file of a unit (`IsFoundTarget`) is this unit (`IsLoadedUnit`)
 pub found_is_unit : (machine : Machine) (path : List (List ℕ)) (asked file own_file own : List ℕ) (found : targets.LoadedTarget)

@@ -9,24 +9,19 @@ use Rattle.std.specs.Cmp.Lexicographic.{slice_cmp}
 use Rattle.std.specs.List.{filter_map, flat_map}
 use Rattle.std.specs.Option.{option_to_list}
 use Rattle.std.specs.Ordering.{nat_cmp}
-use Rattle.cal_machine.specs.declared.tree.Unreadable.{Unreadable}
-use Rattle.cal_machine.specs.rules.Machine.{Listing, Machine}
-use Rattle.cal_machine.specs.rules.Places.{names_at}
-use Rattle.cal_machine.specs.rules.Seen.{seen}
+use Rattle.cal_machine.specs.rules.Machine.{Machine}
 use Rattle.cal_unit_index.proofs.IndexLemmas.{appended_more}
 use Rattle.cal_unit_index.specs.declared.fault.Reason.{Reason}
 use Rattle.cal_unit_index.specs.rules.Destinations.{sorted_once, with_texts}
 use Rattle.cal_unit_index.specs.rules.Files.{FileRead, UnitText}
 use Rattle.cal_unit_index.specs.rules.Files.FileRead.{Unusable}
 use Rattle.cal_unit_index.specs.rules.Folders.{end_at}
-use Rattle.cal_load.specs.rules.AllTargets.{AreAdded, AreOutcomes, HasAll, IsAccounted, IsFound, IsMore, IsOutcome, IsUnreadFault, IsUnreadReason, Outcome, Sought, files_with, masked_of, is_path, name_of, path_in, sought_at, sought_by, sought_in, timers_of, wanted_at, wanted_in, without_slashes}
-use Rattle.cal_load.specs.rules.AllTargets.Sought.{ListedUnit, NamedUnit, NamesIn, SingleFile}
-use Rattle.cal_load.specs.declared.names.Wanted.TheVariants.{Timers}
-use Rattle.cal_load.specs.declared.target_fault.TargetReason.{TargetReason}
-use Rattle.std.specs.Prelude.{IfOk, String}
+use Rattle.cal_unit_index.specs.rules.Index.{Fault}
+use Rattle.cal_load.specs.rules.AllTargets.{AreAdded, AreOutcomes, HasAll, IsAccounted, IsFound, IsMore, IsOutcome, Outcome, Sought, masked_of, is_path, name_of, sought_at, sought_by, sought_in, timers_of, units_in_folder, unread_in_folder, without_slashes}
+use Rattle.cal_load.specs.rules.AllTargets.Sought.{FolderUnit, ListedUnit, NamedUnit, SingleFile, UnreadPath}
+use Rattle.std.specs.Prelude.{⊤, IfOk}
 use Rattle.std.specs.Borrow.{Bor}
 use Rattle.std.specs.Result.{IfErr}
-use Rattle.std.specs.declared.alloc.Global.{Global}
 use Rattle.cal_load.specs.rules.AllUnits.{HasFault, IsFileFault, IsFileReason, IsFoundOf, IsPushed, IsReported, IsUnusableFault, Keeps, is_absent, masked_in}
 use Rattle.cal_load.specs.rules.LoadedTarget.{is_folder, timers_in}
 use Rattle.cal_load.specs.declared.fault.TargetLoadFault.{TargetLoadFault}
@@ -122,10 +117,10 @@ set_of_both f xs ys =
     ∙ ap sorted_once (sym (filter_map-append f xs ys))
 
 -- a set of the names that pass a test, with one more name if it passes
-pub wanted_pushed : {X : Type 0} (test : List ℕ → Bool) (view : X → List ℕ) (before after : List (List ℕ)) (xs : List X) (x : X)
+pub passing_pushed : {X : Type 0} (test : List ℕ → Bool) (view : X → List ℕ) (before after : List (List ℕ)) (xs : List X) (x : X)
     → after ≡ with_texts before (filter test (view x ∷ [])) → before ≡ sorted_once (filter test (map view xs))
     → after ≡ sorted_once (filter test (map view (xs ++ x ∷ [])))
-wanted_pushed test view before after xs x added held =
+passing_pushed test view before after xs x added held =
     added
     ∙ ap (λ names. with_texts names (filter test (view x ∷ []))) held
     ∙ sym (fold-append (insert_key (slice_cmp nat_cmp)) [] (filter test (map view xs)) (filter test (view x ∷ [])))
@@ -260,52 +255,39 @@ pub ok_or_err : {X E : Type 0} (P : X → Type 0) (Q : E → Type 0) (R : Result
 ok_or_err P Q R (Ok x) f g h k = f x h
 ok_or_err P Q R (Err e) f g h k = g e k
 
-unread_only : (folder : List ℕ) (names : Result Listing Unreadable) (reason : TargetReason) → IsUnreadReason folder names reason
-    → NamesIn folder ∷ [] ≡ sought_in folder (seen (wanted_in Timers) names)
-unread_only folder (Ok names) reason h = absurd h
-unread_only folder (Err why) reason h = refl
-
--- a folder whose names can't be read
-pub unread_more : (Shows : Machine → Type 0) (folder : List ℕ) (fault : TargetLoadFault) (old new : Loaded)
-    → ((machine : Machine) → Shows machine → IsUnreadFault folder (names_at machine folder) fault)
-    → IsPushed folder (Err fault) old new
-    → IsMore (λ machine path. Shows machine) (λ machine path. sought_in folder (wanted_at machine Timers folder)) old new
-unread_more Shows folder (faults.TheVariants.Target reason) old new unread pushed =
-    let Knows : Machine → List (List ℕ) → Type 0 = λ machine path. Shows machine in
-    more_as Knows Knows (λ machine path. NamesIn folder ∷ []) (λ machine path. sought_in folder (wanted_at machine Timers folder)) old new
-    (λ machine path shows. shows) (λ machine path shows. unread_only folder (names_at machine folder) reason (unread machine shows))
-    (pushed_more Knows (NamesIn folder) folder old new (Err (faults.TheVariants.Target reason)) refl pushed (λ machine path shows. unread machine shows))
-unread_more Shows folder faults.TheVariants.NoMemory old new unread pushed = absurd pushed.reported
-
--- one more file of a folder
-pub file_more : (Knows Now : Machine → List (List ℕ) → Type 0) (folder : List ℕ) (names : List (String Global)) (name : String Global) (path : List ℕ) (old mid new : Loaded)
-    → ((machine : Machine) (path : List (List ℕ)) → Now machine path → Knows machine path) → path ≡ path_in folder (string_bytes name)
-    → IsMore Knows (λ machine path. files_with folder (map string_bytes names)) old mid → IsMore Now (λ machine search. SingleFile path ∷ []) mid new
-    → IsMore Now (λ machine path. files_with folder (map string_bytes (names ++ name ∷ []))) old new
-file_more Knows Now folder names name path old mid new known is h k =
-    let before : List Sought = files_with folder (map string_bytes names) in
-    more_as Now Now (λ machine search. before ++ SingleFile path ∷ []) (λ machine search. files_with folder (map string_bytes (names ++ name ∷ []))) old new
-    (λ machine search now. now)
-    (λ machine search now.
-    ap (λ path. before ++ SingleFile path ∷ []) is
-    ∙ sym (map-append (λ name. SingleFile (path_in folder name)) (map string_bytes names) (string_bytes name ∷ []))
-    ∙ ap (files_with folder) (sym (map-append string_bytes names (name ∷ []))))
-    (more_both Knows Now (λ machine search. before) (λ machine search. SingleFile path ∷ []) old mid new known h k)
-
--- one more unit of the search path
-pub listed_more : (Knows Now : Machine → List (List ℕ) → Type 0) (stems : List (String Global)) (stem : String Global) (name : List ℕ) (old mid new : Loaded)
-    → ((machine : Machine) (path : List (List ℕ)) → Now machine path → Knows machine path) → name ≡ string_bytes stem
-    → IsMore Knows (λ machine path. map ListedUnit (map string_bytes stems)) old mid → IsMore Now (λ machine path. ListedUnit name ∷ []) mid new
-    → IsMore Now (λ machine path. map ListedUnit (map string_bytes (stems ++ stem ∷ []))) old new
-listed_more Knows Now stems stem name old mid new known is h k =
-    let before : List Sought = map ListedUnit (map string_bytes stems) in
-    more_as Now Now (λ machine path. before ++ ListedUnit name ∷ []) (λ machine path. map ListedUnit (map string_bytes (stems ++ stem ∷ []))) old new
+-- one more element, which stands for something that is looked for
+pub one_more : {X Y : Type 0} (Knows Now : Machine → List (List ℕ) → Type 0) (make : Y → Sought) (view : X → Y) (xs : List X) (x : X) (y : Y) (old mid new : Loaded)
+    → ((machine : Machine) (path : List (List ℕ)) → Now machine path → Knows machine path) → y ≡ view x
+    → IsMore Knows (λ machine path. map make (map view xs)) old mid → IsMore Now (λ machine path. make y ∷ []) mid new
+    → IsMore Now (λ machine path. map make (map view (xs ++ x ∷ []))) old new
+one_more Knows Now make view xs x y old mid new known is h k =
+    let before : List Sought = map make (map view xs) in
+    more_as Now Now (λ machine path. before ++ make y ∷ []) (λ machine path. map make (map view (xs ++ x ∷ []))) old new
     (λ machine path now. now)
     (λ machine path now.
-    ap (λ name. before ++ ListedUnit name ∷ []) is
-    ∙ sym (map-append ListedUnit (map string_bytes stems) (string_bytes stem ∷ []))
-    ∙ ap (map ListedUnit) (sym (map-append string_bytes stems (stem ∷ []))))
-    (more_both Knows Now (λ machine path. before) (λ machine path. ListedUnit name ∷ []) old mid new known h k)
+    ap (λ y. before ++ make y ∷ []) is
+    ∙ sym (map-append make (map view xs) (view x ∷ []))
+    ∙ ap (map make) (sym (map-append view xs (x ∷ []))))
+    (more_both Knows Now (λ machine path. before) (λ machine path. make y ∷ []) old mid new known h k)
+
+-- the units of a folder, and then what of it can't be read
+pub folder_more : (Knows : Machine → List (List ℕ) → Type 0) (Shows : Machine → Type 0) (folder : List ℕ) (stems : List (List ℕ)) (unread : List Fault) (old mid new : Loaded)
+    → ((machine : Machine) (path : List (List ℕ)) → Shows machine → Knows machine path)
+    → ((machine : Machine) → Shows machine → stems ≡ units_in_folder machine folder)
+    → ((machine : Machine) → Shows machine → unread ≡ unread_in_folder machine folder)
+    → IsMore Knows (λ machine path. map (FolderUnit folder) stems) old mid
+    → IsMore (λ machine path. ⊤) (λ machine path. map UnreadPath unread) mid new
+    → IsMore (λ machine path. Shows machine) (λ machine path. sought_in machine folder) old new
+folder_more Knows Shows folder stems unread old mid new known stems_are unread_are h k =
+    let Now : Machine → List (List ℕ) → Type 0 = λ machine path. Shows machine in
+    let Always : Machine → List (List ℕ) → Type 0 = λ machine path. ⊤ in
+    more_as Now Now (λ machine path. map (FolderUnit folder) stems ++ map UnreadPath unread) (λ machine path. sought_in machine folder) old new
+    (λ machine path now. now)
+    (λ machine path now.
+    ap (λ stems. map (FolderUnit folder) stems ++ map UnreadPath unread) (stems_are machine now)
+    ∙ ap (λ unread. map (FolderUnit folder) (units_in_folder machine folder) ++ map UnreadPath unread) (unread_are machine now))
+    (more_both Knows Now (λ machine path. map (FolderUnit folder) stems) (λ machine path. map UnreadPath unread) old mid new known h
+    (more_as Always Now (λ machine path. map UnreadPath unread) (λ machine path. map UnreadPath unread) mid new (λ machine path now. tt) (λ machine path now. refl) k))
 
 -- one more target
 pub target_more : (Knows Now : Machine → List (List ℕ) → Type 0) (targets : List (Bor (List ℕ))) (i : ℕ) (target other : Bor (List ℕ)) (old mid new : Loaded)
@@ -327,7 +309,7 @@ target_more Knows Now targets i target other old mid new known within is h k =
 -- ## Kinds of targets
 
 pub folder_sought : (machine : Machine) (path : List ℕ) → is_folder (end_at machine path) ≡ true
-    → sought_in path (wanted_at machine Timers path) ≡ sought_at machine path
+    → sought_in machine path ≡ sought_at machine path
 folder_sought machine path e = rw e refl
 
 pub file_sought : (machine : Machine) (path : List ℕ) → is_folder (end_at machine path) ≡ false → SingleFile path ∷ [] ≡ sought_at machine path

@@ -10,15 +10,15 @@ ghost use Rattle.cal_unit_index.specs.rules.Names.{names_on};
 ghost use Rattle.cal_unit_index.specs.rules.UnitName.{unit_stem};
 ghost use Rattle.cal_unit_index.specs.rules.Units.{Unit as FoundUnit, unit_on};
 ghost use Rattle.cal_unit_index.specs.rules.Units.Unit.{FoundAt};
-ghost use Rattle.cal_load.specs.declared.names.Wanted.TheVariants.{Texts};
-ghost use Rattle.cal_load.specs.rules.AllFiles.{AreTextsAt, AreTried, HasTried, IsTaken, all_paths, paths_by, paths_if_valid, paths_in, paths_of_unit, taken_of, text_of, unit_paths};
-ghost use Rattle.cal_load.specs.rules.AllTargets.{wanted_at};
+ghost use Rattle.cal_load.specs.rules.AllFiles.{AreTextsAt, AreTried, HasTried, IsTaken, all_paths, folder_paths, paths_by, paths_if_valid, paths_in, paths_of_unit, taken_of, text_of, unit_paths};
+ghost use Rattle.cal_load.specs.rules.AllTargets.{text_names_at};
 ghost use Rattle.cal_load.specs.rules.AllUnits.{IsPathReason, is_absent_reason};
-ghost use Rattle.cal_load.specs.rules.FileFaults.{AreFaultsOf, AreLostAlso, AreReadAlso, AreReadFor, Cause, IsCause, all_lost, cause_of, cause_of_unit, lost_as, lost_by, lost_drop_in, lost_drop_ins, lost_file, lost_folder, lost_listed, lost_named, lost_of_unit};
+ghost use Rattle.cal_load.specs.rules.FileFaults.{AreFaultsOf, AreLostAlso, AreReadAlso, AreReadFor, Cause, IsCause, all_lost, cause_of, cause_of_unit, lost_as, lost_by, lost_drop_in, lost_drop_ins, lost_file, lost_folder, lost_listed, lost_named, lost_of_unit, lost_texts};
 ghost use Rattle.cal_load.specs.rules.Loaded.{IsStoredOn};
 
 use crate::fault::{TargetLoadFault, push_lost, push_once, push_path};
-use crate::names::{Units, Wanted, files_in, units_in};
+use crate::folder::{FolderUnits, units_in_folder};
+use crate::names::{Units, texts_in, units_in};
 use crate::paths::{is_folder, is_path, path_in, without_slashes};
 use crate::target_fault::{TargetFault, TargetReason};
 use cal_machine::Tree;
@@ -27,7 +27,7 @@ use cal_unit_index::{
     names_of, read_file, unit_stem,
 };
 use std::alloc::{AllocError, Global};
-use std::collections::BTreeMap;
+use std::collections::{BTreeMap, BTreeSet};
 
 /// Files that were read.
 #[derive(Debug, Drop)]
@@ -44,11 +44,13 @@ pub struct LoadedFiles {
 /// timers that other units start, or, if `is_all`, also of all others in the search path.
 ///
 /// `index` is the index of the search path. A target is a path or the name of a timer, as for [`crate::load_timers`]. A
-/// timer stands for its file and its drop-ins, a folder for all its files with the suffix `.timer` or `.conf`, and any
-/// other file for itself. A masked unit has no files. What can't be read is in [`LoadedFiles::faults`], and all other
-/// files are still read. A drop-in that is a folder, or a link to nothing, is skipped, and so is a unit that has no file
-/// if there is no target. Without a target, a folder `NAME.wants` or `NAME.requires` that can't be read is an error, too.
-/// Fails only if allocation fails.
+/// timer stands for its file and its drop-ins. A folder stands for all its files with the suffix `.timer` or `.conf`, by
+/// name, and then for the drop-ins of its timers, for which it is read as if it were the only folder of the search path
+/// (systemd.unit(5), Unit File Load Path). Any other file stands for itself. A masked unit has no files. What can't be
+/// read is in [`LoadedFiles::faults`], and all other files are still read. A drop-in that is a folder, or a link to
+/// nothing, is skipped, and so is a unit that has no file if there is no target. Without a target, a folder `NAME.wants`
+/// or `NAME.requires` that can't be read is an error, too, and so is one in a folder that is a target. Fails only if
+/// allocation fails.
 pub fn load_files<T: Tree>(
     alloc: Global,
     tree: &mut T,
@@ -97,9 +99,7 @@ fn all_files<T: Tree>(
         unreadable,
     } = units_in(alloc, tree, index, is_all)?;
     let mut reading = Reading::new(alloc);
-    for stem in stems {
-        reading.take_listed(alloc, tree, index, stem.as_str())?;
-    }
+    reading.take_units(alloc, tree, index, stems)?;
     push_lost(&mut reading.loaded.faults, unreadable)?;
     Ok(reading.loaded)
 }
@@ -135,6 +135,26 @@ impl Reading {
                 faults: Vec::new(alloc),
             },
         }
+    }
+
+    /// Reads the files of the units with these stems.
+    fn take_units<T: Tree>(
+        &mut self,
+        alloc: Global,
+        tree: &mut T,
+        index: &UnitIndex,
+        stems: BTreeSet<String>,
+    ) -> Result<(), AllocError>
+        ensures tried { OnOk result ((machine : Machine) → T.shows tree.new machine → HasTried machine self.old → HasTried machine self.new) }
+        ensures read { OnOk result ((machine : Machine) (path : List (List ℕ)) → T.shows tree.new machine → IsIndexOf machine path index.now
+            → AreReadAlso machine (flat_map (unit_paths machine path) (map string_bytes stems.keys))
+            (flat_map (lost_listed machine path) (map string_bytes stems.keys)) self.old self.new) }
+        ensures grows { (machine : Machine) → T.shows tree.new machine → T.shows tree.old machine }
+    {
+        for stem in stems {
+            self.take_listed(alloc, tree, index, stem.as_str())?;
+        }
+        Ok(())
     }
 
     /// Reads the files of the unit with this stem. Skips a unit that has no file, for example because its file is a link
@@ -310,7 +330,7 @@ impl Reading {
         }
     }
 
-    /// Reads the files in a folder.
+    /// Reads the timers and drop-ins in a folder, and then the drop-ins of its units, which are in other folders in it.
     fn take_folder<T: Tree>(
         &mut self,
         alloc: Global,
@@ -318,10 +338,31 @@ impl Reading {
         folder: &str,
     ) -> Result<(), AllocError>
         ensures read { OnOk result ((machine : Machine) → T.shows tree.new machine
-            → AreReadAlso machine (paths_in folder.now (wanted_at machine Texts folder.now)) (lost_folder machine folder.now) self.old self.new) }
+            → AreReadAlso machine (folder_paths machine folder.now) (lost_folder machine folder.now) self.old self.new) }
         ensures grows { (machine : Machine) → T.shows tree.new machine → T.shows tree.old machine }
     {
-        let names = match files_in(alloc, tree, folder, Wanted::Texts) {
+        self.take_texts(alloc, tree, folder)?;
+        let FolderUnits {
+            index,
+            stems,
+            unread,
+        } = units_in_folder(alloc, tree, folder)?;
+        self.take_units(alloc, tree, &index, stems)?;
+        push_lost(&mut self.loaded.faults, unread)
+    }
+
+    /// Reads the timers and drop-ins in a folder.
+    fn take_texts<T: Tree>(
+        &mut self,
+        alloc: Global,
+        tree: &mut T,
+        folder: &str,
+    ) -> Result<(), AllocError>
+        ensures read { OnOk result ((machine : Machine) → T.shows tree.new machine
+            → AreReadAlso machine (paths_in folder.now (text_names_at machine folder.now)) (lost_texts machine folder.now) self.old self.new) }
+        ensures grows { (machine : Machine) → T.shows tree.new machine → T.shows tree.old machine }
+    {
+        let names = match texts_in(alloc, tree, folder) {
             Ok(names) => names,
             Err(TargetLoadFault::Target(reason)) => {
                 return push_named(alloc, &mut self.loaded.faults, folder, reason);

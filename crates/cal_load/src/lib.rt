@@ -6,6 +6,7 @@ mod calendar;
 mod expressions;
 mod fault;
 mod files;
+mod folder;
 mod ignored;
 mod loaded;
 mod names;

@@ -53,8 +53,8 @@ impl LoadedTimer {
 /// What was loaded.
 #[derive(Drop)]
 pub struct Loaded {
-    /// The timers in the order of the targets. Timers of a folder are sorted by the names of their files, and those that
-    /// are taken without a target by their stems.
+    /// The timers in the order of the targets. Timers of a folder, and those that are taken without a target, are sorted
+    /// by their stems.
     pub timers: Vec<LoadedTimer>,
     /// The names of masked units and the paths of masked files.
     pub masked: Vec<String>,

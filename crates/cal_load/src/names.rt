@@ -11,7 +11,7 @@ ghost use Rattle.cal_unit_index.specs.rules.Destinations.{is_among, sorted_once,
 ghost use Rattle.cal_unit_index.specs.rules.Index.{IsIndexOf, shown_fault};
 ghost use Rattle.cal_unit_index.specs.rules.Starts.{unreadable_wants};
 ghost use Rattle.cal_unit_index.specs.rules.UnitName.{unit_stem};
-ghost use Rattle.cal_load.specs.rules.AllTargets.{IsUnreadFault, is_template_file, is_visible, is_wanted, wanted_at};
+ghost use Rattle.cal_load.specs.rules.AllTargets.{IsUnreadFault, is_text_name, is_visible, text_names_at};
 ghost use Rattle.cal_load.specs.rules.AllUnits.{is_among_started, main_stem, own_stems, shown_stems, started_if_all, units_on};
 ghost use Rattle.cal_machine.specs.rules.Machine.{Machine};
 ghost use Rattle.cal_machine.specs.rules.Places.{names_at};
@@ -19,9 +19,7 @@ ghost use Rattle.cal_machine.specs.rules.Seen.{seen};
 
 use crate::fault::TargetLoadFault;
 use cal_machine::{Names, Tree, names_at};
-use cal_unit_index::{
-    Started, Unit, UnitFault, UnitIndex, UnitKind, find_started, find_unit, unit_kind_of, unit_stem,
-};
+use cal_unit_index::{Started, Unit, UnitFault, UnitIndex, find_started, find_unit, unit_stem};
 use std::alloc::{AllocError, Global};
 use std::collections::BTreeSet;
 
@@ -141,68 +139,50 @@ fn has_stem(stems: &BTreeSet<String>, stem: &str) -> bool
     stems.contains(stem)
 }
 
-/// Returns those names in a folder that are `wanted`, sorted by their bytes. Names that are not UTF-8 are left out.
-pub(crate) fn files_in<T: Tree>(
+/// Returns the names of the timers and drop-ins in a folder, sorted by their bytes. Hidden files are left out, and names
+/// that are not UTF-8.
+pub(crate) fn texts_in<T: Tree>(
     alloc: Global,
     tree: &mut T,
     folder: &str,
-    wanted: Wanted,
 ) -> Result<BTreeSet<String>, TargetLoadFault>
     ensures known { IfOk result (λ found. (machine : Machine) → T.shows tree.new machine
-        → wanted_at machine wanted folder.now ≡ Ok (map string_bytes found.keys)) }
+        → text_names_at machine folder.now ≡ Ok (map string_bytes found.keys)) }
     ensures fault { IfErr result (λ fault. (machine : Machine) → T.shows tree.new machine
         → IsUnreadFault folder.now (names_at machine folder.now) fault) }
     ensures grows { (machine : Machine) → T.shows tree.new machine → T.shows tree.old machine }
 {
     let names = names_in(alloc, tree, folder)?;
-    Ok(wanted_names(alloc, wanted, names)?)
+    Ok(text_names(alloc, names)?)
 }
 
-/// Returns those of the names that are `wanted`.
-fn wanted_names(
-    alloc: Global,
-    wanted: Wanted,
-    names: Vec<String>,
-) -> Result<BTreeSet<String>, AllocError>
+/// Returns those of the names that are names of timers or drop-ins.
+fn text_names(alloc: Global, names: Vec<String>) -> Result<BTreeSet<String>, AllocError>
     ensures { IfOk result (λ found. map string_bytes found.keys
-        ≡ sorted_once (filter (is_wanted wanted) (map string_bytes names.items))) }
+        ≡ sorted_once (filter is_text_name (map string_bytes names.items))) }
 {
     let mut found = BTreeSet::new(alloc);
     for name in names {
-        add_wanted(&mut found, wanted, name)?;
+        add_text_name(&mut found, name)?;
     }
     Ok(found)
 }
 
-/// Adds the name if it is `wanted`.
-fn add_wanted(found: &mut BTreeSet<String>, wanted: Wanted, name: String) -> Result<(), AllocError>
+/// Adds the name if it is that of a timer or a drop-in.
+fn add_text_name(found: &mut BTreeSet<String>, name: String) -> Result<(), AllocError>
     ensures { OnOk result (map string_bytes found.new.keys
-        ≡ with_texts (map string_bytes found.old.keys) (filter (is_wanted wanted) (string_bytes name ∷ []))) }
+        ≡ with_texts (map string_bytes found.old.keys) (filter is_text_name (string_bytes name ∷ []))) }
 {
-    if wanted.has(name.as_str()) {
+    if is_text_name(name.as_str()) {
         add_stem(found, name)?;
     }
     Ok(())
 }
 
-/// Which files of a folder are to be read. Hidden files never are.
-#[derive(Clone, Copy)]
-pub(crate) enum Wanted {
-    /// Files with the suffix `.timer`, except templates.
-    Timers,
-    /// Files with the suffix `.timer` or `.conf`.
-    Texts,
-}
-
-impl Wanted {
-    fn has(self, name: &str) -> bool
-        ensures { result ≡ is_wanted self name.now }
-    {
-        match self {
-            Wanted::Timers => is_visible(name, b".timer") && !is_template_file(name),
-            Wanted::Texts => is_visible(name, b".timer") || is_visible(name, b".conf"),
-        }
-    }
+fn is_text_name(name: &str) -> bool
+    ensures { result ≡ is_text_name name.now }
+{
+    is_visible(name, b".timer") || is_visible(name, b".conf")
 }
 
 fn names_in<T: Tree>(
@@ -227,13 +207,4 @@ fn is_visible(name: &str, suffix: &[u8]) -> bool
 {
     let name = name.as_bytes();
     name.ends_with(suffix) && !name.starts_with(b".")
-}
-
-fn is_template_file(name: &str) -> bool
-    ensures { result ≡ is_template_file name.now }
-{
-    match unit_stem(name) {
-        Some(stem) => unit_kind_of(stem) == UnitKind::Template,
-        None => false,
-    }
 }

@@ -1,26 +1,27 @@
 //! The timers that a user names.
 
-ghost use Rattle.std.specs.Prelude.{◌≡◌, ◌≢◌, ◌∷◌, ℕ, List, [], All, IfOk, OnOk, map};
+ghost use Rattle.std.specs.Prelude.{◌≡◌, ◌≢◌, ◌∷◌, ⊤, ℕ, List, [], All, IfOk, OnOk, map, string_bytes};
 ghost use Rattle.cal_machine.specs.rules.Machine.{Machine};
-ghost use Rattle.cal_unit_index.specs.rules.Index.{IsIndexOf};
-ghost use Rattle.cal_load.specs.declared.names.Wanted.TheVariants.{Timers};
+ghost use Rattle.cal_unit_index.specs.rules.Index.{IsIndexOf, shown_fault};
 ghost use Rattle.cal_unit_index.specs.rules.UnitName.{unit_stem};
-ghost use Rattle.cal_load.specs.rules.AllTargets.Sought.{ListedUnit, SingleFile};
-ghost use Rattle.cal_load.specs.rules.AllTargets.{HasAllTargets, HasAllUnits, IsFoundIfValid, IsMore, sought_at, sought_by, sought_in, wanted_at};
-ghost use Rattle.cal_load.specs.rules.AllUnits.{IsPushed, is_absent, shown_stems, started_if_all};
+ghost use Rattle.cal_load.specs.rules.AllTargets.Sought.{FolderUnit, ListedUnit, SingleFile, UnreadPath};
+ghost use Rattle.cal_load.specs.rules.AllTargets.{HasAllTargets, HasAllUnits, IsFoundIfValid, IsMore, path_in, sought_at, sought_by, sought_in};
+ghost use Rattle.cal_load.specs.rules.AllUnits.{IsPushed, is_absent, shown_stems, started_if_all, unit_name};
 ghost use Rattle.cal_load.specs.rules.FileFaults.{IsLostIn, lost_starts};
 ghost use Rattle.cal_load.specs.rules.Loaded.{IsTimerOn};
 ghost use Rattle.cal_load.specs.rules.LoadedTarget.{IsLoadedTarget};
 
 use crate::fault::{TargetLoadFault, push_lost};
+use crate::folder::{FolderUnits, units_in_folder};
 use crate::loaded::{Loaded, LoadedTarget};
-use crate::names::{Units, Wanted, files_in, units_in};
+use crate::names::{Units, units_in};
 use crate::paths::{is_folder, is_path, path_in, without_slashes};
 use crate::target_fault::TargetReason;
 use crate::unit::{read_timer_file, read_unit};
 use cal_machine::Tree;
 use cal_unit_index::{UnitFault, UnitIndex, unit_stem};
 use std::alloc::{AllocError, Global};
+use std::collections::BTreeSet;
 
 /// Loads the timers that the targets stand for, in their order. Without a target, these are the timers that other units
 /// start, each once, sorted by name; if `is_all`, also all others in the search path, and [`Loaded::started`] says which
@@ -28,15 +29,17 @@ use std::alloc::{AllocError, Global};
 ///
 /// `index` is the index of the search path. It has no effect if all targets are paths. A target is
 ///
-/// - a path, if it has a `/` or is `.` or `..`: a folder stands for all its files with the suffix `.timer`, by name,
-///   and any other file for itself, without drop-ins;
+/// - a path, if it has a `/` or is `.` or `..`: a folder is read as if it were the only folder of the search path
+///   (systemd.unit(5), Unit File Load Path), and stands for all its timers with their drop-ins, each once, sorted by name;
+///   any other file stands for itself, without drop-ins;
 /// - otherwise the name of a timer, with or without `.timer`: its file is read, and then its drop-ins, also those of
 ///   its aliases (systemd.unit(5)).
 ///
-/// Templates in folders are left out. A template can be loaded by its path, but its name as a target is an error. What
-/// can't be loaded is in [`Loaded::faults`], and units that are masked are in [`Loaded::masked`]; all the others are
-/// still loaded. Without a target, a folder `NAME.wants` or `NAME.requires` that can't be read is an error, too. Fails
-/// only if allocation fails.
+/// Templates in folders are left out, except for their instances that are files of the folder, or that are linked in a
+/// folder `NAME.wants` or `NAME.requires` in it. A template can be loaded by its path, but its name as a target is an
+/// error. What can't be loaded is in [`Loaded::faults`], and units that are masked are in [`Loaded::masked`]; all the
+/// others are still loaded. Without a target, a folder `NAME.wants` or `NAME.requires` that can't be read is an error,
+/// too, and so is anything that can't be read of a folder that is a target. Fails only if allocation fails.
 pub fn load_timers<T: Tree>(
     alloc: Global,
     tree: &mut T,
@@ -217,6 +220,7 @@ fn load_file<T: Tree>(
     loaded.push(alloc, path, found)
 }
 
+/// Loads the units of a folder, which is read as if it were the only folder of the search path.
 fn load_folder<T: Tree>(
     alloc: Global,
     tree: &mut T,
@@ -224,18 +228,91 @@ fn load_folder<T: Tree>(
     loaded: &mut Loaded,
 ) -> Result<(), AllocError>
     ensures more { OnOk result (IsMore (λ machine path. T.shows tree.new machine)
-        (λ machine path. sought_in folder.now (wanted_at machine Timers folder.now)) loaded.old loaded.new) }
+        (λ machine path. sought_in machine folder.now) loaded.old loaded.new) }
     ensures known { OnOk result ((machine : Machine) (path : List (List ℕ)) → T.shows tree.new machine
         → All (IsTimerOn machine path) loaded.old.timers.items → All (IsTimerOn machine path) loaded.new.timers.items) }
     ensures grows { (machine : Machine) → T.shows tree.new machine → T.shows tree.old machine }
 {
-    let names = match files_in(alloc, tree, folder, Wanted::Timers) {
-        Ok(names) => names,
-        Err(fault) => return loaded.push(alloc, folder, Err(fault)),
-    };
-    for name in names {
-        let file = path_in(alloc, folder, name.as_str())?;
-        load_file(alloc, tree, file.as_str(), loaded)?;
+    let FolderUnits {
+        index,
+        stems,
+        unread,
+    } = units_in_folder(alloc, tree, folder)?;
+    load_folder_units(alloc, tree, &index, folder, stems, loaded)?;
+    push_unread(alloc, loaded, unread)
+}
+
+/// Loads the units with these stems. `index` is that of the folder.
+fn load_folder_units<T: Tree>(
+    alloc: Global,
+    tree: &mut T,
+    index: &UnitIndex,
+    folder: &str,
+    stems: BTreeSet<String>,
+    loaded: &mut Loaded,
+) -> Result<(), AllocError>
+    ensures more { OnOk result (IsMore (λ machine path. T.shows tree.new machine × IsIndexOf machine (folder.now ∷ []) index.now)
+        (λ machine path. map (FolderUnit folder.now) (map string_bytes stems.keys)) loaded.old loaded.new) }
+    ensures known { OnOk result ((machine : Machine) (path : List (List ℕ)) → T.shows tree.new machine
+        → IsIndexOf machine (folder.now ∷ []) index.now → All (IsTimerOn machine path) loaded.old.timers.items
+        → All (IsTimerOn machine path) loaded.new.timers.items) }
+    ensures grows { (machine : Machine) → T.shows tree.new machine → T.shows tree.old machine }
+{
+    for stem in stems {
+        load_folder_unit(alloc, tree, index, folder, stem.as_str(), loaded)?;
     }
     Ok(())
+}
+
+/// Loads the unit of a folder with this stem. `index` is that of the folder.
+fn load_folder_unit<T: Tree>(
+    alloc: Global,
+    tree: &mut T,
+    index: &UnitIndex,
+    folder: &str,
+    stem: &str,
+    loaded: &mut Loaded,
+) -> Result<(), AllocError>
+    ensures more { OnOk result (IsMore (λ machine path. T.shows tree.new machine × IsIndexOf machine (folder.now ∷ []) index.now)
+        (λ machine path. FolderUnit folder.now stem.now ∷ []) loaded.old loaded.new) }
+    ensures known { OnOk result ((machine : Machine) (path : List (List ℕ)) → T.shows tree.new machine
+        → IsIndexOf machine (folder.now ∷ []) index.now → All (IsTimerOn machine path) loaded.old.timers.items
+        → All (IsTimerOn machine path) loaded.new.timers.items) }
+    ensures grows { (machine : Machine) → T.shows tree.new machine → T.shows tree.old machine }
+{
+    let mut lost = Vec::new(alloc);
+    let found = read_unit(alloc, tree, index, stem, &mut lost);
+    let name = unit_path(alloc, folder, stem)?;
+    push_found(alloc, loaded, name.as_str(), found, lost)
+}
+
+/// Returns the path that the file of the unit with this stem has in a folder.
+fn unit_path(alloc: Global, folder: &str, stem: &str) -> Result<String, AllocError>
+    ensures { IfOk result (λ path. string_bytes path ≡ path_in folder.now (unit_name stem.now)) }
+{
+    let name = format!(in alloc; "{stem}.timer")?;
+    path_in(alloc, folder, name.as_str())
+}
+
+/// Adds the errors that these paths can't be read.
+fn push_unread(alloc: Global, loaded: &mut Loaded, unread: Vec<UnitFault>) -> Result<(), AllocError>
+    ensures more { OnOk result (IsMore (λ machine path. ⊤)
+        (λ machine path. map UnreadPath (map shown_fault unread.items)) loaded.old loaded.new) }
+    ensures timers { OnOk result (loaded.new.timers.items ≡ loaded.old.timers.items) }
+{
+    for fault in unread {
+        push_unread_path(alloc, loaded, &fault)?;
+    }
+    Ok(())
+}
+
+/// Adds the error that a path can't be read.
+fn push_unread_path(alloc: Global, loaded: &mut Loaded, fault: &UnitFault) -> Result<(), AllocError>
+    ensures more { OnOk result (IsMore (λ machine path. ⊤)
+        (λ machine path. UnreadPath (shown_fault fault.now) ∷ []) loaded.old loaded.new) }
+    ensures timers { OnOk result (loaded.new.timers.items ≡ loaded.old.timers.items) }
+{
+    let path = fault.path.as_str();
+    let unread = TargetLoadFault::at(alloc, path, fault.reason);
+    loaded.push(alloc, path, Err(unread))
 }

@@ -15,13 +15,12 @@ use Rattle.cal_unit_index.specs.rules.Names.{names_on}
 use Rattle.cal_unit_index.specs.rules.UnitName.{unit_stem}
 use Rattle.cal_unit_index.specs.rules.Units.{Unit, unit_on}
 use Rattle.cal_unit_index.specs.rules.Units.Unit.{Unfound, TemplateOnly, TooManyAliases, FoundAt}
-use Rattle.cal_load.specs.rules.AllTargets.{is_path, path_in, wanted_at, without_slashes}
+use Rattle.cal_load.specs.rules.AllTargets.{is_path, path_in, text_names_at, units_in_folder, without_slashes}
 use Rattle.cal_load.specs.rules.AllUnits.{units_on}
 use Rattle.cal_load.specs.rules.LoadedTarget.{is_folder}
 use Rattle.cal_load.specs.declared.files.Reading.{Reading}
 use Rattle.cal_load.specs.declared.files.Taken.{Taken}
 use Rattle.cal_load.specs.declared.files.Taken as taken
-use Rattle.cal_load.specs.declared.names.Wanted as wanted
 
 -- ## The paths that a target stands for
 
@@ -54,10 +53,14 @@ abbrev pub paths_in : List ℕ → Result (List (List ℕ)) Unreadable → List 
 paths_in folder (Ok names) = map (path_in folder) names
 paths_in folder (Err why) = []
 
--- what a path stands for: the texts in a folder, or itself
+-- what a folder stands for: the texts in it, and then the files of its units, of which only the drop-ins are new
+abbrev pub folder_paths : Machine → List ℕ → List (List ℕ)
+folder_paths machine folder =
+    paths_in folder (text_names_at machine folder) ++ flat_map (unit_paths machine (folder ∷ [])) (units_in_folder machine folder)
+
+-- what a path stands for: the files of a folder, or itself
 abbrev pub paths_at : Machine → List ℕ → List (List ℕ)
-paths_at machine path =
-    if is_folder (end_at machine path) then paths_in path (wanted_at machine wanted.TheVariants.Texts path) else path ∷ []
+paths_at machine path = if is_folder (end_at machine path) then folder_paths machine path else path ∷ []
 
 -- the paths that a target stands for
 abbrev pub paths_by : Machine → List (List ℕ) → List ℕ → List (List ℕ)

@@ -13,8 +13,10 @@ use Rattle.cal_unit_index.specs.rules.Destinations.{sorted_once}
 use Rattle.cal_unit_index.specs.rules.Files.{file_at, text_at}
 use Rattle.cal_unit_index.specs.rules.Files.FileRead.{Mask}
 use Rattle.cal_unit_index.specs.rules.Folders.{end_at}
-use Rattle.cal_unit_index.specs.rules.UnitName.{is_template, unit_stem}
-use Rattle.cal_load.specs.rules.AllUnits.{IsFoundOf, IsPathReason, IsReported, IsTimerFileFault, Keeps, is_absent, masked_in, unit_name, units_on}
+use Rattle.cal_unit_index.specs.rules.Index.{Fault, unreadable_in}
+use Rattle.cal_unit_index.specs.rules.Starts.{unreadable_wants}
+use Rattle.cal_unit_index.specs.rules.UnitName.{unit_stem}
+use Rattle.cal_load.specs.rules.AllUnits.{IsFoundOf, IsPathFault, IsPathReason, IsReported, IsTimerFileFault, Keeps, all_units, is_absent, masked_in, unit_name, units_on}
 use Rattle.cal_load.specs.rules.Loaded.{IsTimerReadFrom}
 use Rattle.cal_load.specs.rules.LoadedTarget.{is_folder, timers_in}
 use Rattle.cal_load.specs.declared.fault.TargetLoadFault.{TargetLoadFault}
@@ -22,8 +24,6 @@ use Rattle.cal_load.specs.declared.fault.TargetLoadFault as faults
 use Rattle.cal_load.specs.declared.loaded.Loaded.{Loaded}
 use Rattle.cal_load.specs.declared.loaded.LoadedTarget as targets
 use Rattle.cal_load.specs.declared.loaded.LoadedTimer.{LoadedTimer}
-use Rattle.cal_load.specs.declared.names.Wanted as wanted
-use Rattle.cal_load.specs.declared.names.Wanted.{Wanted}
 use Rattle.cal_load.specs.declared.target_fault.TargetFault.{TargetFault}
 use Rattle.cal_load.specs.declared.target_fault.TargetReason.{TargetReason}
 use Rattle.cal_load.specs.declared.target_fault.TargetReason.TheVariants.{NotFound}
@@ -60,28 +60,17 @@ path_in folder name = before_slash folder ++ codes "/" ++ name
 abbrev pub is_visible : List ℕ → List ℕ → Bool
 is_visible suffix name = ends_with nat_eq name suffix && not (starts_with nat_eq name (codes "."))
 
--- whether a stem is that of a template; a name that isn't valid has none
-abbrev pub is_template_if_valid : Option (List ℕ) → Bool
-is_template_if_valid None = false
-is_template_if_valid (Some stem) = is_template stem
+-- whether a file with this name is a timer or a drop-in, by its suffix
+abbrev pub is_text_name : List ℕ → Bool
+is_text_name name = is_visible (codes ".timer") name || is_visible (codes ".conf") name
 
--- whether a file with this name is a template: systemd.unit(5), Description
-abbrev pub is_template_file : List ℕ → Bool
-is_template_file name = is_template_if_valid (unit_stem name)
+-- the names of timers and drop-ins among those in a folder, sorted by their bytes, each once
+abbrev pub text_names_in : Listing → List (List ℕ)
+text_names_in listing = sorted_once (filter is_text_name listing.names)
 
--- Whether a file with this name is wanted. Timers are the files with the suffix `.timer`, except templates; texts are
--- those with the suffix `.timer` or `.conf`.
-abbrev pub is_wanted : Wanted → List ℕ → Bool
-is_wanted wanted.TheVariants.Timers name = is_visible (codes ".timer") name && not (is_template_file name)
-is_wanted wanted.TheVariants.Texts name = is_visible (codes ".timer") name || is_visible (codes ".conf") name
-
--- the wanted names among those in a folder, sorted by their bytes, each once
-abbrev pub wanted_in : Wanted → Listing → List (List ℕ)
-wanted_in wanted listing = sorted_once (filter (is_wanted wanted) listing.names)
-
--- the wanted names in the folder to which a path leads, unless they can't be read
-abbrev pub wanted_at : Machine → Wanted → List ℕ → Result (List (List ℕ)) Unreadable
-wanted_at machine wanted folder = seen (wanted_in wanted) (names_at machine folder)
+-- the names of timers and drop-ins in the folder to which a path leads, unless they can't be read
+abbrev pub text_names_at : Machine → List ℕ → Result (List (List ℕ)) Unreadable
+text_names_at machine folder = seen text_names_in (names_at machine folder)
 
 -- the error says that the names in a folder can't be read; `names` is the result of reading them
 abbrev pub IsUnreadReason : {X : Type 0} → List ℕ → Result X Unreadable → TargetReason → Type 0
@@ -92,40 +81,48 @@ abbrev pub IsUnreadFault : {X : Type 0} → List ℕ → Result X Unreadable →
 IsUnreadFault folder names (faults.TheVariants.Target reason) = IsUnreadReason folder names reason
 IsUnreadFault folder names faults.TheVariants.NoMemory = ⊤
 
+-- ## The units of a folder
+
+-- A folder that is a target is read as if it were the only folder of the search path: systemd.unit(5), Unit File Load
+-- Path. These are the own stems of its units, also of the instances of its templates that links in it start.
+abbrev pub units_in_folder : Machine → List ℕ → List (List ℕ)
+units_in_folder machine folder = all_units machine (folder ∷ [])
+
+-- what can't be read of a folder: folders in it that say which units are started, the folder itself, and its timers
+abbrev pub unread_in_folder : Machine → List ℕ → List Fault
+unread_in_folder machine folder = unreadable_wants machine (folder ∷ []) ++ unreadable_in machine (folder ∷ [])
+
 -- ## What is looked for
 
 -- Something that is looked for: a unit of the search path, by its stem; the unit with the name that a user gave; a
--- single file, without drop-ins; or a folder whose names can't be read.
+-- single file, without drop-ins; a unit of a folder, by its stem; or something in a folder that can't be read.
 pub data Sought : Type 0 where
   ListedUnit : (stem : List ℕ) → Sought
   NamedUnit : (name : List ℕ) → Sought
   SingleFile : (path : List ℕ) → Sought
-  NamesIn : (folder : List ℕ) → Sought
+  FolderUnit : (folder : List ℕ) → (stem : List ℕ) → Sought
+  UnreadPath : (fault : Fault) → Sought
 
--- the files with these names in a folder
-abbrev pub files_with : List ℕ → List (List ℕ) → List Sought
-files_with folder names = map (λ name. SingleFile (path_in folder name)) names
+-- what a folder stands for: its units, and what of it can't be read
+abbrev pub sought_in : Machine → List ℕ → List Sought
+sought_in machine folder = map (FolderUnit folder) (units_in_folder machine folder) ++ map UnreadPath (unread_in_folder machine folder)
 
--- what a folder stands for: the files with these names, or itself if its names can't be read
-abbrev pub sought_in : List ℕ → Result (List (List ℕ)) Unreadable → List Sought
-sought_in folder (Ok names) = files_with folder names
-sought_in folder (Err why) = NamesIn folder ∷ []
-
--- what a path stands for: the timers of a folder, or a single file
+-- what a path stands for: the units of a folder, or a single file
 abbrev pub sought_at : Machine → List ℕ → List Sought
-sought_at machine path =
-    if is_folder (end_at machine path) then sought_in path (wanted_at machine wanted.TheVariants.Timers path) else SingleFile path ∷ []
+sought_at machine path = if is_folder (end_at machine path) then sought_in machine path else SingleFile path ∷ []
 
 -- what a target stands for
 abbrev pub sought_by : Machine → List ℕ → List Sought
 sought_by machine target = if is_path target then sought_at machine (without_slashes target) else NamedUnit target ∷ []
 
--- the name under which something is listed if it is masked, and reported if it can't be loaded
+-- The name under which something is listed if it is masked, and reported if it can't be loaded. For a unit of a folder,
+-- this is a path, since the unit's name by itself stands for a unit of the search path.
 abbrev pub name_of : Sought → List ℕ
 name_of (ListedUnit stem) = unit_name stem
 name_of (NamedUnit name) = name
 name_of (SingleFile path) = path
-name_of (NamesIn folder) = folder
+name_of (FolderUnit folder stem) = path_in folder (unit_name stem)
+name_of (UnreadPath fault) = fault.path
 
 -- ## What became of it
 
@@ -144,17 +141,18 @@ abbrev pub IsFoundAt : Machine → List ℕ → Result targets.LoadedTarget Targ
 IsFoundAt machine path (Ok found) = IsReadAt machine path found
 IsFoundAt machine path (Err fault) = IsTimerFileFault machine path fault
 
--- the names in this folder can't be read, and the error says so
-abbrev pub IsUnread : Machine → List ℕ → Result targets.LoadedTarget TargetLoadFault → Type 0
-IsUnread machine folder (Ok found) = ⊥
-IsUnread machine folder (Err fault) = IsUnreadFault folder (names_at machine folder) fault
+-- this is the error that a path can't be read
+abbrev pub IsUnread : Fault → Result targets.LoadedTarget TargetLoadFault → Type 0
+IsUnread unread (Ok found) = ⊥
+IsUnread unread (Err fault) = IsPathFault unread.path unread.reason fault
 
 -- this is a correct result for what was looked for
 abbrev pub IsFound : Machine → List (List ℕ) → Sought → Result targets.LoadedTarget TargetLoadFault → Type 0
 IsFound machine path (ListedUnit stem) found = IsFoundOf machine path stem found
 IsFound machine path (NamedUnit name) found = IsFoundIfValid machine path (unit_stem name) found
 IsFound machine path (SingleFile file) found = IsFoundAt machine file found
-IsFound machine path (NamesIn folder) found = IsUnread machine folder found
+IsFound machine path (FolderUnit folder stem) found = IsFoundOf machine (folder ∷ []) stem found
+IsFound machine path (UnreadPath fault) found = IsUnread fault found
 
 -- what was looked for, and what was found
 pub record Outcome : Type 0 where
@@ -164,13 +162,14 @@ pub record Outcome : Type 0 where
 abbrev pub IsOutcome : Machine → List (List ℕ) → Outcome → Type 0
 IsOutcome machine path outcome = IsFound machine path outcome.sought outcome.found
 
--- Whether it goes unreported if there is no file. It does only for a unit that no target named, whose name in the search
--- path may be a link to nothing.
+-- Whether it goes unreported if there is no file. It does only for a unit that no target stands for, whose name in the
+-- search path may be a link to nothing.
 abbrev pub may_be_absent : Sought → Bool
 may_be_absent (ListedUnit stem) = true
 may_be_absent (NamedUnit name) = false
 may_be_absent (SingleFile path) = false
-may_be_absent (NamesIn folder) = false
+may_be_absent (FolderUnit folder stem) = false
+may_be_absent (UnreadPath fault) = false
 
 abbrev pub timers_of : Outcome → List LoadedTimer
 timers_of outcome = timers_in outcome.found

@@ -17,11 +17,10 @@ use Rattle.cal_unit_index.specs.rules.UnitName.{unit_stem}
 use Rattle.cal_unit_index.specs.rules.Units.{Unit, unit_on}
 use Rattle.cal_unit_index.specs.rules.Units.Unit.{Unfound, TemplateOnly, TooManyAliases, FoundAt}
 use Rattle.cal_load.specs.rules.AllFiles.{AreTried, is_text, paths_in, with_path}
-use Rattle.cal_load.specs.rules.AllTargets.{is_path, wanted_at, without_slashes}
+use Rattle.cal_load.specs.rules.AllTargets.{is_path, text_names_at, units_in_folder, unread_in_folder, without_slashes}
 use Rattle.cal_load.specs.rules.AllUnits.{IsPathReason, Keeps, unit_name, units_on}
 use Rattle.cal_load.specs.rules.LoadedTarget.{is_folder}
 use Rattle.cal_load.specs.declared.files.Reading.{Reading}
-use Rattle.cal_load.specs.declared.names.Wanted as wanted
 use Rattle.cal_load.specs.declared.target_fault.TargetFault.{TargetFault}
 use Rattle.cal_load.specs.declared.target_fault.TargetReason.{TargetReason}
 use Rattle.cal_load.specs.declared.target_fault.TargetReason.TheVariants as target_reasons
@@ -125,11 +124,20 @@ lost_listed machine path stem =
 
 -- ## Targets
 
--- what can't be read of a folder: its names, or files in it
-abbrev pub lost_folder : Machine → List ℕ → List Lost
-lost_folder machine folder =
+-- what can't be read of the texts in a folder: its names, or files in it
+abbrev pub lost_texts : Machine → List ℕ → List Lost
+lost_texts machine folder =
     map lost_path (faults_of_listing folder (names_at machine folder))
-    ++ flat_map (lost_file machine) (paths_in folder (wanted_at machine wanted.TheVariants.Texts folder))
+    ++ flat_map (lost_file machine) (paths_in folder (text_names_at machine folder))
+
+-- what can't be read of the units of a folder, and what may belong to its units, but can't be read
+abbrev pub lost_units : Machine → List ℕ → List Lost
+lost_units machine folder =
+    flat_map (lost_listed machine (folder ∷ [])) (units_in_folder machine folder) ++ map lost_path (unread_in_folder machine folder)
+
+-- what can't be read of a folder
+abbrev pub lost_folder : Machine → List ℕ → List Lost
+lost_folder machine folder = lost_texts machine folder ++ lost_units machine folder
 
 abbrev pub lost_at : Machine → List ℕ → List Lost
 lost_at machine path = if is_folder (end_at machine path) then lost_folder machine path else lost_file machine path

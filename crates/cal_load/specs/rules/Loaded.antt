@@ -189,9 +189,14 @@ IsUnitOn machine path asked timer =
 abbrev pub IsFileOn : Machine → LoadedTimer → Type 0
 IsFileOn machine timer = IsTimerReadFrom machine (text_at machine (string_bytes timer.name)) timer
 
--- the timer is a unit of the machine (`IsUnitOn`) or a single file (`IsFileOn`)
+-- the timer is a unit that is found if a folder is the only one of the search path
+abbrev pub IsFolderUnitOn : Machine → LoadedTimer → Type 0
+IsFolderUnitOn machine timer = (folder : List ℕ) × (asked : List ℕ) × IsUnitOn machine (folder ∷ []) asked timer
+
+-- the timer is a unit of the machine (`IsUnitOn`), a single file (`IsFileOn`) or a unit of a folder (`IsFolderUnitOn`)
 abbrev pub IsTimerOn : Machine → List (List ℕ) → LoadedTimer → Type 0
-IsTimerOn machine path timer = ((asked : List ℕ) × IsUnitOn machine path asked timer) ⊎ IsFileOn machine timer
+IsTimerOn machine path timer =
+    ((asked : List ℕ) × IsUnitOn machine path asked timer) ⊎ (IsFileOn machine timer ⊎ IsFolderUnitOn machine timer)
 
 -- the machine has this file: these bytes at this path
 abbrev pub IsStoredOn : Machine → texts.UnitText → Type 0

@@ -6,7 +6,7 @@ use Rattle.cal_load.specs.rules.AllTargets.Sought.{ListedUnit}
 use Rattle.cal_load.specs.rules.AllUnits.{shown_stems}
 use Rattle.cal_load.specs.rules.FileFaults.{IsLostIn, lost_path}
 use Rattle.cal_load.specs.rules.Loaded.{IsTimerOn}
-use Rattle.cal_load.proofs.UnitLemmas.{all_loaded, listed_more, more_as, more_kept, none_more}
+use Rattle.cal_load.proofs.UnitLemmas.{all_loaded, more_as, more_kept, none_more, one_more}
 use Rattle.cal_load.proofs.timers.load_all.Goals as goal
 
 pub loop-stem-init : goal.loop-stem-init
@@ -23,7 +23,7 @@ loop-stem-preserved g c = (
   λ machine path shows is. c.in_ok-load_listed.ensures.known machine path shows is (c.loop-stem.invariant.0 machine path (c.load_listed.ensures.grows machine shows) is),
   λ machine shows. c.loop-stem.invariant.1 machine (c.load_listed.ensures.grows machine shows),
   λ machine shows. c.loop-stem.invariant.2 machine (c.load_listed.ensures.grows machine shows),
-  listed_more _ _ c.loop-stem.yielded c.in-Some.stem _ c.new-loaded.result c.loop-stem.loaded c.load_listed.new.loaded
+  one_more _ _ ListedUnit string_bytes c.loop-stem.yielded c.in-Some.stem _ c.new-loaded.result c.loop-stem.loaded c.load_listed.new.loaded
       (λ machine path now. (c.load_listed.ensures.grows machine now.0, now.1)) c.as_str.ensures.value c.loop-stem.invariant.3 c.in_ok-load_listed.ensures.more,
   c.loop-stem.invariant.4,
 )

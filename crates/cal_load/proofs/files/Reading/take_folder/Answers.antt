@@ -1,35 +1,15 @@
-use Rattle.std.proofs.Common.{◌≡◌, ◌∙◌, ap, map, refl, string_bytes, subst, sym}
-use Rattle.std.proofs.lemmas.Iterator.Consumers.{YieldsList-end, YieldsList-from_rest}
-use Rattle.std.proofs.lemmas.List.{map-id}
+use Rattle.std.proofs.Common.{[], ◌∷◌, map, refl, string_bytes}
 use Rattle.std.proofs.lemmas.Result.{on_ok_weaker}
-use Rattle.std.specs.List.{flat_map}
-use Rattle.cal_machine.specs.rules.Places.{names_at}
-use Rattle.cal_load.specs.rules.AllTargets.{IsUnreadFault, path_in}
-use Rattle.cal_load.specs.rules.FileFaults.{lost_file}
-use Rattle.cal_load.proofs.FileLemmas.{folder_read, read_as, read_string, unread_read}
+use Rattle.cal_unit_index.specs.rules.Index.{shown_fault}
+use Rattle.cal_load.proofs.FileLemmas.{folder_read}
 use Rattle.cal_load.proofs.files.Reading.take_folder.Goals as goal
 
-pub returns-in-Err-Target-clause-read : goal.returns-in-Err-Target-clause-read
-returns-in-Err-Target-clause-read g c =
-    on_ok_weaker c.push_named.result (λ pushed machine shows.
-    unread_read machine c.args.folder.now (names_at machine c.args.folder.now) c.in-Err-Target.reason c.args.self.now _ refl refl
-    (subst (IsUnreadFault c.args.folder.now (names_at machine c.args.folder.now)) c.in-Err-Target.field-0-is (c.in-Err-Target.ensures.fault machine shows)) pushed) c.push_named.ensures
-
-pub loop-name-preserved : goal.loop-name-preserved
-loop-name-preserved g c = (
-  λ machine shows. c.loop-name.invariant.0 machine (c.take_path.ensures.grows machine shows),
-  λ machine shows. c.loop-name.invariant.1 machine (c.take_path.ensures.grows machine shows),
-  λ machine shows. read_string machine (path_in c.args.folder.now) (lost_file machine) c.loop-name.yielded c.in-Some.name _ c.args.self.now c.loop-name.self c.take_path.new.self
-      (c.as_str-in-loop-name.ensures.value ∙ c.in_ok-path.ensures ∙ ap (path_in c.args.folder.now) c.as_str.ensures.value)
-      (c.loop-name.invariant.2 machine (c.take_path.ensures.grows machine shows)) (c.in_ok-take_path.ensures.read machine shows),
-)
-
 pub returns-clause-read : goal.returns-clause-read
-returns-clause-read g c machine shows =
-    let keys = c.in-Ok.names.keys in
-    let done = YieldsList-end (YieldsList-from_rest keys c.into_iter-name-iterator.ensures.into_iter_gives.0) c.loop-name.yielded _ c.loop-name.yielded_by _ _ c.in-None.is c.next.ensures.steps in
-    let all : map string_bytes c.loop-name.yielded ≡ map string_bytes keys = ap (map string_bytes) (sym (map-id c.loop-name.yielded) ∙ done.0) in
-    folder_read machine c.args.folder.now (map string_bytes keys) c.args.self.now c.loop-name.self
-    (c.in-Ok.ensures.known machine (c.loop-name.invariant.1 machine shows))
-    (read_as machine _ _ _ _ c.args.self.now c.loop-name.self (ap (map (path_in c.args.folder.now)) all)
-    (ap (λ names. flat_map (lost_file machine) (map (path_in c.args.folder.now) names)) all) (c.loop-name.invariant.2 machine shows))
+returns-clause-read g c =
+    on_ok_weaker c.push_lost.result (λ pushed machine shows.
+    let before = c.take_units.ensures.grows machine shows in
+    folder_read machine c.args.folder.now (map string_bytes c.in_ok-index.field-0.stems.keys) (map shown_fault c.in_ok-index.field-0.unread.items)
+    c.args.self.now c.take_texts.new.self c.take_units.new.self _
+    (c.in_ok-index.ensures.stems machine before) (c.in_ok-index.ensures.unread machine before) refl refl
+    (c.in_ok-take_texts.ensures.read machine (c.units_in_folder.ensures.grows machine before))
+    (c.in_ok-take_units.ensures.read machine (c.args.folder.now ∷ []) shows (c.in_ok-index.ensures.index machine before)) pushed) c.push_lost.ensures.lost

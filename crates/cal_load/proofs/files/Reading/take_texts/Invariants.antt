@@ -3,7 +3,7 @@ use Rattle.std.specs.List.{flat_map}
 use Rattle.cal_machine.specs.rules.Machine.{Machine}
 use Rattle.cal_load.specs.rules.AllTargets.{path_in}
 use Rattle.cal_load.specs.rules.FileFaults.{AreReadAlso, lost_file}
-use Rattle.cal_load.proofs.files.Reading.take_folder.Given as goal
+use Rattle.cal_load.proofs.files.Reading.take_texts.Given as goal
 
 abbrev pub invariant-loop-name : goal.invariant-loop-name
 invariant-loop-name g l =

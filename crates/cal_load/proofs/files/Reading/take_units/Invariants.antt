@@ -4,13 +4,12 @@ use Rattle.cal_machine.specs.rules.Machine.{Machine}
 use Rattle.cal_unit_index.specs.rules.Index.{IsIndexOf}
 use Rattle.cal_load.specs.rules.AllFiles.{HasTried, unit_paths}
 use Rattle.cal_load.specs.rules.FileFaults.{AreReadAlso, lost_listed}
-use Rattle.cal_load.proofs.files.all_files.Given as goal
+use Rattle.cal_load.proofs.files.Reading.take_units.Given as goal
 
 abbrev pub invariant-loop-stem : goal.invariant-loop-stem
 invariant-loop-stem g l =
-    ((machine : Machine) → g.T.Tree.shows l.tree machine → HasTried machine l.reading)
+    ((machine : Machine) → g.T.Tree.shows l.tree machine → HasTried machine l.fn.self → HasTried machine l.self)
     × ((machine : Machine) → g.T.Tree.shows l.tree machine → g.T.Tree.shows l.fn.tree machine)
-    × ((machine : Machine) → g.T.Tree.shows l.tree machine → g.T.Tree.shows l.initial.tree machine)
     × ((machine : Machine) (path : List (List ℕ)) → g.T.Tree.shows l.tree machine → IsIndexOf machine path l.index
     → AreReadAlso machine (flat_map (unit_paths machine path) (map string_bytes l.yielded))
-    (flat_map (lost_listed machine path) (map string_bytes l.yielded)) l.initial.reading l.reading)
+    (flat_map (lost_listed machine path) (map string_bytes l.yielded)) l.fn.self l.self)
