@@ -5,7 +5,7 @@ ghost use Rattle.cal_answers.specs.rules.LintStatus.{lint_status};
 
 use crate::answer::{Answer, Asked, INVALID, fault_lines, push_fault_line};
 use crate::problems::Problems;
-use crate::setting_problems::add_settings;
+use crate::setting_problems::add_missing_units;
 use crate::timer_problems::{add_idle, add_timers};
 use cal_lint::findings;
 use cal_load::{Loaded, LoadedFiles, TargetFault, TargetReason};
@@ -32,7 +32,7 @@ pub(crate) fn lint(
     let mut problems = Problems::new(alloc, asked.style);
     add_files(alloc, files, &mut problems)?;
     add_timers(alloc, timers, &mut problems)?;
-    add_settings(alloc, index, timers.timers.as_slice(), &mut problems)?;
+    add_missing_units(alloc, index, timers.timers.as_slice(), &mut problems)?;
     add_idle(alloc, asked.at, timers.timers.as_slice(), &mut problems)?;
     let err = error_lines(alloc, files.faults.as_slice(), timers)?;
     let counts = problems.counts();

@@ -2,6 +2,7 @@
 //! systemd doesn't read to the end, timers without a setting that starts the unit, and lines without effect.
 
 use crate::problems::Problems;
+use crate::setting_problems::add_ignored_settings;
 use cal_lint::ProblemKind;
 use cal_load::{
     BrokenLine, BrokenReason, Loaded, LoadedTimer, TargetFault, TargetReason, TimerFiles,
@@ -39,15 +40,15 @@ fn add_fault(
 ) -> Result<(), AllocError> {
     match &fault.reason {
         TargetReason::Broken(path, line) => add_broken_file(alloc, path.as_str(), *line, problems),
-        TargetReason::NothingToDo(files) => {
-            add_ignored_in(alloc, fault.target.as_str(), files, problems)?;
+        TargetReason::NothingToDo(name, files) => {
+            add_ignored_in(alloc, name.as_str(), files, problems)?;
             add_idle_timer(alloc, fault, problems)
         }
         _ => Ok(()),
     }
 }
 
-/// Adds an error for everything that systemd ignores in the files of the timer with this name.
+/// Adds a problem for everything that systemd ignores in the files of the timer with this name.
 fn add_ignored_in(
     alloc: Global,
     timer: &str,
@@ -56,6 +57,7 @@ fn add_ignored_in(
 ) -> Result<(), AllocError> {
     add_ignored(alloc, timer, files, problems)?;
     add_unusable_zones(alloc, timer, files, problems)?;
+    add_ignored_settings(alloc, timer, files, problems)?;
     add_broken_lines(alloc, timer, files, problems)
 }
 

@@ -44,7 +44,7 @@ read_reason machine name files Template h = h
 read_reason machine name files TooManyAliases h = h
 read_reason machine name files (Path place why) h = h
 read_reason machine name files (Broken place line) h = h
-read_reason machine name files (NothingToDo read) h = absurd h
+read_reason machine name files (NothingToDo own read) h = absurd h
 read_reason machine name files (Expression fault) h = h
 read_reason machine name files (ExpressionZone zone reason) h = absurd h
 

@@ -220,7 +220,7 @@ fn timer_from_files<T: Tree>(
         unusable_zones: unusable,
     };
     if !is_started && calendar.lines().is_empty() {
-        return Err(TargetLoadFault::Target(TargetReason::NothingToDo(files)));
+        return Err(TargetLoadFault::Target(TargetReason::NothingToDo(name, files)));
     }
     Ok(LoadedTimer {
         name,

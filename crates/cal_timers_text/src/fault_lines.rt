@@ -35,7 +35,7 @@ pub fn fault_text(alloc: Global, fault: &TargetFault) -> Result<String, AllocErr
             reason_words(*reason),
         ),
         TargetReason::Broken(path, line) => push_broken(&mut out, path.as_str(), *line),
-        TargetReason::NothingToDo(files) => push_idle(&mut out, target, files),
+        TargetReason::NothingToDo(_, files) => push_idle(&mut out, target, files),
         TargetReason::Expression(fault) => push_fault(&mut out, target, fault.words()),
         TargetReason::ExpressionZone(zone, reason) => push_expression_zone(
             &mut out,

@@ -157,7 +157,7 @@ is_absent_reason Template = false
 is_absent_reason target_reasons.TheVariants.TooManyAliases = false
 is_absent_reason (Path place reason) = false
 is_absent_reason (target_reasons.TheVariants.Broken place line) = false
-is_absent_reason (target_reasons.TheVariants.NothingToDo read) = false
+is_absent_reason (target_reasons.TheVariants.NothingToDo own read) = false
 is_absent_reason (target_reasons.TheVariants.Expression fault) = false
 is_absent_reason (target_reasons.TheVariants.ExpressionZone zone reason) = false
 

@@ -74,7 +74,7 @@ IsExpressionReason Shows texts target Template = ⊥
 IsExpressionReason Shows texts target TooManyAliases = ⊥
 IsExpressionReason Shows texts target (Path place why) = ⊥
 IsExpressionReason Shows texts target (Broken place line) = ⊥
-IsExpressionReason Shows texts target (NothingToDo read) = ⊥
+IsExpressionReason Shows texts target (NothingToDo own read) = ⊥
 IsExpressionReason Shows texts target (Expression fault) = (first_invalid texts ≡ Some target) × (expr_in target ≡ Err fault)
 IsExpressionReason Shows texts target (ExpressionZone path reason) =
     (entries : List (TimerLine Fields)) × AreOf texts entries

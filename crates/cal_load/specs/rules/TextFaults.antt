@@ -43,7 +43,7 @@ IsReadReason files Template = ⊥
 IsReadReason files TooManyAliases = ⊥
 IsReadReason files (Path place why) = HasTooLargeAt files (string_bytes place) × (why ≡ reasons.TheVariants.TooLarge)
 IsReadReason files (Broken place line) = IsBrokenAt files (string_bytes place) line
-IsReadReason files (NothingToDo read) = ⊥
+IsReadReason files (NothingToDo own read) = ⊥
 IsReadReason files (Expression fault) = ⊥
 IsReadReason files (ExpressionZone zone reason) = ⊥
 
@@ -87,7 +87,7 @@ IsTextReason machine name files Template = ⊥
 IsTextReason machine name files TooManyAliases = ⊥
 IsTextReason machine name files (Path place why) = IsReadReason files (Path place why)
 IsTextReason machine name files (Broken place line) = IsReadReason files (Broken place line)
-IsTextReason machine name files (NothingToDo read) = HasNothingToDo machine name files read
+IsTextReason machine name files (NothingToDo own read) = (string_bytes own ≡ name) × HasNothingToDo machine name files read
 IsTextReason machine name files (Expression fault) = ⊥
 IsTextReason machine name files (ExpressionZone zone reason) = ⊥
 
@@ -102,6 +102,6 @@ fails_to_load Template = false
 fails_to_load TooManyAliases = false
 fails_to_load (Path place why) = false
 fails_to_load (Broken place line) = true
-fails_to_load (NothingToDo read) = true
+fails_to_load (NothingToDo own read) = true
 fails_to_load (Expression fault) = false
 fails_to_load (ExpressionZone zone reason) = false

@@ -18,10 +18,12 @@ returns-in_err-parsed-clause-fault g c =
 pub returns-then-is_empty-clause-fault : goal.returns-then-is_empty-clause-fault
 returns-then-is_empty-clause-fault g c machine shows =
     let parsed = c.in_ok-parsed.ensures in
-    let none = sym c.lines.ensures ∙ none_shown c.lines.result.now (sym c.is_empty.ensures ∙ c.if-is_empty.true) in
-    unstarted_text machine c.as_str.result.now _ c.as_slice.result.now _ c.in_ok-parsed.parsed.calendar c.load_calendar_zones.new.calendar c.in_ok-found.found
-    c.in_ok-parsed.parsed.is_started c.as_str.ensures.value c.as_slice.ensures.value refl parsed.whole parsed.broken parsed.numbered parsed.calendar
-    (c.in_ok-found.ensures.known machine shows) parsed.starts c.if-not-is_started.true none parsed.ignored
+    let none = sym c.lines.ensures ∙ none_shown c.lines.result.now (sym c.is_empty.ensures ∙ c.if-is_empty.true) in (
+      refl,
+      unstarted_text machine c.as_str.result.now _ c.as_slice.result.now _ c.in_ok-parsed.parsed.calendar c.load_calendar_zones.new.calendar c.in_ok-found.found
+          c.in_ok-parsed.parsed.is_started c.as_str.ensures.value c.as_slice.ensures.value refl parsed.whole parsed.broken parsed.numbered parsed.calendar
+          (c.in_ok-found.ensures.known machine shows) parsed.starts c.if-not-is_started.true none parsed.ignored,
+    )
 
 pub returns-clause-read : goal.returns-clause-read
 returns-clause-read g c machine shows =
