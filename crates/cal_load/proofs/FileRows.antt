@@ -12,6 +12,8 @@ use Rattle.cal_unit_index.specs.declared.fault.Reason.TheVariants.{Unreadable}
 use Rattle.cal_unit_index.specs.rules.UnitName.{file_stem, instance_of, is_stem, listed_stem, template_of, unit_kind_of, unit_stem, without_suffix}
 use Rattle.cal_unit_index.specs.rules.DropIns.{by_name}
 use Rattle.cal_load.specs.rules.AllFiles.{each_once}
+use Rattle.cal_load.specs.rules.AllTargets.{sought_at}
+use Rattle.cal_load.specs.rules.AllTargets.Sought.{FolderUnit, UnreadPath}
 use Rattle.cal_load.specs.rules.AllUnits.{is_disabled, started_if_all, units_on}
 use Rattle.cal_load.specs.rules.FileFaults.{Lost, all_lost, lost_at, lost_named}
 use Rattle.cal_load.specs.rules.FileFaults.Cause.{Absent, IsTemplate, UnusableAt}
@@ -70,9 +72,19 @@ disabled_units : map (is_disabled (started_if_all machine path true)) (codes "a.
 unfolding by_name walk after_prefix template_of listed_stem file_stem unit_stem without_suffix is_stem unit_kind_of instance_of
 disabled_units = refl
 
--- files that can't be read are reported by their paths, also in a folder, and so is a path to nothing
+-- files that can't be read are reported by their paths, also in a folder, and so is a path to nothing; then come the units
+-- of the folder, and what says which of them are started
 paths : map (lost_at machine) (codes "/etc/a.timer" ∷ codes "/etc/b.timer" ∷ codes "/etc" ∷ [])
     ≡ (unreadable (codes "/etc/a.timer") (codes "/etc/a.timer") ∷ []) ∷ (absent (codes "/etc/b.timer") ∷ [])
-    ∷ (unreadable (codes "/etc/a.timer") (codes "/etc/a.timer") ∷ absent (codes "/etc/b.timer") ∷ unreadable (codes "/etc/t@.timer") (codes "/etc/t@.timer") ∷ []) ∷ []
-unfolding walk after_prefix template_of listed_stem file_stem unit_stem without_suffix is_stem unit_kind_of instance_of
+    ∷ (unreadable (codes "/etc/a.timer") (codes "/etc/a.timer") ∷ absent (codes "/etc/b.timer") ∷ unreadable (codes "/etc/t@.timer") (codes "/etc/t@.timer")
+    ∷ unreadable (codes "a.timer") (codes "/etc/a.timer") ∷ unreadable (codes "t@i.timer") (codes "/etc/t@.timer")
+    ∷ unreadable (codes "/etc/w.wants") (codes "/etc/w.wants") ∷ []) ∷ []
+unfolding by_name walk after_prefix template_of listed_stem file_stem unit_stem without_suffix is_stem unit_kind_of instance_of
 paths = refl
+
+-- a folder stands for its units, also for an instance that is linked in it, and for what can't be read
+folder_targets : sought_at machine (codes "/etc")
+    ≡ FolderUnit (codes "/etc") (codes "a") ∷ FolderUnit (codes "/etc") (codes "b") ∷ FolderUnit (codes "/etc") (codes "t@i")
+    ∷ UnreadPath (record { path = codes "/etc/w.wants"; reason = Unreadable Failed }) ∷ []
+unfolding by_name walk after_prefix template_of listed_stem file_stem unit_stem without_suffix is_stem unit_kind_of instance_of
+folder_targets = refl
