@@ -161,6 +161,7 @@ fn is_in_value(problem: Problem) -> bool {
         Problem::Invalid(_)
             | Problem::Rejected(_)
             | Problem::Doubtful(_)
+            | Problem::BadUnitName
             | Problem::IgnoredValue(_)
             | Problem::OpenStep(_)
     )
