@@ -26,7 +26,9 @@ IDLE = "error: no setting starts its unit"
 NO_SPAN = "not a time span, so systemd ignores the line"
 NO_BOOLEAN = "not a boolean, so systemd ignores the line"
 NO_UNIT = "not the name of a unit, so systemd ignores the line"
-SECOND = "systemd ignores this line, as another Unit= stands above it"
+NO_SPAN_FILLED = "not a time span once its specifiers are filled in, so systemd ignores the line"
+NO_UNIT_FILLED = "not the name of a unit once its specifiers are filled in, so systemd ignores the line"
+SECOND = "systemd ignores this line, as an earlier Unit= counts"
 OWN = "systemd ignores this line, as a timer can't start itself"
 INVALID = "not a valid calendar expression: "
 DAILY = "[Timer]\nOnCalendar=daily\n"
@@ -45,13 +47,13 @@ ROWS = [
     (f"{DAILY}=value\n", ["3: Missing key name before '=', ignoring line."], ["3: warning: nothing before the =, so systemd ignores the line"]),
     (f"{DAILY}OnBootSec=abc\n", ["3: Failed to parse timer value, ignoring: abc"], [f"3: warning: {NO_SPAN}"]),
     (f"{DAILY}OnBootSec=-5\n", ["3: Failed to parse timer value, ignoring: -5"], [f"3: warning: {NO_SPAN}"]),
-    (f"{DAILY}OnBootSec=%p\n", ["3: Failed to parse timer value, ignoring: a"], [f"3: warning: {NO_SPAN}"]),
-    (f"{DAILY}OnBootSec=%Z\n", ["3: Failed to resolve unit specifiers in '%Z', ignoring: Invalid slot"], [f"3: warning: {NO_SPAN}"]),
+    (f"{DAILY}OnBootSec=%p\n", ["3: Failed to parse timer value, ignoring: a"], [f"3: warning: {NO_SPAN_FILLED}"]),
+    (f"{DAILY}OnBootSec=%Z\n", ["3: Failed to resolve unit specifiers in '%Z', ignoring: Invalid slot"], [f"3: warning: {NO_SPAN_FILLED}"]),
     (f"{DAILY}AccuracySec=x\n", ["3: Failed to parse sec value, ignoring: x"], [f"3: warning: {NO_SPAN}"]),
     (f"{DAILY}Persistent=maybe\n", ["3: Failed to parse boolean value, ignoring: maybe"], [f"3: warning: {NO_BOOLEAN}"]),
     (f"{DAILY}Unit=mix\n", ["3: Unit type not valid, ignoring: mix"], [f"3: warning: {NO_UNIT}"]),
-    (f"{DAILY}Unit=%p\n", ["3: Unit type not valid, ignoring: %p"], [f"3: warning: {NO_UNIT}"]),
-    (f"{DAILY}Unit=%Z.service\n", ["3: Failed to resolve unit specifiers in %Z.service, ignoring: Invalid slot"], [f"3: warning: {NO_UNIT}"]),
+    (f"{DAILY}Unit=%p\n", ["3: Unit type not valid, ignoring: %p"], [f"3: warning: {NO_UNIT_FILLED}"]),
+    (f"{DAILY}Unit=%Z.service\n", ["3: Failed to resolve unit specifiers in %Z.service, ignoring: Invalid slot"], [f"3: warning: {NO_UNIT_FILLED}"]),
     (f"{DAILY}Unit=a.timer\n", ["3: Units cannot trigger themselves, ignoring: a.timer"], [f"3: warning: {OWN}"]),
     (f"{DAILY}Unit=b.service\nUnit=c.service\n", ["4: Multiple units to trigger specified, ignoring: c.service"], [f"4: warning: {SECOND}"]),
     (f"{DAILY}Unit=b.service\nUnit=\n", ["4: Multiple units to trigger specified, ignoring:"], [f"4: warning: {SECOND}"]),
@@ -71,9 +73,9 @@ ROWS = [
     ("hello\n", ["1: Assignment outside of section. Ignoring.", *REFUSED], ["1: warning: a line before the first section, which systemd ignores", IDLE]),
     (f"{DAILY}OnCalendar=*:0/7\n", [], ["3: warning: systemd 252 loses elapses at the start of a day: give the step of the minutes an end, as in 0..59/7"]),
     (f"{DAILY}X-ExceptOnCalendar=25:00\n", [], [f"3: error: {INVALID}value out of range"]),
-    (f"{DAILY}[Install]\nWantedBy=no\n", [], ["4: error: systemctl enable fails because of a name in this line"]),
+    (f"{DAILY}[Install]\nWantedBy=no\n", [], ["4: error: a name isn't that of a unit, or an alias not that of a timer, so systemctl enable fails"]),
     (f"{DAILY}[Install]\nWantedBy=timers.target a@x.target\nAlias=b.timer\n", [], []),
-    (f"{DAILY}Unit=gone.service\n", [], ["error: there is no unit gone.service, so the timer can't start"]),
+    (f"{DAILY}Unit=gone.service\n", [], ["error: gone.service has no file in the search path, so systemd refuses to start the timer"]),
 ]
 MESSAGE = re.compile(r"(?:a\.timer:)?(?:(\d+): )? ?(.*)")
 

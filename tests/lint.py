@@ -75,7 +75,7 @@ def first_broken(tree):
     return {path: loads.assignments(file)[1][0] for path, file in tree.read.items() if loads.assignments(file)[1]}
 
 
-def without_values(tree, lines, assigned_at):
+def without_specifiers_or_zones(tree, lines, assigned_at):
     """Returns the lines of the timer's own file without those whose values have specifiers or zones."""
     values = {place: assigned_at.get(place, ("", ""))[1] for place in lines if place[0] == tree.own}
     return {place for place, value in values.items() if "%" not in value and not loads.may_name_zone(value, tree.stem)}
@@ -89,7 +89,7 @@ def compare(timers, tree):
     found = {(path, line) for path, line in found if line <= ends.get(path, line)} - loads.cleared_zones(tree)
     wanted -= loads.cleared_zones(tree)
     if tree.own in ends:
-        wanted, found = (without_values(tree, lines, assigned_at) for lines in (wanted, found))
+        wanted, found = (without_specifiers_or_zones(tree, lines, assigned_at) for lines in (wanted, found))
     for path, line in sorted(wanted - found):
         yield f"{path}:{line} isn't reported"
     for path, line in sorted(found - wanted):

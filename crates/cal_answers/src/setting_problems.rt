@@ -47,7 +47,7 @@ fn add_ignored_setting(
 }
 
 /// Adds an error about each timer in the search path whose unit to start has no file there: systemd refuses to start such
-/// a timer. `index` is the index of the search path. If a part of it can't be read, adds nothing.
+/// a timer. `index` is the index of the search path. If any part of the search path can't be read, adds nothing.
 pub(crate) fn add_missing_units(
     alloc: Global,
     index: &UnitIndex,
@@ -74,7 +74,7 @@ fn is_in_search_path(index: &UnitIndex, files: &[UnitText]) -> bool {
     index.folders().iter().any(|folder| is_directly_in(folder.path.as_str(), own.path.as_str()))
 }
 
-/// Returns whether the path is that of a folder, a slash and a name.
+/// Returns whether the path is directly in the folder, and not in a subfolder.
 fn is_directly_in(folder: &str, path: &str) -> bool {
     match path.strip_prefix(folder) {
         Some(rest) => rest.rfind("/") == Some(0),

@@ -14,8 +14,8 @@ use cal_timers_text::{
 };
 use std::alloc::{AllocError, Global};
 
-/// Adds an error about each timer that fails to load, and errors about the lines of all timers that are ignored although
-/// the file by itself is valid.
+/// Adds an error about each timer that fails to load, and a problem for each line of a timer that is ignored although the
+/// file by itself is valid.
 pub(crate) fn add_timers(
     alloc: Global,
     timers: &Loaded,
@@ -30,9 +30,8 @@ pub(crate) fn add_timers(
     Ok(())
 }
 
-/// Adds the reason why a timer fails to load: a line at which systemd stops reading its file, or that no setting starts
-/// its unit, after an error for everything that is ignored in its files. All other reasons are errors about files and are
-/// left out.
+/// Adds the reason why a timer fails to load. If systemd stops reading its file, this is the line. If no setting starts its
+/// unit, the problems of the lines that are ignored come first. All other reasons are errors about files and are left out.
 fn add_fault(
     alloc: Global,
     fault: &TargetFault,

@@ -1,4 +1,5 @@
-//! Expressions to write instead of others. "Accepts" and "rejects" stand for what the rules in `Systemd252` say.
+//! Suggested expressions. In this file, "systemd 252 accepts" means that the expression is valid here and that no rule of
+//! `Systemd252` rejects it.
 
 ghost use Rattle.std.specs.Prelude.{◌≡◌, IfOk, IfSome, Ok, string_bytes};
 ghost use Rattle.cal_spec.specs.computed.Expr.{expr_in};

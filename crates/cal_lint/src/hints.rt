@@ -1,7 +1,7 @@
 //! What to write instead of an invalid calendar expression.
 //!
-//! Hints depend only on the form of the text. A suggestion is always a valid expression, and no rule of `Systemd252` says
-//! that systemd 252 rejects it: if there is none, the hint has no suggestion.
+//! Hints depend only on the form of the text. A suggestion is always a valid expression that no rule of `Systemd252`
+//! rejects. If no such expression is known, the hint has no suggestion.
 
 ghost use Rattle.std.specs.Prelude.{◌≡◌, IfOk, IfSome, Some, false, is_ok, string_bytes, true};
 ghost use Rattle.std.specs.List.{list_any};

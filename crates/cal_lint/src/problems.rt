@@ -131,9 +131,9 @@ struct UnitLine<'l> {
 /// - what [`crate::find_doubt`] returns for valid expressions and exceptions;
 /// - other settings whose values systemd ignores.
 ///
-/// Values with a `%` aren't checked, since systemd replaces specifiers when it loads the unit (systemd.unit(5),
-/// Specifiers). Nor are the values of settings in `Unit`. This function doesn't examine whether lines are UTF-8 or too long
-/// for systemd.
+/// Expressions, exceptions, monotonic timers, `Unit=` and names in `Install` with a `%` aren't checked, since systemd fills
+/// in specifiers first (systemd.unit(5), Specifiers). Values in `Unit` aren't checked at all, nor whether lines are UTF-8
+/// or too long for systemd.
 ///
 /// [`crate::systemd_252`] finds no reason to reject a suggestion. Fails only if allocation fails.
 pub fn findings(alloc: Global, text: &str) -> Result<Vec<Finding>, AllocError>

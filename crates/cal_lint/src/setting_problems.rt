@@ -1,5 +1,6 @@
-//! The problems of the settings in a section `Timer`: invalid expressions and exceptions, valid ones that systemd 252 rejects
-//! or computes wrongly or that may not mean what their author thinks, and other settings whose values systemd ignores.
+//! The problems of the settings in a section `Timer`: invalid expressions and exceptions; valid ones that systemd 252
+//! rejects or computes wrongly, or that may not mean what their author thinks; and other settings whose values systemd
+//! ignores.
 
 ghost use Rattle.std.specs.Prelude.{◌≡◌, ◌++◌, ◌∷◌, [], All, IfOk, IfSome, OnOk, map, string_bytes};
 ghost use Rattle.std.specs.List.{find};

@@ -45,9 +45,9 @@ pub struct LoadedFiles {
 ///
 /// `index` is the index of the search path. A target is a path or the name of a timer, as for [`crate::load_timers`]. A
 /// timer stands for its file and its drop-ins. A folder stands for all its files with the suffix `.timer` or `.conf`, by
-/// name, and then for the drop-ins of its timers, for which it is read as if it were the only folder of the search path
-/// (systemd.unit(5), Unit File Load Path). Any other file stands for itself. A masked unit has no files. What can't be
-/// read is in [`LoadedFiles::faults`], and all other files are still read. A drop-in that is a folder, or a link to
+/// name, and then for the drop-ins of its timers. To find these, the folder is read as if it were the only folder of the
+/// search path (systemd.unit(5), Unit File Load Path). Any other file stands for itself. A masked unit has no files. What
+/// can't be read is in [`LoadedFiles::faults`], and all other files are still read. A drop-in that is a folder, or a link to
 /// nothing, is skipped, and so is a unit that has no file if there is no target. Without a target, a folder `NAME.wants`
 /// or `NAME.requires` that can't be read is an error, too, and so is one in a folder that is a target. Fails only if
 /// allocation fails.
@@ -330,7 +330,7 @@ impl Reading {
         }
     }
 
-    /// Reads the timers and drop-ins in a folder, and then the drop-ins of its units, which are in other folders in it.
+    /// Reads the timers and drop-ins in a folder, and then the drop-ins of its units, which are in its subfolders.
     fn take_folder<T: Tree>(
         &mut self,
         alloc: Global,

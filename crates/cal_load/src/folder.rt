@@ -17,7 +17,7 @@ pub(crate) struct FolderUnits {
     pub(crate) index: UnitIndex,
     /// The stems of the units' own names.
     pub(crate) stems: BTreeSet<String>,
-    /// What can't be read: folders in it that say which units are started, the folder itself, and its timers.
+    /// What can't be read: folders `NAME.wants` and `NAME.requires` in it, the folder itself, and files of timers in it.
     pub(crate) unread: Vec<UnitFault>,
 }
 
@@ -59,7 +59,7 @@ fn index_of<T: Tree>(alloc: Global, tree: &mut T, folder: &str) -> Result<UnitIn
     UnitIndex::read(alloc, tree, std::slice::from_ref(&folder))
 }
 
-/// Appends copies of more errors.
+/// Appends copies of the errors in `more`.
 fn push_copies(faults: &mut Vec<UnitFault>, more: &[UnitFault]) -> Result<(), AllocError>
     ensures { OnOk result (map shown_fault faults.new.items ≡ map shown_fault faults.old.items ++ map shown_fault more.now) }
 {

@@ -1,5 +1,6 @@
-//! The settings of a timer that systemd ignores because of the timer's name or of other settings (systemd.timer(5),
-//! Options; systemd.unit(5), Specifiers).
+//! The settings of a timer that systemd ignores because of what is only known of the timer as a whole: values that are
+//! invalid once specifiers are filled in, and each `Unit=` that doesn't count (systemd.timer(5), Options; systemd.unit(5),
+//! Specifiers).
 
 ghost use Rattle.std.specs.Prelude.{◌≡◌, ◌∷◌, ◌++◌, [], IfOk, OnOk, map};
 ghost use Rattle.std.specs.List.{list_any};
@@ -41,11 +42,11 @@ pub struct IgnoredSetting {
 }
 
 /// Returns the settings that systemd ignores in the files of the timer `name`, in order: monotonic timers and `Unit=` with
-/// specifiers that make them invalid, each `Unit=` that names the timer itself, and each one below the one that counts.
-/// `name` is the name of a unit, or the path of a file that is read by itself.
+/// specifiers that make them invalid, each `Unit=` that names the timer itself, and each `Unit=` after the first one with
+/// the valid name of another unit. `name` is the name of a unit, or the path of a file that is read by itself.
 ///
-/// Values without specifiers that are invalid by themselves are left out, unless they are those of a second `Unit=`. A
-/// value that depends on the running system is taken as valid.
+/// A setting whose value is invalid without specifiers is left out, unless it is such a later `Unit=`. A value that depends
+/// on the running system is taken as valid.
 ///
 /// Fails if allocation fails. Also fails for files that are too large for their lines to have numbers of 32 bits, of which
 /// no timer is loaded.

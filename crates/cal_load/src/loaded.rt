@@ -21,7 +21,7 @@ pub struct LoadedTimer {
     /// The unit's own name, such as `backup.timer`; or the path of a file that was read by itself; or the expressions,
     /// separated by commas.
     pub name: String,
-    /// The files that were read, and what systemd ignores in them. Empty for expressions.
+    /// The files that were read, with the lines in them that are ignored. Empty for expressions.
     pub files: TimerFiles,
     /// The valid expressions and exceptions in these files whose zone can be used, or the expressions that were given
     /// by themselves. Each of the latter has its index, counted from 1, as its line number.

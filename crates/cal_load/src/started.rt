@@ -19,13 +19,13 @@ use cal_settings::{has_percent, stem_base};
 use cal_unit_index::{SearchFolder, UnitIndex, UnitKind, UnitText, unit_kind_of};
 use std::alloc::{AllocError, Global};
 
-/// The suffixes of units that exist only if they have a file. Only these can be instances of a template.
+/// The suffixes of the units that are looked for: these units need a file, and can be instances of a template.
 const FILE_SUFFIXES: [&[u8]; 5] = [b".service", b".socket", b".target", b".path", b".timer"];
 
-/// Returns the name of the unit that the timer `name` with these files starts: that in the first `Unit=` that has the valid
-/// name of another unit, or otherwise the service with the timer's own name. `name` is the name of a unit, or the path of a
-/// file that is read by itself. Returns `None` if the started unit depends on the running system, such as for
-/// `Unit=%H.service`.
+/// Returns the name of the unit that the timer `name` with these files starts: the one that the first `Unit=` with the
+/// valid name of another unit gives, or otherwise the service with the timer's own name. `name` is the name of a unit, or
+/// the path of a file that is read by itself. Returns `None` if the started unit depends on the running system, such as
+/// for `Unit=%H.service`.
 ///
 /// If `Unit=` names a template, the timer starts the instance of it that has the timer's own instance or, if the timer
 /// isn't an instance, its name without the suffix.

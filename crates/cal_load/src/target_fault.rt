@@ -23,8 +23,8 @@ pub enum TargetReason {
     /// systemd stops reading the timer's own file, which is at this path, at this line. So it doesn't load the timer.
     Broken(String, BrokenLine),
     /// Nothing starts the timer's unit: its files have neither a calendar expression that can be used nor another setting
-    /// that starts the unit. The values are the timer's name, as in [`crate::LoadedTimer`], and the files, with everything
-    /// that systemd ignores in them.
+    /// that starts the unit. The values are the timer's name, as in [`crate::LoadedTimer`], and its files, with the lines in
+    /// them that are ignored.
     NothingToDo(String, TimerFiles),
     /// The expression, which was given instead of a timer, is invalid.
     Expression(SpecFault),

@@ -1,4 +1,4 @@
-//! The files of a timer, and what systemd ignores in them.
+//! The files of a timer, and the lines with expressions and exceptions in them that are ignored.
 
 ghost use Rattle.std.specs.Prelude.{◌≡◌, ◌+◌, ◌<◌, ◌≤◌, ◌^◌, [], ℕ, List, MatchOption, length, map, slice_get, slice_index};
 ghost use Rattle.std.specs.Option.{IsSomeAnd};
@@ -11,7 +11,8 @@ use crate::zones::UnusableZone;
 use cal_unit_index::UnitText;
 use std::alloc::Global;
 
-/// The files of a timer, and what systemd ignores in them.
+/// The files of a timer, the lines with expressions and exceptions that are ignored, and the lines at which systemd stops
+/// reading.
 #[derive(Debug, Drop)]
 pub struct TimerFiles {
     /// The files that were read: first the timer's own file, and then its drop-ins.
@@ -30,7 +31,7 @@ pub struct TimerFiles {
 }
 
 impl TimerFiles {
-    /// Returns no files.
+    /// Returns a value without files.
     pub(crate) fn new(alloc: Global) -> TimerFiles
         ensures ignored { result.ignored.items ≡ [] }
         ensures unusable { result.unusable_zones.items ≡ [] }

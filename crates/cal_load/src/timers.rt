@@ -294,7 +294,7 @@ fn unit_path(alloc: Global, folder: &str, stem: &str) -> Result<String, AllocErr
     path_in(alloc, folder, name.as_str())
 }
 
-/// Adds the errors that these paths can't be read.
+/// Adds an error for each path that can't be read.
 fn push_unread(alloc: Global, loaded: &mut Loaded, unread: Vec<UnitFault>) -> Result<(), AllocError>
     ensures more { OnOk result (IsMore (λ machine path. ⊤)
         (λ machine path. map UnreadPath (map shown_fault unread.items)) loaded.old loaded.new) }

@@ -168,10 +168,10 @@ OnCalender=daily
     ),
     (
         "lint|d",
-        "/etc/systemd/system/d.timer:3: warning: not a time span, so systemd ignores the line
+        "/etc/systemd/system/d.timer:3: warning: not a time span once its specifiers are filled in, so systemd ignores the line
 /etc/systemd/system/d.timer:4: warning: systemd ignores this line, as a timer can't start itself
-/etc/systemd/system/d.timer:6: warning: systemd ignores this line, as another Unit= stands above it
-d.timer: \x1b[1;31merror:\x1b[0m there is no unit e@d.target, so the timer can't start
+/etc/systemd/system/d.timer:6: warning: systemd ignores this line, as an earlier Unit= counts
+d.timer: \x1b[1;31merror:\x1b[0m e@d.target has no file in the search path, so systemd refuses to start the timer
 1 error, 3 warnings
 ",
     ),

@@ -49,7 +49,9 @@ pub(crate) fn push_message(
         Problem::NoEquals => out.push_str("a line without =, which systemd ignores"),
         Problem::NoKey => out.push_str("nothing before the =, so systemd ignores the line"),
         Problem::BadUnitName => {
-            out.push_str("systemctl enable fails because of a name in this line")
+            out.push_str(
+                "a name isn't that of a unit, or an alias not that of a timer, so systemctl enable fails",
+            )
         }
         Problem::IgnoredValue(kind) => {
             out.push_str(value_words(kind))?;
@@ -183,23 +185,28 @@ fn doubt_words(doubt: Doubt) -> &'static str {
 /// Returns the message about a setting that systemd ignores in a timer.
 pub fn ignored_setting_words(alloc: Global, why: WhyIgnored) -> Result<String, AllocError> {
     match why {
-        WhyIgnored::BadValue(kind) => message_of(alloc, Problem::IgnoredValue(kind), None),
+        WhyIgnored::BadValue(kind) => {
+            let words = value_words(kind);
+            format!(in alloc;
+                "{words} once its specifiers are filled in, so systemd ignores the line"
+            )
+        }
         WhyIgnored::OwnName => String::from_str(
             alloc,
             "systemd ignores this line, as a timer can't start itself",
         ),
         WhyIgnored::SecondUnit => String::from_str(
             alloc,
-            "systemd ignores this line, as another Unit= stands above it",
+            "systemd ignores this line, as an earlier Unit= counts",
         ),
     }
 }
 
 /// Returns the message about a timer that starts a unit with this name if there is no such unit.
 pub fn missing_unit_words(alloc: Global, unit: &str) -> Result<String, AllocError> {
-    let mut out = String::from_str(alloc, "there is no unit ")?;
+    let mut out = String::new(alloc);
     push_printable(&mut out, unit)?;
-    out.push_str(", so the timer can't start")?;
+    out.push_str(" has no file in the search path, so systemd refuses to start the timer")?;
     Ok(out)
 }
 

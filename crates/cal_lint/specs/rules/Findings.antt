@@ -161,7 +161,7 @@ problem_at number problem = record { line = number; kind = problem_kind_of probl
 abbrev pub shown_finding : Finding → FoundProblem
 shown_finding finding = record { line = finding.line; kind = finding.kind; problem = finding.problem }
 
--- no rule of systemd 252 rejects the suggestion of a finding, if there is one
+-- no rule of `Systemd252` rejects the suggestion of a finding, if there is one
 abbrev pub HasGoodSuggestion : Finding → Type 0
 HasGoodSuggestion finding = IfSome finding.suggestion (λ text. IsNotRejected (string_bytes text))
 

@@ -54,7 +54,7 @@ is_install_key key =
 abbrev pub is_timer_key : List ℕ → Bool
 is_timer_key key = is_some (kind_of key) || list_any (bytes_eq key) (codes "OnCalendar" ∷ exception_key ∷ [])
 
--- whether systemd knows the key in this section
+-- whether systemd 252 or this project knows the key in this section
 abbrev pub is_known_key : Section → List ℕ → Bool
 is_known_key Unit key = is_unit_key key
 is_known_key Timer key = is_timer_key key

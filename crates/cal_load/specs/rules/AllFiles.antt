@@ -53,7 +53,7 @@ abbrev pub paths_in : List ℕ → Result (List (List ℕ)) Unreadable → List 
 paths_in folder (Ok names) = map (path_in folder) names
 paths_in folder (Err why) = []
 
--- what a folder stands for: the texts in it, and then the files of its units, of which only the drop-ins are new
+-- what a folder stands for: the timers and drop-ins directly in it, and then the files of its units
 abbrev pub folder_paths : Machine → List ℕ → List (List ℕ)
 folder_paths machine folder =
     paths_in folder (text_names_at machine folder) ++ flat_map (unit_paths machine (folder ∷ [])) (units_in_folder machine folder)

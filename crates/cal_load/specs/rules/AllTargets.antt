@@ -84,11 +84,12 @@ IsUnreadFault folder names faults.TheVariants.NoMemory = ⊤
 -- ## The units of a folder
 
 -- A folder that is a target is read as if it were the only folder of the search path: systemd.unit(5), Unit File Load
--- Path. These are the own stems of its units, also of the instances of its templates that links in it start.
+-- Path. These are the stems of the own names of its units. An instance of a template also counts if a folder `NAME.wants`
+-- or `NAME.requires` in it links it.
 abbrev pub units_in_folder : Machine → List ℕ → List (List ℕ)
 units_in_folder machine folder = all_units machine (folder ∷ [])
 
--- what can't be read of a folder: folders in it that say which units are started, the folder itself, and its timers
+-- what can't be read: folders `NAME.wants` and `NAME.requires` in the folder, the folder itself, and files of timers in it
 abbrev pub unread_in_folder : Machine → List ℕ → List Fault
 unread_in_folder machine folder = unreadable_wants machine (folder ∷ []) ++ unreadable_in machine (folder ∷ [])
 

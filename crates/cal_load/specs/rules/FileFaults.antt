@@ -130,7 +130,7 @@ lost_texts machine folder =
     map lost_path (faults_of_listing folder (names_at machine folder))
     ++ flat_map (lost_file machine) (paths_in folder (text_names_at machine folder))
 
--- what can't be read of the units of a folder, and what may belong to its units, but can't be read
+-- the files and drop-ins of a folder's units that can't be read, and then what `unread_in_folder` lists
 abbrev pub lost_units : Machine → List ℕ → List Lost
 lost_units machine folder =
     flat_map (lost_listed machine (folder ∷ [])) (units_in_folder machine folder) ++ map lost_path (unread_in_folder machine folder)

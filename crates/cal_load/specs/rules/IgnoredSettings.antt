@@ -1,6 +1,6 @@
--- The settings of a timer that systemd ignores because of the timer's name or of other settings: values that aren't valid
--- once their specifiers are filled in, and each `Unit=` that can't count (systemd.timer(5), Options; systemd.unit(5),
--- Specifiers). Values without specifiers that are invalid by themselves aren't among them.
+-- The settings of a timer that systemd ignores because of what is only known of the timer as a whole: values that are
+-- invalid once their specifiers are filled in, and each `Unit=` that doesn't count (systemd.timer(5), Options;
+-- systemd.unit(5), Specifiers). Values that are invalid without specifiers aren't among them.
 use Rattle.std.specs.Prelude.{ℕ, nat_lt, Bool, false, not, ◌&&◌, if◌then◌else◌, List, ◌∷◌, [], Option, Some, None, option_map}
 use Rattle.std.specs.List.{filter_map, list_any}
 use Rattle.std.specs.Option.{option_or}

@@ -158,7 +158,7 @@ HasZones machine calendar table =
 abbrev pub noted_in_files : List ℕ → List UnitText → List Assignment
 noted_in_files name files = unclear_of_files name files ++ notes_in name (timer_assignments name files)
 
--- These are the files of the timer `name`, with everything that systemd ignores in them. It reads the timer's own file,
+-- These are the files of the timer `name`, with the lines in them that are ignored. systemd reads the timer's own file,
 -- the first of them, to the end. A line is ignored because of its zone if the zone isn't in the table. Each line that is
 -- ignored is in one of the files.
 pub record AreFilesOf (machine : Machine) (name : List ℕ) (files : List UnitText) (table : ZoneMap) (read : TimerFiles) : Type 0 where
@@ -189,7 +189,7 @@ IsUnitOn machine path asked timer =
 abbrev pub IsFileOn : Machine → LoadedTimer → Type 0
 IsFileOn machine timer = IsTimerReadFrom machine (text_at machine (string_bytes timer.name)) timer
 
--- the timer is a unit that is found if a folder is the only one of the search path
+-- for some folder, the timer is a unit that is found if the search path has only this folder
 abbrev pub IsFolderUnitOn : Machine → LoadedTimer → Type 0
 IsFolderUnitOn machine timer = (folder : List ℕ) × (asked : List ℕ) × IsUnitOn machine (folder ∷ []) asked timer
 

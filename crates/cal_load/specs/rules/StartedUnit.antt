@@ -18,7 +18,7 @@ use Rattle.cal_load.specs.rules.Specifiers.{instance_in, prefix_in}
 
 -- ## Names
 
--- the suffixes of units that exist only if they have a file; only these can be instances of a template
+-- the suffixes of the units that are looked for: these units need a file, and can be instances of a template
 abbrev pub file_suffixes : List (List ℕ)
 file_suffixes = codes ".service" ∷ codes ".socket" ∷ codes ".target" ∷ codes ".path" ∷ codes ".timer" ∷ []
 
@@ -36,7 +36,7 @@ argument_by Template own = instance_in own
 argument_by Instance own = instance_in own
 
 -- the instance of a template that the timer `own` starts if its `Unit=` names the template: the timer's own instance, or
--- its name without the suffix if it is no instance
+-- its name without the suffix if it isn't an instance
 abbrev pub argument_of : List ℕ → List ℕ
 argument_of own = argument_by (unit_kind_of (without_suffix own)) own
 

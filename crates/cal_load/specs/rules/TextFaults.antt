@@ -61,7 +61,7 @@ StartNothing machine name files =
     All (NamesUnusableZone machine) (expressions_of_files name files) × (unclear_of_files name files ≡ [])
     × (starts_unit (timer_assignments name files) ≡ false)
 
--- nothing starts the unit of the timer `name`, and `read` has its files, with everything that systemd ignores in them;
+-- nothing starts the unit of the timer `name`, and `read` has its files, with the lines in them that are ignored;
 -- only zones whose zone file on the machine is valid are in the table
 abbrev pub HasNothingToDo : Machine → List ℕ → List UnitText → TimerFiles → Type 0
 HasNothingToDo machine name files read =
