@@ -1,5 +1,6 @@
 -- Lemmas on what is found when a question is read.
 use Rattle.std.proofs.Common.{◌≡◌, ◌∙◌, ◌<◌, ◌≤◌, ℕ, All, Bool, Bor, true, false, List, [], ◌∷◌, Some, ap, arith, drop, get_or, inl, inr, length, map, option_map, refl, string_bytes, subst, sym}
+use Rattle.std.proofs.lemmas.List.{drop-map}
 use Rattle.cal_machine.specs.declared.raw.Raw.{Ghosts}
 use Rattle.cal_machine.specs.declared.recorder.Recorder.{Recorder}
 use Rattle.cal_machine.specs.rules.Machine.{Machine}
@@ -9,8 +10,8 @@ use Rattle.cal_machine.specs.rules.Seen.{some_machine, some_machine-matches}
 use Rattle.cal_timers_command.specs.declared.question.Question.{Question}
 use Rattle.cal_unit_index.specs.rules.Index.{IsIndexOf}
 use Rattle.cal_load.specs.declared.loaded.Loaded.{Loaded}
-use Rattle.cal_load.specs.rules.AllTargets.{HasAll, IsOutcome, Sought}
-use Rattle.cal_load.specs.rules.AllUnits.{started_if_all}
+use Rattle.cal_load.specs.rules.AllTargets.{HasAll, HasAllTargets, HasAllUnits, IsOutcome, Sought}
+use Rattle.cal_load.specs.rules.AllUnits.{shown_stems, started_if_all}
 use Rattle.cal_answers.specs.declared.found.Known.{Known}
 use Rattle.cal_answers.specs.declared.found.LoadedByVerb.{LoadedByVerb}
 use Rattle.cal_answers.specs.declared.found.LoadedByVerb.TheVariants as loads
@@ -61,6 +62,30 @@ linted_at : (Knows : Machine → List (List ℕ) → Type 0) (machine : Machine)
     → HasAllLinted Knows is_all targets timers → HasAllLinted (λ other folders. (other ≡ machine) × (folders ≡ path)) is_all targets timers
 linted_at Knows machine path is_all [] timers knows all = units_at Knows machine path is_all timers knows all
 linted_at Knows machine path is_all (one ∷ rest) timers knows all = tt
+
+-- if there are no targets, all units were looked for, and otherwise everything that the targets stand for
+pub all_for : (Shows : Machine → Type 0) (Is : Machine → List (List ℕ) → Type 0) (is_all : Bool) (targets : List (Bor (List ℕ))) (loaded : Loaded)
+    → (targets ≡ [] → HasAllUnits (λ machine path. Shows machine × Is machine path) is_all loaded)
+    → (targets ≡ [] → (machine : Machine) (path : List (List ℕ)) → Shows machine → Is machine path → shown_stems loaded.started ≡ started_if_all machine path is_all)
+    → ((targets ≡ [] → ⊥) → HasAllTargets (λ machine path. Shows machine × Is machine path) (map (λ text. text.now) targets) loaded)
+    → HasAllFor (λ machine path. Shows machine × Is machine path) is_all (map (λ text. text.now) targets) loaded
+all_for Shows Is is_all [] loaded units started targets = (units refl, λ machine path knows. started refl machine path knows.0 knows.1)
+all_for Shows Is is_all (one ∷ rest) loaded units started targets = targets (λ h. absurd (cc))
+
+-- the same for the targets of `between` without the start and the end of the range
+pub all_between : (Shows : Machine → Type 0) (Is : Machine → List (List ℕ) → Type 0) (is_all : Bool) (targets timers : List (Bor (List ℕ))) (loaded : Loaded)
+    → timers ≡ drop 2 targets
+    → HasAllFor (λ machine path. Shows machine × Is machine path) is_all (map (λ text. text.now) timers) loaded
+    → HasAllFor (λ machine path. Shows machine × Is machine path) is_all (drop 2 (map (λ text. text.now) targets)) loaded
+all_between Shows Is is_all targets timers loaded same all =
+    subst (λ texts. HasAllFor (λ machine path. Shows machine × Is machine path) is_all texts loaded)
+    (ap (λ (texts : List (Bor (List ℕ))). map (λ text. text.now) texts) same ∙ sym (drop-map (λ text. text.now) 2 targets)) all
+
+-- without targets, the units that `lint` takes were looked for
+pub all_linted : (Knows : Machine → List (List ℕ) → Type 0) (is_all : Bool) (targets : List (Bor (List ℕ))) (loaded : Loaded)
+    → (targets ≡ [] → HasUnits Knows is_all loaded) → HasAllLinted Knows is_all (map (λ text. text.now) targets) loaded
+all_linted Knows is_all [] loaded units = units refl
+all_linted Knows is_all (one ∷ rest) loaded units = tt
 
 pub loaded_at : (Knows : Machine → List (List ℕ) → Type 0) (machine : Machine) (path : List (List ℕ)) (is_all : Bool) (targets : List (List ℕ)) (loaded : LoadedByVerb) → Knows machine path
     → AreAll Knows is_all targets loaded → AreAllOn machine path is_all targets loaded

@@ -7,3 +7,6 @@ returns-then-is_empty-clause-known g c = λ machine path shows is.
 
 pub returns-else-is_empty-clause-known : goal.returns-else-is_empty-clause-known
 returns-else-is_empty-clause-known g c = λ machine path shows is. inr (c.in_ok-expression-in-Some.ensures.known machine shows)
+
+pub returns-in_default-clause-known : goal.returns-in_default-clause-known
+returns-in_default-clause-known g c = λ machine path shows is. inl (c.in_ok-loaded.ensures.known machine path shows is)
