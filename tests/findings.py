@@ -5,8 +5,8 @@
 
 TIMERS is calendar-timers. Each row of `ROWS` is a timer, `a.timer`, with what the two say of it. The services `a`, `b` and
 `c` exist. A message begins with the number of the line, if it is about a line; those of `lint` then have their level. Where
-systemd says nothing, `lint` says more on purpose: what systemd 252 computes wrongly, exceptions, names in `[Install]`, and
-units that don't exist.
+systemd says nothing, `lint` says more on purpose: what systemd 252 computes wrongly, exceptions, names in `[Install]`,
+units that don't exist, and lines below the one at which systemd stops reading.
 
 The last line is 'N passed, M failed', which counts rows, and the status is 1 if one failed. If there is no systemd-analyze
 252, only the messages of `lint` are compared, the script says so, and ', 1 skipped' follows."""
@@ -20,6 +20,7 @@ import sys
 import tempfile
 
 HEADER = "bad section header, at which systemd stops reading"
+OUTSIDE = "a line before the first section, which systemd ignores"
 REFUSED = ["Timer unit lacks value setting. Refusing.", "Unit a.timer has a bad unit file setting."]
 BAD_UNIT = "Unit a.timer failed to load properly, please adjust/correct and reload service manager: "
 IDLE = "error: no setting starts its unit"
@@ -36,10 +37,10 @@ DAILY = "[Timer]\nOnCalendar=daily\n"
 # A timer, what systemd says of it, and what lint says.
 ROWS = [
     (DAILY, [], []),
-    ("[Timer] # x\nOnCalendar=daily\n", ["1: Invalid section header '[Timer] # x'", f"{BAD_UNIT}Bad message"], [f"1: error: {HEADER}"]),
-    ("[Timer\nOnCalendar=daily\n", ["1: Invalid section header '[Timer'", f"{BAD_UNIT}Bad message"], [f"1: error: {HEADER}"]),
+    ("[Timer] # x\nOnCalendar=daily\n", ["1: Invalid section header '[Timer] # x'", f"{BAD_UNIT}Bad message"], [f"1: error: {HEADER}", f"2: warning: {OUTSIDE}"]),
+    ("[Timer\nOnCalendar=daily\n", ["1: Invalid section header '[Timer'", f"{BAD_UNIT}Bad message"], [f"1: error: {HEADER}", f"2: warning: {OUTSIDE}"]),
     (f"[Timmer]\nPersistent=yes\n{DAILY}", ["1: Unknown section 'Timmer'. Ignoring."], ["1: warning: unknown section, which systemd ignores"]),
-    (f"OnCalendar=daily\n{DAILY}", ["1: Assignment outside of section. Ignoring."], ["1: warning: a line before the first section, which systemd ignores"]),
+    (f"OnCalendar=daily\n{DAILY}", ["1: Assignment outside of section. Ignoring."], [f"1: warning: {OUTSIDE}"]),
     (f"[Unit]\nDescripton=x\n{DAILY}", ["2: Unknown key 'Descripton' in section [Unit], ignoring."], ["2: warning: unknown key in section [Unit]"]),
     (f"{DAILY}oncalendar=daily\n", ["3: Unknown key 'oncalendar' in section [Timer], ignoring."], ["3: warning: unknown key in section [Timer]"]),
     (f"{DAILY}[Install]\nWantetBy=timers.target\n", ["4: Unknown key 'WantetBy' in section [Install], ignoring."], ["4: warning: unknown key in section [Install]"]),
@@ -56,21 +57,21 @@ ROWS = [
     (f"{DAILY}Unit=%Z.service\n", ["3: Failed to resolve unit specifiers in %Z.service, ignoring: Invalid slot"], [f"3: warning: {NO_UNIT_FILLED}"]),
     (f"{DAILY}Unit=a.timer\n", ["3: Units cannot trigger themselves, ignoring: a.timer"], [f"3: warning: {OWN}"]),
     (f"{DAILY}Unit=b.service\nUnit=c.service\n", ["4: Multiple units to trigger specified, ignoring: c.service"], [f"4: warning: {SECOND}"]),
-    (f"{DAILY}Unit=b.service\nUnit=\n", ["4: Multiple units to trigger specified, ignoring:"], [f"4: warning: {SECOND}"]),
+    (f"{DAILY}Unit=b.service\nUnit=\n", ["4: Multiple units to trigger specified, ignoring:"], [f"4: warning: {NO_UNIT}"]),
     (f"{DAILY}Unit=mix\nUnit=b.service\n", ["3: Unit type not valid, ignoring: mix"], [f"3: warning: {NO_UNIT}"]),
     (f"{DAILY}OnCalendar=25:00\n", ["3: Failed to parse calendar specification, ignoring: 25:00"], [f"3: error: {INVALID}value out of range"]),
-    (f"{DAILY}OnCalendar=%p\n", ["3: Failed to parse calendar specification, ignoring: a"], [f"3: error: {INVALID}bad weekday"]),
+    (f"{DAILY}OnCalendar=%p\n", ["3: Failed to parse calendar specification, ignoring: a"], [f"3: error: {INVALID}unknown shorthand"]),
     (f"{DAILY}OnCalendar=Sat..Mon\n", ["3: Failed to parse calendar specification, ignoring: Sat..Mon"], ["3: error: systemd 252 doesn't accept a range of weekdays that runs past Sunday"]),
     (f"{DAILY}OnCalendar=10:00 Nowhere/City\n", ["3: Failed to parse calendar specification, ignoring: 10:00 Nowhere/City"], ["3: error: no zone file /usr/share/zoneinfo/Nowhere/City"]),
     ("[Timer]\nOnCalendar=25:00\n", ["2: Failed to parse calendar specification, ignoring: 25:00", *REFUSED], [f"2: error: {INVALID}value out of range", IDLE]),
     (
         "[Timer]\nOnCalendar=25:00\nOnCalendar=10:00 Nowhere/City\nOnCalendar=%p\n",
         ["2: Failed to parse calendar specification, ignoring: 25:00", "3: Failed to parse calendar specification, ignoring: 10:00 Nowhere/City", "4: Failed to parse calendar specification, ignoring: a", *REFUSED],
-        [f"2: error: {INVALID}value out of range", f"4: error: {INVALID}bad weekday", "3: error: no zone file /usr/share/zoneinfo/Nowhere/City", IDLE],
+        [f"2: error: {INVALID}value out of range", f"4: error: {INVALID}unknown shorthand", "3: error: no zone file /usr/share/zoneinfo/Nowhere/City", IDLE],
     ),
     (f"{DAILY}Description=\udcff\n", ["3: String is not UTF-8 clean, ignoring assignment: Description=\ufffd", f"{BAD_UNIT}Invalid argument"], ["3: warning: unknown key in section [Timer]", "3: error: not UTF-8, so the timer fails to load"]),
     ("[Unit]\nDescription=x\n", REFUSED, [IDLE]),
-    ("hello\n", ["1: Assignment outside of section. Ignoring.", *REFUSED], ["1: warning: a line before the first section, which systemd ignores", IDLE]),
+    ("hello\n", ["1: Assignment outside of section. Ignoring.", *REFUSED], [f"1: warning: {OUTSIDE}", IDLE]),
     (f"{DAILY}OnCalendar=*:0/7\n", [], ["3: warning: systemd 252 loses elapses at the start of a day: give the step of the minutes an end, as in 0..59/7"]),
     (f"{DAILY}X-ExceptOnCalendar=25:00\n", [], [f"3: error: {INVALID}value out of range"]),
     (f"{DAILY}[Install]\nWantedBy=no\n", [], ["4: error: a name isn't that of a unit, or an alias not that of a timer, so systemctl enable fails"]),
