@@ -1,6 +1,10 @@
 //! The options and the positional arguments of each verb. Their names are also used to look up the values that `clap`
 //! has parsed.
 
+ghost use Rattle.std.specs.Prelude.{◌≡◌, map};
+ghost use Rattle.cal_timers_command.specs.rules.CommandLine.{shown_argument, verb_rules};
+ghost use Rattle.cal_timers_command.specs.rules.VerbFirst.{needs_value};
+
 use crate::question::Verb;
 
 /// An option or a positional argument, and what the help says about it.
@@ -26,8 +30,6 @@ pub(crate) enum ArgumentForm {
     Flag,
     /// Like `Flag`; the option also has a short form, as in `-a`.
     ShortFlag(char),
-    /// Like `Flag`, but not together with the option of this name.
-    FlagWithout(&'static str),
     /// As one positional argument, which is required.
     One,
     /// As any number of positional arguments.
@@ -57,9 +59,11 @@ pub(crate) const IN: Argument = Argument {
     help: "Show times in this zone{n}[default: that of --zone, TZ or the machine, in this order]",
 };
 
+/// It isn't described to `clap` as being in conflict with `ZONE`: the contract of `clap` names the errors only of
+/// commands whose arguments have no rules about each other.
 pub(crate) const UTC: Argument = Argument {
     name: "utc",
-    form: ArgumentForm::FlagWithout("zone"),
+    form: ArgumentForm::Flag,
     value_name: "",
     help: "Use UTC as the local zone",
 };
@@ -167,27 +171,34 @@ const OTHER_SIDE: Argument = Argument {
     help: "Unit, timer file or calendar expression",
 };
 
-static LIST_ARGUMENTS: [Argument; 9] = [ALL, ZONE, UTC, IN, NOW, ROOT, USER, JSON, ANY_TIMERS];
+const LIST_ARGUMENTS: [Argument; 9] = [ALL, ZONE, UTC, IN, NOW, ROOT, USER, JSON, ANY_TIMERS];
 
-static LINT_ARGUMENTS: [Argument; 9] = [ALL, STRICT, ZONE, UTC, NOW, ROOT, USER, JSON, ANY_TIMERS];
+const LINT_ARGUMENTS: [Argument; 9] = [ALL, STRICT, ZONE, UTC, NOW, ROOT, USER, JSON, ANY_TIMERS];
 
-static SHOW_ARGUMENTS: [Argument; 9] = [COUNT, ZONE, UTC, IN, NOW, ROOT, USER, JSON, TIMERS];
+const SHOW_ARGUMENTS: [Argument; 9] = [COUNT, ZONE, UTC, IN, NOW, ROOT, USER, JSON, TIMERS];
 
-static BETWEEN_ARGUMENTS: [Argument; 11] = [
+const BETWEEN_ARGUMENTS: [Argument; 11] = [
     FROM, TO, ALL, ZONE, UTC, IN, NOW, ROOT, USER, JSON, ANY_TIMERS,
 ];
 
-static SAME_ARGUMENTS: [Argument; 9] = [ONE_SIDE, OTHER_SIDE, ZONE, UTC, IN, NOW, ROOT, USER, JSON];
+const SAME_ARGUMENTS: [Argument; 9] = [ONE_SIDE, OTHER_SIDE, ZONE, UTC, IN, NOW, ROOT, USER, JSON];
 
-static NEXT_ARGUMENTS: [Argument; 8] = [COUNT, ZONE, UTC, IN, NOW, ROOT, JSON, EXPRESSIONS];
+const NEXT_ARGUMENTS: [Argument; 8] = [COUNT, ZONE, UTC, IN, NOW, ROOT, JSON, EXPRESSIONS];
 
-/// Returns whether the option of this name has a value.
-pub(crate) fn has_value(name: &str) -> bool {
-    matches!(name, "count" | "zone" | "in" | "now" | "root")
+/// Returns whether the argument is an option whose value is the next argument.
+pub(crate) fn needs_value(argument: &str) -> bool
+    ensures { result ≡ needs_value argument.now }
+{
+    matches!(
+        argument,
+        "-n" | "--count" | "--zone" | "--in" | "--now" | "--root"
+    )
 }
 
 /// Returns the arguments of a verb, in the order in which the help lists them.
-pub(crate) fn arguments_of(verb: Verb) -> &'static [Argument] {
+pub(crate) fn arguments_of(verb: Verb) -> &'static [Argument]
+    ensures { map shown_argument result.now ≡ verb_rules verb }
+{
     match verb {
         Verb::List => &LIST_ARGUMENTS,
         Verb::Lint => &LINT_ARGUMENTS,

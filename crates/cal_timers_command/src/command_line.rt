@@ -1,7 +1,10 @@
 //! Parsing of the arguments by `clap`.
 
-ghost use Rattle.std.specs.Prelude.{◌<◌, IfErr, IfSome, length, string_bytes};
-ghost use Rattle.cal_timers_command.specs.rules.Questions.{HasText};
+ghost use Rattle.std.specs.Prelude.{◌≡◌, ◌<◌, [], IfErr, IfOk, IfSome, length, string_bytes};
+ghost use Rattle.clap.specs.Words.{fault_of, kind_of, subcommand_of, subcommand_rows_of};
+ghost use Rattle.cal_timers_command.specs.rules.Asked.{IsRefusalOf, IsReportedOf, is_of_help, shown_fault};
+ghost use Rattle.cal_timers_command.specs.rules.CommandLine.{command_app};
+ghost use Rattle.cal_timers_command.specs.rules.Texts.{texts_of};
 
 use crate::clap_command::build_command;
 use crate::command_fault::CommandFault;
@@ -15,7 +18,9 @@ pub(crate) fn parse<'a>(
     alloc: Global,
     arguments: &'a [&'a str],
 ) -> Result<ArgMatches<'a>, CommandFault>
-    ensures { IfErr result HasText }
+    ensures faults { IfOk result (λ _. fault_of command_app (texts_of arguments.now) ≡ []) }
+    ensures found { IfOk result (λ matches. subcommand_rows_of matches ≡ subcommand_of command_app (texts_of arguments.now)) }
+    ensures fault { IfErr result (λ fault. IsRefusalOf (fault_of command_app (texts_of arguments.now)) (shown_fault fault)) }
 {
     match build_command(alloc)?.try_get_matches_from(arguments) {
         Ok(matches) => Ok(matches),
@@ -25,7 +30,7 @@ pub(crate) fn parse<'a>(
 
 /// Converts an error of `clap`. `clap` reports requests for help or the version as errors, too.
 fn convert_error(alloc: Global, error: &Error) -> CommandFault
-    ensures { HasText result }
+    ensures { IsReportedOf (kind_of error.now) (shown_fault result) }
 {
     if error.kind() == ErrorKind::OutOfMemory {
         return CommandFault::NoMemory;
@@ -33,10 +38,10 @@ fn convert_error(alloc: Global, error: &Error) -> CommandFault
     let Some(text) = error_text(alloc, error) else {
         return CommandFault::NoMemory;
     };
-    if error.use_stderr() {
-        CommandFault::Usage(text)
-    } else {
+    if is_of_help(error.kind()) {
         CommandFault::Help(text)
+    } else {
+        CommandFault::Usage(text)
     }
 }
 
@@ -52,4 +57,10 @@ fn error_text(alloc: Global, error: &Error) -> Option<String>
         return None;
     }
     Some(text)
+}
+
+fn is_of_help(kind: ErrorKind) -> bool
+    ensures { result ≡ is_of_help kind }
+{
+    matches!(kind, ErrorKind::DisplayHelp | ErrorKind::DisplayVersion)
 }

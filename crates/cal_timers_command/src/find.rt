@@ -1,13 +1,19 @@
 //! Parsing of the arguments into a question, from the matches that `clap` returns.
 
-ghost use Rattle.std.specs.Prelude.{IfErr};
+ghost use Rattle.std.specs.Prelude.{◌≡◌, ◌++◌, Ok, IfErr, IfOk, map, string_bytes};
+ghost use Rattle.std.specs.Option.{option_copied};
+ghost use Rattle.clap.specs.Words.{found_of, rows_of, subcommand_rows_of};
+ghost use Rattle.cal_timers_command.specs.rules.Asked.{IsFaultIn, IsFaultOf, IsQuestionOf, one_text, question_for, question_found, shown_fault, shown_question, targets_in};
 ghost use Rattle.cal_timers_command.specs.rules.Questions.{HasText, IsUsageOf, no_question};
+ghost use Rattle.cal_timers_command.specs.rules.Texts.{texts_of};
 
 use crate::arguments::{ALL, FIRST, JSON, SECOND, STRICT, TARGET, USER};
 use crate::command_fault::CommandFault;
 use crate::command_line::parse;
 use crate::question::{Question, Verb};
-use crate::values::{count_of, now_of, root_of, shown_in_value, zone_value};
+use crate::values::{
+    check_zone, count_of, is_set, now_of, root_of, shown_in_value, value_of, zone_value,
+};
 use crate::verb_first::with_verb_first;
 use clap::ArgMatches;
 use std::alloc::{AllocError, Global};
@@ -49,62 +55,87 @@ impl Question {
     /// only if allocation fails, and with [`CommandFault::Usage`] if the arguments are invalid: for example, if an
     /// option is given twice, if its value is empty, or if `--zone` is given with `--utc`.
     pub fn of<S: AsStr>(alloc: Global, arguments: &[S]) -> Result<Question, CommandFault>
-        ensures { IfErr result HasText }
+        ensures question { IfOk result (λ question. IsQuestionOf (map S.text arguments.now) (shown_question question)) }
+        ensures fault { IfErr result (λ fault. IsFaultOf (map S.text arguments.now) (shown_fault fault)) }
+        ensures text { IfErr result HasText }
     {
         let texts = with_verb_first(alloc, arguments)?;
         let matches = parse(alloc, texts.as_slice())?;
-        let Some((name, values)) = matches.subcommand() else {
-            return Err(no_question(alloc));
-        };
-        match Verb::named(name) {
-            Some(verb) => question_of(alloc, verb, values),
-            None => Err(no_question(alloc)),
-        }
+        question_found(alloc, &matches)
     }
+}
+
+/// Converts the matches to a question.
+fn question_found(alloc: Global, matches: &ArgMatches<'_>) -> Result<Question, CommandFault>
+    ensures question { IfOk result (λ question. question_found (subcommand_rows_of matches.now) ≡ Ok (shown_question question)) }
+    ensures fault { IfErr result (IsFaultIn (question_found (subcommand_rows_of matches.now))) }
+{
+    let Some((name, values)) = matches.subcommand() else {
+        return Err(no_question(alloc));
+    };
+    let Some(verb) = Verb::named(name) else {
+        return Err(no_question(alloc));
+    };
+    question_of(alloc, verb, values)
 }
 
 /// Converts the matches of a verb to a question.
 fn question_of(alloc: Global, verb: Verb, values: &ArgMatches<'_>) -> Result<Question, CommandFault>
-    ensures { IfErr result HasText }
+    ensures question { IfOk result (λ question. question_for verb (rows_of (found_of values.now)) ≡ Ok (shown_question question)) }
+    ensures fault { IfErr result (IsFaultIn (question_for verb (rows_of (found_of values.now)))) }
 {
     let targets = targets_of(alloc, values)?;
     if !verb.fits(targets.len()) {
         return Err(no_question(alloc));
     }
+    check_zone(alloc, values)?;
     let count = count_of(alloc, values)?;
     let now = now_of(alloc, values)?;
+    let zone = zone_value(alloc, values)?;
+    let shown_in = shown_in_value(alloc, values)?;
+    let root = root_of(alloc, values)?;
     Ok(Question {
         verb,
         targets,
-        zone: zone_value(alloc, values)?,
-        shown_in: shown_in_value(alloc, values)?,
+        zone,
+        shown_in,
         count,
         now,
-        root: root_of(alloc, values)?,
-        is_user: values.get_flag(USER.name),
-        is_all: values.get_flag(ALL.name),
-        is_strict: values.get_flag(STRICT.name),
-        is_json: values.get_flag(JSON.name),
+        root,
+        is_user: is_set(values, USER.name),
+        is_all: is_set(values, ALL.name),
+        is_strict: is_set(values, STRICT.name),
+        is_json: is_set(values, JSON.name),
     })
 }
 
 /// Copies the targets: the first and the second argument of `between` or `same`, and then all other targets.
-fn targets_of(alloc: Global, values: &ArgMatches<'_>) -> Result<Vec<String>, AllocError> {
+fn targets_of(alloc: Global, values: &ArgMatches<'_>) -> Result<Vec<String>, AllocError>
+    ensures { IfOk result (λ targets. map string_bytes targets.items ≡ targets_in (rows_of (found_of values.now))) }
+{
     let mut targets = Vec::new(alloc);
-    push_text(alloc, &mut targets, values.get_str(FIRST))?;
-    push_text(alloc, &mut targets, values.get_str(SECOND))?;
-    for text in values.get_strs(TARGET).unwrap_or(&[]) {
-        targets.push(String::from_str(alloc, text)?)?;
-    }
+    push_text(alloc, &mut targets, value_of(values, FIRST))?;
+    push_text(alloc, &mut targets, value_of(values, SECOND))?;
+    let Some(texts) = values.get_strs(TARGET) else {
+        return Ok(targets);
+    };
+    push_texts(alloc, &mut targets, texts)?;
     Ok(targets)
 }
 
-fn push_text(
-    alloc: Global,
-    targets: &mut Vec<String>,
-    text: Option<&str>,
-) -> Result<(), AllocError> {
+fn push_text(alloc: Global, targets: &mut Vec<String>, text: Option<&str>) -> Result<(), AllocError>
+    ensures { IfOk result (λ _. map string_bytes targets.new.items ≡ map string_bytes targets.old.items ++ one_text (option_copied text.entry)) }
+{
     if let Some(text) = text {
+        targets.push(String::from_str(alloc, text)?)?;
+    }
+    Ok(())
+}
+
+fn push_texts(alloc: Global, targets: &mut Vec<String>, texts: &[&str]) -> Result<(), AllocError>
+    ensures { IfOk result (λ _. map string_bytes targets.new.items ≡ map string_bytes targets.old.items ++ texts_of texts.now) }
+{
+    for text in texts {
         targets.push(String::from_str(alloc, text)?)?;
     }
     Ok(())

@@ -4,6 +4,7 @@
 mod arguments;
 mod clap_command;
 mod command_fault;
+pub mod command_laws;
 mod command_line;
 mod find;
 mod help_texts;

@@ -1,9 +1,11 @@
 //! The question that the arguments ask: a verb, its targets and its options.
 
-ghost use Rattle.std.specs.Prelude.{◌≡◌, true, vec_len};
+ghost use Rattle.std.specs.Prelude.{◌≡◌, find, true, vec_len};
 ghost use Rattle.std.specs.Option.{ForSome};
+ghost use Rattle.std.specs.Str.{bytes_eq};
 ghost use Rattle.cal_zone.specs.rules.Instant.{IsInstant};
 ghost use Rattle.cal_timers_command.specs.rules.Questions.{IsElapseCount, fits_verb};
+ghost use Rattle.cal_timers_command.specs.rules.Verbs.{verb_name, verb_named};
 
 use std::alloc::{AllocError, Global};
 use strsim::osa_distance;
@@ -80,7 +82,9 @@ impl Verb {
     ];
 
     /// Returns the name of the verb. The caller chooses the lifetime, since the prover can't shorten `'static`.
-    pub fn name<'a>(self) -> &'a str {
+    pub fn name<'a>(self) -> &'a str
+        ensures { result.now ≡ verb_name self }
+    {
         match self {
             Verb::List => "list",
             Verb::Show => "show",
@@ -92,8 +96,10 @@ impl Verb {
     }
 
     /// Returns the verb with this name, or `None` if there is no such verb.
-    pub(crate) fn named(name: &str) -> Option<Verb> {
-        Verb::ALL.into_iter().find(|verb| verb.name() == name)
+    pub(crate) fn named(name: &str) -> Option<Verb>
+        ensures { result ≡ verb_named name.now }
+    {
+        find_named(&Verb::ALL, name)
     }
 
     /// Returns a verb whose name differs from the word by a single edit: a letter is left out, added, replaced, or swapped
@@ -118,4 +124,10 @@ impl Verb {
             Verb::Same => count == 2,
         }
     }
+}
+
+fn find_named(verbs: &[Verb], name: &str) -> Option<Verb>
+    ensures { result ≡ find (λ verb. bytes_eq (verb_name verb) name.now) verbs.now }
+{
+    verbs.iter().copied().find(|verb| verb.name() == name)
 }

@@ -2,25 +2,14 @@
 //! front. If no verb is given, `list` is inserted there, unless an argument before the first target asks for help
 //! or the version.
 
-use crate::arguments::has_value;
+ghost use Rattle.std.specs.Prelude.{◌≡◌, ◌++◌, ◌<◌, ◌&&◌, ◌||◌, IfOk, IfSome, length, map, not};
+ghost use Rattle.cal_timers_command.specs.rules.VerbFirst.{asks_help, first_word, is_option, leads, list_first, moved_first, needs_value, verb_first};
+ghost use Rattle.cal_timers_command.specs.rules.Texts.{texts_of};
+
+use crate::arguments::needs_value;
 use crate::question::Verb;
 use std::alloc::{AllocError, Global};
 use std::convert::AsStr;
-
-/// The kind of an argument that isn't the value of the option before it.
-#[derive(Clone, Copy)]
-enum ArgumentKind {
-    /// An option whose value is the next argument.
-    NeedsValue,
-    /// `--help`, `--version` or a short form of these.
-    Help,
-    /// `--`, after which all arguments are targets.
-    End,
-    /// Any other option, including an option that is joined to its value.
-    Option,
-    /// Not an option: a verb or a target.
-    Word,
-}
 
 /// Returns the arguments with the verb at the front.
 ///
@@ -30,67 +19,103 @@ enum ArgumentKind {
 pub(crate) fn with_verb_first<'a, S: AsStr>(
     alloc: Global,
     arguments: &'a [S],
-) -> Result<Vec<&'a str>, AllocError> {
-    let verb_index = find_verb(arguments);
+) -> Result<Vec<&'a str>, AllocError>
+    ensures { IfOk result (λ texts. texts_of texts.items ≡ verb_first (map S.text arguments.now)) }
+{
+    let Some(index) = first_word(arguments) else {
+        return list_first(alloc, arguments);
+    };
+    if leads(arguments[index].as_str()) {
+        moved_first(alloc, arguments, index)
+    } else {
+        list_first(alloc, arguments)
+    }
+}
+
+/// Returns the arguments with the one at this index moved to the front.
+fn moved_first<'a, S: AsStr>(
+    alloc: Global,
+    arguments: &'a [S],
+    index: usize,
+) -> Result<Vec<&'a str>, AllocError>
+    requires { index < length arguments.now }
+    ensures { IfOk result (λ texts. texts_of texts.items ≡ moved_first (map S.text arguments.now) index) }
+{
     let mut texts = Vec::new(alloc);
-    match verb_index.and_then(|index| arguments.get(index)) {
-        Some(verb) => texts.push(verb.as_str())?,
-        None => texts.push("list")?,
-    }
-    for (index, argument) in arguments.iter().enumerate() {
-        if verb_index != Some(index) {
-            texts.push(argument.as_str())?;
-        }
-    }
+    texts.push(arguments[index].as_str())?;
+    push_texts(&mut texts, &arguments[..index])?;
+    push_texts(&mut texts, &arguments[index + 1..])?;
     Ok(texts)
 }
 
-/// Returns the index of the argument that [`with_verb_first`] moves to the front, or `None` if there is nothing to
-/// move.
-fn find_verb<S: AsStr>(arguments: &[S]) -> Option<usize> {
+/// Returns the arguments with `list` before them.
+fn list_first<'a, S: AsStr>(alloc: Global, arguments: &'a [S]) -> Result<Vec<&'a str>, AllocError>
+    ensures { IfOk result (λ texts. texts_of texts.items ≡ list_first (map S.text arguments.now)) }
+{
+    let mut texts = Vec::new(alloc);
+    texts.push("list")?;
+    push_texts(&mut texts, arguments)?;
+    Ok(texts)
+}
+
+fn push_texts<'a, S: AsStr>(texts: &mut Vec<&'a str>, arguments: &'a [S]) -> Result<(), AllocError>
+    ensures { IfOk result (λ _. texts_of texts.new.items ≡ texts_of texts.old.items ++ map S.text arguments.now) }
+{
+    for argument in arguments {
+        texts.push(argument.as_str())?;
+    }
+    Ok(())
+}
+
+/// Returns the index of the first argument that is neither an option nor the value of an option. `--` and requests for
+/// help or the version don't count as options here.
+fn first_word<S: AsStr>(arguments: &[S]) -> Option<usize>
+    ensures word { result ≡ first_word (map S.text arguments.now) }
+    ensures inside { IfSome result (λ index. index < length arguments.now) }
+{
     let mut is_value = false;
     for (index, argument) in arguments.iter().enumerate() {
-        let kind = if is_value {
-            ArgumentKind::Option
-        } else {
-            argument_kind(argument.as_str())
-        };
-        is_value = false;
-        match kind {
-            ArgumentKind::NeedsValue => is_value = true,
-            ArgumentKind::Option => {}
-            ArgumentKind::Help => return Some(index),
-            ArgumentKind::End => return None,
-            ArgumentKind::Word if is_verb(argument.as_str()) => return Some(index),
-            ArgumentKind::Word => return None,
+        let text = argument.as_str();
+        if !is_passed(is_value, text) {
+            return Some(index);
         }
+        is_value = awaits_value(is_value, text);
     }
     None
 }
 
-fn argument_kind(argument: &str) -> ArgumentKind {
-    match argument {
-        "-h" | "--help" | "-V" | "--version" => return ArgumentKind::Help,
-        "--" => return ArgumentKind::End,
-        "-n" => return ArgumentKind::NeedsValue,
-        _ => {}
-    }
-    if let Some(name) = argument.strip_prefix("--") {
-        return if has_value(name) {
-            ArgumentKind::NeedsValue
-        } else {
-            ArgumentKind::Option
-        };
-    }
-    // A single `-` is not an option.
-    if argument.starts_with('-') && argument.len() > 1 {
-        ArgumentKind::Option
-    } else {
-        ArgumentKind::Word
-    }
+/// Returns whether the argument is an option or, if `is_value`, the value of one.
+fn is_passed(is_value: bool, argument: &str) -> bool
+    ensures { result ≡ (is_value || is_option argument.now) }
+{
+    is_value || is_option(argument)
 }
 
-/// Returns whether `clap` takes the word for a verb. It adds the verb `help` to ours.
-fn is_verb(word: &str) -> bool {
-    word == "help" || Verb::named(word).is_some()
+/// Returns whether the next argument is the value of this one, which is itself a value if `is_value`.
+fn awaits_value(is_value: bool, argument: &str) -> bool
+    ensures { result ≡ (needs_value argument.now && not is_value) }
+{
+    needs_value(argument) && !is_value
+}
+
+/// Returns whether the argument is an option. `--`, after which all arguments are targets, and requests for help or the
+/// version don't count as options here. A single `-` isn't an option.
+fn is_option(argument: &str) -> bool
+    ensures { result ≡ is_option argument.now }
+{
+    argument.starts_with('-') && argument.len() > 1 && argument != "--" && !asks_help(argument)
+}
+
+/// Returns whether `clap` takes the argument for a verb, or for a request for help or the version. It adds the verb
+/// `help` to ours.
+fn leads(argument: &str) -> bool
+    ensures { result ≡ leads argument.now }
+{
+    argument == "help" || asks_help(argument) || Verb::named(argument).is_some()
+}
+
+fn asks_help(argument: &str) -> bool
+    ensures { result ≡ asks_help argument.now }
+{
+    matches!(argument, "-h" | "--help" | "-V" | "--version")
 }

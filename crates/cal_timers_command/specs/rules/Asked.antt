@@ -1,0 +1,191 @@
+-- Which question the arguments ask, or which error they have.
+use Rattle.std.specs.Prelude.{◌≡◌, ◌≢◌, ◌⊎◌, ◌<◌, ⊤, ℕ, ℤ, Bool, true, false, not, ◌&&◌, List, [], ◌∷◌, ◌++◌, Option, None, Some, Result, Ok, Err, codes, if◌then◌else◌, is_some, length, map, unwrap_or, option_map}
+use Rattle.std.specs.List.{list_any}
+use Rattle.std.specs.Option.{option_map_or}
+use Rattle.std.specs.String.{string_bytes}
+use Rattle.clap.specs.Words.{Kinds, Row, Text, all_of, fault_of, first_of, subcommand_of}
+use Rattle.clap.specs.declared.error.kind.ErrorKind.{ErrorKind}
+use Rattle.clap.specs.declared.error.kind.ErrorKind.TheVariants.{DisplayHelp, DisplayVersion, OutOfMemory}
+use Rattle.cal_timers_command.specs.declared.question.Question as declared_question
+use Rattle.cal_timers_command.specs.declared.question.Verb.{Verb}
+use Rattle.cal_timers_command.specs.declared.command_fault.CommandFault.{CommandFault}
+use Rattle.cal_timers_command.specs.declared.command_fault.CommandFault.TheVariants.{Usage, Help, NoMemory}
+use Rattle.cal_timers_command.specs.rules.CommandLine.{command_app}
+use Rattle.cal_timers_command.specs.rules.OptionValues.{bad_value, count_in, is_set, is_zone_first, no_value, present_in, text_in, zone_clash}
+use Rattle.cal_timers_command.specs.rules.Questions.{fits_verb, no_question}
+use Rattle.cal_timers_command.specs.rules.VerbFirst.{verb_first}
+use Rattle.cal_timers_command.specs.rules.Verbs.{verb_named}
+
+-- ## Questions and errors, with each string as the list of its bytes
+
+pub record Question : Type 0 where
+  pub verb : Verb
+  pub targets : List Text
+  pub zone : Option Text
+  pub shown_in : Option Text
+  pub count : Option ℕ
+  pub now : Option ℤ
+  pub root : Text
+  pub is_user : Bool
+  pub is_all : Bool
+  pub is_strict : Bool
+  pub is_json : Bool
+
+-- invalid arguments, or a request for help or the version, with the text to print; or a failed allocation
+pub data Fault : Type 0 where
+  usage : Text → Fault
+  help : Text → Fault
+  no_memory : Fault
+
+abbrev pub shown_question : declared_question.Question → Question
+shown_question question = record {
+  verb = question.verb;
+  targets = map string_bytes question.targets.items;
+  zone = option_map string_bytes question.zone;
+  shown_in = option_map string_bytes question.shown_in;
+  count = question.count;
+  now = question.now;
+  root = string_bytes question.root;
+  is_user = question.is_user;
+  is_all = question.is_all;
+  is_strict = question.is_strict;
+  is_json = question.is_json;
+}
+
+abbrev pub shown_fault : CommandFault → Fault
+shown_fault (Usage text) = usage (string_bytes text)
+shown_fault (Help text) = help (string_bytes text)
+shown_fault NoMemory = no_memory
+
+-- ## What the values that `clap` finds ask for
+
+-- the value of an option as it is read, if it is given, or the error with the message about an invalid value
+abbrev pub option_value : {A : Type 0} → (Text → Option A) → (Text → Text) → Option Text → Result (Option A) Fault
+option_value read message None = Ok None
+option_value read message (Some text) =
+    option_map_or (λ value. Ok (Some value)) (read text) (Err (usage (message text)))
+
+-- `--count`
+unfoldable pub count_value : List Row → Result (Option ℕ) Fault
+count_value rows =
+    option_value count_in (bad_value (codes "count") (codes "N") (codes "expected 1 to 1000000")) (first_of (codes "count") rows)
+
+-- `--now`
+unfoldable pub now_value : List Row → Result (Option ℤ) Fault
+now_value rows =
+    option_value present_in (bad_value (codes "now") (codes "@N") (codes "expected @0 to @7258211998")) (first_of (codes "now") rows)
+
+-- an option whose value is any text that isn't empty
+unfoldable pub text_value : Text → Text → List Row → Result (Option Text) Fault
+text_value name value_name rows = option_value text_in (λ text. no_value name value_name) (first_of name rows)
+
+-- both `--zone` and `--utc` are given
+abbrev pub has_clash : List Row → Bool
+has_clash rows = is_set (codes "utc") rows && is_some (first_of (codes "zone") rows)
+
+-- `--zone`, and `--utc` as `UTC`
+unfoldable pub zone_value : List Row → Result (Option Text) Fault
+zone_value rows =
+    if is_set (codes "utc") rows then Ok (Some (codes "UTC")) else text_value (codes "zone") (codes "ZONE") rows
+
+abbrev pub one_text : Option Text → List Text
+one_text None = []
+one_text (Some text) = text ∷ []
+
+-- the two targets that `between` and `same` need, and then all others, in the order in which they are given
+unfoldable pub targets_in : List Row → List Text
+targets_in rows =
+    one_text (first_of (codes "first") rows) ++ one_text (first_of (codes "second") rows)
+    ++ unwrap_or (all_of (codes "target") rows) []
+
+-- continues with the value, unless there is an error
+abbrev pub then_with : {A B : Type 0} → Result A Fault → (A → Result B Fault) → Result B Fault
+then_with (Ok value) next = next value
+then_with (Err fault) next = Err fault
+
+-- `--root`, and an empty text by default
+unfoldable pub root_value : List Row → Result Text Fault
+root_value rows =
+    then_with (text_value (codes "root") (codes "DIR") rows) (λ root. Ok (unwrap_or root []))
+
+-- What a verb with these values asks, or the error of the first invalid value, in the order below. `clap` accepts only
+-- numbers of targets that fit the verb, so `no_question` is never the error; but this isn't proved.
+unfoldable pub question_for : Verb → List Row → Result Question Fault
+question_for verb rows =
+    if not (fits_verb verb (length (targets_in rows))) then Err (usage no_question)
+    else if has_clash rows then Err (usage (zone_clash (is_zone_first rows)))
+    else then_with (count_value rows) (λ count.
+    then_with (now_value rows) (λ now.
+    then_with (zone_value rows) (λ zone.
+    then_with (text_value (codes "in") (codes "ZONE") rows) (λ shown_in.
+    then_with (root_value rows) (λ root.
+    Ok (record {
+      verb = verb;
+      targets = targets_in rows;
+      zone = zone;
+      shown_in = shown_in;
+      count = count;
+      now = now;
+      root = root;
+      is_user = is_set (codes "user") rows;
+      is_all = is_set (codes "all") rows;
+      is_strict = is_set (codes "strict") rows;
+      is_json = is_set (codes "json") rows;
+    }))))))
+
+-- ## What the arguments ask
+
+-- the kinds of errors, other than `OutOfMemory`, that `clap` may report for the arguments; none if it parses them
+unfoldable pub faults_in : List Text → Kinds
+faults_in arguments = fault_of command_app (verb_first arguments)
+
+-- what the verb that `clap` finds asks with the values that `clap` finds for it
+unfoldable pub question_found : Option (Text × List Row) → Result Question Fault
+question_found found =
+    option_map_or (λ (pair : Text × List Row). option_map_or (λ verb. question_for verb pair.1) (verb_named pair.0) (Err (usage no_question)))
+    found (Err (usage no_question))
+
+-- what the arguments ask if `clap` parses them, or the error of the first invalid value
+unfoldable pub answer_in : List Text → Result Question Fault
+answer_in arguments = question_found (subcommand_of command_app (verb_first arguments))
+
+-- `clap` parses the arguments, and `answer` is what they ask, or the error of the first invalid value
+abbrev pub HasRead : List Text → Result Question Fault → Type 0
+HasRead arguments answer = (faults_in arguments ≡ []) × (answer_in arguments ≡ answer)
+
+-- the error is a request for help or the version
+abbrev pub is_of_help : ErrorKind → Bool
+is_of_help DisplayHelp = true
+is_of_help DisplayVersion = true
+is_of_help _ = false
+
+-- the arguments ask this question
+abbrev pub IsQuestionOf : List Text → Question → Type 0
+IsQuestionOf arguments question = HasRead arguments (Ok question)
+
+-- `fault` may be reported if `clap` reports one of the errors `kinds`: its text is that of `clap`, of which is only known
+-- that it isn't empty
+abbrev pub IsRefusalOf : Kinds → Fault → Type 0
+IsRefusalOf kinds (usage text) = (list_any (λ kind. not (is_of_help kind)) kinds ≡ true) × (0 < length text)
+IsRefusalOf kinds (help text) = (list_any is_of_help kinds ≡ true) × (0 < length text)
+IsRefusalOf kinds no_memory = ⊤
+
+-- The arguments may be answered with this error: usage or help if `clap` rejects them for such a reason, and otherwise
+-- the error of the first invalid value. A failed allocation may be the answer to any arguments.
+abbrev pub IsFaultOf : List Text → Fault → Type 0
+IsFaultOf arguments (usage text) =
+    IsRefusalOf (faults_in arguments) (usage text) ⊎ (HasRead arguments (Err (usage text)) × (0 < length text))
+IsFaultOf arguments (help text) = IsRefusalOf (faults_in arguments) (help text)
+IsFaultOf arguments no_memory = ⊤
+
+-- `fault` is the error that `answer` is, and its text isn't empty, or `fault` is a failed allocation
+abbrev pub IsFaultIn : {A : Type 0} → Result A Fault → CommandFault → Type 0
+IsFaultIn answer (Usage text) = (answer ≡ Err (usage (string_bytes text))) × (0 < length (string_bytes text))
+IsFaultIn answer (Help text) = ⊥
+IsFaultIn answer NoMemory = ⊤
+
+-- `fault` may be reported if `clap` returns an error of this kind
+abbrev pub IsReportedOf : ErrorKind → Fault → Type 0
+IsReportedOf kind (usage text) = (is_of_help kind ≡ false) × ((kind ≢ OutOfMemory) × (0 < length text))
+IsReportedOf kind (help text) = (is_of_help kind ≡ true) × ((kind ≢ OutOfMemory) × (0 < length text))
+IsReportedOf kind no_memory = ⊤

@@ -1,0 +1,74 @@
+-- Which argument is moved to the front, so that `clap` reads the verb first.
+use Rattle.std.specs.Prelude.{ℕ, zero, suc, ◌+◌, ◌==◌, ◌&&◌, ◌||◌, Bool, false, not, List, [], ◌∷◌, ◌++◌, Option, Some, None, codes, drop, get_or, if◌then◌else◌, is_some, length, nat_lt, take}
+use Rattle.std.specs.List.{list_any}
+use Rattle.std.specs.Option.{option_map_or}
+use Rattle.std.specs.Str.{bytes_eq}
+use Rattle.clap.specs.Words.{Text}
+use Rattle.cal_timers_command.specs.rules.Verbs.{verb_named}
+
+-- the argument is one of these texts
+abbrev pub is_among : List Text → Text → Bool
+is_among texts argument = list_any (λ text. bytes_eq text argument) texts
+
+-- the options whose value is the next argument, unless it is joined to the option
+abbrev pub value_options : List Text
+value_options =
+    codes "-n" ∷ codes "--count" ∷ codes "--zone" ∷ codes "--in" ∷ codes "--now" ∷ codes "--root" ∷ []
+
+-- the requests for help and for the version
+abbrev pub help_options : List Text
+help_options = codes "-h" ∷ codes "--help" ∷ codes "-V" ∷ codes "--version" ∷ []
+
+abbrev pub needs_value : Text → Bool
+needs_value = is_among value_options
+
+abbrev pub asks_help : Text → Bool
+asks_help = is_among help_options
+
+-- an option, other than a request for help or the version: it begins with `-` and is longer than that; `--` isn't an
+-- option, since only targets follow it
+abbrev pub is_option : Text → Bool
+is_option argument =
+    (get_or argument 0 0 == 45 && nat_lt 1 (length argument)) && not (is_among (codes "--" ∷ help_options) argument)
+
+-- `clap` takes the argument for a verb, to which it adds the verb `help`, or for a request for help or the version
+abbrev pub leads : Text → Bool
+leads argument = is_among (codes "help" ∷ help_options) argument || is_some (verb_named argument)
+
+-- the argument at this index is the value of the option before it: that option needs a value, and is not itself the
+-- value of an option
+unfoldable pub is_value_at : List Text → ℕ → Bool
+is_value_at arguments zero = false
+is_value_at arguments (suc index) = needs_value (get_or arguments index []) && not (is_value_at arguments index)
+
+-- the argument at this index is an option or the value of an option
+abbrev pub is_passed : List Text → ℕ → Bool
+is_passed arguments index = is_value_at arguments index || is_option (get_or arguments index [])
+
+-- the first index below `count` at which the test fails
+unfoldable pub first_failing : (ℕ → Bool) → ℕ → Option ℕ
+first_failing test zero = None
+first_failing test (suc count) =
+    option_map_or (λ index. Some index) (first_failing test count) (if test count then None else Some count)
+
+-- the index of the first argument that is neither an option nor the value of an option
+abbrev pub first_word : List Text → Option ℕ
+first_word arguments = first_failing (is_passed arguments) (length arguments)
+
+abbrev pub moved_first : List Text → ℕ → List Text
+moved_first arguments index =
+    get_or arguments index [] ∷ (take index arguments ++ drop (index + 1) arguments)
+
+abbrev pub list_first : List Text → List Text
+list_first arguments = codes "list" ∷ arguments
+
+-- the arguments with the one at this index moved to the front, if it leads; otherwise `list` and all arguments
+abbrev pub led_from : List Text → ℕ → List Text
+led_from arguments index =
+    if leads (get_or arguments index []) then moved_first arguments index else list_first arguments
+
+-- The arguments with the verb at the front. The verb is the first argument that is neither an option nor the value of
+-- an option, and all other arguments keep their order. If that argument isn't a verb or a request for help, as `--` and
+-- targets are not, or if there is no such argument, the verb is `list`.
+unfoldable pub verb_first : List Text → List Text
+verb_first arguments = option_map_or (led_from arguments) (first_word arguments) (list_first arguments)
