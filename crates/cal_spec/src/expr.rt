@@ -45,7 +45,7 @@ impl Expr {
     ghost use Rattle.cal_spec.specs.rules.ZoneSuffix.{name_in, offset_said};
 
     /// Brings parsed fields into their normal form. Doesn't allocate.
-    pub(crate) fn normal(fields: Fields) -> Expr
+    pub fn normal(fields: Fields) -> Expr
         requires { IsValidFields (fields_of fields) }
         ensures { result ≡ normal_fields (fields_of fields) }
     {
