@@ -3,6 +3,7 @@ pub mod Found
 pub mod LintStatus
 pub mod LocalClock
 pub mod MachinePath
+pub mod Output
 pub mod Present
 pub mod RangeZones
 pub mod Unanswerable

@@ -1,10 +1,13 @@
 //! The answer to a question: the texts for standard output and standard error, and the exit status.
 
-ghost use Rattle.std.specs.Prelude.{◌≤◌, IfOk};
+ghost use Rattle.std.specs.Prelude.{◌≡◌, ◌≤◌, [], IfOk, Some, string_bytes};
+ghost use Rattle.cal_zone.specs.rules.Zone.{zone_of};
+ghost use Rattle.cal_answers.specs.rules.LocalClock.{clock_zone};
+ghost use Rattle.cal_answers.specs.rules.Output.{IsAskedBy, IsOutputOf, IsPrintedFor, IsPrintedForKnown};
 
 use crate::between::between;
 use crate::compare::same;
-use crate::found::{Found, LoadedByVerb};
+use crate::found::{Found, Known, LoadedByVerb};
 use crate::index::with_unreadable;
 use crate::lint::lint;
 use crate::range_zones::RangeZones;
@@ -14,8 +17,10 @@ use cal_load::{Loaded, LoadedTimer, TargetFault};
 use cal_plan::PlanFault;
 use cal_tasks::Clocked;
 use cal_timers_command::Question;
-use cal_timers_text::{Style, broken_text, fault_text, ignored_text, unusable_zone_text};
+use cal_timers_report::Style;
+use cal_timers_text::{broken_text, fault_text, ignored_text, unusable_zone_text};
 use cal_unit_index::UnitIndex;
+use cal_zone::Zone;
 use std::alloc::{AllocError, Global};
 
 /// The exit status if a timer can't be loaded (except by `same`), a line of its files is ignored, a file or folder can't be
@@ -63,26 +68,58 @@ pub(crate) struct Asked<'a> {
     pub style: Style,
 }
 
-/// Answers a question from what [`read_question`](crate::read_question) found for it. Reads nothing itself.
+/// Answers a question from what [`read_question`](crate::reading::read_question) found for it. Reads nothing itself.
 ///
 /// Fails with [`PlanFault::NoMemory`] if allocation fails.
-pub fn answer_question(
+pub(crate) fn answer_question(
     alloc: Global,
     question: &Question,
     found: &Found,
     style: Style,
 ) -> Result<Answer, PlanFault>
-    ensures { IfOk result (λ answer. answer.status ≤ 2) }
+    ensures status { IfOk result (λ answer. answer.status ≤ 2) }
+    ensures out { IfOk result (λ answer. IsPrintedFor question.entry.now found.now style (string_bytes answer.out)) }
 {
-    let known = match found {
-        Found::Answerable(known) => known,
-        Found::Unanswerable(reason) => return stopped(alloc, reason.as_str()),
-    };
-    let (Some(local), Some(shown)) = (known.local.zone(), known.shown.zone()) else {
+    match found {
+        Found::Answerable(known) => answer_known(alloc, question, known, style),
+        Found::Unanswerable(reason) => stopped(alloc, reason.as_str()),
+    }
+}
+
+/// Answers a question from what is known for it.
+fn answer_known(
+    alloc: Global,
+    question: &Question,
+    known: &Known,
+    style: Style,
+) -> Result<Answer, PlanFault>
+    ensures status { IfOk result (λ answer. answer.status ≤ 2) }
+    ensures out { IfOk result (λ answer. IsPrintedForKnown question.entry.now known.entry.now style (string_bytes answer.out)) }
+{
+    let Some(local) = known.local.zone() else {
         return stopped(alloc, "the local zone isn't known");
     };
+    let Some(shown) = known.shown.zone() else {
+        return stopped(alloc, "the local zone isn't known");
+    };
+    let asked = asked_by(question, known, style, local, shown);
+    answer_asked(alloc, question, known, asked)
+}
+
+/// Returns what a verb needs to know. `local` must be the local zone that is known, and `shown` the zone in which times
+/// are shown.
+fn asked_by<'a>(
+    question: &'a Question,
+    known: &'a Known,
+    style: Style,
+    local: Zone<'a>,
+    shown: Zone<'a>,
+) -> Asked<'a>
+    ensures { clock_zone known.entry.now.local ≡ Some (zone_of local.entry) → clock_zone known.entry.now.shown ≡ Some (zone_of shown.entry)
+        → IsAskedBy question.entry.now known.entry.now style result }
+{
     let now = known.now;
-    let asked = Asked {
+    Asked {
         at: Clocked { now, local },
         shown: Clocked { now, local: shown },
         range: &known.range,
@@ -92,7 +129,19 @@ pub fn answer_question(
         is_strict: question.is_strict,
         is_json: question.is_json,
         style,
-    };
+    }
+}
+
+/// Answers a question, and adds the error lines that don't depend on what the verb answers.
+fn answer_asked(
+    alloc: Global,
+    question: &Question,
+    known: &Known,
+    asked: Asked<'_>,
+) -> Result<Answer, PlanFault>
+    ensures status { IfOk result (λ answer. answer.status ≤ 2) }
+    ensures out { IfOk result (λ answer. IsOutputOf asked.entry known.entry.now.loaded (string_bytes answer.out)) }
+{
     let answer = answer_loaded(alloc, asked, &known.index, &known.loaded)?;
     let answer = with_unreadable(alloc, known.index.unreadable(), answer)?;
     let answer = with_verb_hint(alloc, question, &known.loaded, answer)?;
@@ -103,7 +152,8 @@ pub fn answer_question(
 /// Returns the answer to a question that can't be answered at all: an error line with the reason, and the status
 /// [`UNUSABLE`].
 pub(crate) fn stopped(alloc: Global, reason: &str) -> Result<Answer, PlanFault>
-    ensures { IfOk result (λ answer. answer.status ≤ 2) }
+    ensures status { IfOk result (λ answer. answer.status ≤ 2) }
+    ensures out { IfOk result (λ answer. string_bytes answer.out ≡ []) }
 {
     Ok(Answer {
         out: String::new(alloc),
@@ -118,7 +168,8 @@ fn answer_loaded(
     index: &UnitIndex,
     loaded: &LoadedByVerb,
 ) -> Result<Answer, PlanFault>
-    ensures { IfOk result (λ answer. answer.status ≤ 2) }
+    ensures status { IfOk result (λ answer. answer.status ≤ 2) }
+    ensures out { IfOk result (λ answer. IsOutputOf asked.entry loaded.now (string_bytes answer.out)) }
 {
     match loaded {
         LoadedByVerb::List(timers) => list(alloc, asked, timers),
@@ -157,7 +208,8 @@ pub(crate) fn with_error_lines(
     loaded: &Loaded,
     out: String,
 ) -> Result<Answer, PlanFault>
-    ensures { IfOk result (λ answer. answer.status ≤ 2) }
+    ensures status { IfOk result (λ answer. answer.status ≤ 2) }
+    ensures out { IfOk result (λ answer. answer.out ≡ out) }
 {
     let mut err = fault_lines(alloc, loaded.faults.as_slice())?;
     push_ignored_lines(alloc, &mut err, loaded.timers.as_slice())?;

@@ -1,42 +1,87 @@
 //! The verb `between`: all elapses of several timers in a range of time.
 
-ghost use Rattle.std.specs.Prelude.{◌≤◌, IfOk};
+ghost use Rattle.std.specs.Prelude.{◌≡◌, ◌≢◌, ◌≤◌, [], IfOk, int_lt, map, option_map, slice_get, string_bytes};
+ghost use Rattle.cal_tasks.specs.declared.when.WhenFault;
+ghost use Rattle.cal_tasks.specs.rules.When.{setting_with, when_in};
+ghost use Rattle.cal_timers_report.specs.rules.ReportView.{elapse_seen};
+ghost use Rattle.cal_answers.specs.rules.Output.{IsBetweenOutput, IsOutputOfTexts, IsOutputUntil, IsRangeOutput, between_output};
 
 use crate::answer::{Answer, Asked, stopped, with_error_lines};
 use cal_load::Loaded;
 use cal_plan::PlanFault;
-use cal_tasks::{WhenFault, elapses_between, read_when};
-use cal_timers_json::between_json;
-use cal_timers_text::between_text;
+use cal_tasks::{WhenFault, between_rows, read_when};
+use cal_timers_report::{UnitElapse, between_json, between_text};
 use cal_zone::Instant;
-use std::alloc::Global;
+use std::alloc::{AllocError, Global};
 
 /// Lists the elapses of timers in a range. The first two targets are the start of the range, which is included, and its
 /// end, which isn't. An end such as `Mon 06:00` resolves to the first such time after the start. The other targets are
 /// those that were loaded.
 pub(crate) fn between(alloc: Global, asked: Asked<'_>, loaded: &Loaded) -> Result<Answer, PlanFault>
-    ensures { IfOk result (λ answer. answer.status ≤ 2) }
+    ensures status { IfOk result (λ answer. answer.status ≤ 2) }
+    ensures out { IfOk result (λ answer.
+        IsBetweenOutput asked.entry loaded.now (map string_bytes asked.entry.targets.now) (string_bytes answer.out)) }
 {
-    let [from, before, ..] = asked.targets else {
+    let from = target_at(asked.targets, 0);
+    let before = target_at(asked.targets, 1);
+    between_texts(alloc, asked, loaded, from, before)
+}
+
+fn target_at(targets: &[String], index: usize) -> Option<&str>
+    ensures { option_map (λ text. text.now) result ≡ slice_get (map string_bytes targets.now) index }
+{
+    match targets.get(index) {
+        Some(target) => Some(target.as_str()),
+        None => None,
+    }
+}
+
+/// Lists the elapses of timers in the range between two times, as they are written.
+fn between_texts(
+    alloc: Global,
+    asked: Asked<'_>,
+    loaded: &Loaded,
+    from: Option<&str>,
+    before: Option<&str>,
+) -> Result<Answer, PlanFault>
+    ensures status { IfOk result (λ answer. answer.status ≤ 2) }
+    ensures out { IfOk result (λ answer. IsOutputOfTexts asked.entry loaded.now
+        (option_map (λ text. text.now) from.entry) (option_map (λ text. text.now) before.entry) (string_bytes answer.out)) }
+{
+    let Some(from) = from else {
         return stopped(alloc, "FROM and TO are missing");
     };
-    let (from, before) = (from.as_str(), before.as_str());
-    let from = match read_when(alloc, asked.shown, &asked.range.from, asked.shown.now, from) {
-        Ok(instant) => instant,
-        Err(fault) => return bad_time(alloc, from, fault),
+    let Some(before) = before else {
+        return stopped(alloc, "FROM and TO are missing");
     };
-    let before = match read_when(alloc, asked.shown, &asked.range.before, from, before) {
-        Ok(instant) => instant,
-        Err(fault) => return bad_time(alloc, before, fault),
-    };
-    if before.secs() < from.secs() {
-        return stopped(alloc, "TO is before FROM");
+    match read_when(alloc, asked.shown, &asked.range.from, asked.shown.now, from) {
+        Ok(instant) => between_from(alloc, asked, loaded, instant, before),
+        Err(fault) => bad_time(alloc, from, fault),
     }
-    range_of(alloc, asked, loaded, from, before)
+}
+
+/// Lists the elapses of timers in a range that starts at `from`. `before` is its end, as it is written.
+fn between_from(
+    alloc: Global,
+    asked: Asked<'_>,
+    loaded: &Loaded,
+    from: Instant,
+    before: &str,
+) -> Result<Answer, PlanFault>
+    ensures status { IfOk result (λ answer. answer.status ≤ 2) }
+    ensures out { IfOk result (λ answer. IsOutputUntil asked.entry loaded.now from.secs
+        (when_in asked.entry.shown.now.secs (setting_with asked.entry.shown asked.entry.range.now.before) from.secs before.now)
+        (string_bytes answer.out)) }
+{
+    match read_when(alloc, asked.shown, &asked.range.before, from, before) {
+        Ok(instant) => between_instants(alloc, asked, loaded, from, instant),
+        Err(fault) => bad_time(alloc, before, fault),
+    }
 }
 
 fn bad_time(alloc: Global, text: &str, fault: WhenFault) -> Result<Answer, PlanFault>
-    ensures { IfOk result (λ answer. answer.status ≤ 2) }
+    ensures status { IfOk result (λ answer. answer.status ≤ 2) }
+    ensures out { IfOk result (λ answer. (string_bytes answer.out ≡ []) × (fault ≢ WhenFault.NoMemory)) }
 {
     let WhenFault::NoInstant(fault) = fault else {
         return Err(PlanFault::NoMemory);
@@ -46,21 +91,35 @@ fn bad_time(alloc: Global, text: &str, fault: WhenFault) -> Result<Answer, PlanF
     stopped(alloc, reason.as_str())
 }
 
-fn range_of(
+fn between_instants(
     alloc: Global,
     asked: Asked<'_>,
     loaded: &Loaded,
     from: Instant,
     before: Instant,
 ) -> Result<Answer, PlanFault>
-    ensures { IfOk result (λ answer. answer.status ≤ 2) }
+    ensures status { IfOk result (λ answer. answer.status ≤ 2) }
+    ensures out { IfOk result (λ answer.
+        IsRangeOutput asked.entry loaded.now from.secs before.secs (int_lt before.secs from.secs) (string_bytes answer.out)) }
 {
-    let timers = loaded.timers.as_slice();
-    let elapses = elapses_between(alloc, asked.at, from, before, timers)?;
-    let out = if asked.is_json {
-        between_json(alloc, asked.shown.local, timers, elapses.as_slice())?
-    } else {
-        between_text(alloc, asked.shown.local, timers, elapses.as_slice())?
-    };
+    if before.secs() < from.secs() {
+        return stopped(alloc, "TO is before FROM");
+    }
+    let rows = between_rows(alloc, asked.at, from, before, loaded.timers.as_slice())?;
+    let out = between_output(alloc, asked, rows.as_slice())?;
     with_error_lines(alloc, loaded, out)
+}
+
+fn between_output(
+    alloc: Global,
+    asked: Asked<'_>,
+    rows: &[UnitElapse<'_>],
+) -> Result<String, AllocError>
+    ensures { IfOk result (λ out. string_bytes out ≡ between_output asked.entry (map elapse_seen rows.now)) }
+{
+    if asked.is_json {
+        between_json(alloc, asked.shown.local, rows)
+    } else {
+        between_text(alloc, asked.shown.local, rows)
+    }
 }

@@ -1,6 +1,11 @@
 //! The verb `same`: whether two timers elapse at the same instants.
 
-ghost use Rattle.std.specs.Prelude.{◌≤◌, IfOk};
+ghost use Rattle.std.specs.Prelude.{◌≡◌, ◌≤◌, [], IfOk, is_some, map, string_bytes};
+ghost use Rattle.cal_tasks.specs.rules.SameReport.{comparison_of};
+ghost use Rattle.cal_timers_report.specs.rules.ReportView.{comparison_seen};
+ghost use Rattle.cal_answers.specs.rules.Output.{IsSameOutput, has_folder, is_loaded_folder, is_named, same_output};
+ghost use Rattle.cal_bytes.specs.rules.Trim.{trim_end_matches};
+ghost use Rattle.cal_machine.specs.rules.Places.{is_slash};
 
 use crate::answer::{
     Answer, Asked, INVALID, UNUSABLE, fault_lines, push_fault_line, push_ignored_lines,
@@ -8,9 +13,8 @@ use crate::answer::{
 };
 use cal_load::{Loaded, LoadedTimer, is_path};
 use cal_plan::PlanFault;
-use cal_tasks::{Difference, Side, difference_of, settings_only};
-use cal_timers_json::same_json;
-use cal_timers_text::same_text;
+use cal_tasks::compare;
+use cal_timers_report::{Comparison, same_json, same_text};
 use std::alloc::{AllocError, Global};
 
 /// Compares the two timers for which the targets stand. A target that doesn't stand for a single timer is an error: a
@@ -21,7 +25,8 @@ pub(crate) fn same(
     first: &Loaded,
     second: &Loaded,
 ) -> Result<Answer, PlanFault>
-    ensures { IfOk result (λ answer. answer.status ≤ 2) }
+    ensures status { IfOk result (λ answer. answer.status ≤ 2) }
+    ensures out { IfOk result (λ answer. IsSameOutput asked.entry first.now second.now (string_bytes answer.out)) }
 {
     if let Some(folder) = find_folder(asked.targets, first, second) {
         let reason = format!(in alloc; "{folder}: a folder, not a timer")?;
@@ -37,7 +42,9 @@ pub(crate) fn same(
 }
 
 /// Returns the first of the two targets that was loaded as a folder, if there is one.
-fn find_folder<'t>(targets: &'t [String], first: &Loaded, second: &Loaded) -> Option<&'t str> {
+fn find_folder<'t>(targets: &'t [String], first: &Loaded, second: &Loaded) -> Option<&'t str>
+    ensures { is_some result ≡ has_folder (map string_bytes targets.now) first.now second.now }
+{
     let one = targets.first()?.as_str();
     let other = targets.get(1)?.as_str();
     if is_folder(one, first) {
@@ -52,11 +59,26 @@ fn find_folder<'t>(targets: &'t [String], first: &Loaded, second: &Loaded) -> Op
 /// Returns whether a target was loaded as a folder that has a timer or is empty. A file that is a target is named by the
 /// target itself, and a timer of a folder by the name of its unit. Returns `false` if nothing in the folder could be
 /// loaded; then the errors or masked units are reported instead.
-fn is_folder(target: &str, loaded: &Loaded) -> bool {
+fn is_folder(target: &str, loaded: &Loaded) -> bool
+    ensures { result ≡ is_loaded_folder target.now loaded.now }
+{
     match loaded.timers.first() {
-        Some(timer) => is_path(target) && timer.name.as_str() != target.trim_end_matches('/'),
+        Some(timer) => is_path(target) && !is_named(target, timer),
         None => loaded.faults.is_empty() && loaded.masked.is_empty(),
     }
+}
+
+/// Returns whether the name of a timer is the target itself, slashes at its end aside.
+fn is_named(target: &str, timer: &LoadedTimer) -> bool
+    ensures { result ≡ is_named target.now timer.now }
+{
+    timer.name.as_str() == without_end_slashes(target)
+}
+
+fn without_end_slashes(target: &str) -> &str
+    ensures { result.now ≡ trim_end_matches is_slash target.now }
+{
+    target.trim_end_matches('/')
 }
 
 /// Returns the answer for two timers that were loaded. `err` has the error lines about their drop-ins, and about lines
@@ -68,30 +90,13 @@ fn compared(
     other: &LoadedTimer,
     err: String,
 ) -> Result<Answer, PlanFault>
-    ensures { IfOk result (λ answer. answer.status ≤ 2) }
+    ensures status { IfOk result (λ answer. answer.status ≤ 2) }
+    ensures out { IfOk result (λ answer.
+        string_bytes answer.out ≡ same_output asked.entry (comparison_of asked.entry.at one.now other.now)) }
 {
-    let Difference {
-        only_one,
-        only_other,
-    } = difference_of(alloc, asked.at, one, other)?;
-    let settings = settings_only(alloc, one, other)?;
-    let first = Side {
-        name: one.name.as_str(),
-        only: only_one,
-        settings: settings.as_slice(),
-    };
-    let settings = settings_only(alloc, other, one)?;
-    let second = Side {
-        name: other.name.as_str(),
-        only: only_other,
-        settings: settings.as_slice(),
-    };
-    let out = if asked.is_json {
-        same_json(alloc, asked.shown.local, first, second)?
-    } else {
-        same_text(alloc, asked.shown.local, first, second)?
-    };
-    let is_same = only_one.is_none() && only_other.is_none();
+    let found = compare(alloc, asked.at, one, other)?;
+    let out = same_output(alloc, asked, &found)?;
+    let is_same = found.one.only.is_none() && found.other.only.is_none();
     let status = if is_same && err.is_empty() {
         0
     } else {
@@ -100,10 +105,25 @@ fn compared(
     Ok(Answer { out, err, status })
 }
 
+fn same_output(
+    alloc: Global,
+    asked: Asked<'_>,
+    found: &Comparison<'_>,
+) -> Result<String, AllocError>
+    ensures { IfOk result (λ out. string_bytes out ≡ same_output asked.entry (comparison_seen found.now)) }
+{
+    if asked.is_json {
+        same_json(alloc, asked.shown.local, found)
+    } else {
+        same_text(alloc, asked.shown.local, found)
+    }
+}
+
 /// Returns the answer if at least one of two timers couldn't be loaded: the error lines, and a line for each masked
 /// unit, since a masked unit isn't loaded and has no error line.
 fn unloaded(alloc: Global, first: &Loaded, second: &Loaded) -> Result<Answer, PlanFault>
-    ensures { IfOk result (λ answer. answer.status ≤ 2) }
+    ensures status { IfOk result (λ answer. answer.status ≤ 2) }
+    ensures out { IfOk result (λ answer. string_bytes answer.out ≡ []) }
 {
     let mut err = lines_of_both(alloc, first, second)?;
     push_masked(&mut err, first.masked.as_slice())?;

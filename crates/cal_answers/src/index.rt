@@ -85,7 +85,8 @@ pub(crate) fn with_unreadable(
     unreadable: &[UnitFault],
     answer: Answer,
 ) -> Result<Answer, PlanFault>
-    ensures { IfOk result (λ changed. changed.status ≤ max answer.status 1) }
+    ensures status { IfOk result (λ changed. changed.status ≤ max answer.status 1) }
+    ensures out { IfOk result (λ changed. changed.out ≡ answer.out) }
 {
     if unreadable.is_empty() {
         return Ok(answer);
@@ -106,7 +107,10 @@ pub(crate) fn with_unreadable(
 }
 
 /// Converts errors about paths to the form in which targets that can't be loaded are reported.
-fn target_faults(alloc: Global, unreadable: &[UnitFault]) -> Result<Vec<TargetFault>, AllocError> {
+pub(crate) fn target_faults(
+    alloc: Global,
+    unreadable: &[UnitFault],
+) -> Result<Vec<TargetFault>, AllocError> {
     let mut faults = Vec::new(alloc);
     for fault in unreadable {
         faults.push(TargetFault {

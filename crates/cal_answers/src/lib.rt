@@ -19,9 +19,7 @@ mod search_path;
 mod setting_problems;
 mod timer_problems;
 mod timers;
+mod whole;
 
-pub use answer::{Answer, answer_question};
-pub use found::{Found, Known, LoadedByVerb};
-pub use local_clock::LocalClock;
-pub use range_zones::RangeZones;
-pub use reading::read_question;
+pub use answer::Answer;
+pub use whole::answer_on;

@@ -4,13 +4,14 @@ ghost use Rattle.std.specs.Prelude.{◌≡◌, ◌≤◌, IfOk};
 ghost use Rattle.cal_answers.specs.rules.LintStatus.{lint_status};
 
 use crate::answer::{Answer, Asked, INVALID, fault_lines, push_fault_line};
+use crate::index::target_faults;
 use crate::problems::Problems;
 use crate::setting_problems::add_missing_units;
 use crate::timer_problems::{add_idle, add_timers};
-use cal_lint::findings;
+use cal_lint::{ProblemKind, findings};
 use cal_load::{Loaded, LoadedFiles, TargetFault, TargetReason};
 use cal_plan::PlanFault;
-use cal_timers_text::ProblemCounts;
+use cal_timers_text::{ProblemCounts, unread_words};
 use cal_unit_index::UnitIndex;
 use std::alloc::{AllocError, Global};
 
@@ -37,6 +38,7 @@ pub(crate) fn lint(
     let err = error_lines(alloc, files.faults.as_slice(), timers)?;
     let counts = problems.counts();
     let out = if asked.is_json {
+        add_unread(alloc, index, files, timers, &mut problems)?;
         problems.json(alloc)?
     } else {
         problems.text(alloc, counts)?
@@ -55,6 +57,34 @@ fn lint_status(is_strict: bool, counts: ProblemCounts, is_incomplete: bool) -> u
     } else {
         0
     }
+}
+
+/// Adds an error about everything that can't be read, so that the document has it, too. As text, each has an error line.
+fn add_unread(
+    alloc: Global,
+    index: &UnitIndex,
+    files: &LoadedFiles,
+    timers: &Loaded,
+    problems: &mut Problems,
+) -> Result<(), AllocError> {
+    add_unread_targets(alloc, files.faults.as_slice(), problems)?;
+    add_unread_targets(alloc, timers.faults.as_slice(), problems)?;
+    let faults = target_faults(alloc, index.unreadable())?;
+    add_unread_targets(alloc, faults.as_slice(), problems)
+}
+
+/// Adds an error about each of these that can't be found or read.
+fn add_unread_targets(
+    alloc: Global,
+    faults: &[TargetFault],
+    problems: &mut Problems,
+) -> Result<(), AllocError> {
+    for fault in faults {
+        if let Some((subject, message)) = unread_words(fault) {
+            problems.add(alloc, ProblemKind::Error, subject, None, message)?;
+        }
+    }
+    Ok(())
 }
 
 /// Returns the error lines about units, files and folders that can't be read, which are `of_files`, and about timers whose

@@ -1,8 +1,8 @@
 //! The problems that `lint` prints.
 
 use cal_lint::{Finding, ProblemKind};
-use cal_timers_json::{LintRow, lint_json};
-use cal_timers_text::{ProblemCounts, Style, finding_text, message_of, problem_text, push_counts};
+use cal_timers_report::{ProblemRow, Style, lint_json};
+use cal_timers_text::{ProblemCounts, finding_text, message_of, problem_text, push_counts};
 use std::alloc::{AllocError, Global};
 
 /// The problems that were found so far, in the order in which they are printed.
@@ -121,12 +121,12 @@ impl Problems {
     }
 }
 
-fn row_of(problem: &Problem) -> LintRow<'_> {
-    LintRow {
+fn row_of(problem: &Problem) -> ProblemRow<'_> {
+    ProblemRow {
         file: problem.file.as_str(),
         line: problem.line,
         column: problem.column,
-        kind: if problem.is_error { "error" } else { "warning" },
+        is_error: problem.is_error,
         message: problem.message.as_str(),
         suggestion: problem.suggestion.as_ref().map(|text| text.as_str()),
     }

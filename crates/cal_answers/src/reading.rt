@@ -27,7 +27,7 @@ use std::alloc::{AllocError, Global};
 ///
 /// `clock` is the time that the machine's clock shows, in seconds of Unix time, or `None` if the clock can't be read.
 /// If the question names a present, `clock` isn't used. Fails only if allocation fails.
-pub fn read_question<R: Raw + Drop>(
+pub(crate) fn read_question<R: Raw + Drop>(
     alloc: Global,
     raw: R,
     question: &Question,

@@ -17,7 +17,8 @@ pub(crate) fn with_verb_hint(
     loaded: &LoadedByVerb,
     answer: Answer,
 ) -> Result<Answer, AllocError>
-    ensures { IfOk result (λ changed. changed.status ≡ answer.status) }
+    ensures status { IfOk result (λ changed. changed.status ≡ answer.status) }
+    ensures out { IfOk result (λ changed. changed.out ≡ answer.out) }
 {
     let Some(word) = first_unknown(question, loaded) else {
         return Ok(answer);
@@ -54,7 +55,8 @@ pub(crate) fn with_zone_note(
     local: &LocalClock,
     answer: Answer,
 ) -> Result<Answer, AllocError>
-    ensures { IfOk result (λ changed. changed.status ≡ answer.status) }
+    ensures status { IfOk result (λ changed. changed.status ≡ answer.status) }
+    ensures out { IfOk result (λ changed. changed.out ≡ answer.out) }
 {
     if matches!(verb, Verb::Lint) || !matches!(local, LocalClock::Assumed) {
         return Ok(answer);
@@ -75,7 +77,8 @@ pub(crate) fn with_empty_folders(
     loaded: &LoadedByVerb,
     answer: Answer,
 ) -> Result<Answer, AllocError>
-    ensures { IfOk result (λ changed. changed.status ≤ max answer.status 1) }
+    ensures status { IfOk result (λ changed. changed.status ≤ max answer.status 1) }
+    ensures out { IfOk result (λ changed. changed.out ≡ answer.out) }
 {
     let folders = targets_after_times(question);
     if answer.status == UNUSABLE || may_find_nothing(folders) || !is_nothing(loaded) {

@@ -1,41 +1,33 @@
 //! The verbs that show the next elapses: `list`, `show` and `next`. The answers of `show` and `next` have the same form.
 
-ghost use Rattle.std.specs.Prelude.{◌≤◌, IfOk};
+ghost use Rattle.std.specs.Prelude.{◌≡◌, ◌≤◌, IfOk, map, string_bytes};
+ghost use Rattle.std.specs.List.{AllZip};
+ghost use Rattle.cal_timers_report.specs.rules.ReportView.{timer_seen, unit_seen};
+ghost use Rattle.cal_answers.specs.rules.Output.{IsListOutput, IsShowOutput, IsShownAs, list_output, listed_masked, show_output};
 
-use crate::answer::{Answer, Asked, push_masked, with_error_lines};
-use cal_load::{Loaded, LoadedTimer};
+use crate::answer::{Answer, Asked, with_error_lines};
+use cal_load::Loaded;
 use cal_plan::PlanFault;
-use cal_tasks::{ClockNotes, clock_notes, first_elapses, next_of_timers};
-use cal_timers_json::{ShownTimer, list_json, show_json};
-use cal_timers_text::{list_text, show_text, warnings_of};
-use cal_zone::Instant;
+use cal_tasks::{list_rows, shown_timer};
+use cal_timers_report::{ListRow, ShownTimer, list_json, list_text, show_json, show_text};
+use cal_timers_text::warnings_of;
 use std::alloc::{AllocError, Global};
-
-/// What `show` and `next` compute for a timer: its next elapses, notes about clock changes, and warnings.
-#[derive(Debug, Drop)]
-struct Elapsing {
-    warnings: Vec<String>,
-    elapses: Vec<Instant>,
-    clock: ClockNotes,
-}
 
 /// Lists the next elapse of each timer, soonest first. Masked units are left out if the question is only about units that
 /// other units start, since systemd doesn't start a masked unit.
 pub(crate) fn list(alloc: Global, asked: Asked<'_>, loaded: &Loaded) -> Result<Answer, PlanFault>
-    ensures { IfOk result (λ answer. answer.status ≤ 2) }
+    ensures status { IfOk result (λ answer. answer.status ≤ 2) }
+    ensures out { IfOk result (λ answer. IsListOutput asked.entry loaded.now (string_bytes answer.out)) }
 {
-    let next = next_of_timers(alloc, asked.at, loaded.timers.as_slice())?;
-    let masked = listed_masked(asked, loaded);
-    let out = if asked.is_json {
-        list_json(alloc, asked.shown, loaded, masked, &next)?
-    } else {
-        list_text(alloc, asked.shown, loaded, masked, &next, asked.style)?
-    };
+    let rows = list_rows(alloc, asked.at, loaded, listed_masked(asked, loaded))?;
+    let out = list_output(alloc, asked, rows.as_slice())?;
     with_error_lines(alloc, loaded, out)
 }
 
 /// Returns the names of the masked units that `list` lists.
-fn listed_masked<'l>(asked: Asked<'_>, loaded: &'l Loaded) -> &'l [String] {
+fn listed_masked<'l>(asked: Asked<'_>, loaded: &'l Loaded) -> &'l [String]
+    ensures { map string_bytes result.now ≡ listed_masked asked.entry loaded.now }
+{
     if asked.is_all || !asked.targets.is_empty() {
         loaded.masked.as_slice()
     } else {
@@ -43,80 +35,57 @@ fn listed_masked<'l>(asked: Asked<'_>, loaded: &'l Loaded) -> &'l [String] {
     }
 }
 
+fn list_output(alloc: Global, asked: Asked<'_>, rows: &[ListRow<'_>]) -> Result<String, AllocError>
+    ensures { IfOk result (λ out. string_bytes out ≡ list_output asked.entry (map unit_seen rows.now)) }
+{
+    let (zone, now) = (asked.shown.local, asked.shown.now);
+    if asked.is_json {
+        list_json(alloc, zone, now, rows)
+    } else {
+        list_text(alloc, zone, now, rows, asked.style)
+    }
+}
+
 /// Shows each timer with its files and its next elapses.
 pub(crate) fn show(alloc: Global, asked: Asked<'_>, loaded: &Loaded) -> Result<Answer, PlanFault>
-    ensures { IfOk result (λ answer. answer.status ≤ 2) }
+    ensures status { IfOk result (λ answer. answer.status ≤ 2) }
+    ensures out { IfOk result (λ answer. IsShowOutput asked.entry loaded.now (string_bytes answer.out)) }
 {
-    let elapsing = elapsing_of(alloc, asked, loaded.timers.as_slice())?;
-    let out = if asked.is_json {
-        show_loaded_as_json(alloc, asked, loaded.timers.as_slice(), elapsing.as_slice())?
-    } else {
-        show_loaded_as_text(alloc, asked, loaded, elapsing.as_slice())?
-    };
+    let timers = shown_timers(alloc, asked, loaded)?;
+    let out = show_output(alloc, asked, timers.as_slice(), loaded.masked.as_slice())?;
     with_error_lines(alloc, loaded, out)
 }
 
-/// Returns for each timer its next elapses, and what [`clock_notes`] and [`warnings_of`] return.
-fn elapsing_of(
+/// Returns the report of each timer that was loaded.
+fn shown_timers<'l>(
     alloc: Global,
     asked: Asked<'_>,
-    timers: &[LoadedTimer],
-) -> Result<Vec<Elapsing>, PlanFault> {
-    let mut all = Vec::new(alloc);
-    for timer in timers {
-        let elapses = first_elapses(alloc, asked.at, timer, asked.count)?;
-        let clock = clock_notes(alloc, asked.at, timer)?;
+    loaded: &'l Loaded,
+) -> Result<Vec<ShownTimer<'l>>, PlanFault>
+    ensures { IfOk result (λ timers. AllZip (IsShownAs asked.entry) loaded.now.timers.items (map timer_seen timers.items)) }
+{
+    let mut timers: Vec<ShownTimer<'l>> = Vec::new(alloc);
+    for timer in &loaded.timers {
         let warnings = warnings_of(alloc, timer)?;
-        all.push(Elapsing {
-            warnings,
-            elapses,
-            clock,
-        })?;
+        let shown = shown_timer(alloc, asked.at, timer, warnings, asked.count)?;
+        timers.push(shown)?;
     }
-    Ok(all)
+    Ok(timers)
 }
 
-fn show_loaded_as_json(
+fn show_output(
     alloc: Global,
     asked: Asked<'_>,
-    timers: &[LoadedTimer],
-    elapsing: &[Elapsing],
-) -> Result<String, AllocError> {
-    let mut shown = Vec::new(alloc);
-    for (timer, found) in timers.iter().zip(elapsing) {
-        shown.push(ShownTimer {
-            timer,
-            warnings: found.warnings.as_slice(),
-            elapses: found.elapses.as_slice(),
-            clock: found.clock.first.as_slice(),
-        })?;
+    timers: &[ShownTimer<'_>],
+    masked: &[String],
+) -> Result<String, AllocError>
+    ensures { IfOk result (λ out. string_bytes out
+        ≡ show_output asked.entry (map timer_seen timers.now) (map string_bytes masked.now)) }
+{
+    let (zone, now) = (asked.shown.local, asked.shown.now);
+    if asked.is_json {
+        show_json(alloc, zone, now, timers)
+    } else {
+        show_text(alloc, zone, now, timers, masked, asked.style)
     }
-    show_json(alloc, asked.shown, shown.as_slice())
-}
-
-/// Returns the text about each timer, with an empty line between two texts, and then a line for each masked unit.
-fn show_loaded_as_text(
-    alloc: Global,
-    asked: Asked<'_>,
-    loaded: &Loaded,
-    elapsing: &[Elapsing],
-) -> Result<String, AllocError> {
-    let mut text = String::new(alloc);
-    for (timer, found) in loaded.timers.iter().zip(elapsing) {
-        if !text.is_empty() {
-            text.push('\n')?;
-        }
-        let shown = show_text(
-            alloc,
-            asked.shown,
-            timer,
-            found.warnings.as_slice(),
-            found.elapses.as_slice(),
-            &found.clock,
-            asked.style,
-        )?;
-        text.push_str(shown.as_str())?;
-    }
-    push_masked(&mut text, loaded.masked.as_slice())?;
-    Ok(text)
 }

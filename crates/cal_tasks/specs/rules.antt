@@ -1,8 +1,12 @@
 -- What the manuals and this project's own rules say. The laws and the contracts of this crate cite these definitions.
+pub mod BetweenReport
 pub mod ClockNotes
 pub mod Difference
 pub mod IdleLines
+pub mod ListReport
 pub mod LoadedElapses
+pub mod SameReport
 pub mod SeveralTimers
+pub mod ShowReport
 pub mod When
 pub mod ZoneChange

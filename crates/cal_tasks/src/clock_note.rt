@@ -23,18 +23,14 @@ pub struct ClockNote {
 }
 
 impl ClockNote {
-    ghost use Rattle.std.specs.Prelude.{◌≡◌, Some, option_copied, slice_get};
-    ghost use Rattle.cal_spec.specs.rules.Fields.{Fields};
-    ghost use Rattle.cal_spec.specs.rules.ZoneSuffix.{name_in};
-    ghost use Rattle.cal_timer.specs.rules.TimerEntries.{TimerLine};
-    ghost use Rattle.cal_tasks.specs.rules.LoadedElapses.{lists_of_loaded};
+    ghost use Rattle.std.specs.Prelude.{◌≡◌, option_copied, slice_get};
+    ghost use Rattle.cal_load.specs.rules.Loaded.{expressions_in};
+    ghost use Rattle.cal_tasks.specs.rules.ShowReport.{zone_on};
 
     /// Returns the name of the zone on whose clock the local time is, as an expression of `timer` names it. Returns
     /// `None` if this is the local zone.
-    pub fn zone_name<'t>(&self, timer: &'t LoadedTimer) -> Option<&'t str>
-        ensures { (line : TimerLine Fields)
-            → slice_get (lists_of_loaded timer.now.calendar).expressions self.now.zone ≡ Some line
-            → option_copied result ≡ name_in line.expr.zone }
+    pub(crate) fn zone_name<'t>(&self, timer: &'t LoadedTimer) -> Option<&'t str>
+        ensures { option_copied result ≡ zone_on (slice_get (expressions_in timer.now.calendar) self.now.zone) }
     {
         match timer.lines().get(self.zone) {
             Some(line) => line.expr.zone_name(),

@@ -18,7 +18,7 @@ use std::alloc::Global;
 ///
 /// Fails with [`PlanFault::NoSuchZone`] if an expression or an exception names a zone that wasn't loaded, and with
 /// [`PlanFault::NoMemory`] if allocation fails.
-pub fn first_elapses(
+pub(crate) fn first_elapses(
     alloc: Global,
     at: Clocked<'_>,
     timer: &LoadedTimer,

@@ -28,7 +28,7 @@ use std::alloc::Global;
 ///
 /// Fails with [`PlanFault::NoSuchZone`] if an expression or an exception of a timer names a zone that wasn't loaded for
 /// this timer, and with [`PlanFault::NoMemory`] if allocation fails.
-pub fn next_of_timers(
+pub(crate) fn next_of_timers(
     alloc: Global,
     at: Clocked<'_>,
     timers: &[LoadedTimer],
@@ -49,7 +49,7 @@ pub fn next_of_timers(
 /// the index of its timer. Elapses at the same instant are in the order of their timers.
 ///
 /// Fails like [`next_of_timers`].
-pub fn elapses_between(
+pub(crate) fn elapses_between(
     alloc: Global,
     at: Clocked<'_>,
     from: Instant,
@@ -73,7 +73,7 @@ pub fn elapses_between(
 ///
 /// The call computes elapses until it finds these instants. It takes longest if the timers elapse at the same instants:
 /// then it computes all their elapses through 2199, once for each field of the result. Fails like [`next_of_timers`].
-pub fn difference_of(
+pub(crate) fn difference_of(
     alloc: Global,
     at: Clocked<'_>,
     one: &LoadedTimer,

@@ -37,7 +37,7 @@ use std::alloc::{AllocError, Global};
 ///
 /// Fails with [`PlanFault::NoSuchZone`] if an expression names a zone that wasn't loaded, and with
 /// [`PlanFault::NoMemory`] if allocation fails.
-pub fn clock_notes(
+pub(crate) fn clock_notes(
     alloc: Global,
     at: Clocked<'_>,
     timer: &LoadedTimer,

@@ -5,10 +5,10 @@
 pub mod machine;
 
 use crate::machine::Machine;
-use cal_answers::{Answer, answer_question, read_question};
+use cal_answers::{Answer, answer_on};
 use cal_plan::PlanFault;
 use cal_timers_command::{CommandFault, Question};
-use cal_timers_text::Style;
+use cal_timers_report::Style;
 use std::io::{ErrorKind, IsTerminal};
 use std::process::ExitCode;
 use std::rt::Env;
@@ -78,8 +78,7 @@ fn read_and_answer(rt: &HostRuntime, question: &Question) -> Result<Answer, Plan
         root: question.root.as_str(),
     };
     let clock = machine.clock();
-    let found = read_question(rt.alloc(), machine, question, clock)?;
-    answer_question(rt.alloc(), question, &found, style_of(rt))
+    answer_on(rt.alloc(), machine, question, clock, style_of(rt))
 }
 
 /// Returns the style of the output. For a terminal, the width of tables is limited, and text is bold or red unless the

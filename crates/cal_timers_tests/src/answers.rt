@@ -1,12 +1,12 @@
-//! Tests of `read_question` and `answer_question`: an answer of each verb as text and as JSON, in which every function
+//! Tests of `answer_on`: an answer of each verb as text and as JSON, in which every function
 //! on the way has to succeed, and the error lines about what can't be read, which a transcript can't show if its user
 //! may read everything.
 
 use crate::memory::{Item, Memory};
-use cal_answers::{Answer, answer_question, read_question};
+use cal_answers::{Answer, answer_on};
 use cal_library_tests::shared::{ensure, zone_file};
 use cal_timers_command::Question;
-use cal_timers_text::Style;
+use cal_timers_report::Style;
 use std::alloc::Global;
 use std::test::Fail;
 
@@ -24,8 +24,7 @@ fn answer(alloc: Global, items: &[(&str, Item<'_>)], line: &str) -> Result<Strin
         return Err(line.into());
     };
     let clock = Some(1_704_067_200);
-    let found = read_question(alloc, Memory { items }, &question, clock)?;
-    let Ok(answer) = answer_question(alloc, &question, &found, STYLE) else {
+    let Ok(answer) = answer_on(alloc, Memory { items }, &question, clock, STYLE) else {
         return Err(line.into());
     };
     let Answer { mut out, err, .. } = answer;

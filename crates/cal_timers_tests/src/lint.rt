@@ -2,7 +2,8 @@
 
 use cal_library_tests::shared::ensure;
 use cal_lint::{Doubt, Finding, Problem, ProblemKind, find_hint};
-use cal_timers_text::{Style, finding_text};
+use cal_timers_report::Style;
+use cal_timers_text::finding_text;
 use std::alloc::Global;
 use std::test::Fail;
 

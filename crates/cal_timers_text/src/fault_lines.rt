@@ -1,12 +1,12 @@
 //! Error lines about timers that can't be loaded, about lines that are ignored, and about a zone that can't be used.
 
-use crate::cells::push_printable;
 use cal_lint::looks_like_abbreviation;
 use cal_load::{
     BrokenLine, BrokenReason, IgnoredLine, LoadedTimer, TargetFault, TargetReason, TimerFiles,
     UnusableZone,
 };
 use cal_machine::Unreadable;
+use cal_timers_report::push_printable;
 use cal_unit_index::Reason;
 use cal_zone_files::{FileReason, Origin, ZonesFault};
 use std::alloc::{AllocError, Global};
@@ -22,29 +22,40 @@ const ABBREVIATION_HINT: &str =
 /// fault, and ends with the message. What is at fault is the target as it was given, a path, or a line of a file.
 pub fn fault_text(alloc: Global, fault: &TargetFault) -> Result<String, AllocError> {
     let mut out = String::new(alloc);
+    if let Some((subject, message)) = unread_words(fault) {
+        push_fault(&mut out, subject, message)?;
+    } else {
+        push_content_fault(&mut out, fault)?;
+    }
+    Ok(out)
+}
+
+/// Returns what can't be found or read, which is a target or a path, and the message about it. Returns `None` if the
+/// contents of files or the text of an expression are at fault.
+pub fn unread_words(fault: &TargetFault) -> Option<(&str, &'static str)> {
     let target = fault.target.as_str();
     match &fault.reason {
-        TargetReason::NotFound => push_fault(&mut out, target, not_found_words(target)),
-        TargetReason::Template => push_fault(&mut out, target, "a template needs an instance"),
-        TargetReason::TooManyAliases => {
-            push_fault(&mut out, target, "more than 7 links from unit to unit")
+        TargetReason::NotFound => Some((target, not_found_words(target))),
+        TargetReason::Template => Some((target, "a template needs an instance")),
+        TargetReason::TooManyAliases => Some((target, "more than 7 links from unit to unit")),
+        TargetReason::Path(path, reason) => Some((path.as_str(), reason_words(*reason))),
+        _ => None,
+    }
+}
+
+/// Appends the error line about the contents of a timer's files, or about an expression. Appends nothing for other faults,
+/// which [`unread_words`] describes.
+fn push_content_fault(out: &mut String, fault: &TargetFault) -> Result<(), AllocError> {
+    let target = fault.target.as_str();
+    match &fault.reason {
+        TargetReason::Broken(path, line) => push_broken(out, path.as_str(), *line),
+        TargetReason::NothingToDo(_, files) => push_idle(out, target, files),
+        TargetReason::Expression(fault) => push_fault(out, target, fault.words()),
+        TargetReason::ExpressionZone(zone, reason) => {
+            push_expression_zone(out, target, zone.as_str(), *reason)
         }
-        TargetReason::Path(path, reason) => push_fault(
-            &mut out,
-            path.as_str(),
-            reason_words(*reason),
-        ),
-        TargetReason::Broken(path, line) => push_broken(&mut out, path.as_str(), *line),
-        TargetReason::NothingToDo(_, files) => push_idle(&mut out, target, files),
-        TargetReason::Expression(fault) => push_fault(&mut out, target, fault.words()),
-        TargetReason::ExpressionZone(zone, reason) => push_expression_zone(
-            &mut out,
-            target,
-            zone.as_str(),
-            *reason,
-        ),
-    }?;
-    Ok(out)
+        _ => Ok(()),
+    }
 }
 
 /// Returns the error line about a line in the files of a timer that is ignored, without a line feed. It begins with the

@@ -1,11 +1,10 @@
 //! The output of `lint`: problems of timers, with the lines of the files that have them.
 
-use crate::cells::{push_blanks, push_printable, push_times, shown_width};
 use crate::messages::push_message;
-use crate::style::{Emphasis, Style};
 use cal_bytes::{first_word, trim_blanks_end};
 use cal_lint::{Finding, Problem, ProblemKind};
 use cal_timer::without_mark;
+use cal_timers_report::{Emphasis, Style, push_blanks, push_printable, push_times, shown_width};
 use std::alloc::{AllocError, Global};
 
 /// How many problems `lint` found.

@@ -3,13 +3,13 @@
 ghost use Rattle.std.specs.Prelude.{◌≡◌};
 ghost use Rattle.cal_timers_text.specs.rules.FlawWords.{flaw_words, loss_words};
 
-use crate::cells::push_printable;
 use cal_lint::{Doubt, Mistake, OpenStepFlaw, Problem, Rejection, Section};
 use cal_load::WhyIgnored;
 use cal_settings::SettingKind;
 use cal_spec::Field;
 use cal_tasks::IdleKind;
 use cal_timer::TimerFault;
+use cal_timers_report::push_printable;
 use std::alloc::{AllocError, Global};
 
 /// How messages about invalid expressions begin.

@@ -1,0 +1,26 @@
+use Rattle.std.proofs.Common.{ap, map, refl, string_bytes, subst, ◌∙◌}
+use Rattle.std.specs.List.{AllZip}
+use Rattle.cal_load.specs.rules.Loaded.{expressions_in}
+use Rattle.cal_timers_report.specs.rules.ReportView.{line_seen}
+use Rattle.cal_tasks.specs.rules.ShowReport.{IsShownLine, clock_time}
+use Rattle.cal_tasks.proofs.show_report.shown_timer.Goals as goal
+
+pub returns : goal.returns
+returns c =
+    record {
+      unit = c.as_str.ensures.value;
+      files = c.in_ok-files.ensures;
+      expressions = subst (λ lines. AllZip (IsShownLine c.args.timer.now) lines (map line_seen c.in_ok-expressions.expressions.items)) c.lines.ensures c.in_ok-expressions.ensures;
+      exceptions = subst (λ lines. AllZip (IsShownLine c.args.timer.now) lines (map line_seen c.in_ok-exceptions.exceptions.items)) c.exceptions.ensures c.in_ok-exceptions.ensures;
+      notes = ap (map string_bytes) c.as_slice-2.ensures.value;
+      warned = refl;
+      elapses = c.in_ok-elapses.ensures;
+      changes = c.in_ok-notes.notes.first.items;
+      noted = record {
+        true_ones = c.in_ok-notes.ensures.notes;
+        none_missing = c.in_ok-notes.ensures.all;
+        few = c.in_ok-notes.ensures.few;
+        sorted = c.in_ok-notes.ensures.sorted;
+      };
+      clock = c.in_ok-clock.ensures ∙ ap (map (clock_time (expressions_in c.args.timer.now.calendar))) c.as_slice.ensures.value;
+    }

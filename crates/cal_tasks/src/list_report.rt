@@ -1,0 +1,242 @@
+//! The report of `list`: each unit with its next elapse and its notes.
+
+ghost use Rattle.std.specs.Prelude.{◌≡◌, ◌≢◌, ◌++◌, IfErr, IfOk, OnOk, codes, false, map, option_copied, slice_get, string_bytes, true};
+ghost use Rattle.cal_plan.specs.rules.ZoneFor.{IsUnzoned};
+ghost use Rattle.cal_plan.specs.declared.plan_fault.PlanFault.TheVariants.{NoMemory};
+ghost use Rattle.cal_timers_report.specs.rules.ReportView.{unit_seen};
+ghost use Rattle.cal_tasks.specs.rules.ListReport.{IsListOf, elapsing_row, elapsing_rows, ended_row, ended_rows, failed_rows, list_notes, masked_rows, note_if, noted_row, row_if};
+ghost use Rattle.cal_tasks.specs.rules.LoadedElapses.{first_unzoned_line};
+
+use crate::clocked::Clocked;
+use crate::several::next_of_timers;
+use crate::timer_elapse::TimerElapse;
+use cal_load::{Loaded, LoadedTimer, TargetFault};
+use cal_plan::PlanFault;
+use cal_timers_report::ListRow;
+use cal_zone::Instant;
+use std::alloc::{AllocError, Global};
+
+/// Returns a row for each unit of `list`: first the timers that elapse after the present, soonest first, then the other
+/// timers, then the units with the names `masked`, and last the units that fail to load.
+///
+/// The notes of a timer are `disabled` if no other unit starts it, `never` if it has expressions and doesn't elapse any
+/// more, its settings that are noted, and `exceptions` if it has any.
+///
+/// Fails with [`PlanFault::NoSuchZone`] if an expression or an exception of a timer names a zone that wasn't loaded for
+/// this timer, and with [`PlanFault::NoMemory`] if allocation fails.
+pub fn list_rows<'a>(
+    alloc: Global,
+    at: Clocked<'_>,
+    loaded: &'a Loaded,
+    masked: &'a [String],
+) -> Result<Vec<ListRow<'a>>, PlanFault>
+    ensures rows { IfOk result (λ rows. IsListOf at.entry loaded.now (map string_bytes masked.now) (map unit_seen rows.items)) }
+    ensures fault { IfErr result (λ fault. fault ≢ NoMemory
+        → IsUnzoned (first_unzoned_line at.entry loaded.now.timers.items) fault) }
+{
+    let next = next_of_timers(alloc, at, loaded.timers.as_slice())?;
+    let mut rows: Vec<ListRow<'a>> = Vec::new(alloc);
+    push_soonest(alloc, &mut rows, loaded, next.soonest.as_slice())?;
+    push_ended(alloc, &mut rows, loaded, next.never.as_slice())?;
+    push_masked(alloc, &mut rows, masked)?;
+    push_failed(alloc, &mut rows, loaded.faults.as_slice())?;
+    Ok(rows)
+}
+
+/// Appends a row for each timer with a next elapse.
+fn push_soonest<'a>(
+    alloc: Global,
+    rows: &mut Vec<ListRow<'a>>,
+    loaded: &'a Loaded,
+    soonest: &[TimerElapse],
+) -> Result<(), AllocError>
+    ensures { OnOk result (map unit_seen rows.new.items
+        ≡ map unit_seen rows.old.items ++ elapsing_rows loaded.now soonest.now) }
+{
+    for elapse in soonest {
+        let timer = timer_at(loaded, elapse.timer);
+        push_elapsing(alloc, rows, loaded, elapse.instant, timer)?;
+    }
+    Ok(())
+}
+
+fn timer_at(loaded: &Loaded, index: usize) -> Option<&LoadedTimer>
+    ensures { option_copied result ≡ slice_get loaded.now.timers.items index }
+{
+    loaded.timers.get(index)
+}
+
+/// Appends the row of a timer whose next elapse is at `instant`. Without a timer, appends nothing.
+fn push_elapsing<'a>(
+    alloc: Global,
+    rows: &mut Vec<ListRow<'a>>,
+    loaded: &'a Loaded,
+    instant: Instant,
+    timer: Option<&'a LoadedTimer>,
+) -> Result<(), AllocError>
+    ensures { OnOk result (map unit_seen rows.new.items
+        ≡ map unit_seen rows.old.items ++ row_if (elapsing_row loaded.now instant.secs) (option_copied timer.entry)) }
+{
+    let Some(timer) = timer else {
+        return Ok(());
+    };
+    let row = elapsing_row(alloc, loaded, instant, timer)?;
+    rows.push(row)?;
+    Ok(())
+}
+
+/// Appends a row for each timer that elapses no more.
+fn push_ended<'a>(
+    alloc: Global,
+    rows: &mut Vec<ListRow<'a>>,
+    loaded: &'a Loaded,
+    ended: &[usize],
+) -> Result<(), AllocError>
+    ensures { OnOk result (map unit_seen rows.new.items
+        ≡ map unit_seen rows.old.items ++ ended_rows loaded.now ended.now) }
+{
+    for index in ended {
+        push_ended_one(alloc, rows, loaded, timer_at(loaded, *index))?;
+    }
+    Ok(())
+}
+
+/// Appends the row of a timer that elapses no more. Without a timer, appends nothing.
+fn push_ended_one<'a>(
+    alloc: Global,
+    rows: &mut Vec<ListRow<'a>>,
+    loaded: &'a Loaded,
+    timer: Option<&'a LoadedTimer>,
+) -> Result<(), AllocError>
+    ensures { OnOk result (map unit_seen rows.new.items
+        ≡ map unit_seen rows.old.items ++ row_if (ended_row loaded.now) (option_copied timer.entry)) }
+{
+    let Some(timer) = timer else {
+        return Ok(());
+    };
+    let row = ended_row(alloc, loaded, timer)?;
+    rows.push(row)?;
+    Ok(())
+}
+
+/// Appends a row for each masked unit.
+fn push_masked<'a>(
+    alloc: Global,
+    rows: &mut Vec<ListRow<'a>>,
+    masked: &'a [String],
+) -> Result<(), AllocError>
+    ensures { OnOk result (map unit_seen rows.new.items
+        ≡ map unit_seen rows.old.items ++ masked_rows (map string_bytes masked.now)) }
+{
+    for unit in masked {
+        let row = noted_row(alloc, unit.as_str(), "masked")?;
+        rows.push(row)?;
+    }
+    Ok(())
+}
+
+/// Appends a row for each unit that fails to load.
+fn push_failed<'a>(
+    alloc: Global,
+    rows: &mut Vec<ListRow<'a>>,
+    faults: &'a [TargetFault],
+) -> Result<(), AllocError>
+    ensures { OnOk result (map unit_seen rows.new.items ≡ map unit_seen rows.old.items ++ failed_rows faults.now) }
+{
+    for fault in faults {
+        if fault.fails_to_load() {
+            let row = noted_row(alloc, fault.target.as_str(), "fails to load")?;
+            rows.push(row)?;
+        }
+    }
+    Ok(())
+}
+
+/// Returns the row of a timer whose next elapse is at `instant`.
+fn elapsing_row<'a>(
+    alloc: Global,
+    loaded: &'a Loaded,
+    instant: Instant,
+    timer: &'a LoadedTimer,
+) -> Result<ListRow<'a>, AllocError>
+    ensures { IfOk result (λ row. unit_seen row ≡ elapsing_row loaded.now instant.secs timer.now) }
+{
+    let notes = notes_of(alloc, loaded, timer, false)?;
+    Ok(ListRow {
+        unit: timer.name.as_str(),
+        next: Some(instant),
+        notes,
+    })
+}
+
+/// Returns the row of a timer that elapses no more.
+fn ended_row<'a>(
+    alloc: Global,
+    loaded: &'a Loaded,
+    timer: &'a LoadedTimer,
+) -> Result<ListRow<'a>, AllocError>
+    ensures { IfOk result (λ row. unit_seen row ≡ ended_row loaded.now timer.now) }
+{
+    let notes = notes_of(alloc, loaded, timer, true)?;
+    Ok(ListRow {
+        unit: timer.name.as_str(),
+        next: None,
+        notes,
+    })
+}
+
+/// Returns the row of a unit that isn't a loaded timer, with a single note.
+fn noted_row<'a>(alloc: Global, unit: &'a str, note: &'a str) -> Result<ListRow<'a>, AllocError>
+    ensures { IfOk result (λ row. unit_seen row ≡ noted_row note.now unit.now) }
+{
+    let mut notes: Vec<&'a str> = Vec::new(alloc);
+    notes.push(note)?;
+    Ok(ListRow {
+        unit,
+        next: None,
+        notes,
+    })
+}
+
+/// Returns the notes of a timer. `is_ended` says that it elapses no more.
+fn notes_of<'a>(
+    alloc: Global,
+    loaded: &'a Loaded,
+    timer: &'a LoadedTimer,
+    is_ended: bool,
+) -> Result<Vec<&'a str>, AllocError>
+    ensures { IfOk result (λ notes. map (λ note. note.now) notes.items ≡ list_notes loaded.now is_ended timer.now) }
+{
+    let mut notes: Vec<&'a str> = Vec::new(alloc);
+    push_if(
+        &mut notes,
+        loaded.is_disabled(timer.name.as_str()),
+        "disabled",
+    )?;
+    push_if(&mut notes, is_ended && !timer.lines().is_empty(), "never")?;
+    push_all(&mut notes, timer.notes.as_slice())?;
+    push_if(&mut notes, !timer.exceptions().is_empty(), "exceptions")?;
+    Ok(notes)
+}
+
+/// Appends a note if it applies.
+fn push_if<'a>(notes: &mut Vec<&'a str>, is_noted: bool, note: &'a str) -> Result<(), AllocError>
+    ensures { OnOk result (map (λ note. note.now) notes.new.items
+        ≡ map (λ note. note.now) notes.old.items ++ note_if is_noted note.now) }
+{
+    if is_noted {
+        notes.push(note)?;
+    }
+    Ok(())
+}
+
+/// Appends all these notes.
+fn push_all<'a>(notes: &mut Vec<&'a str>, more: &'a [String]) -> Result<(), AllocError>
+    ensures { OnOk result (map (λ note. note.now) notes.new.items
+        ≡ map (λ note. note.now) notes.old.items ++ map string_bytes more.now) }
+{
+    for note in more {
+        notes.push(note.as_str())?;
+    }
+    Ok(())
+}

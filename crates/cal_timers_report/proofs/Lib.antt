@@ -1,0 +1,4 @@
+mod JsonLemmas
+mod LocalTimeLemmas
+pub mod RowLemmas
+mod WidthLemmas

@@ -1,0 +1,12 @@
+use Rattle.std.proofs.Common.{refl}
+use Rattle.std.proofs.lemmas.Result.{on_ok_weaker}
+use Rattle.cal_timers_report.specs.rules.Documents.{unit_members}
+use Rattle.cal_timers_report.specs.rules.ReportView.{unit_seen}
+use Rattle.cal_timers_report.proofs.JsonLemmas.{object_put}
+use Rattle.cal_timers_report.proofs.documents.list.put_row.Goals as goal
+
+pub returns : goal.returns
+returns c =
+    let puts = object_put (unit_members c.args.zone c.args.now.secs (unit_seen c.args.row.now)) _ _ _ _ c.in_ok-token.ensures.ok
+    (_, c.in_ok-put_member.ensures, (_, c.in_ok-put_next.ensures, (_, c.in_ok-put_unix.ensures, (_, c.in_ok-put_left.ensures, (_, c.in_ok-put_member-2.ensures, refl))))) in
+    on_ok_weaker c.token-2.result puts c.token-2.ensures.ok
