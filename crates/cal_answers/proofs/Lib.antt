@@ -2,3 +2,4 @@ pub mod FoundLemmas
 mod LocalClockLemmas
 mod RangeZoneLemmas
 pub mod MachinePathLemmas
+mod RunLemmas

@@ -6,4 +6,5 @@ pub mod MachinePath
 pub mod Output
 pub mod Present
 pub mod RangeZones
+pub mod Run
 pub mod Unanswerable

@@ -36,7 +36,7 @@ const DEFAULT_COUNT: u32 = 5;
 
 /// The texts for standard output and standard error, and the exit status.
 #[derive(Debug, Drop)]
-pub struct Answer {
+pub(crate) struct Answer {
     /// The text for standard output.
     pub out: String,
     /// The error lines, for standard error.

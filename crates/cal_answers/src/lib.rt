@@ -1,8 +1,8 @@
-//! The answers of `calendar-timers`: from a question to the texts for standard output and standard error, and the exit
-//! status.
+//! All that `calendar-timers` does: from the arguments to the bytes on both outputs, and the exit status.
 #![tactic(auto)]
 
 mod answer;
+mod arguments_to_bytes;
 mod between;
 mod compare;
 mod fault;
@@ -21,5 +21,4 @@ mod timer_problems;
 mod timers;
 mod whole;
 
-pub use answer::Answer;
-pub use whole::answer_on;
+pub use arguments_to_bytes::{System, answer_arguments};

@@ -1,6 +1,7 @@
 //! The real system: its folders, files and links, and the variables of the environment. Nothing is proved about what
 //! they contain. They can change while the program runs, so the program reads them through a [`cal_machine::Recorder`].
 
+use cal_answers::System;
 use cal_machine::{Entry, FILE_BYTES, Names, Raw, TreeFault, Unreadable};
 use std::alloc::{AllocError, Global};
 use std::fs::DirEntry;
@@ -10,18 +11,20 @@ use std::time::{Clock, SystemTime, UNIX_EPOCH};
 use std::{env, fs, io};
 
 /// The system that the program runs on, or the part of it below a root folder.
-#[derive(Clone, Copy)]
+#[derive(Drop)]
 pub struct Machine<'a, R> {
     /// The runtime, through which everything is read.
     pub rt: &'a R,
     /// The root folder, to which absolute paths are relative. Empty for the system's own root.
-    pub root: &'a str,
+    pub root: String,
 }
 
-impl<'a, R: Clock> Machine<'a, R> {
-    /// Returns the time that the clock shows, in seconds of Unix time. Returns `None` if the clock can't be read or
-    /// shows a time before 1970.
-    pub fn clock(&self) -> Option<i64> {
+impl<'a, R: Files + Env + Clock + AllocGlobal + Clone + Drop> System for Machine<'a, R> {
+    fn below(self, root: String) -> Machine<'a, R> {
+        Machine { rt: self.rt, root }
+    }
+
+    fn clock(&self) -> Option<i64> {
         let now = SystemTime::now(self.rt).ok()?;
         let since = now.duration_since(UNIX_EPOCH).ok()?;
         i64::try_from(since.as_secs()).ok()
@@ -32,7 +35,7 @@ impl<'a, R: Files + Env + AllocGlobal + Clone + Drop> Machine<'a, R> {
     /// Returns the path on the system that stands for `path`. An absolute path lies below the root folder, and the
     /// empty path is that of the root folder itself. A relative path is that of the system.
     fn path_of(&self, alloc: Global, path: &str) -> Result<String, AllocError> {
-        let root = self.root;
+        let root = self.root.as_str();
         match path {
             "" if root.is_empty() => String::from_str(alloc, "/"),
             _ if path.is_empty() || path.starts_with('/') => format!(in alloc; "{root}{path}"),

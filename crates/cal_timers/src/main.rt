@@ -2,22 +2,23 @@
 //! systemd.time(7)).
 #![tactic(auto)]
 
+ghost use Rattle.std.specs.Prelude.{◌≡◌, false};
+
 pub mod machine;
 
 use crate::machine::Machine;
-use cal_answers::{Answer, answer_on};
-use cal_plan::PlanFault;
-use cal_timers_command::{CommandFault, Question};
+use cal_answers::answer_arguments;
+use cal_bytes::{Port, Sink, put_all};
 use cal_timers_report::Style;
 use std::io::{ErrorKind, IsTerminal};
 use std::process::ExitCode;
 use std::rt::Env;
 use std::{env, io};
 
-/// The exit status if printing or allocation fails.
+/// The exit status if memory for the arguments runs out.
 const FAILED: u8 = 1;
 
-/// The exit status if the arguments are invalid.
+/// The exit status if an argument isn't UTF-8.
 const USAGE: u8 = 2;
 
 /// The minimum width of output to a terminal, in columns.
@@ -34,22 +35,28 @@ For more information, try '--help'.
 ";
 
 fn main(rt: HostRuntime) -> ExitCode {
+    let mut err = Port::new(rt.stderr());
     let arguments = match given_arguments(&rt) {
         Ok(arguments) => arguments,
-        Err(error) if error.kind() == ErrorKind::OutOfMemory => return end(
-            &rt,
-            "",
-            OUT_OF_MEMORY,
-            FAILED,
-        ),
-        Err(_) => return end(&rt, "", NOT_UTF_8, USAGE),
+        Err(error) if error.kind() == ErrorKind::OutOfMemory => {
+            return exit_with(&mut err, OUT_OF_MEMORY, FAILED);
+        }
+        Err(_) => return exit_with(&mut err, NOT_UTF_8, USAGE),
     };
-    match Question::of(rt.alloc(), arguments.as_slice()) {
-        Ok(question) => answer_and_print(&rt, &question),
-        Err(CommandFault::Help(text)) => end(&rt, text.as_str(), "", 0),
-        Err(CommandFault::Usage(text)) => end(&rt, "", text.as_str(), USAGE),
-        Err(CommandFault::NoMemory) => end(&rt, "", OUT_OF_MEMORY, FAILED),
-    }
+    let machine = Machine {
+        rt: &rt,
+        root: String::new(rt.alloc()),
+    };
+    let mut out = Port::new(rt.stdout());
+    let status = answer_arguments(
+        rt.alloc(),
+        machine,
+        arguments.as_slice(),
+        style_of(&rt),
+        &mut out,
+        &mut err,
+    );
+    ExitCode::from(status)
 }
 
 /// Returns the arguments after the program's name.
@@ -57,28 +64,13 @@ fn given_arguments<R: Env + AllocGlobal>(rt: &R) -> io::Result<Vec<String>> {
     Ok(env::args(rt)?.skip(1).collect(rt.alloc())?)
 }
 
-/// Answers a question about this machine, or about the part of it below the root that the question names, and prints
-/// the answer.
-fn answer_and_print(rt: &HostRuntime, question: &Question) -> ExitCode {
-    match read_and_answer(rt, question) {
-        Ok(Answer { out, err, status }) => end(rt, out.as_str(), err.as_str(), status),
-        Err(PlanFault::NoMemory) => end(rt, "", OUT_OF_MEMORY, FAILED),
-        Err(PlanFault::NoSuchZone(_)) => end(
-            rt,
-            "",
-            "calendar-timers: a zone isn't loaded\n",
-            FAILED,
-        ),
-    }
-}
-
-fn read_and_answer(rt: &HostRuntime, question: &Question) -> Result<Answer, PlanFault> {
-    let machine = Machine {
-        rt,
-        root: question.root.as_str(),
-    };
-    let clock = machine.clock();
-    answer_on(rt.alloc(), machine, question, clock, style_of(rt))
+/// Writes the error line about arguments that can't be read, and returns the exit status.
+fn exit_with<E: Sink>(err: &mut E, line: &str, status: u8) -> ExitCode
+    requires { E.is_failed err.old ≡ false }
+{
+    // If the line can't be written, the exit status still reports the failure.
+    let _ = put_all(err, line.as_bytes());
+    ExitCode::from(status)
 }
 
 /// Returns the style of the output. For a terminal, the width of tables is limited, and text is bold or red unless the
@@ -110,20 +102,5 @@ fn width_of(rt: &HostRuntime) -> usize {
             .unwrap_or(0)
             .max(MIN_WIDTH),
         Err(_) => MIN_WIDTH,
-    }
-}
-
-/// Prints the texts for both outputs, and returns the exit status. If printing to standard output fails, for example
-/// because it is a pipe that nobody reads any more, prints an error line and returns [`FAILED`].
-fn end(rt: &HostRuntime, out: &str, err: &str, status: u8) -> ExitCode {
-    let written = print!(rt; "{out}");
-    // If printing to standard error fails, only the exit status is left to report anything.
-    let _ = eprint!(rt; "{err}");
-    match written {
-        Ok(()) => ExitCode::from(status),
-        Err(_) => {
-            let _ = eprintln!(rt; "calendar-timers: output failed");
-            ExitCode::from(FAILED)
-        }
     }
 }

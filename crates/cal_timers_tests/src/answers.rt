@@ -1,11 +1,10 @@
-//! Tests of `answer_on`: an answer of each verb as text and as JSON, in which every function
-//! on the way has to succeed, and the error lines about what can't be read, which a transcript can't show if its user
-//! may read everything.
+//! Tests of `answer_arguments`: an answer of each verb as text and as JSON, in which every function on the way has to succeed, and
+//! the error lines about what can't be read, which a transcript can't show if its user may read everything.
 
 use crate::memory::{Item, Memory};
-use cal_answers::{Answer, answer_on};
+use cal_answers::answer_arguments;
+use cal_bytes::{Faulty, Port, Then};
 use cal_library_tests::shared::{ensure, zone_file};
-use cal_timers_command::Question;
 use cal_timers_report::Style;
 use std::alloc::Global;
 use std::test::Fail;
@@ -16,20 +15,23 @@ const STYLE: Style = Style {
     is_bold: true,
 };
 
-/// Returns what is printed for arguments, which `line` separates by `|`: the text for standard output and after it the
-/// text for standard error. The present is Mon 2024-01-01 00:00:00 UTC.
-fn answer(alloc: Global, items: &[(&str, Item<'_>)], line: &str) -> Result<String, Fail> {
+/// Returns what is printed for arguments, which `line` separates by `|`: standard output and after it standard error. The
+/// present is Mon 2024-01-01 00:00:00 UTC.
+fn answer(alloc: Global, items: &[(&str, Item<'_>)], line: &str) -> Result<Vec<u8>, Fail> {
     let arguments: Vec<&str> = line.split('|').collect(alloc)?;
-    let Ok(question) = Question::of(alloc, arguments.as_slice()) else {
-        return Err(line.into());
-    };
-    let clock = Some(1_704_067_200);
-    let Ok(answer) = answer_on(alloc, Memory { items }, &question, clock, STYLE) else {
-        return Err(line.into());
-    };
-    let Answer { mut out, err, .. } = answer;
-    out.push_str(err.as_str())?;
-    Ok(out)
+    let mut out = Port::new(Vec::new(alloc));
+    let mut err = Port::new(Vec::new(alloc));
+    answer_arguments(
+        alloc,
+        Memory { items },
+        arguments.as_slice(),
+        STYLE,
+        &mut out,
+        &mut err,
+    );
+    let mut printed = out.into_inner();
+    printed.extend_from_slice(err.into_inner().as_slice())?;
+    Ok(printed)
 }
 
 fn expect(
@@ -39,7 +41,7 @@ fn expect(
     expected: &str,
 ) -> Result<(), Fail> {
     let found = answer(alloc, items, line)?;
-    ensure(found.as_str() == expected, found.as_str())
+    ensure(found.as_slice() == expected.as_bytes(), line)
 }
 
 /// Arguments, and what is printed on a machine with a unit that has an alias and drop-ins, and with two other files.
@@ -404,6 +406,55 @@ fn expect_unreadable(alloc: Global, row: Row) -> Result<(), Fail> {
 fn what_cannot_be_read(rt: HostRuntime) -> Result<(), Fail> {
     for row in UNREADABLE {
         expect_unreadable(rt.alloc(), row)?;
+    }
+    Ok(())
+}
+
+/// The status, standard output and standard error of `next daily` if only the first `limit` bytes of standard output can
+/// be written.
+type Cut = (usize, u8, &'static str, &'static str);
+
+static CUTS: [Cut; 3] = [
+    (0, 1, "", "calendar-timers: output failed\n"),
+    (9, 1, "\x1b[1mdaily", "calendar-timers: output failed\n"),
+    (
+        999,
+        0,
+        "\x1b[1mdaily\x1b[0m
+  Calendar:  *-*-* 00:00:00
+  Next:      Tue 2024-01-02 00:00:00 UTC  in 1d
+",
+        "",
+    ),
+];
+
+fn expect_cut(alloc: Global, cut: Cut) -> Result<(), Fail> {
+    let (limit, status, out, err) = cut;
+    let mut written = Port::new(Faulty::new(Vec::new(alloc), 3, limit, Then::Error));
+    let mut lines = Port::new(Vec::new(alloc));
+    let ended = answer_arguments(
+        alloc,
+        Memory { items: &[] },
+        &["next", "daily", "--utc", "-n1"],
+        STYLE,
+        &mut written,
+        &mut lines,
+    );
+    ensure(ended == status, "the status")?;
+    ensure(
+        written.into_inner().bytes() == out.as_bytes(),
+        "standard output",
+    )?;
+    ensure(
+        lines.into_inner().as_slice() == err.as_bytes(),
+        "standard error",
+    )
+}
+
+#[test]
+fn outputs_that_fail(rt: HostRuntime) -> Result<(), Fail> {
+    for cut in CUTS {
+        expect_cut(rt.alloc(), cut)?;
     }
     Ok(())
 }

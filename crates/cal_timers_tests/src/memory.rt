@@ -1,5 +1,6 @@
 //! A machine in memory.
 
+use cal_answers::System;
 use cal_machine::{Entry, Names, Raw, TreeFault, Unreadable};
 use std::alloc::{AllocError, Global};
 
@@ -98,5 +99,15 @@ impl<'a> Raw for Memory<'a> {
             return Ok(Some(String::from_str(alloc, "/home/ann")?));
         }
         Ok(None)
+    }
+}
+
+impl<'a> System for Memory<'a> {
+    fn below(self, _root: String) -> Memory<'a> {
+        self
+    }
+
+    fn clock(&self) -> Option<i64> {
+        Some(1_704_067_200)
     }
 }

@@ -1,0 +1,9 @@
+use Rattle.std.proofs.Common.{inl}
+use Rattle.std.proofs.lemmas.Result.{IfOk-weaker}
+use Rattle.cal_answers.proofs.arguments_to_bytes.answer_for.Goals as goal
+
+pub returns-in-Ok : goal.returns-in-Ok
+returns-in-Ok g c =
+    IfOk-weaker c.answer_on_system.result _ _
+    (λ answer found. inl (record { question = c.in-Ok.question; asked = c.in-Ok.ensures.question; clock = found.0; answered = found.1 }))
+    c.answer_on_system.ensures

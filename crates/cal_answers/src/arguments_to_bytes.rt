@@ -1,0 +1,140 @@
+//! A whole run: from the arguments to the bytes on both outputs and the exit status.
+
+ghost use Rattle.std.specs.Prelude.{◌≡◌, ℤ, IfOk, Option, false, map, string_bytes};
+ghost use Rattle.cal_answers.specs.rules.Output.{IsAnswerOn};
+ghost use Rattle.cal_answers.specs.rules.Run.{IsRunOf, IsToPrint, Prints, printed_of};
+
+use crate::answer::Answer;
+use crate::whole::answer_on;
+use cal_bytes::{Sink, put_all, put_pieces};
+use cal_machine::Raw;
+use cal_plan::PlanFault;
+use cal_timers_command::{CommandFault, Question};
+use cal_timers_report::Style;
+use std::alloc::Global;
+use std::convert::AsStr;
+
+/// The exit status if an output or allocation fails.
+const FAILED: u8 = 1;
+
+/// The exit status if the arguments are invalid.
+const USAGE: u8 = 2;
+
+/// The system on which the program runs.
+pub trait System: Raw {
+    /// Returns the part of the system below this folder, or the whole system if the path is empty.
+    fn below(self, root: String) -> Self;
+
+    /// Returns the time that the clock shows, in seconds of Unix time. Returns `None` if the clock can't be read or
+    /// shows a time before 1970.
+    fn clock(&self) -> Option<i64>;
+}
+
+/// Answers the question that the arguments ask, or gives the help that they ask for, and writes the answer to `out` and
+/// error lines to `err`. Returns the exit status.
+///
+/// Each question about the system is asked at most once. If `out` fails, for example because it is a pipe that nobody
+/// reads any more, a prefix of the answer was written, the last line on `err` says so, and the status is 1. If `err`
+/// fails, only the status is left to report anything.
+pub fn answer_arguments<S: System + Drop, T: AsStr, O: Sink, E: Sink>(
+    alloc: Global,
+    system: S,
+    arguments: &[T],
+    style: Style,
+    out: &mut O,
+    err: &mut E,
+) -> u8
+    requires out { O.is_failed out.old ≡ false }
+    requires err { E.is_failed err.old ≡ false }
+    ensures { IsRunOf S.gives (map T.text arguments.now) style result (O.is_failed out.new) (E.is_failed err.new)
+        (O.written out.old) (O.written out.new) (E.written err.old) (E.written err.new) }
+{
+    match answer_for(alloc, system, arguments, style) {
+        Ok(answer) => write_answer(
+            answer.out.as_str(),
+            answer.err.as_str(),
+            answer.status,
+            out,
+            err,
+        ),
+        Err(PlanFault::NoMemory) => {
+            write_answer("", "calendar-timers: out of memory\n", FAILED, out, err)
+        }
+        Err(PlanFault::NoSuchZone(_)) => write_answer(
+            "",
+            "calendar-timers: a zone isn't loaded\n",
+            FAILED,
+            out,
+            err,
+        ),
+    }
+}
+
+/// Returns what is to be written for these arguments.
+fn answer_for<S: System + Drop, T: AsStr>(
+    alloc: Global,
+    system: S,
+    arguments: &[T],
+    style: Style,
+) -> Result<Answer, PlanFault>
+    ensures { IfOk result (λ answer. IsToPrint S.gives (map T.text arguments.now) style (printed_of answer)) }
+{
+    match Question::of(alloc, arguments) {
+        Ok(question) => answer_on_system(alloc, system, &question, style),
+        Err(CommandFault::Help(text)) => Ok(Answer {
+            out: text,
+            err: String::new(alloc),
+            status: 0,
+        }),
+        Err(CommandFault::Usage(text)) => Ok(Answer {
+            out: String::new(alloc),
+            err: text,
+            status: USAGE,
+        }),
+        Err(CommandFault::NoMemory) => Err(PlanFault::NoMemory),
+    }
+}
+
+/// Returns the answer to a question about the system, or about the part of it below the root that the question names.
+fn answer_on_system<S: System + Drop>(
+    alloc: Global,
+    system: S,
+    question: &Question,
+    style: Style,
+) -> Result<Answer, PlanFault>
+    ensures { IfOk result (λ answer. (clock : Option ℤ) × IsAnswerOn S.gives question.entry.now clock style (string_bytes answer.out)) }
+{
+    let clock = system.clock();
+    let root = String::from_str(alloc, question.root.as_str())?;
+    answer_on(alloc, system.below(root), question, clock, style)
+}
+
+/// Writes both texts, and returns the exit status: `status`, or [`FAILED`] if `out` fails. In this case, a last line on
+/// `err` says so.
+fn write_answer<O: Sink, E: Sink>(
+    answer: &str,
+    lines: &str,
+    status: u8,
+    out: &mut O,
+    err: &mut E,
+) -> u8
+    requires out { O.is_failed out.old ≡ false }
+    requires err { E.is_failed err.old ≡ false }
+    ensures { Prints (record { out = answer.now; err = lines.now; status = status }) result (O.is_failed out.new) (E.is_failed err.new)
+        (O.written out.old) (O.written out.new) (E.written err.old) (E.written err.new) }
+{
+    match put_all(out, answer.as_bytes()) {
+        Ok(()) => {
+            // If writing the error lines fails, only the status is left to report anything.
+            let _ = put_all(err, lines.as_bytes());
+            status
+        }
+        Err(_) => {
+            let _ = put_pieces(
+                err,
+                &[lines.as_bytes(), b"calendar-timers: output failed\n"],
+            );
+            FAILED
+        }
+    }
+}
