@@ -3,8 +3,10 @@ pub mod DifferenceLemmas
 pub mod IdleLemmas
 pub mod KeptLemmas
 pub mod LineLemmas
+pub mod ListLemmas
 pub mod NoteLemmas
 pub mod OrderLemmas
 pub mod RangeLemmas
+pub mod SameLemmas
 pub mod TakeLemmas
 pub mod ZoneChangeLemmas

@@ -3,6 +3,7 @@ pub mod BetweenReport
 pub mod ClockNotes
 pub mod Difference
 pub mod IdleLines
+pub mod ListLaw
 pub mod ListReport
 pub mod LoadedElapses
 pub mod SameReport

@@ -16,6 +16,7 @@ mod list_report;
 mod next;
 mod order;
 mod range;
+pub mod report_laws;
 mod same_report;
 mod several;
 mod show_report;

@@ -1,0 +1,19 @@
+-- What the report of `list` has, said without the order in which it is made: the row of each unit, and which rows come
+-- first (systemd.timer(5), OnCalendar=).
+use Rattle.std.specs.Prelude.{◌≡◌, ℤ, List, [], ◌∷◌, ◌++◌, Option, None, Some, map, int_le, IsTrue}
+use Rattle.std.specs.List.{AllByRecursion}
+use Rattle.cal_load.specs.declared.loaded.Loaded.{Loaded}
+use Rattle.cal_load.specs.declared.loaded.LoadedTimer.{LoadedTimer}
+use Rattle.cal_timers_report.specs.rules.ReportView.{UnitView}
+use Rattle.cal_tasks.specs.declared.clocked.Clocked.{Clocked}
+use Rattle.cal_tasks.specs.rules.ListReport.{elapsing_row, ended_row}
+use Rattle.cal_tasks.specs.rules.LoadedElapses.{elapses_in}
+
+-- the row of a timer that elapses at these instants
+abbrev pub row_by : Loaded → LoadedTimer → List ℤ → UnitView
+row_by loaded timer [] = ended_row loaded timer
+row_by loaded timer (secs ∷ later) = elapsing_row loaded secs timer
+
+-- the row of a timer: its first elapse after the present, if there is one, and its notes
+abbrev pub timer_row : Clocked → Loaded → LoadedTimer → UnitView
+timer_row at loaded timer = row_by loaded timer (elapses_in at at.now.secs timer)
