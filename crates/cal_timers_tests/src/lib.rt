@@ -5,6 +5,8 @@
 #[cfg(test)]
 mod answers;
 #[cfg(test)]
+mod crontab;
+#[cfg(test)]
 mod lint;
 #[cfg(test)]
 mod memory;

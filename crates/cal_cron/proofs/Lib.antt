@@ -1,0 +1,12 @@
+pub mod CommandLemmas
+pub mod Cuts
+pub mod FieldRule
+pub mod ItemRule
+pub mod LineRule
+pub mod NormalLemmas
+pub mod PartLemmas
+pub mod RangeLemmas
+pub mod ScheduleLemmas
+pub mod TrimLemmas
+pub mod ValueRule
+pub mod WeekdayLemmas

@@ -1,0 +1,2 @@
+pub mod computed
+pub mod rules

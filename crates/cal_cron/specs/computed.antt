@@ -1,0 +1,5 @@
+pub mod CrontabViews
+pub mod Items
+pub mod Lines
+pub mod Schedules
+pub mod Translation
