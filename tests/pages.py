@@ -17,13 +17,13 @@ cal_timer.
 Each definition is in specs/rules/ or specs/computed/. From specs/computed/, rules cite only the functions that
 docs/MAP.md names, each with the law that ties it to a rule. The clause `headline` of `work` and the laws of cal_report
 rest only on files in specs/rules/ and on such functions, and docs/MAP.md says on how many files; `tests/pages.py
---headline` lists these definitions. docs/HEADLINE.md shows formal text as it is in its files. README and docs/PROVED.md
-quote its sentence. README has figures of docs/SPEED.md and a link to each page; docs/PROVED.md names each crate, and
+--headline` lists these definitions. docs/HEADLINE.md shows formal text as it is in its files. README quotes its
+sentence, has figures of docs/SPEED.md and a link to each page; docs/PROVED.md names each crate, and
 docs/MAP.md each crate and each script of ./test. A must-fail edit on a page is one of the tree's. The README of a crate
 quotes code of the tests that it names. The outputs that the pages show are tested by tests/examples.py,
 tests/recipes.py and tests/differences.py.
 
-The kit that README names and the kit installed here have the same logic. If they don't, or if there is no `rt`, this is
+The kit that CONTRIBUTING names and the kit installed here have the same logic. If they don't, or if there is no `rt`, this is
 skipped. The last line is 'N passed, M failed', with ', 1 skipped' in that case."""
 
 import functools
@@ -314,15 +314,10 @@ def quotations(page):
     return [joined(re.sub(r"^> ", "", lines, flags=re.M)) for lines in re.findall(r"(?:^> .*\n)+", text_of(page), re.M)]
 
 
-def unquoted(page):
-    """Yields the headline if a page doesn't quote it as docs/HEADLINE.md does."""
-    if quotations("docs/HEADLINE.md")[0] not in quotations(page):
-        yield "the headline isn't that of docs/HEADLINE.md"
-
-
 def of_readme(tree):
     """Yields where README differs from other pages, and the pages that it leaves out."""
-    yield from unquoted("README.md")
+    if quotations("docs/HEADLINE.md")[0] not in quotations("README.md"):
+        yield "the headline isn't that of docs/HEADLINE.md"
     for row in re.findall(r"^(\| .* \| [\d.]+ \| [\d.]+ \|)$", text_of("README.md"), re.M):
         if not any(line.startswith(row) for line in text_of("docs/SPEED.md").split("\n")):
             yield f"the row {row}, which docs/SPEED.md doesn't have"
@@ -345,20 +340,18 @@ def differences(tree, page):
         found += of_readme(tree)
     if page == "docs/HEADLINE.md":
         found += formal(page)
-    if page == "docs/PROVED.md":
-        found += unquoted(page)
     if page.startswith("crates/"):
         found += tree.example(page)
     return sorted({difference for difference in found if difference})
 
 
 def skipped_kit():
-    """Returns why this machine doesn't have a kit with the logic of the one that README names, or None if it has."""
+    """Returns why this machine doesn't have a kit with the logic of the one that CONTRIBUTING names, or None if it has."""
     if not shutil.which("rt"):
         return "there is no rt here"
     kit = subprocess.run(["rt", "version"], capture_output=True, text=True).stdout.strip()
-    named = KIT.search(text_of("README.md"))
-    return None if named and kit.endswith(f" logic {named[1]}") else f"README names {named and named[0]}, and {kit} is here"
+    named = KIT.search(text_of("CONTRIBUTING.md"))
+    return None if named and kit.endswith(f" logic {named[1]}") else f"CONTRIBUTING names {named and named[0]}, and {kit} is here"
 
 
 def main():

@@ -9,6 +9,10 @@ is none. The blocks of a section share a folder, which at first has the scripts 
 stands for /etc/localtime. In each block `console` of the other pages except docs/DIFFERENCES.md, every command has to
 print what follows it; a command `cat FILE` makes that file.
 
+In the first block of README, and in the recipes with "your" in their title, calendar-timers is given `--root` and `--now`,
+which the pages don't show: the root has the units of the host web1 in HOSTS, and the time is NOON. `ssh HOST COMMAND` runs the
+command for that host.
+
 Besides, shellcheck has to accept all blocks and scripts; the script `rest` has to complete an output that was cut after any
 byte; `calendar-timers lint` has to accept the timers of this machine's packages; and each row of the table for crontab has to
 elapse when cron runs its line. What needs a missing tool is skipped. The last line is 'N passed, M failed', with ', K skipped'
@@ -30,6 +34,19 @@ SCRIPT = re.compile(r"^cat > (\w+) << 'EOF'\n#!/bin/sh$", re.M)
 ELAPSE = re.compile(r"^ *(?:Next elapse|Iter\. #\d+): (.*)\n", re.M)
 BERLIN = "/usr/share/zoneinfo/Europe/Berlin"
 PACKAGED = glob.glob("/lib/systemd/system/*.timer")
+# Timers of each host: on web1 those that Debian machines have, and one of its administrator with a mistake. Each has a
+# service, and is started by timers.target. The zone is that of Berlin.
+HOSTS = {
+    "web1": {
+        "etc/systemd/system/backup": "[Unit]\nDescription=Backup\n\n[Timer]\nOnCalendar=08:00..18:00\n",
+        "usr/lib/systemd/system/fstrim": "[Timer]\nOnCalendar=weekly\nAccuracySec=1h\nPersistent=true\n",
+        "usr/lib/systemd/system/logrotate": "[Timer]\nOnCalendar=daily\nAccuracySec=1h\nPersistent=true\n",
+        "usr/lib/systemd/system/man-db": "[Timer]\nOnCalendar=daily\nRandomizedDelaySec=12h\nPersistent=true\n",
+    },
+    "sql1": {"etc/systemd/system/dump": "[Timer]\nOnCalendar=04:15\n"},
+}
+# 2026-12-24 12:00:00 in Berlin.
+NOON = "@1798110000"
 # The values of the five fields of a crontab line: minute, hour, day, month, and weekday from Sunday on.
 FIELDS = [range(60), range(24), range(1, 32), range(1, 13), range(7)]
 NICKNAMES = {
@@ -47,6 +64,7 @@ def read(path):
 
 
 def write(path, text):
+    os.makedirs(os.path.dirname(path), exist_ok=True)
     with open(path, "w", encoding="utf-8") as file:
         file.write(text)
 
@@ -69,11 +87,13 @@ class Recipes:
         os.makedirs(self.scripts)
         os.symlink(os.path.realpath(program), f"{scratch}/bin/calendar-analyze")
         os.symlink(os.path.realpath(timers), f"{scratch}/bin/calendar-timers")
+        write(f"{scratch}/.gitconfig", "[user]\nname = Test\nemail = test@example.com\n")
         self.passed = self.failed = self.skipped = 0
 
-    def run(self, command, folder):
-        """Returns what a command prints, and its status if that isn't 0."""
-        env = {"PATH": f"{self.scratch}/bin:{os.environ['PATH']}", "LC_ALL": "C.UTF-8", "HOME": self.scratch}
+    def run(self, command, folder, programs="bin"):
+        """Returns what a command prints, and its status if that isn't 0. Programs in the folder `programs` come first."""
+        path = f"{self.scratch}/{programs}:{self.scratch}/bin:{os.environ['PATH']}"
+        env = {"PATH": path, "LC_ALL": "C.UTF-8", "HOME": self.scratch}
         pipes = {"stdin": subprocess.DEVNULL, "stdout": subprocess.PIPE, "stderr": subprocess.STDOUT}
         ended = subprocess.run(command, cwd=folder, env=env, text=True, **pipes)
         return ended.stdout + (f"status {ended.returncode}\n" if ended.returncode else "")
@@ -95,26 +115,47 @@ class Recipes:
             folder = f"{self.scratch}/{number}"
             shutil.copytree(self.scripts, folder)
             for code, printed in blocks:
-                if re.search(r"\bjq\b", code) and not shutil.which("jq"):
-                    self.skip(title, "jq is missing")
+                lacking = [tool for tool in ("jq", "git") if re.search(rf"\b{tool} ", code) and not shutil.which(tool)]
+                if lacking:
+                    self.skip(title, f"{lacking[0]} is missing")
                     continue
                 write(f"{folder}/block", code)
-                self.expect(title, self.run(["bash", "block"], folder), printed)
+                self.expect(title, self.run(["bash", "block"], folder, "web1" if "your" in title.lower() else "bin"), printed)
                 for script in SCRIPT.findall(code):
                     shutil.copy(f"{folder}/{script}", self.scripts)
+
+    def hosts(self):
+        """Makes a folder of programs for each host: a calendar-timers that reads the host's units at NOON, and ssh."""
+        for host, units in HOSTS.items():
+            root, programs = f"{self.scratch}/{host}-root", f"{self.scratch}/{host}"
+            wants = f"{root}/etc/systemd/system/timers.target.wants"
+            os.makedirs(wants)
+            for unit, text in units.items():
+                write(f"{root}/{unit}.timer", f"{text}\n[Install]\nWantedBy=timers.target\n")
+                write(f"{root}/{unit}.service", f"[Service]\nType=oneshot\nExecStart=/usr/sbin/{os.path.basename(unit)}\n")
+                os.symlink(f"/{unit}.timer", f"{wants}/{os.path.basename(unit)}.timer")
+            shutil.copy(BERLIN, f"{root}/etc/localtime")
+            timers = f'exec "{self.scratch}/bin/calendar-timers" --root="{root}" --now={NOON} "$@"'
+            ssh = f'PATH="{self.scratch}/$1:$PATH"\nshift\nexec "$@"'
+            for name, script in {"calendar-timers": timers, "ssh": ssh}.items():
+                write(f"{programs}/{name}", f"#!/bin/sh\n{script}\n")
+                os.chmod(f"{programs}/{name}", 0o755)
 
     def consoles(self):
         """Runs the blocks `console`. `./build ARGUMENTS` passes its arguments to the program."""
         pages = glob.glob("*.md", root_dir=ROOT) + glob.glob("docs/*.md", root_dir=ROOT) + glob.glob("crates/*/*.md", root_dir=ROOT)
         for page in sorted(set(pages) - {"docs/DIFFERENCES.md"}):
-            for block in re.findall(r"^```console\n(.*?)^```", read(page), re.M | re.S):
-                for part in re.split(r"^\$ ", block, flags=re.M)[1:]:
-                    command, printed = re.fullmatch(r"((?:[^\n]*\\\n)*[^\n]*\n)(.*)", part, re.S).groups()
-                    if command.startswith("cat "):
-                        write(f"{self.scratch}/{command[4:-1]}", printed)
-                    else:
-                        shell_line = re.sub(r"^\./(build|calendar-analyze) ", "calendar-analyze ", command)
-                        self.expect(f"{page}: {command[:-1]}", self.run(["sh", "-c", shell_line], self.scratch), printed)
+            for number, block in enumerate(re.findall(r"^```console\n(.*?)^```", read(page), re.M | re.S)):
+                self.console(page, block, "web1" if (page, number) == ("README.md", 0) else "bin")
+
+    def console(self, page, block, programs):
+        for part in re.split(r"^\$ ", block, flags=re.M)[1:]:
+            command, printed = re.fullmatch(r"((?:[^\n]*\\\n)*[^\n]*\n)(.*)", part, re.S).groups()
+            if command.startswith("cat "):
+                write(f"{self.scratch}/{command[4:-1]}", printed)
+            else:
+                shell_line = re.sub(r"^\./(build|calendar-analyze) ", "calendar-analyze ", command)
+                self.expect(f"{page}: {command[:-1]}", self.run(["sh", "-c", shell_line], self.scratch, programs), printed)
 
     def lint(self):
         """Runs shellcheck on each block and each script."""
@@ -190,7 +231,7 @@ def main():
     with tempfile.TemporaryDirectory(prefix="recipes-") as scratch:
         recipes = Recipes(scratch, *sys.argv[1:])
         if os.path.exists(BERLIN):
-            for step in (recipes.paste, recipes.consoles, recipes.lint, recipes.rest, recipes.packaged, recipes.crontab):
+            for step in (recipes.hosts, recipes.paste, recipes.consoles, recipes.lint, recipes.rest, recipes.packaged, recipes.crontab):
                 step()
         else:
             recipes.skip("all recipes", f"there is no {BERLIN}")
