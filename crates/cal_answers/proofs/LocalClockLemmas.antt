@@ -36,7 +36,7 @@ ruled_as (Ok clock) rule Shows local same is =
     λ machine shows. subst (λ local. IsLocalZone machine local (clock_zone clock)) (same machine shows) (is machine)
 ruled_as (Err fault) rule Shows local same is = tt
 
--- nor can it be used if the rule can't
+-- if the rule determines the local zone and can't be used, the local zone can't be used
 pub ruled_unusable : (found : Result LocalClock ZonesFault) (rule : List ℕ) (Shows : Machine → Type 0) (local : Machine → MachineLocalZone)
     → ((machine : Machine) → Shows machine → ByRule rule ≡ local machine)
     → IfErr found (λ fault. fault ≢ faults.NoMemory → (machine : Machine) → IsUnusable machine (ByRule rule))

@@ -29,7 +29,7 @@ pub zones_of_table : (machine : Machine) (Shows : Machine → Type 0) (loaded : 
 zones_of_table machine Shows (Ok found) table same zones shows = subst (HasZonesOf machine) (sym same) (zones machine shows)
 zones_of_table machine Shows (Err fault) table (other, same) zones shows = subst (HasZonesOf machine) (sym same) (none_has machine)
 
--- a table that was loaded for a single name lacks it only if its file can't be used
+-- a table that was loaded for a single name lacks this name only if the zone's file can't be used
 pub reason_of_lack : (machine : Machine) (Shows : Machine → Type 0) (loaded : Result ZoneMap ZonesFault) (table : ZoneMap) (name : List ℕ) (names : List (String Global))
     → map string_bytes names ≡ name ∷ [] → IsTableOf loaded table
     → IfOk loaded (λ found. (other : List ℕ) → is_some (zone_named found other) ≡ (is_utc_name other || list_any (bytes_eq other) (map string_bytes names)))

@@ -1,16 +1,16 @@
-//! Why reading for a question ends early.
+//! The error of the functions that read what an answer depends on.
 
 ghost use Rattle.std.specs.Prelude.{◌≡◌};
 ghost use Rattle.cal_answers.specs.declared.fault.ReadFault.TheVariants.{NoMemory};
 
 use std::alloc::{AllocError, AllocFailed, Global};
 
-/// Why reading for a question ends early.
+/// Why reading all that an answer depends on failed.
 #[derive(Debug, Drop)]
 pub(crate) enum ReadFault {
     /// The question can't be answered, for this reason.
     Unanswerable(String),
-    /// Out of memory.
+    /// Out of memory. Whether the question can be answered isn't known.
     NoMemory,
 }
 
@@ -31,7 +31,8 @@ impl<T: Drop> From<AllocFailed<T>> for ReadFault {
 }
 
 impl ReadFault {
-    /// Returns the error that the question can't be answered, for this reason.
+    /// Returns an error which says that the question can't be answered, for this reason, or `NoMemory` if allocation
+    /// fails.
     pub(crate) fn reason(alloc: Global, reason: &str) -> ReadFault {
         match String::from_str(alloc, reason) {
             Ok(reason) => ReadFault::Unanswerable(reason),

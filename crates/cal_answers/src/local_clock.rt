@@ -31,8 +31,8 @@ impl LocalClock {
     /// Finds which zone to use, and reads its file if it has one. `option` is the value of `--zone` or
     /// `--in`, if it is given. `by_variable` says whether the variable `TZ` counts.
     ///
-    /// Fails as [`find_local_zone`] and [`load_zones`] do, and with [`ZonesFault::Unclear`] if the rule in the option is
-    /// invalid.
+    /// Fails as [`find_local_zone`] and [`load_zones`] do, and with [`ZonesFault::Unclear`] if the rule in the option
+    /// is invalid.
     pub(crate) fn find<T: Tree>(
         alloc: Global,
         tree: &mut T,

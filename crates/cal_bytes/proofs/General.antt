@@ -23,7 +23,7 @@ use Rattle.std.proofs.lemmas.Str.{IsCharBoundary-after_ascii, IsCharBoundary-bef
 use Rattle.std.proofs.lemmas.List.Recursion.{and_at}
 use Rattle.std.specs.Str.{IsCharBoundary, IsUtf8}
 
--- Booleans
+-- ## Booleans
 
 pub and_true : (x : Bool) → (x && true) ≡ x
 and_true x = grind arith
@@ -57,7 +57,7 @@ pub below_all : (k : ℕ) (f : ℕ → Bool) (n : ℕ) → all_below k f ≡ tru
 below_all zero f n all small = absurd (omega arith)
 below_all (suc k) f n all small = grind (arith, below_all k f n)
 
--- Numbers
+-- ## Numbers
 
 pub int_lt_trans : (a b c : ℤ) → a <ℤ b → b <ℤ c → a <ℤ c
 int_lt_trans a b c h k = omega (arith, ints)
@@ -100,14 +100,14 @@ sum_whole a b n m is_n is_m small = rw (is_n, is_m, to_z_pos w64 n (omega arith)
 pub lt_from_less : (a b : ℤ) → int_cmp a b ≡ Less → a <ℤ b
 lt_from_less a b e = int_ranked a b Less (sym e)
 
--- Bits
+-- ## Bits
 
 -- bit k is the lowest bit of m that is set
 pub record IsLowestBit (m k : ℕ) : Type 0 where
   pub one : bit_at m k ≡ 1
   pub none : (i : ℕ) → i < k → bit_at m i ≡ 0
 
--- Options and results
+-- ## Options and results
 
 pub some_none : {A : Type 0} (x : A) → Some x ≡ None → ⊥
 some_none x h = cc
@@ -123,7 +123,7 @@ pub option_or_none : {A : Type 0} (o p : Option A) → option_or o p ≡ None �
 option_or_none None p at = (refl, at)
 option_or_none (Some e) p at = cc
 
--- Lists
+-- ## Lists
 
 pub some_front : (xs ys : List ℕ) → 0 < length xs → 0 < length (xs ++ ys)
 some_front xs ys h = omega (arith, length-append xs ys)
@@ -221,7 +221,7 @@ pub all_reverse : (P : ℕ → Type 0) (xs : List ℕ) → AllByRecursion P xs �
 all_reverse P [] h = tt
 all_reverse P (x ∷ xs) h = subst (AllByRecursion P) (sym (reverse-append (x ∷ []) xs)) (all_append P (reverse xs) (x ∷ []) (all_reverse P xs h.1) (h.0, tt))
 
--- Splitting a text at separators
+-- ## Splitting a text at separators
 
 -- `onto_first` makes `x` the first byte of the first piece, or a piece of its own if there are no pieces. So it always
 -- returns at least one piece, and so does `slice_split` (`some_piece`).
@@ -271,7 +271,7 @@ split_none p xs at =
     let none = ltb-false _ _ (not_found (nat_lt (position_or_len p xs) (length xs)) (position_or_len p xs) at) in
     slice_split_none p xs (λ k d within. not-true _ (prefix_len_passes (λ x. not (p x)) xs k d (omega (arith, none))))
 
--- Digits and letters
+-- ## Digits and letters
 
 pub digit_below : (b : ℕ) → is_ascii_digit b ≡ true → digit_value b < 10
 digit_below b h = grind (arith, nat_tests)
@@ -285,7 +285,7 @@ digit_value_at digits i within all =
     let high = leb-true (get_or digits i 0) 57 range.1 in
     (low, high, digit_value_digit (get_or digits i 0) (low, high))
 
--- Positions at which a text may be split
+-- ## Positions at which a text may be split
 
 pub boundary_at : (text : List ℕ) (m n : ℕ) → m ≡ n → IsCharBoundary text m → IsCharBoundary text n
 boundary_at text m n e h = let P : ℕ → Type 0 = λ k. IsCharBoundary text k in subst P e h
@@ -320,5 +320,3 @@ end_boundary_at p bs (suc n) ascii e =
 
 pub end_boundary : (p : ℕ → Bool) (bs : List ℕ) → ((b : ℕ) → p b ≡ true → b < 128) → IsCharBoundary bs (length bs - suffix_len p bs)
 end_boundary p bs ascii = end_boundary_at p bs (suffix_len p bs) ascii refl
-
--- Texts that are read or written in pieces

@@ -16,7 +16,7 @@ pub record PutsUpTo {W : Type 0} (sink : Ghosts W) (old new : W) (rest text : Li
   pub leaves : Leaves (sink.written old) (sink.written new) rest text
 
 module _ {W : Type 0} {sink : Ghosts W} where
-  -- Two consecutive calls
+  -- ## Two consecutive calls
 
   -- if the first of two calls fails, then `Puts` holds for both texts together, with any error as the result
   pub first_fails : {T E T' E' : Type 0} (a b : W) (first : Result T' E') (r : Result T E) (x y : List ℕ) → Puts sink a b first x → IsErr first → IsErr r → Puts sink a b r (x ++ y)
@@ -46,7 +46,7 @@ module _ {W : Type 0} {sink : Ghosts W} where
   pub puts_nothing : {T E : Type 0} {x : T} {a : W} → sink.is_failed a ≡ false → Puts {E = E} sink a a (Ok x) []
   puts_nothing {a = a} works = record { failed = works; bytes = Appends-nil (sink.written a) }
 
-  -- Calls in a loop
+  -- ## Calls in a loop
 
   -- before the first call, all of the text is still to be written
   pub put_none : {a : W} {text : List ℕ} → sink.is_failed a ≡ false → PutsUpTo sink a a text text

@@ -37,7 +37,6 @@ word_boundary text u =
           boundary_at text (length text) n (omega (arith, prefix_len-le-length (λ b. not (is_blank b)) text)) (IsCharBoundary-end text)
     ]
 
--- whether a byte is not a blank
 abbrev pub is_solid : ℕ → Bool
 is_solid b = not (is_blank b)
 
@@ -63,7 +62,7 @@ some_blank text within =
 pub no_blank : (text : List ℕ) → suffix_len is_solid text ≡ length text → list_any is_blank text ≡ false
 no_blank text all = list_any_none is_blank text (λ k d within. not-true (is_blank (get_or text k d)) (in_suffix is_solid text k d (omega arith) within))
 
--- Words
+-- ## Words
 
 -- a leading blank doesn't change the words
 pub words-blank : (b : ℕ) (text : List ℕ) → is_blank b ≡ true → words (b ∷ text) ≡ words text

@@ -1,4 +1,5 @@
-//! Buffered output.
+//! The trait [`Output`] of a [`Sink`] that can be flushed, and its implementation for a [`Port`] over a std
+//! `BufWriter`.
 
 ghost use Rattle.cal_bytes.specs.rules.Output.{Flushes};
 ghost use Rattle.std.specs.Io.Buffered.{writer_inner};

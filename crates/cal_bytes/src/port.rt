@@ -27,14 +27,14 @@ impl<T> Port<T> {
         }
     }
 
-    /// Returns whether a call has failed.
+    /// Returns whether a call of [`Sink::offer`], [`Source::fetch`] or [`crate::Output::flush`] has failed.
     pub fn failed(&self) -> bool
         ensures { result ≡ self.now.has_failed }
     {
         self.has_failed
     }
 
-    /// Returns the inner reader or writer.
+    /// Returns the inner reader or writer. If it has a buffer, the buffer isn't flushed.
     pub fn into_inner(self) -> T
         ensures { result ≡ self.inner }
     {

@@ -9,11 +9,11 @@ use std::alloc::Global;
 /// Why reading a source to its end failed.
 #[derive(Clone, Copy, PartialEq, Eq, Debug)]
 pub enum WholeFault {
-    /// A read failed.
+    /// A call of [`Source::fetch`] failed.
     ReadFailed = 1,
     /// The source has more bytes than the limit.
     TooLarge = 2,
-    /// Out of memory.
+    /// Allocation failed. The bytes that were read until then are lost.
     NoMemory = 3,
 }
 

@@ -15,7 +15,7 @@ use Rattle.cal_civil.specs.rules.OffsetWord.{AreWholeMinutes, AreTwoDigits, IsHo
 use Rattle.cal_civil.specs.computed.ReadOffset.{hour_minute_seconds, hour_minute_in, offset_in, two_digits}
 use Rattle.cal_bytes.proofs.General.{list_all-both, all_below, below_all}
 
--- Parsing two digits
+-- ## Parsing two digits
 
 two-found : (greatest a b n : ℕ) → two_digits greatest a b ≡ Some n → AreTwoDigits (a ∷ b ∷ []) n × (n ≤ greatest)
 unfolding two_digits
@@ -34,7 +34,7 @@ two-only greatest n (a ∷ b ∷ []) h most =
     (a, b, refl, rw (tens, ones, h.value, le-leb n greatest most) refl)
 two-only greatest n (a ∷ b ∷ c ∷ text) h most = absurd (omega (arith, h.two))
 
--- Parsing hours and minutes, `hh:mm`
+-- ## Parsing hours and minutes, `hh:mm`
 
 clock-parts : (hours minutes : Option ℕ) (n : ℕ) → hour_minute_seconds hours minutes ≡ Some n
     → (h : ℕ) × (m : ℕ) × (hours ≡ Some h) × (minutes ≡ Some m) × (n ≡ h * 3_600 + m * 60)
@@ -80,7 +80,7 @@ clock-only text n h =
     let minute = two-only 59 h.minutes h.minute h.minute_is h.minutes_in in
     rw (h.whole, hour.2, minute.2, hour.3, minute.3, h.sum) refl
 
--- Parsing the sign and what follows it
+-- ## Parsing the sign and what follows it
 
 mapped-some : {A : Type 0} (f : ℕ → A) (o : Option ℕ) (x : A) → option_map f o ≡ Some x → (n : ℕ) × (o ≡ Some n) × (x ≡ f n)
 mapped-some f None x h = absurd (cc)
@@ -114,7 +114,7 @@ signed-only word clock distance seconds is (inr west) = rw (west.0, is, west.1) 
 pub offset-only : (word : List ℕ) (seconds : ℤ) → IsOffsetWord word seconds → offset_in word ≡ Some seconds
 offset-only word seconds h = signed-only word h.clock h.distance seconds (clock-only h.clock h.distance h.clock_is) h.signed
 
--- Which bytes a word for an offset can have
+-- ## Which bytes a word for an offset can have
 
 abbrev pub is_offset_byte : ℕ → Bool
 is_offset_byte b = is_ascii_digit b || (is_sign b || (b == 58))
@@ -137,7 +137,7 @@ pub offset-bytes : (word : List ℕ) (seconds : ℤ) → IsOffsetWord word secon
     → (list_all is_offset_byte word ≡ true) × (length word ≡ 6) × (begins_with_sign word ≡ true)
 offset-bytes word seconds h = bytes-by word h.clock h.distance seconds (clock-bytes h.clock h.distance h.clock_is) h.signed
 
--- A word stands for a whole number of minutes
+-- ## A word stands for a whole number of minutes
 
 clock-minutes : (n hours minutes : ℕ) → hours ≤ 25 → minutes ≤ 59 → n ≡ hours * 3_600 + minutes * 60 → (n ≤ 93_540) × (n % 60 ≡ 0)
 clock-minutes n hours minutes h m is = (omega (arith, h, m, is), omega (arith, is))
@@ -155,7 +155,7 @@ offset-minutes word seconds is =
     let c = h.clock_is in
     whole-by word h.clock h.distance seconds (clock-minutes h.distance c.hours c.minutes c.hours_in c.minutes_in c.sum) h.signed
 
--- Printing an offset and parsing it again
+-- ## Printing an offset and parsing it again
 
 abbrev pub two : ℕ → List ℕ
 two n = zeros 2 n ++ decimal n

@@ -11,9 +11,10 @@ use jiff_core::civil::Date;
 /// The number of seconds in a day.
 pub const DAY: i64 = 86_400;
 
-/// The first and the last supported year.
+/// The first supported year.
 pub const FIRST_YEAR: u16 = 1970;
 
+/// The last supported year.
 pub const LAST_YEAR: u16 = 2199;
 
 /// The first local second of 2200, which is the first one after the supported years 1970 to 2199. These years have

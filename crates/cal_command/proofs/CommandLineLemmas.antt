@@ -13,14 +13,14 @@ use Rattle.cal_command.specs.rules.CommandFault.{CommandFault, usage, help, bad_
 use Rattle.cal_command.specs.rules.CommandLine.{parsed_in, read_options, IsAskOf, IsFaultOf, IsOrNoMemory, IsReportedOf, HasRefused, ask_in, command_app, unless_empty, faults_in, is_of_help, takes_arguments, with_rules}
 use Rattle.cal_command.specs.rules.VerbMatches.{VerbMatches}
 
--- adding an argument and then others is the same as adding them all
+-- adding one option or positional argument to the command and then `rules` is the same as adding all of them at once
 pub with_rule-rules : (app : App) (rule : Rule) (rules : List Rule) → with_rules (with_rule app rule) rules ≡ with_rules app (rule ∷ rules)
 with_rule-rules app rule rules = ap (λ rules. record app { top = record app.top { rules = rules } }) (append_assoc app.top.rules (rule ∷ []) rules)
 
 pub with_rules-none : (app : App) → with_rules app [] ≡ app
 with_rules-none app = ap (λ rules. record app { top = record app.top { rules = rules } }) (append-nil app.top.rules)
 
--- the mapped list from index `i` on begins with item `i` mapped
+-- the mapped list from index `i` on is item `i` mapped, followed by the mapped list from index `i + 1` on
 pub next_mapped : {A B : Type 0} (f : A → B) (xs : List A) (i : ℕ) (d : A) → i < length xs → f (get_or xs i d) ∷ map f (drop (i + 1) xs) ≡ map f (drop i xs)
 next_mapped f xs i d h = rw (add-one, drop-cons xs i d h) refl
 
@@ -38,8 +38,9 @@ among p kind (k ∷ ks) (inl same) holds = grind (arith, ap p same)
 among p kind (k ∷ ks) (inr later) holds = grind (arith, among p kind ks later holds)
 
 -- Suppose that `clap` returned an error of the kind `kind`. If the kind isn't `OutOfMemory`, suppose also that `clap`
--- doesn't accept the arguments, and that this is one of the kinds that it may report for them. Then every `fault` that
--- may be reported for this kind (`IsReportedOf`) is right for the arguments, as `IsFaultOf` defines it.
+-- doesn't accept the arguments, and that `kind` is one of the kinds that `clap` may report for the arguments. Then
+-- every `fault` that may be reported for this kind (`IsReportedOf`) is right for the arguments, as `IsFaultOf` defines
+-- it.
 pub reported_fault : (arguments : List Text) (kind : ErrorKind) (fault : CommandFault) → (takes_arguments arguments ≡ true → kind ≡ OutOfMemory)
     → (kind ≡ OutOfMemory) ⊎ IsAmong kind (faults_in arguments) → IsReportedOf kind fault → IsFaultOf arguments fault
 reported_fault arguments kind (usage text) passes kinds reported =
@@ -49,12 +50,13 @@ reported_fault arguments kind (help text) passes kinds reported = grind (arith, 
 reported_fault arguments kind no_memory passes kinds reported = tt
 reported_fault arguments kind (bad_value message) passes kinds reported = absurd reported
 
--- if `clap` parses the arguments and finds texts in them, then the result of checking the values that it found, or the
--- error for a failed allocation, is right for the arguments, as `IsAskOf` defines it
+-- if there is at least one text, `unless_empty` returns `answer`
 asked : (texts : List Text) (answer : Result Ask CommandFault) → 0 < length texts → unless_empty texts answer ≡ answer
 asked [] answer some = absurd (omega (arith, some))
 asked (text ∷ texts) answer some = refl
 
+-- if `clap` parses the arguments and finds texts in them, then the result of checking the values that it found, or the
+-- error for a failed allocation, is right for the arguments, as `IsAskOf` defines it
 pub read_answer : (arguments : List Text) (found : VerbMatches) (answer : Result Ask CommandFault) → faults_in arguments ≡ [] → Some found ≡ parsed_in arguments
     → 0 < length found.texts → IsOrNoMemory answer (read_options found) → IsAskOf arguments answer
 unfolding ask_in

@@ -27,7 +27,7 @@ pub struct Ask {
 /// The local zone as it is given on the command line, before rules are parsed and names are looked up.
 #[derive(Debug, Drop)]
 pub enum LocalZone {
-    /// UTC itself.
+    /// UTC, which is also the default.
     Utc,
     /// A fixed UTC offset in seconds: whole minutes, from -93,540 to 93,540.
     Offset(i32),

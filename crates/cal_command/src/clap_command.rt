@@ -11,7 +11,8 @@ use cal_request::Verb;
 use clap::{Arg, ArgAction, Command};
 use std::alloc::{AllocError, Global};
 
-/// Builds the `clap` command.
+/// Builds the `clap` command of the whole program: its name and version, what its help says, and a subcommand for each
+/// verb.
 pub(crate) fn build_command<'a>(alloc: Global) -> Result<Command<'a>, AllocError>
     ensures { IfOk result (λ command. app_of command ≡ command_app) }
 {
@@ -40,7 +41,7 @@ fn with_verbs<'a>(
     Ok(command)
 }
 
-/// Builds the subcommand of a verb.
+/// Builds the subcommand of a verb: what its help says, its options, and its positional argument.
 fn build_verb<'a>(alloc: Global, verb: Verb) -> Result<Command<'a>, AllocError>
     ensures app { IfOk result (λ command. shape_of command ≡ verb_shape verb) }
     ensures not_global { IfOk result (λ command. (fields_of command).has_globals ≡ false) }
@@ -52,7 +53,7 @@ fn build_verb<'a>(alloc: Global, verb: Verb) -> Result<Command<'a>, AllocError>
     with_options(alloc, command, options_of(verb))?.arg(texts_arg(alloc, verb, help))
 }
 
-/// Adds options that take a value.
+/// Adds the options to the command, in this order.
 fn with_options<'a>(
     alloc: Global,
     command: Command<'a>,

@@ -36,7 +36,7 @@ pub enum CommandFault {
     /// `--local` isn't `UTC`, a UTC offset `+hh:mm` or `-hh:mm`, a text that begins with `posix:`, or a name that has
     /// the form of a zone's name. The rule after `posix:` isn't parsed here.
     BadLocal,
-    /// Out of memory.
+    /// Allocation failed, so it isn't known whether the command line is valid.
     NoMemory,
 }
 

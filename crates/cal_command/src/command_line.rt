@@ -45,7 +45,7 @@ impl Ask {
         Self::of_arguments(alloc, arguments)
     }
 
-    /// Like [`Ask::of`], for arguments of any string type.
+    /// Parses the arguments after the program's name, as [`Ask::of`] does. They can be of any string type.
     pub fn of_arguments<'a, S: AsStr>(
         alloc: Global,
         arguments: &'a [S],
@@ -106,7 +106,8 @@ fn read_options(alloc: Global, found: VerbMatches) -> Result<Ask, CommandFault>
     })
 }
 
-/// Parses the arguments with `clap`.
+/// Passes the arguments to `clap`, and returns what it finds in them. Fails with `Help` if they ask for help or the
+/// version, with `Usage` if `clap` can't parse them, and with `NoMemory` if allocation fails.
 fn parse<'a, S: AsStr>(alloc: Global, arguments: &'a [S]) -> Result<ArgMatches<'a>, CommandFault>
     ensures faults { IfOk result (λ _. faults_in (map S.text arguments.now) ≡ []) }
     ensures found { IfOk result (λ matches. verb_matches_in (subcommand_rows_of matches) ≡ parsed_in (map S.text arguments.now)) }

@@ -20,10 +20,10 @@ use cal_civil::{is_utc_name, is_zone_name, read_offset};
 use cal_zone::{Instant, ZoneName};
 use std::alloc::{AllocError, Global};
 
-/// The maximum of `--iterations`.
+/// The maximum of `--iterations`. A greater number is an error.
 const MAX_ITERATIONS: u64 = 1_000_000;
 
-/// The maximum number of items of `--zones`.
+/// The maximum number of items of `--zones`. More items are an error.
 const MAX_ZONES: usize = 64;
 
 /// Parses the value of `--iterations`. The default is 1.
@@ -183,8 +183,8 @@ fn parts_at(text: &str, separator: char) -> Option<(&str, &str)>
     text.split_once(separator)
 }
 
-/// Parses a local zone. A rule after `posix:` is only copied. An offset is never mistaken for a name, since names begin
-/// with a letter.
+/// Parses a local zone. A rule after `posix:` isn't checked here. An offset is never mistaken for a name, since names
+/// begin with a letter.
 #[tactic(auto, unfolding(crate::specs::rules::OptionValues::local_zone_in))]
 fn local_zone_in(alloc: Global, text: &str) -> Result<Option<LocalZone>, AllocError>
     ensures value { IfOk result (λ local. option_map shown_local local ≡ local_zone_in text.now) }

@@ -9,13 +9,13 @@ pub(crate) struct VerbHelp {
     pub(crate) about: &'static str,
     /// What the help calls an argument of the verb.
     pub(crate) argument: &'static str,
-    /// What the help says about this argument.
+    /// What kind of text this argument is, and which manual describes it.
     pub(crate) argument_help: &'static str,
     /// What the help says below the options: notes and examples.
     pub(crate) notes: &'static str,
 }
 
-/// Returns what the help says about the verb.
+/// Returns the texts for `calendar-analyze VERB --help`. The help of the program shows only `about`.
 pub(crate) fn help_of(verb: Verb) -> VerbHelp {
     match verb {
         Verb::Calendar => VerbHelp {

@@ -1,4 +1,4 @@
--- One step in finding the end of a command.
+-- `command_len` from an index is 0 if the byte there ends the command, and otherwise 1 more than from the next index.
 use Rattle.std.proofs.Common.{◌≡◌, ℕ, ◌+◌, ◌<◌, Bool, true, false, List, length, drop, drop-cons, get_or, add-one, refl}
 use Rattle.cal_cron.specs.rules.CrontabLines.{command_len, ends_command, escapes_next}
 

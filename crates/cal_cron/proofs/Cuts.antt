@@ -1,4 +1,4 @@
--- Cutting a text at its first separator.
+-- `cut` cuts a text at its first separator, and returns None only if the text has no separator.
 use Rattle.std.proofs.Common.{◌≡◌, ◌∙◌, ℕ, ◌+◌, ◌<◌, suc, cond, Bool, true, false, nat_eq, nat_lt, not, List, [], ◌∷◌, ◌++◌, take, drop, length, Option, None, Some, refl, ap, arith}
 use Rattle.std.specs.List.{position, position_or_len}
 use Rattle.std.specs.Option.{option_map}
@@ -41,7 +41,7 @@ cut_none separator text at =
     let past = ltb-false _ _ (not_found (nat_lt (position_or_len (is_it separator) text) (length text)) (position_or_len (is_it separator) text) at) in
     cut_past separator text (λ h. omega (arith, past, h))
 
--- the first cut of a text whose front has no separator
+-- a text is cut at its first separator: what comes before has no separator
 pub cut_joined : (separator : ℕ) (front back : List ℕ) → nat_eq separator separator ≡ true → IsClear (λ b. b == separator) front → cut separator (front ++ (separator ∷ back)) ≡ Some (record { front = front; back = back })
 cut_joined separator [] back same clear = rw same refl
 cut_joined separator (x ∷ xs) back same clear = grind (arith, cut_joined separator xs back same)

@@ -17,7 +17,7 @@ use Rattle.cal_cron.specs.declared.cron_field.CronField.{CronField}
 use Rattle.cal_cron.specs.declared.items.CronRange.{CronRange}
 use Rattle.cal_cron.specs.declared.field_fault.FieldFault.TheVariants.{BackwardRange}
 
--- If parsing an item succeeds, the grammar allows the item
+-- ## If parsing an item succeeds, the grammar allows the item
 
 pub record SpanRead (field : CronField) (text : List ℕ) (r : CronRange) : Type 0 where
   pub span : IsSpan field text r
@@ -65,7 +65,7 @@ span_found : (field : CronField) (text : List ℕ) (r : CronRange) → span_in f
 unfolding span_in
 span_found field text r at = span_by field text r (bytes_eq text (codes "*")) refl at
 
--- the step doesn't matter to a span
+-- whether a text is a span doesn't depend on the step of the range
 span_with : (field : CronField) (text : List ℕ) (q r : CronRange) → q.first ≡ r.first → q.last ≡ r.last → IsSpan field text q → IsSpan field text r
 span_with field text q r first last (inl is) = inl (record { whole = is.whole; first = sym first ∙ is.first; last = sym last ∙ is.last })
 span_with field text q r first last (inr is) = inr (record {
@@ -124,9 +124,9 @@ pub item_found : (field : CronField) (text : List ℕ) (r : CronRange) → item_
 unfolding item_in
 item_found field text r at = item_by field text r (cut 47 text) refl at
 
--- If the grammar allows an item, parsing it succeeds
+-- ## If the grammar allows an item, parsing it succeeds
 
--- the bytes of a span, of an item, and of an item that is no star
+-- the bytes that can be in a span, in a range `a-b`, and in an item
 abbrev is_span_byte : ℕ → Bool
 is_span_byte b = (b == 42) || ((b == 45) || nat_lt 47 b)
 

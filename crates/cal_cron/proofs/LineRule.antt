@@ -21,7 +21,7 @@ use Rattle.cal_cron.specs.declared.field_fault.FieldFault.{FieldFault}
 use Rattle.cal_cron.specs.declared.items.CronRange.{CronRange}
 use Rattle.cal_cron.specs.declared.lines.CronLine.{CronLine}
 
--- The texts of the fields
+-- ## The texts of the fields
 
 unnamed : (reboot sign : Bool) (t : LineTexts) → ◌≡◌ {A = Result LineTexts CronFault} (cond reboot (Err Reboot) (cond sign (Err UnknownShortcut) (Err FieldCount))) (Ok t) → ⊥
 unnamed true sign t at = cc
@@ -55,7 +55,7 @@ texts_only : (ws : List (List ℕ)) (t : LineTexts) → AreTexts ws t → texts_
 texts_only ws t (inl is) = ap texts_in is
 texts_only ws t (inr is) = ap texts_in is.1 ∙ shortcut_only is.0 t is.2
 
--- The fields
+-- ## The fields
 
 in_field_ok : (field : CronField) (r : Result (List CronRange) FieldFault) (rs : List CronRange) → in_field field r ≡ Ok rs → r ≡ Ok rs
 in_field_ok field (Ok qs) rs at = cc
@@ -136,7 +136,7 @@ unfolding line_in
 line_only text s is =
     ap (λ r. r >>= line_at) (texts_only (words text) is.texts is.are) ∙ at_only is.texts s (record { minute = is.minute; hour = is.hour; day = is.day; month = is.month; weekday = is.weekday; star = is.star })
 
--- Ranges are within their fields
+-- ## Ranges are within their fields
 
 least_first : (field : CronField) → least field ≤ greatest field
 least_first Minute = omega arith

@@ -25,7 +25,7 @@ use Rattle.cal_cron.specs.declared.items.CronRange.{CronRange}
 abbrev pub HasNormal : Type 0
 HasNormal = (raw : Option (List Part)) → AreParts raw → IsNormalOf raw (normal_component raw)
 
--- One part
+-- ## One part
 
 one_number : (a r v : ℕ) → 0 < r → nat_eq v a ≡ is_step_between a a r (v - a) v
 one_number a r v positive = grind (arith, nat_tests)
@@ -89,7 +89,7 @@ reduced_same : (slot : Slot) (r : CronRange) (q : Part) (v : ℕ) → IsUpward s
 unfolding IsReduced part_of
 reduced_same slot r q v up positive is = reduced_by slot r q v (is_open slot r) up positive refl is
 
--- A list of parts
+-- ## A list of parts
 
 any_has : {A : Type 0} (f : A → Bool) (xs : List A) (x : A) → Has xs x → f x ≡ true → list_any f xs ≡ true
 any_has f [] x h e = absurd h
@@ -135,7 +135,7 @@ parts_same slot rs normal v up each are =
     let to = are.each_part (part_of slot found.0) (has_map (part_of slot) rs found.0 found.1) in
     any_has f normal to.0 to.1 (reduced_same slot found.0 to.0 v up in_slot.positive to.2 ∙ found.2))
 
--- A component
+-- ## A component
 
 are_parts : (slot : Slot) (ps : List Part) → AllByRecursion (IsValidPart slot) ps → AllByRecursion IsPart ps
 are_parts slot [] h = tt

@@ -1,4 +1,5 @@
--- The normal form of a component matches exactly the numbers of the ranges from which the component is translated.
+-- Components that are translated from ranges are valid, and if they are `*`, they match exactly the numbers of the
+-- ranges.
 use Rattle.std.proofs.Common.{◌≡◌, ◌∙◌, ℕ, ◌+◌, ◌-◌, ◌%◌, ◌<◌, ◌≤◌, cond, Bool, true, false, ◌&&◌, ◌||◌, nat_eq, nat_le, nat_lt, List, [], ◌∷◌, map, length, None, Some, refl, sym, ap, arith}
 use Rattle.std.specs.List.{AllByRecursion, list_any}
 use Rattle.std.proofs.Math.Nat.{mod-one}
@@ -76,7 +77,7 @@ part_valid slot r up is = record {
   goes_on = goes_on_by slot r (is_open slot r) up is refl;
 }
 
--- Components
+-- ## Components
 
 pub parts_valid : (slot : Slot) (rs : List CronRange) → IsUpward slot → AllByRecursion (IsIn slot) rs → AllByRecursion (IsValidPart slot) (map (part_of slot) rs)
 parts_valid slot [] up each = tt

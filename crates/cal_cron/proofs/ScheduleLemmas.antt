@@ -33,7 +33,7 @@ use Rattle.cal_cron.specs.computed.Translation.{all_week, component_of, exprs_in
 use Rattle.cal_cron.specs.rules.CronLine.{IsLine, Schedule}
 use Rattle.cal_cron.specs.rules.CronMatch.{CronExprs, RunsAs, cron_date, cron_matches, cron_time, day_matches, exprs_match, field_has, weekday_has}
 
--- The fields are valid
+-- ## The fields are valid
 
 few_in_all : (s : Schedule) (weekdays : List Bool) (day : Option (List Part)) → IsSchedule s → parts_in day ≤ 60 → counted_parts (fields_at s weekdays day) ≤ 240
 unfolding counted_parts fields_at
@@ -80,7 +80,7 @@ days_valid_at s day is f = rw f (days_valid s is)
 pub weekdays_valid_at : (s : Schedule) (weekdays : List Bool) → IsSchedule s → weekdays ≡ weekdays_of s.weekday → IsValidFields (fields_at s weekdays None)
 weekdays_valid_at s weekdays is e = rw e (weekdays_valid s is)
 
--- What the fields match
+-- ## What the fields match
 
 or_none : (b : Bool) → (b || false) ≡ b
 or_none true = refl
@@ -123,7 +123,7 @@ date_same normal s weekdays day date is between =
     let month = component_same normal Month s.month date.month tt is.month in
     rw (year, month, from_start day) refl
 
--- the parts of a match, by whether the local second is in range
+-- whether a local second matches, given whether it is in range, and whether its date and its time match
 abbrev at_most : Bool → Bool → Bool → Bool
 at_most small date time = small && (date && time)
 
@@ -144,7 +144,7 @@ unfolding matches
 match_same normal s weekdays day local w d is weekday number =
     match_by normal s weekdays day local (nat_lt local seconds_in_all) is refl ∙ rw (weekday, number) refl
 
--- Both or one of the two fields match
+-- ## Both or one of the two fields match
 
 both_fields : (t w m d k : Bool) → (at_most t (w && (m && d)) k || false) ≡ at_most t (m && (d && w)) k
 both_fields t w m d k = grind arith

@@ -22,7 +22,7 @@ pub cond_ok : {A : Type 0} (test : Bool) (e : FieldFault) (r : Result A FieldFau
 cond_ok true e r y at = cc
 cond_ok false e r y at = (refl, at)
 
--- Names consist of letters
+-- ## Names consist of letters
 
 abbrev IsLetters : List ℕ → Type 0
 IsLetters name = list_all is_ascii_lowercase (map to_ascii_lowercase name) ≡ true
@@ -75,12 +75,12 @@ pub value_within : (field : CronField) (text : List ℕ) (n : ℕ) → IsValue f
 value_within field text n (inl is) = name_within field text n is
 value_within field text n (inr is) = is.1
 
--- letters are no digits
+-- a text of letters isn't a number
 no_digits : (text : List ℕ) → list_all is_ascii_alphabetic text ≡ true → is_number text ≡ false
 no_digits [] letters = refl
 no_digits (b ∷ bs) letters = grind (arith, nat_tests)
 
--- Numbers
+-- ## Numbers
 
 number_is : (text : List ℕ) (n : ℕ) → is_number text ≡ true → digits_value 10 text ≡ n → IsNumber text n
 number_is text n test value =
@@ -99,7 +99,7 @@ within_ok field m n at =
 within_only : (field : CronField) (n : ℕ) → IsWithin field n → number_within field n ≡ Ok n
 within_only field n is = rw (le-ltb _ _ is.above, le-ltb _ _ is.below) refl
 
--- Values
+-- ## Values
 
 named_ok : (o : Option ℕ) (n : ℕ) → ok_or o BadValue ≡ Ok n → o ≡ Some n
 named_ok None n at = cc
@@ -121,7 +121,7 @@ unfolding value_in
 value_only field text n (inl is) = rw (no_digits text (name_letters field text n is), is) refl
 value_only field text n (inr is) = rw (number_only text n is.0, is.0.value) (within_only field n is.1)
 
--- Steps
+-- ## Steps
 
 pub record IsStep (text : List ℕ) (n : ℕ) : Type 0 where
   pub number : IsNumber text n
@@ -150,7 +150,7 @@ unfolding step_in
 step_only text n is =
     rw (number_only text n is.number, is.number.value, ne_eqb n 0 (λ e. omega (arith, e, is.positive)), le-ltb _ _ is.small) refl
 
--- The bytes of a value
+-- ## The bytes of a value
 
 -- no value has a byte below 48, such as `*`, `,`, `-` or `/`
 abbrev pub is_value_byte : ℕ → Bool

@@ -7,8 +7,8 @@ ghost use Rattle.cal_cron.specs.rules.CronMessages.{fault_start, fields_end, wor
 use crate::{CronFault, CronField};
 use cal_bytes::{blanks_in_front, word_len};
 
-/// Returns the index of the byte at which the field with the error begins, if [`crate::read_cron`] fails with this error
-/// for this text. If the error isn't in a field, returns the index of the first byte that isn't a blank.
+/// Returns the index of the byte at which the field with the error begins, if [`crate::read_cron`] fails with this
+/// error for this text. If the error isn't in a field, returns the index of the first byte that isn't a blank.
 pub fn fault_start(text: &str, fault: CronFault) -> usize
     ensures value { result ≡ fault_start text.now fault }
     ensures within { result ≤ length text.now }
@@ -20,7 +20,7 @@ pub fn fault_start(text: &str, fault: CronFault) -> usize
     }
 }
 
-/// Returns the index after the words of the fields before this one.
+/// Returns the index directly after the field before `field`, or 0 for the minute, which is the first field.
 pub(crate) fn fields_end(text: &[u8], field: CronField) -> usize
     ensures value { result ≡ fields_end text.now field }
     ensures within { result ≤ length text.now }

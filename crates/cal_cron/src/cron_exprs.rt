@@ -30,7 +30,8 @@ pub struct CronExprs {
 /// second one of them matches if and only if cron runs the line then.
 ///
 /// The first error from left to right is reported, with its field. Fails with [`CronFault::NoMemory`] only if
-/// allocation fails; any other error says that the grammar of crontab(5) doesn't allow the text.
+/// allocation fails; any other error says that the grammar of crontab(5) doesn't allow the text, or, if it is
+/// [`CronFault::Reboot`], that the text has no calendar time.
 pub fn read_cron(alloc: Global, text: &str) -> Result<CronExprs, CronFault>
     ensures exprs { LineGivesUnlessNoMemory shown_exprs result (exprs_in text.now) }
     ensures runs { IfOk result (λ exprs. RunsAs text.now exprs.first exprs.other) }
@@ -48,7 +49,8 @@ fn read_exprs(alloc: Global, text: &str) -> Result<CronExprs, CronFault>
     exprs_of(alloc, &line)
 }
 
-/// Translates the fields of a line.
+/// Translates the fields of a line to two expressions, one for the days of the month and one for the weekdays, or to a
+/// single one if `line.star`.
 #[tactic(auto, unfolding(crate::specs::computed::Translation::exprs_of))]
 fn exprs_of(alloc: Global, line: &CronLine) -> Result<CronExprs, CronFault>
     requires { IsSchedule (shown_line line.now) }

@@ -20,7 +20,7 @@ pub enum CronFault {
     /// The text is `@reboot`, which has no calendar time.
     #[error("@reboot has no calendar time")]
     Reboot,
-    /// A field is invalid.
+    /// This field is invalid, for this reason.
     #[error("{0}: {1}")]
     InField(CronField, FieldFault),
     /// Out of memory.

@@ -65,7 +65,7 @@ pub struct CrontabEntry<'t> {
     pub user: Option<&'t str>,
     /// The command, which ends before the first `%` that no backslash escapes.
     pub command: &'t str,
-    /// The input of the command, after this `%`. Each further `%` stands for a line feed.
+    /// The input of the command, after the `%` that ends it. Each further `%` stands for a line feed.
     pub input: Option<&'t str>,
 }
 

@@ -24,7 +24,7 @@ use std::alloc::{AllocError, Global};
 /// order of the lines. Blank lines and comments are left out. Fails only if allocation fails.
 ///
 /// Commands are never run, and the names of users aren't checked. A variable `CRON_TZ` is returned like any other one:
-/// callers should tell their users that no expression has its zone.
+/// callers should tell their users that no expression is in its zone.
 pub fn read_crontab<'t>(
     alloc: Global,
     format: CrontabFormat,
@@ -93,7 +93,7 @@ fn read_content<'t>(
     }
 }
 
-/// Parses a line as an entry.
+/// Parses a line as an entry. Returns the first error in it as [`LineContent::Invalid`].
 #[tactic(auto, unfolding(crate::specs::rules::CrontabLines::entry_in))]
 fn read_entry<'t>(
     alloc: Global,
@@ -115,7 +115,7 @@ fn read_entry<'t>(
     }
 }
 
-/// Parses the time fields of an entry.
+/// Parses the time fields of an entry. Unlike for [`read_cron`], `@reboot` isn't an error.
 fn read_time(alloc: Global, text: &str) -> Result<EntryTime, CronFault>
     ensures { LineGivesUnlessNoMemory time_shown result (time_of (exprs_in text.now)) }
 {
@@ -172,7 +172,7 @@ fn lacks(format: CrontabFormat, job: &JobTexts<'_>) -> Option<EntryFault>
     }
 }
 
-/// Returns whether the entry should name a user, and no word is there.
+/// Returns whether the entry should name a user, but doesn't.
 fn has_empty_user(job: &JobTexts<'_>) -> bool
     ensures { result ≡ is_missing (job_shown job.now).user }
 {

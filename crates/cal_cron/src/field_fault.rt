@@ -10,16 +10,16 @@ pub enum FieldFault {
     /// A value is neither a number nor a name that the field knows.
     #[error("neither a number nor a name")]
     BadValue,
-    /// A number is out of range for the field.
+    /// A number is out of range for the field, such as 60 for the minute.
     #[error("value out of range")]
     OutOfField,
     /// A range ends below its start.
     #[error("range runs backwards")]
     BackwardRange,
-    /// The step is not a number.
+    /// The text after the `/` is not a number, as in `*/x`.
     #[error("step is not a number")]
     BadStep,
-    /// The step is zero.
+    /// The step is zero, as in `*/0`.
     #[error("step of zero")]
     ZeroStep,
     /// The step is above 9,999.

@@ -15,7 +15,7 @@ pub struct CronRange {
     pub step: u16,
 }
 
-/// Parses an item.
+/// Parses an item. A single value becomes a range that begins and ends with this value.
 #[tactic(auto, unfolding(crate::specs::computed::Items::item_in))]
 pub(crate) fn read_item(field: CronField, text: &[u8]) -> Result<CronRange, FieldFault>
     ensures { Gives (λ range. range) result (item_in field text.now) }

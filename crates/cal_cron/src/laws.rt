@@ -1,4 +1,5 @@
-//! The law of this crate: cron runs a line at exactly the local seconds that one of its expressions matches.
+//! Laws about the lines of crontabs, above all that cron runs a line at exactly the local seconds that one of its
+//! expressions matches. Each law is a function with an empty body, whose contract states the law.
 
 ghost use Rattle.std.specs.Prelude.{◌≡◌, ◌<◌, true, ℕ, List, Ok};
 ghost use Rattle.cal_cron.specs.computed.Lines.{line_in};
@@ -9,8 +10,8 @@ ghost use Rattle.cal_cron.specs.declared.items.CronRange.{CronRange};
 
 use cal_spec::laws::one_normal_component;
 
-/// Parsing a line succeeds if and only if the grammar of crontab(5) allows the text, and returns
-/// its schedule. The grammar never gives the same text two schedules.
+/// Parsing a line succeeds if and only if the grammar of crontab(5) allows the text, and returns its schedule. The
+/// grammar never gives the same text two schedules.
 pub fn lines_are_those_of_the_rule()
     ensures found { (text : List ℕ) (s : Schedule) → line_in text ≡ Ok s → IsLine text s }
     ensures only { (text : List ℕ) (s : Schedule) → IsLine text s → line_in text ≡ Ok s }

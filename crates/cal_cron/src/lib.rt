@@ -1,4 +1,4 @@
-//! The time fields of a crontab line (crontab(5)), and the calendar expressions that elapse when cron runs the line.
+//! Crontabs (crontab(5)), and the calendar expressions that elapse when cron runs their lines.
 #![tactic(auto)]
 
 mod columns;

@@ -41,7 +41,7 @@ fn read_words(alloc: Global, text: &str) -> Result<CronLine, CronFault>
     read_texts(alloc, texts)
 }
 
-/// Returns the texts of the five fields.
+/// Splits the text into the five fields. A word such as `@daily` is replaced with the fields that it stands for.
 fn find_texts(text: &str) -> Result<LineTexts<'_>, CronFault>
     ensures { LineGives shown_texts result (texts_in (words text.now)) }
 {

@@ -1,4 +1,4 @@
-//! Conversion of allocation failures to [`FieldFault::NoMemory`].
+//! Conversion of allocation failures to [`FieldFault::NoMemory`] and [`CronFault::NoMemory`].
 
 ghost use Rattle.std.specs.Prelude.{◌≡◌};
 ghost use Rattle.cal_cron.specs.declared.field_fault.FieldFault.TheVariants.{NoMemory};

@@ -71,7 +71,7 @@ fn part_of(slot: Slot, range: CronRange) -> Part
 
 /// Returns whether a range becomes a repetition without an end. After the last number of such a repetition, systemd 252
 /// goes on to the number that the step reaches past the greatest number of the slot. This does no harm if the last
-/// number is the greatest one, or if the next number is the least one of the months or minutes.
+/// number is the greatest one, or if the number past it is the first month or the first minute again.
 fn is_open(slot: Slot, range: CronRange) -> bool
     ensures { result ≡ is_open slot range }
 {
@@ -82,7 +82,9 @@ fn is_open(slot: Slot, range: CronRange) -> bool
         && (distance.is_multiple_of(range.step) || goes_round(slot, range))
 }
 
-/// Returns whether the step, continued past the greatest number of the slot, comes back to the least number.
+/// Returns whether the step, continued past the greatest number of the months or minutes, comes back to the least
+/// number. Hours don't count: if a step comes back to hour 0, systemd 252 fails in zones whose clock is set forward at
+/// midnight.
 fn goes_round(slot: Slot, range: CronRange) -> bool
     ensures { result ≡ goes_round slot range }
 {

@@ -1,4 +1,4 @@
-//! The words that stand for five fields, as `@daily`.
+//! The words that stand for five fields, such as `@daily`.
 
 ghost use Rattle.std.specs.Prelude.{◌≡◌, option_map};
 ghost use Rattle.cal_cron.specs.computed.Lines.{shortcut_in, LineGives, shown_texts};
@@ -16,7 +16,9 @@ pub(crate) struct LineTexts<'a> {
     pub weekday: &'a [u8],
 }
 
-/// Returns the fields that the word stands for.
+/// Returns the fields that the word stands for. Fails with [`CronFault::Reboot`] for `@reboot`, with
+/// [`CronFault::UnknownShortcut`] for any other word that begins with `@`, and with [`CronFault::FieldCount`]
+/// otherwise.
 #[tactic(auto, unfolding(crate::specs::computed::Lines::shortcut_in))]
 pub(crate) fn read_shortcut(word: &[u8]) -> Result<LineTexts<'static>, CronFault>
     ensures { LineGives shown_texts result (shortcut_in word.now) }
@@ -35,7 +37,7 @@ pub(crate) fn begins_with_at(word: &[u8]) -> bool
     matches!(word, [b'@', ..])
 }
 
-/// Returns the fields that the word stands for, or `None` if it has no calendar time.
+/// Returns the fields that the word stands for, or `None` if it stands for none.
 fn shortcut_named(word: &[u8]) -> Option<LineTexts<'static>>
     ensures { option_map shown_texts result ≡ shortcut_named word.now }
 {

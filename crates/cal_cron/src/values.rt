@@ -7,7 +7,7 @@ ghost use Rattle.cal_cron.specs.computed.Items.{Gives, is_number, step_in, value
 use crate::{CronField, FieldFault};
 use cal_bytes::{are_digits, decimal_value};
 
-/// The greatest step.
+/// The greatest number that may follow the `/` of an item.
 const MAX_STEP: u64 = 9999;
 
 /// Parses a value: a number that the field allows, or a name.

@@ -1,4 +1,4 @@
-//! Translation of the weekdays of a crontab line.
+//! Translation of the weekday field of a crontab line to the weekdays of a calendar expression.
 
 ghost use Rattle.std.specs.Prelude.{◌≡◌, ◌<◌};
 ghost use Rattle.cal_cron.specs.rules.CronMatch.{field_has, range_has, weekday_has};

@@ -193,7 +193,7 @@ pub is_bit-run : (low high i : ℕ) → low < high → high ≤ 64
     → is_bit (bit_and ((2 ^ 64 - 1) * 2 ^ low % 2 ^ 64) ((2 ^ 64 - 1) / 2 ^ (64 - high))) i ≡ (nat_le low i && nat_lt i high)
 is_bit-run low high i some within = grind (arith, ones_from, ones_below, nat_le, nat_lt, nat_tests, is_bit-and)
 
--- A word without its lowest set bit
+-- ## A word without its lowest set bit
 
 lowest_of : (m k : ℕ) → m < 2 ^ 64 → IsFirstPassing (is_bit m) 0 64 (Some k) → IsLowestBit m k
 unfolding is_bit

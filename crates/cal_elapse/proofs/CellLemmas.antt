@@ -9,7 +9,7 @@ use Rattle.cal_elapse.specs.computed.Ring.{is_held}
 use Rattle.cal_elapse.specs.rules.Search.{IsFirstPassing}
 use Rattle.cal_elapse.proofs.BitLemmas.{is_bit-none}
 
--- The first word that isn't 0
+-- ## The first word that isn't 0
 
 zero_of : (x : ℕ) → is_set x ≡ false → x ≡ 0
 zero_of x h = elim (cases_eq x 0) [ inl same ↦ same | inr other ↦ absurd (let no = ne_eqb x 0 other in cc) ]
@@ -41,7 +41,7 @@ position-first xs k h = grind (arith, by_index, length, get_or, word_there, word
 pub position-all : (xs : List ℕ) → position is_set xs ≡ None → (k : ℕ) → k < length xs → get_or xs k 0 ≡ 0
 position-all xs h k lt = let long = by_none (position_or_len is_set xs) (length xs) h in word_before xs k (omega arith)
 
--- The first set cell
+-- ## The first set cell
 
 pub in_word : (cells : List ℕ) (t word : ℕ) → t / 64 ≡ word → is_bit_in cells t ≡ is_bit (get_or cells word 0) (t % 64)
 unfolding is_bit_in
@@ -104,7 +104,7 @@ pub no_word_set : (cells : List ℕ) (from : ℕ) → length cells ≡ 2_925 →
 no_word_set cells from long inside after none all = λ t above below.
     none_before cells from (2_925 - (from / 64 + 1)) t none (λ j lt. position-all (drop (from / 64 + 1) cells) all j (omega arith)) above (omega arith)
 
--- From cells to seconds: each cell stands for one of the 187,200 seconds from `low` on
+-- ## From cells to seconds: each cell stands for one of the 187,200 seconds from `low` on
 
 held_at : (cells : List ℕ) (t cell : ℕ) → t % 187_200 ≡ cell → is_held cells t ≡ is_bit_in cells cell
 unfolding is_held
@@ -123,7 +123,7 @@ held_turned cells low found none first = grind (arith, held_at)
 pub held_never : (cells : List ℕ) (low : ℕ) → IsFirstPassing (is_bit_in cells) 0 187_200 None → IsFirstPassing (is_held cells) low (low + 187_200) None
 held_never cells low none = λ t above below. held_at cells t (t % 187_200) refl ∙ none (t % 187_200) (omega arith) (omega arith)
 
--- Changing a cell
+-- ## Changing a cell
 
 pub changed_here : (cells : List ℕ) (cell word : ℕ) (b : Bool) → cell / 64 < length cells → is_bit word (cell % 64) ≡ b → is_bit_in (set cells (cell / 64) word) cell ≡ b
 unfolding is_bit_in

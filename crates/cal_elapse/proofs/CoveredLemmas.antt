@@ -1,5 +1,4 @@
--- Expressions whose elapses are all elapses of exceptions, and why these expressions can be left out. An exception is
--- an expression at whose elapses a timer doesn't elapse.
+-- Expressions whose elapses are all elapses of exceptions, and why these expressions can be left out.
 use Rattle.std.proofs.Common.{◌≡◌, ◌⊎◌, ◌↔◌, ◌++◌, ℕ, Bool, true, false, List, [], ◌∷◌, ℤ, pos, ◌-ℤ◌, ◌<ℤ◌, inl, inr, refl, sym, subst, ◌∙◌, arith, int_eq}
 use Rattle.std.proofs.lemmas.Bool.{false≢true}
 use Rattle.std.proofs.lemmas.Int.{ints}
@@ -72,8 +71,9 @@ IsElapse-either [] fs i h = inr h
 IsElapse-either (e ∷ es) fs i (inl here) = inl (inl here)
 IsElapse-either (e ∷ es) fs i (inr rest) = elim (IsElapse-either es fs i rest) [ inl h ↦ inl (inr h) | inr h ↦ inr h ]
 
--- `AreKept` stays true if the same expression is added to `all` and to `kept`, and also if an expression that the
--- exceptions cover is added to `all` alone (`kept_without`)
+-- Suppose that every elapse of `kept` is an elapse of `all`, and that every elapse of `all` is an elapse of `kept` or
+-- of an exception (`AreKept`). This stays true if the same expression is added to `all` and to `kept`, and also if an
+-- expression that the exceptions cover is added to `all` alone (`kept_without`).
 pub kept_one : (all exceptions kept : List Timed) (e : Timed) → AreKept all exceptions kept → AreKept (all ++ e ∷ []) exceptions (kept ++ e ∷ [])
 kept_one all exceptions kept e h = record {
   within = λ i m.

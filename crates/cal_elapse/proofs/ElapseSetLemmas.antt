@@ -1,4 +1,4 @@
--- Testing whether an instant is an elapse, and what that says about the remaining elapses.
+-- When an instant is an elapse, and when it is one of the remaining elapses.
 use Rattle.std.proofs.Common.{◌≡◌, ◌↔◌, Bool, true, false, [], ◌∷◌, inl, inr, None, Some, ℤ, negsuc, pos, unsigned_abs, ◌<ℤ◌, ◌≤ℤ◌, arith, int_eq}
 use Rattle.std.proofs.lemmas.Bool.{false≢true}
 use Rattle.jiff.proofs.SpanFacts.{signed_arith}

@@ -109,7 +109,7 @@ AreAbove-elapses_after es b =
     }
 
 -- `elapses_except` is strictly increasing and contains exactly the elapses of `es` after `b` that aren't elapses of
--- exceptions; an exception is an expression at whose elapses a timer doesn't elapse
+-- exceptions
 pub AreElapses-elapses_except : (es exceptions : List Timed) (b : ℤ) → AreElapses es exceptions b (elapses_except es exceptions b)
 unfolding elapses_except
 AreElapses-elapses_except es exceptions b =
@@ -188,7 +188,7 @@ pub elapses_except-parts : (es exceptions : List Timed) (b e : ℤ) (k m : ℕ) 
     → take (suc k) (elapses_except es exceptions b) ++ take m (elapses_except es exceptions e) ≡ take (suc k + m) (elapses_except es exceptions b)
 elapses_except-parts es exceptions b e k m at = grind (arith, elapses_except-later, take-add)
 
--- if `e` is the first elapse after `b`, the elapses after `e` are those after `b` without the first
+-- if `e` is the first elapse after `b`, the elapses after `e` are the elapses after `b` without `e`
 pub elapses_after-first : (es : List Timed) (b e : ℤ) → slice_get (elapses_after es b) 0 ≡ Some e → elapses_after es e ≡ drop 1 (elapses_after es b)
 elapses_after-first es b e h = elapses_after-later es b e zero h
 
@@ -247,5 +247,5 @@ pub without-elapses : (es exceptions : List Timed) (b : ℤ) → without (union 
 unfolding elapses_except
 without-elapses es exceptions b = rw (union-elapses_after es b, union-elapses_after exceptions b)
 
--- for the laws of how elapses continue
+-- the lemmas for the laws about continuing a list of elapses
 pub ruleset continued = (elapses_except-later, elapses_except-parts, without-elapses)

@@ -1,4 +1,4 @@
--- Setting several cells of the ring at once, and which instants the ring contains after that.
+-- Which cells of the ring are set, and which instants it contains, after several cells have been set at once.
 use Rattle.std.proofs.Common.{◌≡◌, ◌≢◌, ◌⊎◌, ◌↔◌, ◌<ℤ◌, ◌+ℤ◌, ◌≤ℤ◌, ℕ, ℤ, ◌+◌, ◌-◌, ◌*◌, ◌/◌, ◌%◌, ◌^◌, ◌<◌, ◌≤◌, ◌||◌, Bool, true, List, Option, None, Some, bit_or, length, get_or, set, pos, IsSomeAnd, inl, inr, refl, sym, ap, ◌∙◌, subst, arith, get_or-set_same, get_or-set_other, slice_get, false}
 use Rattle.std.proofs.Math.ListN.{length-set}
 use Rattle.std.proofs.lemmas.Bool.{cases_eq, cases_lt, or_cases, or_left, or_right}
@@ -18,7 +18,7 @@ use Rattle.cal_bytes.proofs.General.{below_end, lt_from_pos}
 or_false : (a b : Bool) → b ≡ false → a ≡ (a || b)
 or_false a b h = grind arith
 
--- Which cells are set after `set_cells`
+-- ## Which cells are set after `set_cells`
 
 -- after the bits of `more` are set in a word, a cell of that word is set if and only if it was set before or its bit in
 -- `more` is set
@@ -84,7 +84,7 @@ filled cells cell bits next i long inside fits turn next_in there =
           ]
     ]
 
--- Which instants the ring contains after the cells of new instants have been set
+-- ## Which instants the ring contains after the cells of new instants have been set
 
 -- a cell is set if and only if it was set before or is the cell of one of the new instants
 pub record AreFilled (old new : List ℕ) (start bits : ℕ) : Type 0 where
@@ -150,7 +150,7 @@ filled_seen old new least start bits i all round fits =
 one_early : (start bit : ℕ) (i : ℤ) → pos start +ℤ pos bit ≡ i → start + bit ≤ 7_258_211_998 → i ≤ℤ pos 7_258_211_998
 one_early start bit i is early = omega (arith, ints)
 
--- What `put_bits` requires and ensures about the set of instants
+-- ## What `put_bits` requires and ensures about the set of instants
 
 -- the ring isn't empty, and `least`, its smallest second, is before `start`
 pub record IsBegun (cells : List ℕ) (least : ℕ) (start : ℤ) : Type 0 where
@@ -207,7 +207,7 @@ filled_from old new least start bits at all round fits whole begun was =
       first = subst (IsFirstPassing (is_held new) least (least + 187_200)) (sym (kept_some least begun.some)) first;
     }
 
--- the smallest element stays the same
+-- adding instants that are after the smallest element of a ring (`IsBegun`) doesn't change the smallest element
 pub filled_first : (old new : List ℕ) (least start bits : ℕ) (at : ℤ) (members : List ℤ) → AreFilled old new start bits → IsBegun old least at → instants_in old least ≡ members
     → slice_get (instants_in new least) 0 ≡ slice_get members 0
 filled_first old new least start bits at members all begun view =
@@ -222,7 +222,7 @@ filled_answer old new least second bits start members all round fits view is i =
       λ o. seen.1 (elim o [ inl n ↦ inl (subst (λ (xs : List ℤ). Has xs i) (sym view) n) | inr one ↦ inr (subst (λ (z : ℤ). IsOneOf z bits i) (sym is) one) ]),
     )
 
--- Adding the instants of several minutes, one minute after another.
+-- ## Adding the instants of several minutes, one minute after another
 
 -- `i` is one of the instants to add (`IsInMinutes`), and its minute has been added: the bit of this minute isn't set in
 -- `left`
@@ -231,7 +231,8 @@ pub record IsPut (start : ℤ) (minutes left seconds : ℕ) (i : ℤ) : Type 0 w
   pub taken : is_bit left one.minute ≡ false
 
 -- The set bits of `left` stand for the minutes that have yet to be added, and are set in `minutes` too. `now` consists
--- of `old` and the instants of the minutes that have been added. The smallest element is that of `old`.
+-- of `old` and the instants of the minutes that have been added. The smallest element of `now` is the smallest element
+-- of `old`.
 pub record ArePut (old now : List ℤ) (start : ℤ) (minutes left seconds : ℕ) : Type 0 where
   pub kept : (a : ℕ) → is_bit left a ≡ true → is_bit minutes a ≡ true
   pub first : slice_get now 0 ≡ slice_get old 0

@@ -1,4 +1,5 @@
--- The result of a search, as a natural number and as an integer.
+-- A search has the same result whether local seconds are natural numbers (`IsFirstPassing`) or integers
+-- (`IsFirstLocal`).
 use Rattle.std.proofs.Common.{◌≡◌, ◌≤ℤ◌, arith, true, Bool, IfSome, None, Option, Some, negsuc, option_map, pos, unsigned_abs, ℕ, ℤ}
 use Rattle.std.proofs.lemmas.Int.{ints}
 use Rattle.cal_civil.specs.rules.LocalSecond.{IsLocalSecond, seconds_in_all, seconds_in_all-is}

@@ -1,4 +1,5 @@
--- Taking several matches at once: those that follow a match in its minute, or in the later minutes of its hour.
+-- The matches that follow a match in its minute, or in the later minutes of its hour: which bits stand for them, how
+-- many there are, and which of them a search finds.
 use Rattle.std.proofs.Common.{◌≡◌, ◌∙◌, ℕ, zero, suc, ◌+◌, ◌-◌, ◌*◌, ◌/◌, ◌%◌, ◌^◌, ◌<◌, ◌≤◌, ◌&&◌, Bool, true, Some, cond, count_ones, ap, arith, inl, inr, pos, refl, sym, ◌+ℤ◌}
 use Rattle.std.proofs.lemmas.Bool.{and_from, and_parts, cases_Bool, cases_lt, false_from_ne_true}
 use Rattle.std.proofs.lemmas.Int.{ints}
@@ -36,7 +37,8 @@ first_set : is_bit 1 0 ≡ true
 unfolding is_bit
 first_set = refl
 
--- the later matches in the minute of `local`: `bits` has one bit for each of them, and `top` is the highest set bit
+-- `AreInHour` holds for the later matches in the minute of `local`: `bits` has one bit for each of them, and `top` is
+-- the highest set bit
 pub in_minute : (passes : ℕ → Bool) (local bits top : ℕ) → AreRemaining passes local bits → is_bit bits top ≡ true → bits < 2 ^ (top + 1)
     → AreInHour passes local (local + 1) 1 bits 0 top (local + 1 + top)
 in_minute passes local bits top h set above =
@@ -58,8 +60,8 @@ in_minute passes local bits top h set above =
           ap passes place ∙ (h.passing (local + 1 + s) (omega arith) (omega arith) ∙ (ap (is_bit bits) bit ∙ rw (minute, first_set) refl));
     }
 
--- the matches in the later minutes of the hour of `local`, if none is left in its minute: `minutes` has one bit for
--- each of these minutes, and `minute` is the highest set bit
+-- if no match is left in the minute of `local`, `AreInHour` holds for the matches in the later minutes of its hour:
+-- `minutes` has one bit for each of these minutes, and `minute` is the highest set bit
 pub in_hour : (m : Masks) (local minutes minute second : ℕ) → matches (sets_in m) local ≡ true → AreRemaining (matches (sets_in m)) local 0
     → AreRemaining (minute_matches (sets_in m)) (local / 60) minutes → is_bit minutes minute ≡ true → minutes < 2 ^ (minute + 1)
     → is_bit m.seconds second ≡ true → m.seconds < 2 ^ (second + 1)
@@ -123,8 +125,8 @@ module _ (passes : ℕ → Bool) (local start minutes seconds minute second last
       let both = and_parts _ _ (sym (h.bits_say a s (omega arith) (omega arith)) ∙ (sym (ap passes place) ∙ holds)) in
       record { minute = a; second = s; minute_set = both.0; second_set = both.1; is = of_at start (a * 60 + s) t (omega arith) }
 
-  -- a minute before that of `last` has as many matches as `seconds` has set bits if its own bit is set, and otherwise
-  -- none
+  -- Let a be less than `minute`. Of the 60 local seconds that begin a minutes after `start`, as many pass as `seconds`
+  -- has set bits if bit a of `minutes` is set, and otherwise none.
   minute_counted : (a : ℕ) → a < minute → count_from passes (start + a * 60) 60 ≡ cond (is_bit minutes a) 1 0 * count_ones seconds
   minute_counted a early =
       let small = h.small in
@@ -174,7 +176,7 @@ module _ (passes : ℕ → Bool) (local start minutes seconds minute second last
       ∙ (count_from-both passes (local + 1) (start - (local + 1)) (minute * 60 + (second + 1))
       ∙ rw (gap, begun, count_from-both passes start (minute * 60) (second + 1), whole, part, ← ones, top) (omega arith))
 
-  -- the bits stand for all matches after `local` up to `last`
+  -- the set bits of `minutes` and `seconds` stand for exactly the local seconds after `local` up to `last` that pass
   pub are_next : AreNext passes local start minutes seconds last
   are_next =
       let end = h.last_is in
@@ -188,8 +190,9 @@ module _ (passes : ℕ → Bool) (local start minutes seconds minute second last
         counted = all_counted;
       }
 
--- a search after `local` finds the first of the matches that follow, for which the lowest set bits stand, and examines
--- one month
+-- A search that starts just after `local` examines one month, and finds the first of the matches for which the bits of
+-- `minutes` and `seconds` stand. This match is m minutes and s seconds after `start`, where m and s are the lowest set
+-- bits.
 pub search_next : (m : Masks) (local start minutes seconds last minute second : ℕ) → AreNext (matches (sets_in m)) local start minutes seconds last → IsFirstPassing (is_bit minutes) 0 64 (Some minute)
     → IsFirstPassing (is_bit seconds) 0 64 (Some second) → IsSearch (sets_in m) (local + 1) (record { local = Some (pos (start + (minute * 60 + second))); months = 1 })
 search_next m local start minutes seconds last minute second next minute_first second_first =

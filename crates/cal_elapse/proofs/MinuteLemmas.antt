@@ -33,7 +33,7 @@ day_of_match sets t holds =
     let both = and_parts _ _ (sym (split_at (locals_split sets) (t / 86_400) t (omega arith) refl) ∙ holds) in
     (both.0, both.1)
 
--- Lemmas for both units of 60: local seconds in their minute, and minutes in their hour.
+-- ## Lemmas for both units of 60: local seconds in their minute, and minutes in their hour
 
 -- whether an hour, counted from the start of 1970, is before the year 2200, and has a date and an hour of the day that
 -- match
@@ -84,14 +84,14 @@ left_after passes high mask limit found s last within holds = record {
       by_low passes high (is_bit mask) limit found t s within holds same ∙ rw place (sym (is_bit-shifted mask (found % 60 + 1) (t - (found + 1))));
 }
 
--- The remaining bits of a minute.
+-- ## The remaining bits of a minute
 
 pub seconds_after : (m : Masks) (local : ℕ) → matches (sets_in m) local ≡ true → AreRemaining (matches (sets_in m)) local (m.seconds / 2 ^ (local % 60 + 1))
 seconds_after m local holds =
     let count = seconds_in_all-is in
     left_after _ _ m.seconds 120_968_640 local (minutes_of_all m) m.last_second (omega (arith, match_inside (sets_in m) local holds)) holds
 
--- The remaining bits of an hour.
+-- ## The remaining bits of an hour
 
 -- if a local second matches, its minute passes the test `minute_matches`
 minute_of_match : (m : Masks) (local : ℕ) → matches (sets_in m) local ≡ true → minute_matches (sets_in m) (local / 60) ≡ true
@@ -105,11 +105,11 @@ minutes_after m local holds =
     let count = seconds_in_all-is in
     left_after _ _ m.minutes 2_016_144 (local / 60) (hours_split m) m.last_minute (omega (arith, match_inside (sets_in m) local holds)) (minute_of_match m local holds)
 
--- if no bits of the minute of `found` remain, no number in this minute after `found` passes
+-- if no bits are set for the rest of the unit of 60 that contains `found`, no number after `found` in this unit passes
 pub none_left : (passes : ℕ → Bool) (found t : ℕ) → AreRemaining passes found 0 → found < t → t / 60 ≡ found / 60 → passes t ≡ false
 none_left passes found t h later same = h.passing t later same ∙ is_bit-none (t - (found + 1))
 
--- How many months a search examines if it finds a match on the day on which it starts.
+-- ## How many months a search examines if it finds a match on the day on which it starts
 
 -- the first of the `n` numbers from `from` on that passes, or `None` if none of them passes
 first_of : (passes : ℕ → Bool) (from n : ℕ) → (answer : Option ℕ) × IsFirstPassing passes from (from + n) answer

@@ -73,8 +73,8 @@ most_same sets start a b most same h = record {
 pub most_more : (sets : Sets) (start a b most more : ℕ) → start ≤ a → a ≤ b → IsMost sets start a most → IsMostAfter sets a b most more → IsMost sets start b more
 most_more sets start a b most more low high h later = record { first = h.first; begun = h.begun; later = most_on sets start a b h.first most more low high h.later later }
 
--- if there is no match from `start` up to but not including `bound`, the largest number of months is that of the first
--- search
+-- if there is no match from `start` up to but not including `bound`, the largest number of months is the number that
+-- the first search examines
 pub most_start : (sets : Sets) (start bound old most months : ℕ) → IsExamined sets start months → start ≤ bound → NonePasses (matches sets) start bound → old ≡ 0
     → most ≡ max old months → IsMost sets start bound most
 most_start sets start bound old most months examined low none zero is = grind (arith, max_from_zero, most_same)

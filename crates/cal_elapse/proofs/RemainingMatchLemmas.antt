@@ -1,5 +1,5 @@
--- Converting several matches at once: those that follow a converted match in its minute, or in the later minutes of its
--- hour.
+-- After several matches have been converted at once, the state of the window is correct again (`IsPlacedTo`). These
+-- matches follow a converted match in its minute, or in the later minutes of its hour.
 use Rattle.std.proofs.Common.{◌≡◌, ◌⊎◌, ◌↔◌, ◌+◌, ◌-◌, ◌*◌, ◌<◌, ◌≤◌, ◌∙◌, Bool, true, false, not, ℕ, IsSomeAnd, List, MatchOption, None, Option, Some, ℤ, pos, ◌+ℤ◌, ◌-ℤ◌, ◌≤ℤ◌, ◌<ℤ◌, FitsSigned, arith, is_some, ap, inl, inr, of_z, refl, subst, sym, to_z, unsigned_abs, w64, slice_get}
 use Rattle.std.proofs.lemmas.Bool.{both_ways}
 use Rattle.std.proofs.lemmas.Int.{ints, to_z-of_z}
@@ -56,7 +56,7 @@ some_least None first b same test fails = absurd (both_ways false refl (test ∙
 some_least (Some x) first b same test fails = (x, sym same)
 
 -- The matches after `local` up to `last` can be converted together (`AreConvertible`). Their instants are exactly the
--- numbers of which `new` holds.
+-- numbers for which `new` is true.
 pub record AreNew (v : Window) (local last : ℕ) (offset : ℤ) (new : ℤ → Type 0) : Type 0 where
   pub convertible : AreConvertible v (pos local) (pos last) offset
   pub begun : local ≤ last
@@ -79,7 +79,7 @@ new_offset v local last offset new b =
     let begun = b.begun in
     offset_near _ (pos local) (pos last) offset b.convertible.constant (omega (arith, ints), omega (arith, ints)) (omega (arith, ints))
 
--- `b` seconds after the instant of the local second `a` is the instant of `a` + `b`
+-- if the local second `a` has the instant `a` - `offset`, then `b` seconds after this instant is `a` + `b` - `offset`
 later_place : (a b : ℕ) (offset i : ℤ) → ((pos a -ℤ offset) +ℤ pos b) ≡ i → (pos (a + b) -ℤ offset) ≡ i
 later_place a b offset i is = omega (arith, signed_arith)
 
@@ -89,8 +89,9 @@ place_later a b t offset i there is = omega (arith, signed_arith)
 at_of : (a b : ℕ) → pos a +ℤ pos b ≡ pos (a + b)
 at_of a b = omega (arith, ints)
 
--- each of the matches that follow `local` is as many minutes and seconds after `start` as its instant is after the
--- instant of `start`
+-- Suppose that the matches after `local` up to `last` are m minutes and s seconds after `start`, for each set bit m of
+-- `minutes` and each set bit s of `seconds`. If they can be converted together, their instants are m minutes and s
+-- seconds after the instant of `start`.
 pub next_new : (v : Window) (local start minutes seconds last : ℕ) (offset : ℤ) → AreConvertible v (pos local) (pos last) offset
     → AreNext (matches (sets_in v.searcher.masks)) local start minutes seconds last → AreNew v local last offset (IsInMinutes (pos start -ℤ offset) minutes seconds)
 unfolding timed_by
@@ -216,7 +217,8 @@ module _ (v : Window) (local : ℕ) (searcher : Searcher) (last : ℕ) (offset :
               (most_more (sets_in v.searcher.masks) start local last v.searcher.most_months searcher.most_months begun later h.examined most);
         }
 
-    -- if nothing is pending, the matches up to `last` count as converted, and still nothing is pending
+    -- if nothing is pending, none of the matches after `local` up to `last` resolves to an instant after the one
+    -- returned last, so all of them count as converted
     pub rest_passed : slice_get v.pending 0 ≡ None → IsPlacedTo (record v { searcher = searcher }) (pos last)
     rest_passed none =
         let begun = b.begun in
@@ -231,7 +233,8 @@ module _ (v : Window) (local : ℕ) (searcher : Searcher) (last : ℕ) (offset :
         (λ i. (λ m. inl m, λ o. elim o [ inl m ↦ m | inr p ↦ absurd (not_above i p.0 p.1) ]))
         (λ i m. absurd (no_later v.pending none i m)))
 
-    -- if their instants have been added to the pending instants, all matches up to `last` have been converted
+    -- if the instants of the matches after `local` up to `last` have been added to the pending instants, all matches up
+    -- to `last` have been converted
     pub rest_put : (least : ℤ) (pending : List ℤ) → slice_get v.pending 0 ≡ Some least → IsStrictlySortedBy int_cmp pending
         → ((i : ℤ) → Has pending i ↔ (Has v.pending i ⊎ new i)) → IsPlacedTo (record v { searcher = searcher; pending = pending }) (pos last)
     rest_put least pending least_is rises members =

@@ -32,7 +32,7 @@ get_or-zeros zero i = refl
 get_or-zeros (suc n) zero = refl
 get_or-zeros (suc n) (suc i) = get_or-zeros n i
 
--- Which of several consecutive numbers pass a test
+-- ## Which of several consecutive numbers pass a test
 
 -- `i` is one of the `n` consecutive numbers that begin with `from`, and passes
 record IsAmong (passes : ℕ → Bool) (from n : ℕ) (i : ℤ) : Type 0 where
@@ -90,7 +90,7 @@ rises-rising passes from zero = tt
 rises-rising passes from (suc n) =
     rising_if (passes from) (pos from) (rising_from passes (suc from) n) (above-rising passes (pos from) (suc from) n (one_above from)) (rises-rising passes (suc from) n)
 
--- Elements of a ring
+-- ## Elements of a ring
 
 -- `i` is one of the 187,200 seconds from `low` on, and its cell is set
 pub record IsIn (cells : List ℕ) (low : ℕ) (i : ℤ) : Type 0 where
@@ -149,7 +149,7 @@ pub member : (cells : List ℕ) (low at : ℕ) → low ≤ at → at < low + 187
 member cells low at above below holds =
     (Has-instants cells low (pos at)).1 (record { at = at; is = refl; above = above; below = below; holds = holds })
 
--- The smallest element
+-- ## The smallest element
 
 at_most : (at t : ℕ) (j : ℤ) → pos t ≡ j → at ≤ t → pos at ≤ℤ j
 at_most at t j is h = omega (arith, ints)
@@ -166,7 +166,7 @@ pub none_found : (cells : List ℕ) (low : ℕ) → IsFirstPassing (is_held cell
 none_found cells low none =
     first-none (instants_in cells low) (λ i m. let a = (Has-instants cells low i).0 m in let fails = none a.at a.above a.below in let holds = a.holds in cc)
 
--- The smallest second, as it is stored
+-- ## The smallest second, as it is stored
 
 pub kept_some : (least : ℕ) → least ≢ no_second → least_kept least ≡ Some least
 kept_some least some = let test : (least == no_second) ≡ false = grind (arith, nat_tests) in rw test refl
@@ -179,7 +179,7 @@ pub none_kept : (cells : List ℕ) (least : ℕ) → IsFirstPassing (is_held cel
     → IsFirstPassing (is_held cells) least (least + 187_200) None
 none_kept cells least first none = let test : (least == no_second) ≡ true = grind (arith, nat_tests) in rw test at first
 
--- Adding an instant
+-- ## Adding an instant
 
 -- The range `from..from + 187_200` contains `at`. It also contains every second of the range `low..low + 187_200` that
 -- is less than 187,200 seconds away from `at`. So if `at` is added to a ring that starts at `low`, the ring can start
@@ -291,7 +291,7 @@ put_from old new least at more was near high whole =
           (omega arith, omega arith, put_held old new least at more was high, λ t above below. absurd (omega arith));
     }
 
--- Removing an instant
+-- ## Removing an instant
 
 -- the cell of the second `at` is clear, and all other cells are unchanged
 pub record HasLess (old new : List ℕ) (at : ℕ) : Type 0 where
@@ -409,7 +409,7 @@ taken_from old new least next found less whole was first =
       first = first_on new least next round first;
     }
 
--- What the operations on a set of instants return
+-- ## What the operations on a set of instants return
 
 nothing_held : (cells : List ℕ) (n t : ℕ) → cells ≡ replicate n 0 → is_held cells t ≡ false
 unfolding is_held is_bit_in

@@ -1,4 +1,5 @@
--- The search for the first word that isn't 0, several words at a time.
+-- The search for the first word that isn't 0 tests several words at a time: if their bitwise OR is 0, all of them are
+-- 0.
 use Rattle.std.proofs.Common.{◌≡◌, ◌≢◌, ℕ, zero, suc, ◌+◌, ◌-◌, ◌<◌, ◌≤◌, not, cond, Bool, true, false, List, [], ◌∷◌, None, Some, length, get_or, ltb, ap, arith, refl}
 use Rattle.std.specs.List.{position, position_or_len}
 use lib.Bits.{bit_or}

@@ -1,4 +1,5 @@
--- A search for a local second in two steps: first the day, and then the time of day.
+-- The search for a local second first finds the day, and then the time of day. These two steps find the first matching
+-- local second.
 use Rattle.std.proofs.Common.{◌≡◌, ℕ, ◌+◌, ◌*◌, ◌/◌, ◌%◌, ◌<◌, ◌≤◌, true, false, ◌&&◌, nat_lt, ◌==◌, Option, ap, ◌∙◌, subst, None, Some, ℤ, pos, refl, sym, inl, inr, arith}
 use Rattle.std.proofs.lemmas.Bool.{and_parts, cases_lt}
 use Rattle.std.proofs.lemmas.Bool.Decides.{nat_tests}

@@ -64,7 +64,7 @@ searched_some v i h full at =
     let same = count_top v i (unsigned_abs i + 93_600) h m there top.0 top.1 in
     omega arith
 
--- How the matches converted so far determine the largest number of months that a search examined
+-- ## How the matches converted so far determine the largest number of months that a search examined
 
 -- Suppose that `i` is pending and can be returned, and let `top` be 93,600 seconds after `i`. Of the matches from the
 -- start of the first search on, exactly those before `top` have been converted.
@@ -90,5 +90,5 @@ most_searched_some v i h full at =
     most_same (sets_in v.searcher.masks) (start_of v.base) (bound_of v.ahead) (unsigned_abs i + 93_600) v.searcher.most_months
     (same_below v i (unsigned_abs i + 93_600) h m there top.0 top.1) h.examined
 
--- what remains after `Window::take`
+-- the lemmas on what `Window::take` returns and leaves
 pub ruleset taken = (local_arith, first_given, later_given, none_given, searched_some, most_searched_some)

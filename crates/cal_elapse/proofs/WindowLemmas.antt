@@ -1,5 +1,5 @@
--- The invariant of the pending instants as matches are converted, and why the smallest pending instant is the next
--- elapse.
+-- The invariant that the pending instants keep while matching local seconds are converted to instants, and why the
+-- smallest pending instant is the next elapse.
 use Rattle.std.proofs.Common.{◌≡◌, ◌⊎◌, ◌↔◌, ℕ, ◌+◌, ◌<◌, ◌≤◌, cond, Bool, true, false, List, [], ◌∷◌, inl, inr, Option, None, Some, ℤ, negsuc, pos, ◌+ℤ◌, ◌<ℤ◌, ◌≤ℤ◌, int_lt, refl, sym, ap, ◌∙◌, subst, arith, slice_get, drop}
 use Rattle.std.proofs.lemmas.Bool.{cases_lt}
 use Rattle.std.proofs.lemmas.Int.{ints}

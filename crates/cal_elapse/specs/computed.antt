@@ -1,5 +1,5 @@
--- What the code computes step by step, and in which states it keeps its values. Laws and contracts tie these
--- definitions to those in `rules`.
+-- Definitions that follow the code: what each step computes, and what the code's values stand for at that point. Laws
+-- and contracts tie them to the definitions in `rules`.
 pub mod Bits
 pub mod Masks
 pub mod RemainingElapses

@@ -41,7 +41,8 @@ pub(crate) fn without_lowest(mask: u64) -> u64
     mask & (mask - 1)
 }
 
-/// Returns the smallest number of `mask` at or above `from`, or `None` if there is none. `from` must be below 64.
+/// Returns the smallest number in the set `mask` that is at least `from`, or `None` if there is none. `from` must be
+/// below 64.
 pub(crate) fn next_bit(mask: u64, from: u32) -> Option<u32>
     requires { from < 64 }
     ensures { IsFirstPassing (is_bit mask) from 64 result }
@@ -54,7 +55,7 @@ pub(crate) fn next_bit(mask: u64, from: u32) -> Option<u32>
     }
 }
 
-/// Returns the smallest number of `mask`, which must not be empty.
+/// Returns the smallest number in the set `mask`, which must not be empty.
 pub(crate) fn lowest_bit(mask: u64) -> u32
     requires { 0 < mask }
     ensures { IsFirstPassing (is_bit mask) 0 64 (Some result) }
@@ -62,7 +63,7 @@ pub(crate) fn lowest_bit(mask: u64) -> u32
     mask.trailing_zeros()
 }
 
-/// Returns the largest number of `mask`, which must not be empty.
+/// Returns the largest number in the set `mask`, which must not be empty.
 pub(crate) fn highest_bit(mask: u64) -> u32
     requires { 0 < mask }
     ensures set { is_bit mask result ≡ true }

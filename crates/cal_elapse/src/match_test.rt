@@ -1,4 +1,5 @@
-//! Tests whether a local second matches, without a search (systemd.time(7), Calendar Events).
+//! The test of whether a calendar expression matches a local second, without a search (systemd.time(7), Calendar
+//! Events).
 
 ghost use Rattle.std.specs.Prelude.{◌≡◌, ◌<◌, unsigned_abs};
 ghost use Rattle.cal_civil.specs.rules.LocalSecond.{IsLocalSecond, seconds_per_day, days_in_all};
@@ -14,7 +15,8 @@ use crate::search::month::has_month;
 use crate::search::time::has_minute;
 use cal_civil::{day_of, second_of_day};
 
-/// Returns whether a local second matches. Tests the time of day first, because testing the date takes longer.
+/// Returns whether the expression matches a local second. Tests the time of day first, because testing the date takes
+/// longer.
 #[tactic(auto, using(cal_civil::proofs::LocalLemmas::local_arith, crate::proofs::SearchLemmas::locals_at, std::proofs::lemmas::Bool::and_right))]
 pub(crate) fn is_match(masks: &Masks, local: i64) -> bool
     requires { IsLocalSecond local }
@@ -41,7 +43,7 @@ fn has_day(masks: &Masks, day: u32) -> bool
     if !has_month(masks, month.index) {
         return false;
     }
-    // This isn't a search: only the day's own month is formed, so no search counts it.
+    // No search is made here, so the number of months examined, which `MonthDays::of` adds to `examined`, is dropped.
     let mut examined = 0;
     MonthDays::of(masks, month, &mut examined).has(day - month.first)
 }

@@ -1,5 +1,5 @@
-//! The matching days of a month (systemd.time(7), Calendar Events). No other module finds them, so that this one can
-//! count the months examined.
+//! The matching days of a month (systemd.time(7), Calendar Events). Only this module finds them, so it can count all
+//! the months that are examined.
 
 ghost use Rattle.std.specs.Prelude.{◌≡◌, ◌+◌, ◌-◌, ◌<◌, ◌≤◌, ℕ, true, nat_lt, if◌then◌else◌};
 ghost use Rattle.cal_elapse.specs.computed.Bits.{is_bit};
@@ -57,7 +57,8 @@ impl MonthDays {
     }
 }
 
-/// Returns which bit of the mask of days stands for the first day of a month with `length` days.
+/// Returns which bit of the mask of days stands for the first day of a month with `length` days. If days are counted
+/// from the end of the month, bit 0 stands for count 31, and the first day has the count `length`.
 fn first_day_bit(from_end: bool, length: u32) -> u32
     requires { length ≤ 31 }
     ensures { result ≡ (if from_end then 31 - length else 0) }

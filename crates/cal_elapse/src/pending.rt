@@ -24,8 +24,8 @@ const NO_SECOND: u64 = u64::MAX;
 pub struct Pending {
     /// One bit for each cell.
     cells: Box<[u64; CELL_WORDS]>,
-    /// The smallest element, at whose cell the ring starts, or `NO_SECOND` if the set is empty. It is stored so that
-    /// the function `least` doesn't have to scan the ring; only `take_least` does.
+    /// The smallest element, or `NO_SECOND` if the set is empty. The ring is read from the cell of this element on. The
+    /// element is stored so that the function `least` doesn't have to scan the ring; only `take_least` scans it.
     least: u64,
 }
 

@@ -40,8 +40,9 @@ fn zeros_in_front(cells: &[u64]) -> usize
     cells.len() / LANES * LANES
 }
 
-/// Like `zeros_in_front`, but each group is `FEW_LANES` words, and the first one begins at the index `from`. All words
-/// before `from` must be 0; the result includes them.
+/// Returns how many words come before the first group that has a word other than 0, as `zeros_in_front` does. Here a
+/// group is `FEW_LANES` words, and the first group begins at the index `from`. All words before `from` must be 0; they
+/// are included in the result.
 fn more_zeros(cells: &[u64], from: usize) -> usize
     requires inside { from ≤ length cells.now }
     requires zeros { (k : ℕ) → k < from → is_set (slice_index_or cells.now k 0) ≡ false }

@@ -31,7 +31,8 @@ pub struct Window<'z> {
     ahead: Option<i64>,
     /// The instant that was returned last, or the base if none has been returned.
     pub last: i64,
-    /// The instants after `last` to which matches before `ahead` resolve. If `ahead` is `None`, all matches count.
+    /// The instants after `last` to which matches before `ahead` resolve. If `ahead` is `None`, these are the instants
+    /// after `last` to which any match resolves.
     pending: Pending,
 }
 
@@ -48,7 +49,7 @@ impl<'z> Window<'z> {
     ghost use Rattle.cal_spec.specs.rules.Members.{sets_of};
 
     /// Creates the window and searches for the first match. The search starts at the first local second that can
-    /// resolve to an instant after the base.
+    /// resolve to an instant after the base. Fails with `NoMemory` if allocation fails.
     pub fn new(
         alloc: Global,
         expr: &Expr,

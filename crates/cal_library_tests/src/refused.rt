@@ -39,7 +39,7 @@ fn a_rule(rt: HostRuntime) -> Result<(), Fail> {
     ensure(is_hour_ahead(Zone::rules(&rules)), "another rule")
 }
 
-/// Returns the rules of a zone file.
+/// Returns the rules of the file that [`zone_file`] makes.
 fn rules_of_file(alloc: Global) -> Result<Rules, Fail> {
     let bytes = zone_file(alloc)?;
     Ok(Rules::file(alloc, "Test/Fixed", &bytes)?)

@@ -81,8 +81,7 @@ OnCalendar=Mon \\
 OnCalendar=hourly
 ";
 
-/// A timer file with an exception: when the exception elapses, the timer doesn't. The empty `OnBootSec=` drops the
-/// first expression, but not the exception.
+/// A timer file with an exception. The empty `OnBootSec=` drops the first expression, but not the exception.
 pub const EXCEPT_FILE: &[u8] = b"\
 [Timer]
 OnCalendar=daily

@@ -1,5 +1,4 @@
-//! Timer files: which expressions and exceptions a file ends up with, and why a file is rejected. An exception is an
-//! expression after `X-ExceptOnCalendar=`; when it elapses, the timer doesn't.
+//! Timer files: which expressions and exceptions a file ends up with, and why a file is rejected.
 
 use crate::shared::{TIMER_FILE, ensure};
 use cal_base::Port;
@@ -27,7 +26,7 @@ pub type Lines = &'static [(u32, &'static str)];
 /// A file, and its expressions or the error it is rejected with.
 type Row = (&'static str, Result<Lines, TimerFault>);
 
-/// Parses a timer file.
+/// Parses the timer file that has these bytes.
 pub fn read(alloc: Global, file: &[u8]) -> Result<Timer, TimerFault> {
     read_timer(alloc, &mut Port::new(file))
 }

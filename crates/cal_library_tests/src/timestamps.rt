@@ -123,7 +123,8 @@ fn expect_moments(now: i64, local: Zone<'_>, zones: &ZoneTable, table: &Table) -
     Ok(())
 }
 
-/// Like `expect_moments`, for each table, with no named zones.
+/// Expects the valid timestamps of each table to resolve to their moments, and the invalid ones to be rejected with
+/// their errors. There are no named zones.
 fn expect_zoned_tables(alloc: Global, rows: &[ZonedTable]) -> Result<(), Fail> {
     let zones = ZoneTable::new(alloc);
     for row in rows {
@@ -133,7 +134,8 @@ fn expect_zoned_tables(alloc: Global, rows: &[ZonedTable]) -> Result<(), Fail> {
     Ok(())
 }
 
-/// Like `expect_moments`, at [`PRESENT`] in UTC with no named zones.
+/// Expects the valid timestamps of the table to resolve to their moments, and the invalid ones to be rejected with
+/// their errors, if the present is [`PRESENT`] and the local zone is UTC. There are no named zones.
 fn expect_in_utc(alloc: Global, table: &Table) -> Result<(), Fail> {
     expect_moments(PRESENT, Zone::utc(), &ZoneTable::new(alloc), table)
 }

@@ -7,7 +7,7 @@ use Rattle.std.proofs.lemmas.Bool.{and_parts, cases_lt}
 use Rattle.std.proofs.lemmas.Bool.Decides.{nat_tests}
 use Rattle.cal_spec.specs.rules.Members.{is_step_between}
 
--- if `v` can be reached downwards from `s`, it can be reached upwards from the least of those numbers
+-- if `v` is one of the numbers `s`, `s` - `r`, .. that are at least 1, it can be reached upwards from the least of them
 reached_down : (s r v : ℕ) → 0 < r → 1 ≤ v → v ≤ s → (s - v) % r ≡ 0 → ((s - 1) % r + 1 ≤ v) × ((v - ((s - 1) % r + 1)) % r ≡ 0)
 reached_down s r v some low high even =
     let q = (s - 1) / r in
@@ -24,7 +24,7 @@ reached_down s r v some low high even =
     let left : v - ((s - 1) % r + 1) ≡ r * q - r * k = omega (arith, whole, below, even, low, high, products) in
     (omega (arith, whole, below, even, low, high, products), ap (λ (n : ℕ). n % r) (left ∙ sym (mul-sub r q k)) ∙ mul-mod_right r (q - k))
 
--- the converse of `reached_down`
+-- the converse of `reached_down`: what is reached upwards from the least of the numbers is one of them
 reached_up : (s r v : ℕ) → 0 < r → (s - 1) % r + 1 ≤ v → v ≤ s → (v - ((s - 1) % r + 1)) % r ≡ 0 → (s - v) % r ≡ 0
 reached_up s r v some low high even =
     let q = (s - 1) / r in
@@ -34,7 +34,8 @@ reached_up s r v some low high even =
     let left : s - v ≡ r * q - r * m = omega (arith, whole, above, even, low, high) in
     ap (λ (n : ℕ). n % r) (left ∙ sym (mul-sub r q m)) ∙ mul-mod_right r (q - m)
 
--- a range from the least of the numbers `s`, `s` - `r`, .. that is at least 1 up to `s` has the same numbers
+-- the numbers `s`, `s` - `r`, .. that are at least 1 are those of the range with the step `r` from the least of them to
+-- `s`
 pub range_down : (s r v : ℕ) → 0 < r → is_step_between ((s - 1) % r + 1) s r (v - ((s - 1) % r + 1)) v ≡ is_step_between 1 s r (s - v) v
 range_down s r v some =
     both_ways _ _

@@ -29,7 +29,7 @@ flaw month day hour minute = flaw_of (record {
   zone = None;
 })
 
--- `*:0/7`, `0/5:00` and `*-*-1/8`
+-- elapses of `*:0/7`, `0/5:00` and `*-*-1/8` are lost
 minutes : flaw None None None (step 0 7) ≡ Some (LosesElapses Minute)
 unfolding flaw step flaw_of sets_of part_has
 minutes = refl
@@ -51,12 +51,12 @@ to_the_last_minute : flaw None None None (step 7 4) ≡ None
 unfolding flaw step flaw_of sets_of part_has
 to_the_last_minute = refl
 
--- `10:0/7` isn't affected, since hour 23 isn't followed by hour 0
+-- `10:0/7` isn't affected, since it matches neither hour 23 nor hour 0
 one_hour : flaw None None (Some (point 10 ∷ [])) (step 0 7) ≡ None
 unfolding flaw step flaw_of sets_of part_has
 one_hour = refl
 
--- `2/12:00`, `0/6:00` and `*-4/6-01`
+-- for `2/12:00`, `0/6:00` and `*-4/6-01`, systemd 252 fails around clock changes
 clock_changes : flaw None None (step 2 12) zero ≡ Some (FailsAtClockChanges Hour)
 unfolding flaw step zero flaw_of sets_of part_has
 clock_changes = refl

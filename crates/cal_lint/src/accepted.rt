@@ -1,5 +1,5 @@
-//! Suggested expressions. In this file, "systemd 252 accepts" means that the expression is valid here and that no rule of
-//! `Systemd252` rejects it.
+//! Suggested expressions. In this file, "systemd 252 accepts" means that the expression is valid here and that no rule
+//! of `Systemd252` rejects it.
 
 ghost use Rattle.std.specs.Prelude.{◌≡◌, IfOk, IfSome, Ok, string_bytes};
 ghost use Rattle.cal_spec.specs.computed.Expr.{expr_in};

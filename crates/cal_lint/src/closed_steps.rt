@@ -1,4 +1,4 @@
-//! Expressions without steps that have no end: ranges in place of such steps.
+//! Replacing steps without an end, such as `0/7`, with ranges, such as `0..59/7`.
 
 ghost use Rattle.std.specs.Prelude.{◌≡◌, ◌<◌, ℕ, false, true, IfOk, IfSome, string_bytes};
 ghost use Rattle.std.specs.List.{list_any};
@@ -181,7 +181,7 @@ fn push_component(
     Ok(())
 }
 
-/// Appends a part. Its start and its end have at least two digits.
+/// Appends a part, and writes its start and its end with at least two digits.
 fn push_part(alloc: Global, text: &mut String, part: Part) -> Result<(), AllocError> {
     let start = part.start;
     let number = format!(in alloc; "{start:02}")?;
@@ -197,7 +197,7 @@ fn push_part(alloc: Global, text: &mut String, part: Part) -> Result<(), AllocEr
     Ok(())
 }
 
-/// Returns a part that matches the same numbers. It is a range if the part is a step without an end.
+/// Returns a part that matches the same numbers as `part`. If `part` is a step without an end, the result is a range.
 #[tactic(auto, unfolding(cal_spec::specs::rules::Members::part_has))]
 fn closed_part(from_end: bool, field: Field, part: Part) -> Part
     ensures { (value : ℕ) → part_has (slot_in from_end field) result value
@@ -222,7 +222,8 @@ fn range_for(from_end: bool, field: Field, start: u16, step: u16) -> Part
     }
 }
 
-/// Returns a range that matches the counts `start`, `start` - `step`, .. down to 1.
+/// Returns a range that matches the same days as `start/step` if days are counted from the month's end: `start`,
+/// `start` - `step`, .. as long as they are at least 1.
 #[tactic(auto, using(crate::proofs::ClosedPartLemmas::range_down), unfolding(cal_spec::specs::rules::Members::part_has))]
 fn range_down(start: u16, step: u16) -> Part
     requires { 0 < step }

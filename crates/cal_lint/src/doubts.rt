@@ -182,15 +182,14 @@ fn has_abbreviation(expr: &Expr) -> bool
     }
 }
 
-/// Returns whether the name of a zone looks like an abbreviation such as `CET`: 3 to 5 upper-case ASCII letters, and not
-/// `UTC`.
+/// Returns whether the name of a zone looks like an abbreviation such as `CET`: 3 to 5 upper-case ASCII letters, and
+/// not `UTC`.
 pub fn looks_like_abbreviation(name: &str) -> bool
     ensures { result ≡ looks_like_abbreviation name.now }
 {
     name.len() >= 3 && name.len() <= 5 && are_upper_case(name.as_bytes()) && !is_utc_name(name)
 }
 
-/// Returns whether all bytes are upper-case ASCII letters.
 fn are_upper_case(text: &[u8]) -> bool
     ensures { result ≡ list_all is_ascii_uppercase text.now }
 {

@@ -157,7 +157,7 @@ fn piece_is_rejected_for(rejection: Rejection, piece: &[u8]) -> bool
     }
 }
 
-// Blanks
+// ## Blanks
 
 /// Returns whether an expression has an additional space that systemd 252 doesn't skip.
 fn has_extra(text: &[u8]) -> bool
@@ -200,7 +200,7 @@ fn is_date(word: &[u8]) -> bool
     !begins_zone(word) && !word.contains(&b':')
 }
 
-// Weekdays
+// ## Weekdays
 
 /// Returns whether the first word has a range of weekdays that runs past Sunday.
 fn has_weekday_wrap(text: &str) -> bool
@@ -234,7 +234,7 @@ fn day_after_joint(text: &[u8]) -> Option<Weekday>
     }
 }
 
-// Seconds
+// ## Seconds
 
 /// Returns the seconds of a time: the text after its second colon, or an empty text if there is no second colon.
 fn seconds_in(word: &str) -> &str
@@ -298,7 +298,7 @@ fn step_in(part: &[u8]) -> &[u8]
     }
 }
 
-// Days
+// ## Days
 
 /// Returns whether days are counted from the month's end, and one of their numbers is too large for its position in the
 /// list.
@@ -324,7 +324,7 @@ fn has_late_part(parts: &[Part]) -> bool
     false
 }
 
-// Zones
+// ## Zones
 
 /// Returns whether a word is the name of a zone that ends in `/` or contains `//`.
 fn has_empty_part(word: &[u8]) -> bool

@@ -90,7 +90,7 @@ fn has_flaw(expr: &Expr, flaw: OpenStepFlaw) -> bool
     }
 }
 
-// The numbers of a field
+// ## The numbers of a field
 
 pub(crate) fn first_number(field: Field) -> u16
     ensures { result ≡ first_number field }
@@ -102,7 +102,8 @@ pub(crate) fn first_number(field: Field) -> u16
     }
 }
 
-/// Returns the last number of a field. A month has 31 days here, as December and January have.
+/// Returns the last number of a field. Months have 31 days here, since a step in the days loses elapses only from
+/// December to January.
 pub(crate) fn last_number(field: Field) -> u16
     ensures { result ≡ last_number field }
 {
@@ -147,10 +148,11 @@ fn first_member(expr: &Expr, field: Field) -> Option<u16>
     (first..first + count_of(field)).find(|number| is_member(expr, field, *number))
 }
 
-// The number at which the search goes on
+// ## The number at which the search goes on
 
-/// Returns the number of the next hour, day, month or year at which the search goes on because of steps without an end.
-/// Returns `None` if it goes on at the first number, as it should.
+/// Returns the number of the field at which steps without an end make the search go on in the next larger unit: 3 if it
+/// goes on at minute 63, which is minute 3 of the next hour. Returns `None` if no step does so; then the search goes on
+/// at the first number, as it should.
 fn resumes_at(expr: &Expr, field: Field) -> Option<u16>
     ensures { result ≡ resumes_at expr.now field }
 {
@@ -160,7 +162,8 @@ fn resumes_at(expr: &Expr, field: Field) -> Option<u16>
     first_reached(expr, field)
 }
 
-/// Returns the least number of the next hour, day, month or year that a step without an end reaches.
+/// Returns the least number of the field that a step without an end reaches in the next larger unit, as a step of
+/// minutes that goes on to minute 63 reaches minute 3 of the next hour.
 fn first_reached(expr: &Expr, field: Field) -> Option<u16>
     ensures { result ≡ first_reached expr.now field }
 {
@@ -176,8 +179,8 @@ fn stops_in_time(expr: &Expr, field: Field) -> bool
     field != Field::Second && is_member(expr, field, last_number(field))
 }
 
-/// Returns whether a step without an end, past the field's last number, reaches this number of the next hour, day,
-/// month or year.
+/// Returns whether a step without an end goes on past the field's last number and reaches this number in the next
+/// larger unit, as a step of minutes that goes on to minute 63 reaches minute 3 of the next hour.
 fn any_reaches(expr: &Expr, field: Field, number: u16) -> bool
     ensures { result ≡ any_reaches expr.now.from_end field (component field expr.now) number }
 {
@@ -214,7 +217,7 @@ fn step_reaches(start: u16, end: Option<u16>, step: Option<u16>, number: u32) ->
     }
 }
 
-// Lost elapses and failures
+// ## Lost elapses and failures
 
 fn loses_elapses(expr: &Expr, field: Field) -> bool
     ensures { result ≡ loses_elapses expr.now field }
@@ -231,8 +234,9 @@ fn is_before(one: Option<u16>, other: Option<u16>) -> bool
     }
 }
 
-/// Returns whether the minutes, the hours, the days or the months before and after the change of the next larger unit
-/// can both match.
+/// Returns whether the next larger field matches both before and after it starts over: minutes 59 and 0 for the
+/// seconds, hours 23 and 0 for the minutes, the last and the first day of a month for the hours, and December and
+/// January for the days.
 fn can_follow(expr: &Expr, field: Field) -> bool
     ensures { result ≡ can_follow expr.now field }
 {

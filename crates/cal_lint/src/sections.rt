@@ -28,7 +28,7 @@ pub(crate) enum OpenSection {
     /// The line comes before the first section header.
     Outside,
     Known(Section),
-    /// A section that systemd ignores.
+    /// The line is in any other section, so systemd ignores it.
     Ignored,
 }
 

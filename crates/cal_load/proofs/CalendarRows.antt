@@ -1,5 +1,5 @@
--- Examples of the calendar of a timer, and of the lines that are ignored. Only expressions of 5 bytes are valid, and
--- the parsed expression is the text.
+-- Examples of the calendar of a timer, and of the lines that are ignored. To keep them short, `read` stands for the
+-- parser: a text of 5 bytes is a valid expression, and is its own parsed form; any other text is invalid.
 use Rattle.std.proofs.Common.{◌≡◌, ◌==◌, ℕ, List, [], ◌∷◌, Ok, Err, Result, codes, length, refl}
 use Rattle.std.specs.Prelude.{if◌then◌else◌}
 use Rattle.cal_spec.specs.declared.spec_fault.SpecFault.{SpecFault}

@@ -66,7 +66,7 @@ invalid_first texts i d entries fault h before bad =
     let here : find test back ≡ Some (get_or texts i d).now = rw bad refl in
     ap first_invalid e ∙ find-append test front back ∙ ap (λ r. option_or r (find test back)) none ∙ here
 
--- the only error is about the first invalid expression
+-- if the only error is about the first invalid expression, `IsTimerOrReason` holds
 pub invalid_only : (Shows : Machine → Type 0) (texts : List (List ℕ)) (target : List ℕ) (error : TargetLoadFault) (loaded : Loaded) → IsParseError target error
     → ((fault : SpecFault) → expr_in target ≡ Err fault → first_invalid texts ≡ Some target) → HasOnlyFault target error loaded
     → IsTimerOrReason Shows texts loaded
@@ -81,7 +81,7 @@ invalid_only Shows texts target error loaded wrong first single =
 
 -- ## Zones
 
--- what follows the folder of the zone files in the path of a zone file
+-- in the path of a zone file, the zone's name follows the folder of the zone files
 pub zone_of_path : (path zone : List ℕ) → path ≡ zone_path zone → after_prefix zone_folder path ≡ Some zone
 unfolding after_prefix
 zone_of_path path zone e = rw e refl
@@ -100,7 +100,7 @@ text_shown : (found : Option (Bor declared_line.TimerLine))
 text_shown None = refl
 text_shown (Some line) = refl
 
--- the text of the first line that names a zone
+-- if a line was found as the first that names a zone, its text is the one that `first_with_zone` returns
 pub text_found : (zone text : List ℕ) (lines : List declared_line.TimerLine) (found : Option (Bor declared_line.TimerLine))
     → option_copied found ≡ find (λ line. names_zone zone (shown line)) lines → first_with_zone zone (map shown lines) ≡ Some text
     → option_map (λ line. string_bytes line.now.text) found ≡ Some text
@@ -116,7 +116,7 @@ found_more : (b c : Bool) (entry : TimerLine Fields) (found : Option (TimerLine 
 found_more true c entry found h f = (entry.text, refl)
 found_more false c entry found h f = f h
 
--- if entries name a zone, one of them is the first
+-- if entries name a zone, one of them is the first that does
 pub zone_found : (zone : List ℕ) (entries : List (TimerLine Fields)) → list_any (bytes_eq zone) (zone_names_in entries) ≡ true
     → (text : List ℕ) × (first_with_zone zone entries ≡ Some text)
 zone_found zone [] h = absurd (cc)
@@ -125,7 +125,7 @@ zone_found zone (entry ∷ entries) h =
     (sym (list_any-append (bytes_eq zone) (option_to_list (name_in entry.expr.zone)) (zone_names_in entries)) ∙ h)
     (zone_found zone entries)
 
--- the only error is about a zone file that can't be used
+-- if the only error is about a zone file that can't be used, `IsTimerOrReason` holds
 pub zone_only : (Shows : Machine → Type 0) (texts : List (List ℕ)) (entries : List (TimerLine Fields)) (path : String Global) (reason : FileReason) (loaded : Loaded)
     → AreOf texts entries → ((machine : Machine) → Shows machine → IsZonesError machine (zone_names_in entries) (zone_faults.At path reason))
     → HasOnlyZoneFault entries path reason loaded → IsTimerOrReason Shows texts loaded

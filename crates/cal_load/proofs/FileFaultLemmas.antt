@@ -32,7 +32,7 @@ one_right first second fault h = (h.0, Contains-append_right first second h.0 h.
 lost_kept : (old new : List TargetFault) (lost : Lost) → Keeps old new → IsLostIn old lost → IsLostIn new lost
 lost_kept old new lost keeps h = record { fault = h.fault; is_in = keeps h.fault h.is_in; says = h.says; about = h.about }
 
--- the errors have this one already
+-- if an error already says that something is lost, no error needs to be added for it
 pub lost_known : (lost : Lost) (faults : List TargetFault) → IsLostIn faults lost → AreLostAlso (lost ∷ []) faults faults
 lost_known lost faults h = record {
   kept = keeps_same faults;
@@ -40,7 +40,7 @@ lost_known lost faults h = record {
   whole = All-cons (IsLostIn faults) lost [] h (All-nil (IsLostIn faults));
 }
 
--- the error was appended
+-- after an error that says that something is lost was appended, the errors say so
 pub lost_pushed : (lost : Lost) (fault : TargetFault) (old new : List TargetFault) → new ≡ old ++ fault ∷ [] → IsFaultOf lost fault
     → AreLostAlso (lost ∷ []) old new
 lost_pushed lost fault old new e is = record {
@@ -72,7 +72,7 @@ same_path_for known fault place path reason why name (UnusableAt at given) e sam
     let is_why : why ≡ given = cc in
     ((place, same ∙ ap string_bytes is_path ∙ is.1, e ∙ ap (Path place) (because ∙ is_why)), tt)
 
--- two errors with the same path and the same reason
+-- an error with the path and the reason of another error says that the same thing is lost
 pub same_path : (known fault : TargetFault) (place path : String Global) (reason why : Reason) (lost : Lost) → known.reason ≡ Path place reason → fault.reason ≡ Path path why
     → string_bytes place ≡ string_bytes path → reason ≡ why → IsFaultOf lost fault
     → IsCause lost.cause known.reason × IsAbout lost.name lost.cause known
@@ -88,7 +88,7 @@ lost_none faults = record {
   whole = All-nil (IsLostIn faults);
 }
 
--- what is lost first, and then what is lost afterwards
+-- adding the errors of `first`, and then those of `second`, adds those of both
 pub lost_both : (first second : List Lost) (old mid new : List TargetFault) → AreLostAlso first old mid → AreLostAlso second mid new
     → AreLostAlso (first ++ second) old new
 lost_both first second old mid new h k = record {
@@ -105,7 +105,7 @@ lost_both first second old mid new h k = record {
       (All-weaker (IsLostIn mid) (IsLostIn new) (λ lost. lost_kept mid new lost k.kept) first h.whole) k.whole;
 }
 
--- the path in one more error of a unit
+-- if the errors about the paths in `before` were added, and then that of one more path, all their errors were added
 pub lost_more : (before : List UnitFault) (more : UnitFault) (old mid new : List TargetFault)
     → AreLostAlso (map lost_path (map shown_fault before)) old mid → AreLostAlso (lost_path (shown_fault more) ∷ []) mid new
     → AreLostAlso (map lost_path (map shown_fault (before ++ more ∷ []))) old new
@@ -135,7 +135,7 @@ pub none_listed : (name : List ℕ) (cause : Option Cause) (faults : List Target
 none_listed name None faults h = lost_none faults
 none_listed name (Some cause) faults h = absurd h
 
--- it was reported why a unit is lost
+-- if the reason why a unit is lost was reported, its error was added
 pub one_named : (name : List ℕ) (cause : Option Cause) (reason : TargetReason) (old new : List TargetFault)
     → ((cause : Cause) → IsCause cause reason → AreLostAlso (lost_as name (Some cause)) old new)
     → IsCauseIf cause (Some reason) → AreLostAlso (lost_as name cause) old new
@@ -151,7 +151,7 @@ absent_listed name (Some IsTemplate) reason faults is h = absurd (false≢true (
 absent_listed name (Some ManyAliases) reason faults is h = absurd (false≢true (sym (ap is_absent_reason h) ∙ is))
 absent_listed name (Some (UnusableAt path why)) reason faults is h = absurd (false≢true (sym (ap is_absent_reason h.2) ∙ is))
 
--- any other listed unit that is lost is reported
+-- a listed unit that is lost is reported, unless it has no file
 pub one_listed : (name : List ℕ) (cause : Option Cause) (fault : TargetFault) (old new : List TargetFault) → is_absent_reason fault.reason ≡ false
     → string_bytes fault.target ≡ name → ((lost : Lost) → IsFaultOf lost fault → AreLostAlso (lost ∷ []) old new)
     → IsCauseIf cause (Some fault.reason) → AreLostAlso (lost_as name (unless_absent cause)) old new

@@ -55,7 +55,7 @@ named_units : map (lost_named machine path) (codes "a" ∷ codes "b.timer" ∷ c
 unfolding walk after_prefix template_of listed_stem file_stem unit_stem without_suffix is_stem unit_kind_of instance_of
 named_units = refl
 
--- of all units, or of those that are started
+-- the stems of all units, and those of the units that other units start
 units : map (units_on machine path) (true ∷ false ∷ []) ≡ (codes "a" ∷ codes "b" ∷ codes "t@i" ∷ []) ∷ (codes "t@i" ∷ []) ∷ []
 unfolding by_name walk after_prefix template_of listed_stem file_stem unit_stem without_suffix is_stem unit_kind_of instance_of
 units = refl
@@ -67,13 +67,13 @@ listed_units : map (all_lost machine path) (true ∷ false ∷ [])
 unfolding by_name walk after_prefix template_of listed_stem file_stem unit_stem without_suffix is_stem unit_kind_of instance_of
 listed_units = refl
 
--- which units are disabled, by which are started
+-- which units are disabled: those that no other unit starts
 disabled_units : map (is_disabled (started_if_all machine path true)) (codes "a.timer" ∷ codes "t@i.timer" ∷ []) ≡ true ∷ false ∷ []
 unfolding by_name walk after_prefix template_of listed_stem file_stem unit_stem without_suffix is_stem unit_kind_of instance_of
 disabled_units = refl
 
--- files that can't be read are reported by their paths, also in a folder, and so is a path to nothing; then come the units
--- of the folder, and what says which of them are started
+-- files that can't be read are reported by their paths, also in a folder, and so is a path to nothing; then come the
+-- units of the folder, and the folder that says which of them are started
 paths : map (lost_at machine) (codes "/etc/a.timer" ∷ codes "/etc/b.timer" ∷ codes "/etc" ∷ [])
     ≡ (unreadable (codes "/etc/a.timer") (codes "/etc/a.timer") ∷ []) ∷ (absent (codes "/etc/b.timer") ∷ [])
     ∷ (unreadable (codes "/etc/a.timer") (codes "/etc/a.timer") ∷ absent (codes "/etc/b.timer") ∷ unreadable (codes "/etc/t@.timer") (codes "/etc/t@.timer")

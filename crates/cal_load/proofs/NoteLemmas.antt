@@ -36,12 +36,13 @@ kept_more a (b ∷ before) =
     (kept_step (is_taken b) (list_any (λ later. undoes later b) before) (undoes a b) b (λ note. not (undoes a note)) (kept_in before) (kept_in (before ++ a ∷ []))
     (if is_taken a then (a ∷ []) else []) refl (kept_more a before))
 
--- what is kept of no assignment
+-- without assignments, nothing is kept
 pub nothing_kept : kept_in [] ≡ []
 unfolding kept_in
 nothing_kept = refl
 
--- what is kept of one more assignment
+-- if `old` is kept of the assignments in `before`, then `kept_with` returns what is kept of them and one more
+-- assignment
 pub assignment_kept : (before : List OwnedAssignment) (a : OwnedAssignment) (old new : List Assignment)
     → old ≡ kept_in (map shown_owned_assignment before) → new ≡ kept_with old (shown_owned_assignment a)
     → new ≡ kept_in (map shown_owned_assignment (before ++ a ∷ []))
@@ -61,7 +62,8 @@ filtered_map : (keep : Assignment → Bool) (notes : List OwnedAssignment)
 filtered_map keep [] = refl
 filtered_map keep (note ∷ notes) = filtered_step (keep (shown_owned_assignment note)) note _ _ (filtered_map keep notes)
 
--- removing those notes that an assignment undoes
+-- if the notes that `later` undoes are removed from a list, the assignments that it shows are those that `later`
+-- doesn't undo
 pub undone : (later : Assignment) (old new : List OwnedAssignment) → new ≡ filter (λ note. not (undoes later (shown_owned_assignment note))) old
     → map shown_owned_assignment new ≡ filter (λ note. not (undoes later note)) (map shown_owned_assignment old)
 undone later old new e = ap (map shown_owned_assignment) e ∙ filtered_map (λ note. not (undoes later note)) old
@@ -79,7 +81,7 @@ nothing_undone later (note ∷ notes) e f =
 
 -- ## Notes
 
--- removing the kept assignments that change nothing
+-- removing the kept assignments that aren't noted leaves those that are
 pub only_noted : (own service : List ℕ) (unit : Option ℕ) (old new : List OwnedAssignment) → service ≡ service_of own
     → unit ≡ unit_line own (map shown_owned_assignment old) → new ≡ filter (λ note. is_noted service unit (shown_owned_assignment note)) old
     → map shown_owned_assignment new ≡ noted_of own (map shown_owned_assignment old)
@@ -119,7 +121,7 @@ any_filtered : (test keep : Assignment → Bool) → ((a : Assignment) → test 
 any_filtered test keep h [] = refl
 any_filtered test keep h (a ∷ rest) = any_step (test a) (keep a) test a rest (filter keep rest) refl (h a) (any_filtered test keep h rest)
 
--- what starts the unit is the same among the notes as among the kept assignments
+-- one of the notes starts the unit if and only if one of the kept assignments does
 pub noted_start : (own : List ℕ) (kept : List Assignment) → list_any starts (noted_of own kept) ≡ list_any starts kept
 unfolding noted_of
 noted_start own kept = any_filtered starts (is_noted (service_of own) (unit_line own kept)) (starting (service_of own) (unit_line own kept)) kept

@@ -9,7 +9,7 @@ use Rattle.cal_unit_index.specs.rules.UnitName.{without_suffix}
 use Rattle.cal_settings.specs.rules.Settings.{has_unit_suffix, is_unit_name, keys_of, kind_of}
 use Rattle.cal_load.specs.rules.Notes.{is_noted, is_taken, kept_in, names_unit, note_text, noted_of, notes_in, replaces, starts, starts_unit, undoes}
 
--- the assignments with these keys and values, each on the line after that of the one before
+-- assignments with these keys and values, on consecutive lines, the first on line `line`
 settings : ℕ → List (List ℕ × List ℕ) → List Assignment
 settings line [] = []
 settings line (setting ∷ more) = record { number = line; key = setting.0; value = setting.1 } ∷ settings (line + 1) more
@@ -47,25 +47,25 @@ kept_delay : notes (
 unfolding notes notes_for settings noted_of kept_in is_noted is_taken starts replaces undoes kind_of keys_of names_unit is_unit_name has_unit_suffix is_reset without_suffix span_of pairs_in words_in is_number number_worth unit_named worth_of spellings_of
 kept_delay = refl
 
--- no delay isn't noted
+-- a delay of 0 isn't noted
 no_delay : notes ((codes "RandomizedDelaySec", codes "5min") ∷ (codes "RandomizedDelaySec", codes "0") ∷ [])
     ≡ []
 unfolding notes notes_for settings noted_of kept_in is_noted is_taken starts replaces undoes kind_of keys_of names_unit is_unit_name has_unit_suffix is_reset without_suffix span_of pairs_in words_in is_number number_worth unit_named worth_of spellings_of
 no_delay = refl
 
--- the longest delay
+-- a delay of `infinity` is noted
 longest_delay : notes ((codes "RandomizedDelaySec", codes "infinity") ∷ [])
     ≡ codes "RandomizedDelaySec=infinity" ∷ []
 unfolding notes notes_for settings noted_of kept_in is_noted is_taken starts replaces undoes kind_of keys_of names_unit is_unit_name has_unit_suffix is_reset without_suffix span_of pairs_in words_in is_number number_worth unit_named worth_of spellings_of
 longest_delay = refl
 
--- an accuracy that is no longer than the default isn't noted
+-- an accuracy as long as the default isn't noted
 default_accuracy : notes ((codes "AccuracySec", codes "1h") ∷ (codes "AccuracySec", codes "1min") ∷ [])
     ≡ []
 unfolding notes notes_for settings noted_of kept_in is_noted is_taken starts replaces undoes kind_of keys_of names_unit is_unit_name has_unit_suffix is_reset without_suffix span_of pairs_in words_in is_number number_worth unit_named worth_of spellings_of
 default_accuracy = refl
 
--- other accuracies are, and an invalid one keeps the one before it
+-- an accuracy longer than the default is noted, and an invalid one keeps the one before it
 coarse_accuracy : notes ((codes "AccuracySec", codes "2min") ∷ (codes "AccuracySec", codes "-1") ∷ [])
     ≡ codes "AccuracySec=2min" ∷ []
 unfolding notes notes_for settings noted_of kept_in is_noted is_taken starts replaces undoes kind_of keys_of names_unit is_unit_name has_unit_suffix is_reset without_suffix span_of pairs_in words_in is_number number_worth unit_named worth_of spellings_of
@@ -113,7 +113,7 @@ own_service : notes ((codes "Unit", codes "a.service") ∷ (codes "Unit", codes 
 unfolding notes notes_for settings noted_of kept_in is_noted is_taken starts replaces undoes kind_of keys_of names_unit is_unit_name has_unit_suffix is_reset without_suffix span_of pairs_in words_in is_number number_worth unit_named worth_of spellings_of
 own_service = refl
 
--- a template, which systemd instantiates, and a specifier, which it replaces
+-- a template counts, since systemd instantiates it
 template_unit : notes ((codes "Unit", codes "t@.service") ∷ (codes "Unit", codes "b.service") ∷ [])
     ≡ codes "Unit=t@.service" ∷ []
 unfolding notes notes_for settings noted_of kept_in is_noted is_taken starts replaces undoes kind_of keys_of names_unit is_unit_name has_unit_suffix is_reset without_suffix span_of pairs_in words_in is_number number_worth unit_named worth_of spellings_of
@@ -128,7 +128,8 @@ other_keys : notes (
 unfolding notes notes_for settings noted_of kept_in is_noted is_taken starts replaces undoes kind_of keys_of names_unit is_unit_name has_unit_suffix is_reset without_suffix span_of pairs_in words_in is_number number_worth unit_named worth_of spellings_of
 other_keys = refl
 
--- of a file read by itself, the end of the path is the timer's own name, with or without a suffix
+-- if a file is read by itself, the timer's own name is the part of the path after the last slash, whether or not it
+-- ends in `.timer`
 own_names : map (λ name. notes_for name ((codes "Unit", codes "b.timer") ∷ (codes "Unit", codes "a.service") ∷ []))
     (codes "/etc/b.timer" ∷ codes "./x/a.timer" ∷ codes "./b.timer/a" ∷ codes "b.timer" ∷ [])
     ≡ (codes "Unit=a.service" ∷ []) ∷ (codes "Unit=b.timer" ∷ []) ∷ (codes "Unit=b.timer" ∷ []) ∷ (codes "Unit=a.service" ∷ []) ∷ []
@@ -142,7 +143,7 @@ unit_names : map is_unit_name
 unfolding notes notes_for settings noted_of kept_in is_noted is_taken starts replaces undoes kind_of keys_of names_unit is_unit_name has_unit_suffix is_reset without_suffix span_of pairs_in words_in is_number number_worth unit_named worth_of spellings_of
 unit_names = refl
 
--- only monotonic timers and clock changes start a unit by themselves
+-- only monotonic timers, and changes of the clock or the time zone, start a unit by themselves
 starters : map (λ list. starts_unit (settings 1 list))
     (((codes "OnBootSec", codes "5min") ∷ []) ∷ ((codes "OnClockChange", codes "yes") ∷ []) ∷ ((codes "OnTimezoneChange", codes "yes") ∷ []) ∷ ((codes "OnBootSec", codes "abc") ∷ [])
     ∷ ((codes "OnClockChange", codes "no") ∷ [])

@@ -22,7 +22,7 @@ one_slash front =
     let fewer : length (front ++ 47 ∷ []) - suffix_len is_slash (front ++ 47 ∷ []) ≡ length front - suffix_len is_slash front = omega arith in
     ap (λ n. take n (front ++ 47 ∷ [])) fewer ∙ take-append-le (length front - suffix_len is_slash front) front (47 ∷ []) (omega arith)
 
--- a slash that was cut off the end
+-- if cutting a slash off the end of `m` leaves `r`, then `m` is `r` followed by a slash
 cut_slash : (m r : List ℕ) (n : ℕ) → FindsCharSuffix 47 m (Some n) → r ≡ take (length m - n) m → m ≡ r ++ 47 ∷ []
 cut_slash m r n h e =
     let fits : length m ≡ (length m - n) + 1 = h.1.ends in

@@ -249,7 +249,7 @@ module _ {E : Type 0} (read : List ℕ → Result E SpecFault) (P : ℕ → Type
       ignored_about a (read a.value) (filter_map (λ a. ignored_line a (read a.value)) list) (All-head (λ (a : Assignment). P a.number) a list h)
       (lines_about list (All-tail (λ (a : Assignment). P a.number) a list h))
 
--- the entries of both lists are in the lines of the assignments
+-- if `P` holds for the number of each assignment, it holds for the number of each expression and each exception
 pub entries_numbered : {E : Type 0} (read : List ℕ → Result E SpecFault) (P : ℕ → Type 0) (assignments : List Assignment)
     → All (λ a. P a.number) assignments → All (λ entry. P entry.number) (entries_of read (listed assignments) ++ entries_of read (excepted assignments))
 unfolding listed excepted
@@ -258,7 +258,7 @@ entries_numbered {E} read P assignments all =
     (entries_about read P (listed assignments) (All-filter is_expression (λ (a : Assignment). P a.number) _ (All-drop (λ (a : Assignment). P a.number) _ assignments all)))
     (entries_about read P (excepted assignments) (All-filter is_exception (λ (a : Assignment). P a.number) _ (All-drop (λ (a : Assignment). P a.number) _ assignments all)))
 
--- the lines that are ignored are lines of the assignments
+-- if `P` holds for the number of each assignment, it holds for the number of each line that is ignored
 pub ignored_numbered : {E : Type 0} (read : List ℕ → Result E SpecFault) (P : ℕ → Type 0) (assignments : List Assignment)
     → All (λ a. P a.number) assignments → All (λ line. P line.number) (ignored_in read assignments)
 unfolding ignored_in
@@ -284,7 +284,7 @@ pub shown_at : (files : List texts.UnitText) (i : ℕ) (file : texts.UnitText) �
     → get_or (map shown_unit_text files) i (shown_unit_text file) ≡ shown_unit_text file
 shown_at files i file h at = get_or-map shown_unit_text files i file (shown_unit_text file) h ∙ ap shown_unit_text (sym at)
 
--- the number of one more first line
+-- if the number of the next file's first line is appended, the first lines of one more file have the right numbers
 pub first_lines_more : (files : List UnitText) (numbers more : List ℕ) (i first : ℕ) → length numbers ≡ i → first ≡ total_lines (take i files) + 1
     → more ≡ numbers ++ first ∷ [] → ((k : ℕ) → k < i → get_or numbers k 0 ≡ total_lines (take k files) + 1)
     → (k : ℕ) → k < i + 1 → get_or more k 0 ≡ total_lines (take k files) + 1
@@ -297,7 +297,7 @@ first_lines_more files numbers more i first count is pushed before k h =
           )
     ]
 
--- a line is before the first line of the file after the last file that begins at or before the line
+-- if `index` is that of the last file that begins at or before a line, the line is in one of the files up to this one
 before_next : (files : List UnitText) (numbers : List ℕ) (number index : ℕ) → AreFirstLines files numbers → number ≤ total_lines files
     → IsLastUntil numbers number index → number ≤ total_lines (take (index + 1) files)
 before_next files numbers number index are within last =
@@ -310,7 +310,7 @@ before_next files numbers number index are within last =
       | inr le ↦ subst (λ all. number ≤ total_lines all) (sym (take_all (index + 1) files le)) within
     ]
 
--- a position is a line of one of the files
+-- if a line has a position (`IsPosition`), it is this line of the file at this path (`IsLineIn`)
 pub line_at : (files : List texts.UnitText) (numbers : List ℕ) (number : ℕ) (path : List ℕ) (line : ℕ)
     → AreFirstLines (map shown_unit_text files) numbers → HasLine (map shown_unit_text files) number → IsPosition files numbers number path line
     → IsLineIn (map shown_unit_text files) number path line

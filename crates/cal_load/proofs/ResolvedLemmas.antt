@@ -89,7 +89,7 @@ unclear_if : (c : Bool) (unclear : List Assignment) (a : Assignment)
 unclear_if true unclear a = refl
 unclear_if false unclear a = append-nil unclear
 
--- an expression that depends on the running system is unclear
+-- an expression that depends on more than the timer's name is unclear
 pub system_unclear : (own : List ℕ) (unclear : List Assignment) (a : Assignment) → may_have_specifiers a ≡ true → Unclear ≡ value_filled own a
     → unclear ++ unclear_of a ≡ unclear_with own unclear a
 unfolding is_unclear_expression

@@ -34,7 +34,7 @@ dash : filled_in (codes "a-b.timer") (codes "%P" ∷ codes "%p" ∷ [])
 unfolding filled_in without_suffix instance_of unit_kind_of unescaped is_of_system is_of_instance is_utf8 chars encode
 dash = refl
 
--- only the part of the prefix after the last dash
+-- `%j` and `%J` stand for the part of the prefix after the last dash
 last_component : filled_in (codes "foo-bar.timer") (codes "%j" ∷ codes "%J" ∷ [])
     ≡ Text (codes "bar") ∷ Text (codes "bar") ∷ []
 unfolding filled_in without_suffix instance_of unit_kind_of unescaped is_of_system is_of_instance is_utf8 chars encode
@@ -52,13 +52,13 @@ at_signs : filled_in (codes "a@b@c.timer") (codes "%p" ∷ codes "%i" ∷ [])
 unfolding filled_in without_suffix instance_of unit_kind_of unescaped is_of_system is_of_instance is_utf8 chars encode
 at_signs = refl
 
--- bytes that aren't part of a specifier
+-- `%%` stands for `%`, and bytes that aren't part of a specifier stand for themselves
 percent : filled_in (codes "x.timer") ([] ∷ codes "daily" ∷ codes "%%" ∷ codes "%" ∷ codes "5%" ∷ codes "%%n" ∷ codes "%%%n" ∷ codes "10:%-" ∷ codes "% n" ∷ [])
     ≡ Text [] ∷ Text (codes "daily") ∷ Text (codes "%") ∷ Text (codes "%") ∷ Text (codes "5%") ∷ Text (codes "%n") ∷ Text (codes "%x.timer") ∷ Text (codes "10:%-") ∷ Text (codes "% n") ∷ []
 unfolding filled_in without_suffix instance_of unit_kind_of unescaped is_of_system is_of_instance is_utf8 chars encode
 percent = refl
 
--- specifiers that don't exist, even if others are unclear
+-- a specifier that doesn't exist makes a value invalid, even if other specifiers in it are unclear
 unknown : filled_in (codes "x.timer") (codes "%Z" ∷ codes "%9" ∷ codes "%H%Z" ∷ codes "%Z%H" ∷ [])
     ≡ Invalid ∷ Invalid ∷ Invalid ∷ Invalid ∷ []
 unfolding filled_in without_suffix instance_of unit_kind_of unescaped is_of_system is_of_instance is_utf8 chars encode
@@ -76,7 +76,7 @@ template : filled_in (codes "x@.timer") (codes "%i" ∷ codes "%I" ∷ codes "%n
 unfolding filled_in without_suffix instance_of unit_kind_of unescaped is_of_system is_of_instance is_utf8 chars encode
 template = refl
 
--- escapes that can't be unescaped
+-- a part of the name that can't be unescaped makes `%I` invalid, but not `%i`
 bad_escapes : filled_in (codes "t@a\\b.timer") (codes "%I" ∷ codes "%i" ∷ [])
     ≡ Invalid ∷ Text (codes "a\\b") ∷ []
 unfolding filled_in without_suffix instance_of unit_kind_of unescaped is_of_system is_of_instance is_utf8 chars encode
@@ -88,7 +88,7 @@ escapes : map (λ name. filled_of name (codes "%I")) (codes "t@a\\x4a\\x4A.timer
 unfolding filled_in without_suffix instance_of unit_kind_of unescaped is_of_system is_of_instance is_utf8 chars encode
 escapes = refl
 
--- a byte that isn't UTF-8 by itself, and two that are together
+-- a byte that isn't UTF-8 by itself, and two bytes that are UTF-8 together
 not_utf8 : map (λ name. filled_of name (codes "%I")) (codes "t@\\xc3.timer" ∷ codes "t@\\xc3\\xa9.timer" ∷ [])
     ≡ Invalid ∷ Text (195 ∷ 169 ∷ []) ∷ []
 unfolding filled_in without_suffix instance_of unit_kind_of unescaped is_of_system is_of_instance is_utf8 chars encode

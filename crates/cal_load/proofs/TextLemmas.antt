@@ -40,7 +40,7 @@ module _ {X : Type 0} (one : ℕ → List ℕ → List X) (from : ℕ → List (
       ∙ ap (λ list. found ++ list) (sym (ap (λ rest. from first (bytes_in (map shown_unit_text rest))) (ap (λ n. drop n files) e ∙ drop-length files) ∙ none first))
       ∙ before
 
--- the assignments of one file, and those of several
+-- the assignments of several files are those of the first file, followed by those of the others
 pub assignments_step : (first : ℕ) (bytes : List ℕ) (rest : List (List ℕ))
     → assignments_from first (bytes ∷ rest) ≡ assignments_read first bytes ++ assignments_from (first + length (lines bytes)) rest
 unfolding assignments_from
@@ -50,7 +50,7 @@ pub no_assignments : (first : ℕ) → assignments_from first [] ≡ []
 unfolding assignments_from
 no_assignments first = refl
 
--- the line at which systemd stops reading one file, and those of several files
+-- the line at which systemd stops reading one file, as a list
 abbrev pub broken_in_one : ℕ → List ℕ → List (Option BrokenLine)
 broken_in_one first bytes = broken_line first bytes ∷ []
 
@@ -63,7 +63,7 @@ pub none_broken : (first : ℕ) → broken_from first [] ≡ []
 unfolding broken_from
 none_broken first = refl
 
--- what is first in the list of the lines at which systemd stops reading each file is about the unit's own file
+-- the first of the lines at which systemd stops reading the files is that of the unit's own file
 pub first_broken : (files : List FileText) (line : Option BrokenLine) → slice_get (broken_of_files files) 0 ≡ Some line → line ≡ broken_own files
 unfolding broken_from
 first_broken [] line e = absurd (cc)

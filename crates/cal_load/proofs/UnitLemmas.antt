@@ -1,4 +1,4 @@
--- Lemmas on what targets stand for, and on what became of everything that was looked for.
+-- Lemmas on what targets stand for, and on the results of loading it.
 use Rattle.std.proofs.Common.{◌≡◌, ◌+◌, ◌<◌, get_or, length, take, Bool, filter, ◌∙◌, append_assoc, ℕ, List, [], ◌∷◌, ◌++◌, Ok, Err, Option, Result, ap, append-nil, inl, inr, map, refl, string_bytes, subst, false, sym, true}
 use Rattle.std.proofs.lemmas.List.{flat_map_more, map-append, take_more}
 use Rattle.std.proofs.lemmas.Grind.{flat_map-append}
@@ -63,7 +63,7 @@ account_kept old new outcome keeps h =
       | inr reported ↦ inr (report_kept old new (name_of outcome.sought) outcome.found keeps reported)
     ]
 
--- what was added first, and then what was added afterwards
+-- adding the outcomes `first`, and then the outcomes `second`, adds both
 added_both : (first second : List Outcome) (old mid new : Loaded) → AreAdded first old mid → AreAdded second mid new → AreAdded (first ++ second) old new
 added_both first second old mid new h k = record {
   timers = appended_both (flat_map timers_of) first second old.timers.items mid.timers.items new.timers.items (flat_map-append timers_of first second) h.timers k.timers;
@@ -81,7 +81,7 @@ pub fault_pushed : (old new : List TargetFault) (fault : TargetFault) (name : Li
 fault_pushed old new fault name found e named is =
     subst (HasFault new name) (sym is) (fault, rw e (Contains-push old fault), named, refl)
 
--- an error about a file that can't be used is the error for a target whose own file it is
+-- if what is at a path can't be used, an error which says so is the error for the target whose file is at this path
 pub file_unusable : (machine : Machine) (why : Reason) (path : List ℕ) (read : FileRead) (name : List ℕ) (files : List UnitText) (fault : TargetLoadFault) → Unusable why ≡ read
     → IsUnusableFault why path fault → IsFileFault machine read path name files fault
 file_unusable machine why path read name files (faults.TheVariants.Target reason) is h = subst (λ read. IsFileReason machine read path name files reason) is h
@@ -99,8 +99,8 @@ pushed_kept name found old mid new timers masked pushed keeps = record {
 
 -- ## Sets of stems
 
--- If `before` is `start` with what `f` returns for the views of `xs` in addition, and `after` also has what it returns for
--- the view of `x`, then `after` is `start` with what it returns for the views of `xs` followed by `x`.
+-- If `before` is `start` with what `f` returns for the views of `xs` in addition, and `after` also has what it returns
+-- for the view of `x`, then `after` is `start` with what it returns for the views of `xs` followed by `x`.
 pub set_added : {X Y : Type 0} (f : Y → Option (List ℕ)) (view : X → Y) (start before after : List (List ℕ)) (xs : List X) (x : X)
     → after ≡ with_texts before (option_to_list (f (view x))) → before ≡ with_texts start (filter_map f (map view xs))
     → after ≡ with_texts start (filter_map f (map view (xs ++ x ∷ [])))
@@ -110,13 +110,14 @@ set_added f view start before after xs x added held =
     ∙ sym (fold-append (insert_key (slice_cmp nat_cmp)) start (filter_map f (map view xs)) (option_to_list (f (view x))))
     ∙ ap (with_texts start) (appended_more f view [] (filter_map f (map view xs)) (filter_map f (map view xs) ++ option_to_list (f (view x))) xs x refl refl)
 
--- the set of what `f` returns for `xs`, with what it returns for `ys` in addition
+-- adding what `f` returns for `ys` to the set of what it returns for `xs` makes the set for both
 pub set_of_both : (f : List ℕ → Option (List ℕ)) (xs ys : List (List ℕ)) → with_texts (sorted_once (filter_map f xs)) (filter_map f ys) ≡ sorted_once (filter_map f (xs ++ ys))
 set_of_both f xs ys =
     sym (fold-append (insert_key (slice_cmp nat_cmp)) [] (filter_map f xs) (filter_map f ys))
     ∙ ap sorted_once (sym (filter_map-append f xs ys))
 
--- a set of the names that pass a test, with one more name if it passes
+-- if `before` is the set of the names in `xs` that pass a test, and `after` also has `x` if it passes, then `after` is
+-- the set for `xs` and `x`
 pub passing_pushed : {X : Type 0} (test : List ℕ → Bool) (view : X → List ℕ) (before after : List (List ℕ)) (xs : List X) (x : X)
     → after ≡ with_texts before (filter test (view x ∷ [])) → before ≡ sorted_once (filter test (map view xs))
     → after ≡ sorted_once (filter test (map view (xs ++ x ∷ [])))
@@ -126,9 +127,10 @@ passing_pushed test view before after xs x added held =
     ∙ sym (fold-append (insert_key (slice_cmp nat_cmp)) [] (filter test (map view xs)) (filter test (view x ∷ [])))
     ∙ ap sorted_once (sym (filter-append test (map view xs) (view x ∷ [])) ∙ ap (filter test) (sym (map-append view xs (x ∷ []))))
 
--- ## What came from outcomes
+-- ## Several outcomes
 
--- the outcomes of `first`, and then those of `second`; what is known may become more
+-- if `IsMore` holds for `first`, and then for `second`, it holds for both; after the second step, more may be known of
+-- the machine
 pub more_both : (Knows Now : Machine → List (List ℕ) → Type 0) (first second : Machine → List (List ℕ) → List Sought) (old mid new : Loaded)
     → ((machine : Machine) (path : List (List ℕ)) → Now machine path → Knows machine path)
     → IsMore Knows first old mid → IsMore Now second mid new → IsMore Now (λ machine path. first machine path ++ second machine path) old new
@@ -145,7 +147,7 @@ more_both Knows Now first second old mid new known h k = record {
   };
 }
 
--- if `first` and `second` are the same wherever `Now` is true
+-- if `IsMore` holds for `first`, it holds for `second`, provided that both are the same wherever `Now` holds
 pub more_as : (Knows Now : Machine → List (List ℕ) → Type 0) (first second : Machine → List (List ℕ) → List Sought) (old new : Loaded)
     → ((machine : Machine) (path : List (List ℕ)) → Now machine path → Knows machine path)
     → ((machine : Machine) (path : List (List ℕ)) → Now machine path → first machine path ≡ second machine path)
@@ -159,7 +161,7 @@ more_as Knows Now first second old new known same h = record {
   };
 }
 
--- only faults were added afterwards
+-- `IsMore` still holds if only faults are added afterwards
 pub more_kept : (Knows : Machine → List (List ℕ) → Type 0) (sought : Machine → List (List ℕ) → List Sought) (old mid new : Loaded)
     → new.timers ≡ mid.timers → new.masked ≡ mid.masked → Keeps mid.faults.items new.faults.items → IsMore Knows sought old mid → IsMore Knows sought old new
 more_kept Knows sought old mid new timers masked keeps h = record {
@@ -215,7 +217,7 @@ one_outcome Knows sought found true_of = record {
   are_all = λ machine path knows. refl;
 }
 
--- what was found was pushed under its name
+-- if what was found was pushed under its name, `IsMore` holds for what was looked for
 pub pushed_more : (Knows : Machine → List (List ℕ) → Type 0) (sought : Sought) (name : List ℕ) (old new : Loaded) (found : Result targets.LoadedTarget TargetLoadFault)
     → name ≡ name_of sought → IsPushed name found old new
     → ((machine : Machine) (path : List (List ℕ)) → Knows machine path → IsFound machine path sought found)
@@ -232,7 +234,7 @@ pushed_more Knows sought name old new found e pushed true_of = record {
   are = one_outcome Knows sought found true_of;
 }
 
--- nothing was loaded, since a unit of the search path has no file
+-- if a unit of the search path has no file, `IsMore` holds for it although nothing was loaded
 pub absent_more : (Knows : Machine → List (List ℕ) → Type 0) (stem : List ℕ) (loaded : Loaded) (found : Result targets.LoadedTarget TargetLoadFault)
     → is_absent found ≡ true → ((machine : Machine) (path : List (List ℕ)) → Knows machine path → IsFoundOf machine path stem found)
     → IsMore Knows (λ machine path. ListedUnit stem ∷ []) loaded loaded
@@ -255,7 +257,8 @@ pub ok_or_err : {X E : Type 0} (P : X → Type 0) (Q : E → Type 0) (R : Result
 ok_or_err P Q R (Ok x) f g h k = f x h
 ok_or_err P Q R (Err e) f g h k = g e k
 
--- one more element, which stands for something that is looked for
+-- if `IsMore` holds for the elements in `xs`, and then for `x`, it holds for all of them; `make` returns what is
+-- looked for, given the view of an element
 pub one_more : {X Y : Type 0} (Knows Now : Machine → List (List ℕ) → Type 0) (make : Y → Sought) (view : X → Y) (xs : List X) (x : X) (y : Y) (old mid new : Loaded)
     → ((machine : Machine) (path : List (List ℕ)) → Now machine path → Knows machine path) → y ≡ view x
     → IsMore Knows (λ machine path. map make (map view xs)) old mid → IsMore Now (λ machine path. make y ∷ []) mid new
@@ -270,7 +273,7 @@ one_more Knows Now make view xs x y old mid new known is h k =
     ∙ ap (map make) (sym (map-append view xs (x ∷ []))))
     (more_both Knows Now (λ machine path. before) (λ machine path. make y ∷ []) old mid new known h k)
 
--- the units of a folder, and then what of it can't be read
+-- if the units of a folder were loaded, and then what can't be read of it was reported, `IsMore` holds for the folder
 pub folder_more : (Knows : Machine → List (List ℕ) → Type 0) (Shows : Machine → Type 0) (folder : List ℕ) (stems : List (List ℕ)) (unread : List Fault) (old mid new : Loaded)
     → ((machine : Machine) (path : List (List ℕ)) → Shows machine → Knows machine path)
     → ((machine : Machine) → Shows machine → stems ≡ units_in_folder machine folder)
@@ -289,7 +292,7 @@ folder_more Knows Shows folder stems unread old mid new known stems_are unread_a
     (more_both Knows Now (λ machine path. map (FolderUnit folder) stems) (λ machine path. map UnreadPath unread) old mid new known h
     (more_as Always Now (λ machine path. map UnreadPath unread) (λ machine path. map UnreadPath unread) mid new (λ machine path now. tt) (λ machine path now. refl) k))
 
--- one more target
+-- if `IsMore` holds for the first `i` targets, and then for the next one, it holds for the first `i + 1`
 pub target_more : (Knows Now : Machine → List (List ℕ) → Type 0) (targets : List (Bor (List ℕ))) (i : ℕ) (target other : Bor (List ℕ)) (old mid new : Loaded)
     → ((machine : Machine) (path : List (List ℕ)) → Now machine path → Knows machine path) → i < length targets → target.now ≡ (get_or targets i other).now
     → IsMore Knows (λ machine path. flat_map (sought_by machine) (map (λ target. target.now) (take i targets))) old mid

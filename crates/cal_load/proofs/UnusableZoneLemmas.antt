@@ -56,7 +56,7 @@ zone_in_more : (old new : ZoneMap) (name : Option (List ℕ)) → ((other : List
 zone_in_more old new None more h = refl
 zone_in_more old new (Some name) more h = more name h
 
--- the same lines if the table has more zones
+-- lines that fit the entries still do if the table gets more zones
 tried_more : (machine : Machine) (old new : ZoneMap) (entries : List (TimerLine Fields)) (lines : List UnusableZone)
     → ((other : List ℕ) → is_some (zone_named old other) ≡ true → is_some (zone_named new other) ≡ true)
     → AreTried machine old entries lines → AreTried machine new entries lines
@@ -85,7 +85,7 @@ left_tried machine table (first ∷ entries) entry lines line is h =
       | inr left ↦ inr (left.0, left.1 ++ line ∷ [], ap (λ all. all ++ line ∷ []) left.2, left.3, left_tried machine table entries entry left.1 line is left.4)
     ]
 
--- a name is in the entries with one more entry if it was in them, or if this entry names it
+-- a list of entries with `entry` appended names a zone if and only if the list names it or `entry` does
 named_more : (entries : List (TimerLine Fields)) (entry : TimerLine Fields) (name : List ℕ)
     → list_any (bytes_eq name) (zone_names_in (entries ++ entry ∷ [])) ≡ (list_any (bytes_eq name) (zone_names_in entries) || names_zone name entry)
 named_more entries entry name =
@@ -122,7 +122,7 @@ or_either false b h e = absurd (cc)
 or_first : (a b : Bool) → a ≡ true → (a || b) ≡ true
 or_first a b e = rw e refl
 
--- a name that the table has after a zone was loaded is that of the zone, or the table had it before
+-- each name that the table has after a zone was loaded is a name of UTC, or one of the entries names it
 name_known : (before : List (TimerLine Fields)) (entry : TimerLine Fields) (name other : List ℕ) (t had : Bool) → name_in entry.expr.zone ≡ Some name
     → bytes_eq other name ≡ t → (had || t) ≡ true
     → (had ≡ true → (is_utc_name other || list_any (bytes_eq other) (zone_names_in before)) ≡ true)
@@ -179,7 +179,7 @@ unusable_tried machine before entry name old new line is zones added number othe
 
 -- ## All entries
 
--- before any zone is loaded
+-- before any zone is loaded, no entry has been tried
 pub nothing_tried : (machine : Machine) (tried : CalendarZones) → tried.zones ≡ empty → tried.unusable.items ≡ [] → IsTried machine [] tried
 nothing_tried machine tried none no_lines = record {
   names = λ name has. known (is_utc_name name) (sym (empty_has name) ∙ ap (λ table. is_some (zone_named table name)) (sym none) ∙ has);
@@ -201,7 +201,7 @@ zip_step : (machine : Machine) (c : Bool) (entry : TimerLine Fields) (entries : 
 zip_step machine true entry entries line lines is h = (is, h)
 zip_step machine false entry entries line lines is h = h
 
--- the lines whose zone isn't in the table in the end
+-- without the lines whose zone is in the table after all, the lines are those of the entries whose zone isn't
 left_lines : (machine : Machine) (table : ZoneMap) (entries : List (TimerLine Fields)) (lines : List UnusableZone) → AreTried machine table entries lines
     → AreUnusableLines machine table entries (filter (λ line. not (is_loaded table line)) lines)
 left_lines machine table [] lines h = rw h tt
@@ -231,8 +231,9 @@ and_false : (b : Bool) → (b && false) ≡ false
 and_false true = refl
 and_false false = refl
 
--- whether the kept entries name a zone, for one more entry: `keeps` says whether the entry is kept, `names` whether it
--- names the zone, and `has` whether the table has the zone
+-- with one more entry, it is still true that the kept entries name a zone if and only if an entry names it and the
+-- table has it; `keeps` says whether the new entry is kept, `names` whether it names the zone, and `has` whether the
+-- table has the zone
 kept_step : (keeps names has all : Bool) (name : List ℕ) (entry : TimerLine Fields) (kept : List (TimerLine Fields)) → names_zone name entry ≡ names
     → (names ≡ true → keeps ≡ has) → list_any (bytes_eq name) (zone_names_in kept) ≡ (all && has)
     → list_any (bytes_eq name) (zone_names_in (cond keeps (entry ∷ kept) kept)) ≡ ((names || all) && has)
@@ -274,7 +275,7 @@ kept_has_names table expressions exceptions known name =
     known_if (is_some (zone_named table name)) (is_utc_name name) (list_any (bytes_eq name) (zone_names_in (expressions ++ exceptions))) (known name) (utc_named table name)
     ∙ ap (λ b. is_utc_name name || b) (sym (kept_names table name (expressions ++ exceptions)) ∙ ap (list_any (bytes_eq name)) all)
 
--- the calendar without the lines whose zone isn't in the table
+-- if the lines whose zone isn't in the table are removed from a calendar, `IsZoned` holds
 pub zoned_calendar : (machine : Machine) (old new : calendars.Calendar) (tried found : CalendarZones) → found.zones ≡ tried.zones
     → expressions_in new ≡ filter (has_zone tried.zones) (expressions_in old) → exceptions_in new ≡ filter (has_zone tried.zones) (exceptions_in old)
     → found.unusable.items ≡ filter (λ line. not (is_loaded tried.zones line)) tried.unusable.items
@@ -295,7 +296,7 @@ zoned_calendar machine old new tried found same expressions exceptions unusable 
           (left_lines machine tried.zones (expressions_in old ++ exceptions_in old) tried.unusable.items h.lines));
     }
 
--- the calendar of files
+-- if the lines whose zone can't be used are removed from the calendar of files, `IsCalendarOf` holds
 pub zoned_files : (machine : Machine) (name : List ℕ) (files : List UnitText) (old new : calendars.Calendar) (found : CalendarZones)
     → IsCalendarBy (timer_assignments name files) old → IsZoned machine old new found → IsCalendarOf name files found.zones new
 zoned_files machine name files old new found by zoned = (
@@ -303,7 +304,7 @@ zoned_files machine name files old new found by zoned = (
   zoned.exceptions ∙ ap (filter (has_zone found.zones)) by.1,
 )
 
--- the lines of files whose zone can't be used
+-- the unusable zones are those of the files' entries whose zone isn't in the table
 pub unusable_of_files : (machine : Machine) (name : List ℕ) (files : List UnitText) (old new : calendars.Calendar) (found : CalendarZones)
     → IsCalendarBy (timer_assignments name files) old → IsZoned machine old new found
     → AreUnusableLines machine found.zones (entries_of_files name files) found.unusable.items
@@ -321,7 +322,7 @@ numbered_step machine P false entry left [] here rest h = absurd h
 numbered_step machine P false entry left (line ∷ lines) here rest h =
     All-cons (λ (line : UnusableZone). P line.number) line lines (subst P (sym h.0.0) here) (rest lines h.1)
 
--- the lines whose zone can't be used have numbers of entries
+-- the number of each line whose zone can't be used is the number of an entry
 pub unusable_numbered : (machine : Machine) (table : ZoneMap) (P : ℕ → Type 0) (entries : List (TimerLine Fields)) (lines : List UnusableZone)
     → All (λ entry. P entry.number) entries → AreUnusableLines machine table entries lines → All (λ line. P line.number) lines
 unusable_numbered machine table P [] [] all h = All-nil (λ (line : UnusableZone). P line.number)
@@ -349,7 +350,7 @@ none_usable machine table (entry ∷ expressions) exceptions lines e h =
     (filter (λ entry. not (has_zone table entry)) (expressions ++ exceptions)) lines e h in
     All-cons (NamesUnusableZone machine) entry expressions left.1 (none_usable machine table expressions exceptions left.2.0 left.0 left.2.1)
 
--- nothing starts the unit of files if no expression is left and nothing else starts it
+-- nothing starts the unit of a timer if none of its expressions is left and nothing else starts it
 pub nothing_starts : (machine : Machine) (name : List ℕ) (files : List UnitText) (old new : calendars.Calendar) (found : CalendarZones) (is_started : Bool)
     → IsCalendarBy (timer_assignments name files) old → IsZoned machine old new found
     → IsStartedBy (unclear_of_files name files) (starts_unit (timer_assignments name files)) is_started → is_started ≡ false → expressions_in new ≡ []

@@ -49,14 +49,14 @@ impl Calendar {
         }
     }
 
-    /// Returns the expressions.
+    /// Returns the expressions in order, each with its text and the number of its line.
     pub(crate) fn lines(&self) -> &[TimerLine]
         ensures { map shown result.now ≡ expressions_in self.now }
     {
         self.lines.as_slice()
     }
 
-    /// Returns the exceptions. A timer that was made of expressions has none.
+    /// Returns the exceptions. A timer that [`crate::load_expressions`] returns has none.
     pub(crate) fn exceptions(&self) -> &[TimerLine]
         ensures { map shown result.now ≡ exceptions_in self.now }
     {
@@ -91,8 +91,8 @@ pub(crate) fn read_calendar(
     Ok(read)
 }
 
-/// Applies one more assignment: it adds to a list, clears a list, is recorded as ignored, or has no effect because of its
-/// key.
+/// Applies one more assignment: it adds to a list, clears a list, is recorded as ignored, or has no effect because of
+/// its key.
 fn read_assignment(
     alloc: Global,
     read: &mut CalendarLines,
@@ -121,7 +121,7 @@ fn read_assignment(
     Ok(())
 }
 
-/// Returns the same assignment, which borrows its key and value.
+/// Returns the assignment with its key and value borrowed.
 pub(crate) fn borrowed(owned: &OwnedAssignment) -> Assignment<'_>
     ensures { shown_assignment result ≡ shown_owned_assignment owned.now }
 {
@@ -132,8 +132,8 @@ pub(crate) fn borrowed(owned: &OwnedAssignment) -> Assignment<'_>
     }
 }
 
-/// Adds the expression of the assignment to the list if `adds` is `true`, or to the ignored lines if it is invalid.
-/// Otherwise clears the list if `empties` is `true`.
+/// If `adds` is `true`, adds the assignment's expression to `list`, or its line to `ignored` if the expression is
+/// invalid. If only `empties` is `true`, clears `list`.
 fn change(
     alloc: Global,
     list: &mut Vec<TimerLine>,

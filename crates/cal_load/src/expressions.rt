@@ -21,8 +21,9 @@ use cal_zone_files::{FileReason, ZonesFault};
 use std::alloc::{AllocError, Global};
 
 /// Returns the timer that has these calendar expressions and no exceptions (systemd.time(7), Calendar Events). If an
-/// expression is invalid, returns the error of the first invalid one instead. If all are valid, but name a zone that
-/// can't be loaded, returns the error of the first expression that names this zone. Fails only if allocation fails.
+/// expression is invalid, there is no timer, and [`Loaded::faults`] has the error of the first invalid one. If all are
+/// valid, but one names a zone that can't be loaded, it has the error of the first expression that names this zone.
+/// Fails only if allocation fails.
 pub fn load_expressions<T: Tree>(
     alloc: Global,
     tree: &mut T,
@@ -146,7 +147,7 @@ fn first_text(alloc: Global, lines: &[TimerLine], path: &str) -> Result<String, 
     }
 }
 
-/// Returns the expressions, separated by commas.
+/// Returns the name of a timer without files: its expressions, joined by a comma and a space.
 fn join_with_commas(alloc: Global, expressions: &[&str]) -> Result<String, AllocError> {
     let mut name = String::new(alloc);
     for expression in expressions {

@@ -1,4 +1,4 @@
-//! The errors of one target.
+//! Errors in loading a target (a unit, a file or a folder that a user names, or an expression), and lists of them.
 
 ghost use Rattle.std.specs.Prelude.{◌≡◌, ◌∷◌, [], true, OnOk, map, string_bytes};
 ghost use Rattle.cal_unit_index.specs.rules.Index.{shown_fault};
@@ -17,7 +17,7 @@ use std::alloc::{AllocError, AllocFailed, Global};
 pub(crate) enum TargetLoadFault {
     /// This target can't be loaded. Others still can.
     Target(TargetReason),
-    /// Out of memory.
+    /// Out of memory. After this error, no other target is loaded either.
     NoMemory,
 }
 
@@ -38,7 +38,7 @@ impl<T: Drop> From<AllocFailed<T>> for TargetLoadFault {
 }
 
 impl TargetLoadFault {
-    /// Returns the error that a path can't be used, for this reason.
+    /// Returns an error which says that this path can't be used, for this reason, or `NoMemory` if allocation fails.
     pub(crate) fn at(alloc: Global, path: &str, reason: Reason) -> TargetLoadFault
         ensures { IsPathFault path.now reason result }
     {
@@ -145,8 +145,8 @@ fn is_known(faults: &[TargetFault], fault: &TargetFault) -> bool
     false
 }
 
-/// Returns whether both errors say the same about a path, or about a target without a path. Other errors are never the
-/// same.
+/// Returns whether two errors say the same thing: that the same path can't be used, for the same reason, or that the
+/// same target isn't found, is a template or has too many aliases. Errors for other reasons are never the same.
 fn is_same(known: &TargetFault, fault: &TargetFault) -> bool
     ensures { result ≡ true → (lost : Lost) → IsFaultOf lost fault.now
         → IsCause lost.cause known.now.reason × IsAbout lost.name lost.cause known.now }

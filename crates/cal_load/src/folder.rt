@@ -11,17 +11,19 @@ use cal_unit_index::{UnitFault, UnitIndex};
 use std::alloc::{AllocError, Global};
 use std::collections::BTreeSet;
 
-/// The units of a folder.
+/// The units of a folder that is read as if it were the only folder of the search path.
 pub(crate) struct FolderUnits {
     /// The index of the search path that has only this folder.
     pub(crate) index: UnitIndex,
     /// The stems of the units' own names.
     pub(crate) stems: BTreeSet<String>,
-    /// What can't be read: folders `NAME.wants` and `NAME.requires` in it, the folder itself, and files of timers in it.
+    /// What can't be read: folders `NAME.wants` and `NAME.requires` in it, the folder itself, and files of timers in
+    /// it.
     pub(crate) unread: Vec<UnitFault>,
 }
 
-/// Finds the units of a folder.
+/// Finds the units of a folder by reading it as if it were the only folder of the search path. Fails only if allocation
+/// fails: what can't be read is in [`FolderUnits::unread`].
 pub(crate) fn units_in_folder<T: Tree>(
     alloc: Global,
     tree: &mut T,

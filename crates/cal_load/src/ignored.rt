@@ -1,5 +1,5 @@
-//! The settings of a timer that systemd ignores because of what is only known of the timer as a whole: values that are
-//! invalid once specifiers are filled in, and each `Unit=` that doesn't count (systemd.timer(5), Options; systemd.unit(5),
+//! The settings of a timer that systemd ignores for reasons that a line by itself doesn't show: values that are invalid
+//! once specifiers are filled in, and each `Unit=` that doesn't count (systemd.timer(5), Options; systemd.unit(5),
 //! Specifiers).
 
 ghost use Rattle.std.specs.Prelude.{◌≡◌, ◌∷◌, ◌++◌, [], IfOk, OnOk, map};
@@ -37,19 +37,18 @@ pub enum WhyIgnored {
 pub struct IgnoredSetting {
     /// The number of the line. Line numbers continue from file to file.
     pub number: u32,
-    /// Why systemd ignores the setting.
     pub why: WhyIgnored,
 }
 
-/// Returns the settings that systemd ignores in the files of the timer `name`, in order: monotonic timers and `Unit=` with
-/// specifiers that make them invalid, each `Unit=` that names the timer itself, and each `Unit=` after the first one with
-/// the valid name of another unit. `name` is the name of a unit, or the path of a file that is read by itself.
+/// Returns the settings that systemd ignores in the files of the timer `name`, in order: monotonic timers and `Unit=`
+/// with specifiers that make them invalid, each `Unit=` that names the timer itself, and each `Unit=` after the first
+/// one with the valid name of another unit. `name` is the name of a unit, or the path of a file that is read by itself.
 ///
-/// A setting whose value is invalid without specifiers is left out, unless it is such a later `Unit=`. A value that depends
-/// on the running system is taken as valid.
+/// A setting whose value is invalid without specifiers is left out, unless it is such a later `Unit=`. A value that
+/// depends on the running system is taken as valid.
 ///
-/// Fails if allocation fails. Also fails for files that are too large for their lines to have numbers of 32 bits, of which
-/// no timer is loaded.
+/// Fails if allocation fails. Also fails if the files are too large for their line numbers to fit into 32 bits; no
+/// timer is loaded from such files.
 pub fn ignored_settings(
     alloc: Global,
     name: &str,
@@ -83,7 +82,7 @@ pub(crate) fn kept_in(
     kept_of(alloc, filled_in(alloc, name, assignments)?)
 }
 
-/// Returns the assignments of these files.
+/// Returns the assignments in the sections `Timer` of these files, as far as systemd reads each file.
 fn assignments_of(alloc: Global, files: &[UnitText]) -> Result<Vec<OwnedAssignment>, AllocError>
     ensures { IfOk result (λ found. map shown_owned_assignment found.items ≡ assignments_of_files (map shown_unit_text files.now)) }
 {
@@ -106,7 +105,7 @@ fn filled_in(
     Ok(assignments)
 }
 
-/// Returns those of these assignments that systemd ignores, if the `Unit=` in the line `counted` counts.
+/// Returns which of the assignments systemd ignores, if the `Unit=` in the line `counted` counts.
 fn ignored_among(
     alloc: Global,
     name: &str,
@@ -211,7 +210,7 @@ fn is_valid_for(alloc: Global, name: &str, assignment: OwnedAssignment) -> Resul
     Ok(has_taken(filled.as_slice()))
 }
 
-/// Returns the assignment with its specifiers filled in, or an empty list if it is dropped.
+/// Returns the assignment with its specifiers filled in, or an empty list if [`resolve`] drops it.
 fn filled_one(
     alloc: Global,
     name: &str,

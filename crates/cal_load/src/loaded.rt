@@ -1,4 +1,4 @@
-//! Timers that were loaded.
+//! What loading results in: timers, the names of what is masked, and errors.
 
 ghost use Rattle.std.specs.Prelude.{◌≡◌, ◌++◌, [], OnOk, map};
 ghost use Rattle.cal_timer.specs.rules.TimerView.{shown};
@@ -50,18 +50,18 @@ impl LoadedTimer {
     }
 }
 
-/// What was loaded.
+/// What [`crate::load_timers`] and [`crate::load_expressions`] return: timers, the names of what is masked, and errors.
 #[derive(Drop)]
 pub struct Loaded {
-    /// The timers in the order of the targets. Timers of a folder, and those that are taken without a target, are sorted
-    /// by their stems.
+    /// The timers in the order of the targets. Timers of a folder, and those that are taken without a target, are
+    /// sorted by their stems.
     pub timers: Vec<LoadedTimer>,
     /// The names of masked units and the paths of masked files.
     pub masked: Vec<String>,
     /// The units, files, folders and expressions that couldn't be loaded, each with the reason.
     pub faults: Vec<TargetFault>,
-    /// The stems of the units that other units start. `None` unless all units were asked for. A stem is a unit's own name
-    /// without its suffix `.timer`.
+    /// The stems of the units that other units start. `None` unless all units were asked for. A stem is a unit's own
+    /// name without its suffix `.timer`.
     pub started: Option<BTreeSet<String>>,
 }
 

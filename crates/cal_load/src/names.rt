@@ -23,7 +23,7 @@ use cal_unit_index::{Started, Unit, UnitFault, UnitIndex, find_started, find_uni
 use std::alloc::{AllocError, Global};
 use std::collections::BTreeSet;
 
-/// The units that are taken without a target.
+/// The units that [`units_in`] finds.
 pub(crate) struct Units {
     /// The stems of the units' own names.
     pub(crate) stems: BTreeSet<String>,
@@ -67,7 +67,7 @@ pub(crate) fn units_in<T: Tree>(
     })
 }
 
-/// Returns the stems of the own names of the units that are found for `stems`.
+/// Finds a unit for each of `stems`, and returns the stems of the units' own names. Aliases of one unit give one stem.
 fn own_stems(
     alloc: Global,
     index: &UnitIndex,
@@ -81,7 +81,7 @@ fn own_stems(
     Ok(found)
 }
 
-/// Adds the stems of the own names of the units that are found for `stems`.
+/// Finds a unit for each of `stems`, and adds the stem of its own name to `found`.
 fn add_all_own(
     alloc: Global,
     found: &mut BTreeSet<String>,
@@ -123,7 +123,7 @@ fn add_stem(found: &mut BTreeSet<String>, stem: String) -> Result<(), AllocError
     Ok(())
 }
 
-/// Returns whether the unit with this name is among those with these stems.
+/// Returns whether the unit with this name has one of these stems.
 pub(crate) fn has_unit(stems: &BTreeSet<String>, name: &str) -> bool
     ensures { result ≡ is_among_started (map string_bytes stems.now.keys) (unit_stem name.now) }
 {
@@ -139,8 +139,8 @@ fn has_stem(stems: &BTreeSet<String>, stem: &str) -> bool
     stems.contains(stem)
 }
 
-/// Returns the names of the timers and drop-ins in a folder, sorted by their bytes. Hidden files are left out, and names
-/// that are not UTF-8.
+/// Returns the names of the timers and drop-ins in a folder, sorted by their bytes. Hidden files are left out, and
+/// names that are not UTF-8.
 pub(crate) fn texts_in<T: Tree>(
     alloc: Global,
     tree: &mut T,
@@ -156,7 +156,7 @@ pub(crate) fn texts_in<T: Tree>(
     Ok(text_names(alloc, names)?)
 }
 
-/// Returns those of the names that are names of timers or drop-ins.
+/// Returns the names that a timer or a drop-in can have: those with the suffix `.timer` or `.conf` that aren't hidden.
 fn text_names(alloc: Global, names: Vec<String>) -> Result<BTreeSet<String>, AllocError>
     ensures { IfOk result (λ found. map string_bytes found.keys
         ≡ sorted_once (filter is_text_name (map string_bytes names.items))) }

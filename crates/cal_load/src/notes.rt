@@ -1,6 +1,6 @@
 //! The assignments other than `OnCalendar=` that are noted for a timer: those that decide when it starts a unit, and
-//! which unit that is (systemd.timer(5), Options). Expressions that depend on more than the timer's name are noted, too;
-//! `Resolved` has them.
+//! which unit that is (systemd.timer(5), Options). Expressions that depend on more than the timer's name are noted,
+//! too; `Resolved` has them.
 
 ghost use Rattle.std.specs.Prelude.{◌≡◌, IfOk, OnOk, filter, map, not, string_bytes};
 ghost use Rattle.std.specs.List.{list_any, slice_split};
@@ -22,8 +22,8 @@ const DEFAULT_ACCURACY: u64 = 60_000_000;
 /// The suffix of a timer's name.
 const SUFFIX: &str = ".timer";
 
-/// Returns those of these assignments that are noted for the timer with this name. `name` is the name of a unit, or the
-/// path of a file that is read by itself: then the timer's own name is the part after the last slash.
+/// Returns which of the assignments are noted for the timer with this name. `name` is the name of a unit, or the path
+/// of a file that is read by itself: then the timer's own name is the part after the last slash.
 ///
 /// Assignments that systemd ignores don't count. Every `OnActiveSec=`, `OnBootSec=`, `OnStartupSec=`,
 /// `OnUnitActiveSec=` and `OnUnitInactiveSec=` is returned, but an empty value of one of these keys, or of
@@ -52,8 +52,8 @@ pub(crate) fn notes_of(
     Ok(notes)
 }
 
-/// Returns those of these assignments that have a key that can be noted and a value that systemd accepts, except those
-/// that a later assignment undoes.
+/// Returns the assignments that have a key that can be noted and a value that systemd accepts, except those that a
+/// later assignment undoes.
 pub(crate) fn kept_of(
     alloc: Global,
     assignments: Vec<OwnedAssignment>,
@@ -67,7 +67,7 @@ pub(crate) fn kept_of(
     Ok(kept)
 }
 
-/// Applies an assignment: removes those that it undoes, and appends it if systemd takes it.
+/// Applies an assignment: removes the earlier ones that it undoes, and appends it if systemd accepts its value.
 fn apply_assignment(
     kept: &mut Vec<OwnedAssignment>,
     assignment: OwnedAssignment,
@@ -181,7 +181,7 @@ fn retain_noted(alloc: Global, own: &str, kept: &mut Vec<OwnedAssignment>) -> Re
     Ok(())
 }
 
-/// Returns the name of the unit that the timer `own` starts without `Unit=`.
+/// Returns the name of the unit that the timer `own` starts if it has no `Unit=`.
 pub(crate) fn service_of(alloc: Global, own: &str) -> Result<String, AllocError>
     ensures { IfOk result (λ service. string_bytes service ≡ service_of own.now) }
 {
@@ -211,7 +211,7 @@ pub(crate) fn unit_line(own: &str, kept: &[OwnedAssignment]) -> Option<u32>
     None
 }
 
-/// Returns whether the assignment is one of `Unit=` that doesn't name the timer `own` itself.
+/// Returns whether the assignment is a `Unit=` that doesn't name the timer `own` itself.
 #[tactic(auto, unfolding(crate::specs::rules::Notes::names_unit))]
 pub(crate) fn names_unit(own: &str, assignment: &OwnedAssignment) -> bool
     ensures { result ≡ names_unit own.now (shown_owned_assignment assignment.now) }
@@ -225,8 +225,8 @@ fn is_started(key: &str) -> bool
     matches!(kind_of(key), Some(SettingKind::Started))
 }
 
-/// Returns whether a kept assignment is noted, if the timer starts the unit `service` by default, and `unit` is the line
-/// whose `Unit=` counts.
+/// Returns whether a kept assignment is noted, if the timer starts the unit `service` by default, and `unit` is the
+/// line whose `Unit=` counts.
 #[tactic(auto, unfolding(crate::specs::rules::Notes::is_noted))]
 fn is_noted(service: &str, unit: Option<u32>, assignment: &OwnedAssignment) -> bool
     ensures { result ≡ is_noted service.now unit (shown_owned_assignment assignment.now) }

@@ -33,7 +33,7 @@ pub(crate) fn is_folder<T: Tree>(
     }
 }
 
-/// Removes the slashes at the end of a path. The path of the root keeps one.
+/// Removes the slashes at the end of a path. A path that has nothing but slashes keeps one.
 pub(crate) fn without_slashes(path: &str) -> &str
     ensures { result.now ≡ without_slashes path.now }
 {
@@ -49,7 +49,8 @@ pub(crate) fn path_in(alloc: Global, folder: &str, name: &str) -> Result<String,
     format!(in alloc; "{folder}/{name}")
 }
 
-/// Returns what stands before the slash and the name in the path of a file in `folder`: nothing in the root.
+/// Returns what comes before `/NAME` in the path of a file in this folder: the folder's path, or nothing for `/`, since
+/// its files have paths such as `/NAME`.
 fn before_slash(folder: &str) -> &str
     ensures { result.now ≡ before_slash folder.now }
 {

@@ -45,8 +45,8 @@ pub(crate) struct Resolved {
 ///
 /// - If the specifiers stand for the timer's name or parts of it, they are filled in.
 /// - If they depend on anything else, an expression is moved to `unclear`. Any other assignment is kept as it is.
-/// - If they are invalid, or if the filled-in value is empty or still has a `%`, an expression or exception is kept as it
-///   is, and is then invalid because of its `%`. Any other assignment is dropped.
+/// - If they are invalid, or if the filled-in value is empty or still has a `%`, an expression or exception is kept as
+///   it is, and is then invalid because of its `%`. Any other assignment is dropped.
 pub(crate) fn resolve(
     alloc: Global,
     name: &str,
@@ -183,14 +183,15 @@ fn is_entry(assignment: &OwnedAssignment) -> bool
     assignment.is_expression() || assignment.is_exception()
 }
 
-/// Returns whether a value can be used after its specifiers were filled in.
+/// Returns whether `text`, a value with its specifiers filled in, can be valid. An empty value isn't, nor is one with a
+/// `%`: no expression, time span or unit name has one.
 fn is_usable(text: &str) -> bool
     ensures { result ≡ is_usable text.now }
 {
     !(text.is_empty() || has_percent(text))
 }
 
-/// Returns whether the value of the assignment may have specifiers.
+/// Returns whether the value has a `%`, and the key is one in whose values specifiers are filled in.
 fn may_have_specifiers(assignment: &OwnedAssignment) -> bool
     ensures { result ≡ may_have_specifiers (shown_owned_assignment assignment.now) }
 {

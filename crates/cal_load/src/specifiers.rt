@@ -67,7 +67,8 @@ pub(crate) fn fill(alloc: Global, name: &str, value: &str) -> Result<Filled, All
     Ok(draft.finish())
 }
 
-/// Like [`fill`], for a value of `Unit=`. There, systemd 252 knows fewer specifiers, and the others are invalid.
+/// Fills in the specifiers in a value of `Unit=`, where systemd 252 knows fewer specifiers than [`fill`] does: the
+/// others are invalid.
 pub(crate) fn fill_unit(alloc: Global, name: &str, value: &str) -> Result<Filled, AllocError>
     ensures { IfOk result (λ filled. shown_filled filled ≡ unit_filled_of name.now value.now) }
 {

@@ -23,15 +23,15 @@ use std::alloc::{AllocError, Global};
 const FILE_SUFFIXES: [&[u8]; 5] = [b".service", b".socket", b".target", b".path", b".timer"];
 
 /// Returns the name of the unit that the timer `name` with these files starts: the one that the first `Unit=` with the
-/// valid name of another unit gives, or otherwise the service with the timer's own name. `name` is the name of a unit, or
-/// the path of a file that is read by itself. Returns `None` if the started unit depends on the running system, such as
-/// for `Unit=%H.service`.
+/// valid name of another unit gives, or otherwise the service with the timer's own name. `name` is the name of a unit,
+/// or the path of a file that is read by itself. Returns `None` if the started unit depends on the running system, such
+/// as for `Unit=%H.service`.
 ///
 /// If `Unit=` names a template, the timer starts the instance of it that has the timer's own instance or, if the timer
 /// isn't an instance, its name without the suffix.
 ///
-/// Fails if allocation fails. Also fails for files that are too large for their lines to have numbers of 32 bits, of which
-/// no timer is loaded.
+/// Fails if allocation fails. Also fails if the files are too large for their line numbers to fit into 32 bits; no
+/// timer is loaded from such files.
 pub fn started_unit(
     alloc: Global,
     name: &str,
@@ -57,7 +57,8 @@ fn first_unit<'k>(own: &str, kept: &'k [OwnedAssignment]) -> Option<&'k OwnedAss
     None
 }
 
-/// Returns the unit that the timer `own` starts because of this `Unit=`, or without one.
+/// Returns the unit that the timer `own` starts, or `None` if this depends on the running system. `unit` is the `Unit=`
+/// that counts, if there is one.
 fn started_by(
     alloc: Global,
     own: &str,
@@ -112,7 +113,8 @@ fn after_at(unit: &str) -> &str
     }
 }
 
-/// Returns the instance of a template that the timer `own` starts.
+/// Returns the instance of a template that the timer `own` starts if its `Unit=` names the template: the timer's own
+/// instance, or its name without the suffix if it isn't an instance.
 fn argument_of(own: &str) -> &str
     ensures { result.now ≡ argument_of own.now }
 {
@@ -123,8 +125,8 @@ fn argument_of(own: &str) -> &str
     }
 }
 
-/// Returns whether no folder of the search path has the unit or, if the unit is an instance, its template. Units such as
-/// mounts and slices can exist without a file, so these are never missing. `index` is the index of the search path.
+/// Returns whether no folder of the search path has the unit or, if the unit is an instance, its template. Units such
+/// as mounts and slices can exist without a file, so these are never missing. `index` is the index of the search path.
 ///
 /// Fails only if allocation fails.
 pub fn is_missing(alloc: Global, index: &UnitIndex, unit: &str) -> Result<bool, AllocError>

@@ -1,4 +1,4 @@
-//! Why a timer can't be loaded.
+//! Errors about units, files, folders and expressions that can't be loaded, each with the reason.
 
 ghost use Rattle.std.specs.Prelude.{◌≡◌};
 ghost use Rattle.cal_load.specs.rules.TextFaults.{fails_to_load};
@@ -9,7 +9,7 @@ use cal_spec::SpecFault;
 use cal_unit_index::Reason;
 use cal_zone_files::FileReason;
 
-/// Why a timer or a file can't be loaded.
+/// Why a timer, a file, a folder or an expression can't be loaded.
 #[derive(Debug, Drop)]
 pub enum TargetReason {
     /// There is no such unit, or nothing is at the path.
@@ -22,9 +22,9 @@ pub enum TargetReason {
     Path(String, Reason),
     /// systemd stops reading the timer's own file, which is at this path, at this line. So it doesn't load the timer.
     Broken(String, BrokenLine),
-    /// Nothing starts the timer's unit: its files have neither a calendar expression that can be used nor another setting
-    /// that starts the unit. The values are the timer's name, as in [`crate::LoadedTimer`], and its files, with the lines in
-    /// them that are ignored.
+    /// Nothing starts the timer's unit: its files have neither a calendar expression that can be used nor another
+    /// setting that starts the unit. The values are the timer's name, as in [`crate::LoadedTimer`], and its files, with
+    /// the lines in them that are ignored.
     NothingToDo(String, TimerFiles),
     /// The expression, which was given instead of a timer, is invalid.
     Expression(SpecFault),
@@ -37,16 +37,16 @@ pub enum TargetReason {
 #[derive(Debug, Drop)]
 pub struct TargetFault {
     /// The unit or expression as it was given, or the path without slashes at its end. If a folder was given, this can
-    /// also be the path of a file in it. Without a target, it is the name of a unit. For a drop-in that can't be read, or a
-    /// folder of drop-ins or of links that start units, it is the path of this drop-in or folder; timers are loaded
-    /// without it.
+    /// also be the path of a file in it. Without a target, it is the name of a unit. For a drop-in that can't be read,
+    /// or a folder of drop-ins or of links that start units, it is the path of this drop-in or folder; timers are
+    /// loaded without it.
     pub target: String,
     pub reason: TargetReason,
 }
 
 impl TargetFault {
-    /// Returns whether the target is a timer that was found and read, but fails to load: its own file has a line at which
-    /// systemd stops reading it, or nothing starts its unit.
+    /// Returns whether the target is a timer that was found and read, but fails to load: its own file has a line at
+    /// which systemd stops reading it, or nothing starts its unit.
     pub fn fails_to_load(&self) -> bool
         ensures { result ≡ fails_to_load self.now.reason }
     {

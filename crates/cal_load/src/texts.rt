@@ -28,8 +28,8 @@ pub(crate) struct ReadFiles {
     pub(crate) broken: Vec<Option<BrokenLine>>,
 }
 
-/// Reads the files of a unit. Fails with [`Reason::TooLarge`] if the number of a file's first line plus the file's length
-/// in bytes is 2^32 or more. The error is that of the first such file.
+/// Reads the files of a unit. Fails with [`Reason::TooLarge`] if the number of a file's first line plus the file's
+/// length in bytes is 2^32 or more. The error is that of the first such file.
 pub(crate) fn read_files(alloc: Global, files: &[UnitText]) -> Result<ReadFiles, TargetLoadFault>
     ensures assignments { IfOk result (λ read. map shown_owned_assignment read.assignments.items
         ≡ assignments_of_files (map shown_unit_text files.now)) }
@@ -81,7 +81,7 @@ fn read_file(
     Ok(first + line_count(bytes) as u32)
 }
 
-/// Appends more elements to a list.
+/// Moves all elements of `more` to the end of `all`. If allocation fails, some of them may have been moved.
 pub(crate) fn append<X: Drop>(all: &mut Vec<X>, more: Vec<X>) -> Result<(), AllocError>
     ensures { OnOk result (all.new.items ≡ all.old.items ++ more.items) }
 {

@@ -1,4 +1,4 @@
-//! The timers that a user names.
+//! Loading the timers that a user names, and those that are loaded if the user names none.
 
 ghost use Rattle.std.specs.Prelude.{◌≡◌, ◌≢◌, ◌∷◌, ⊤, ℕ, List, [], All, IfOk, OnOk, map, string_bytes};
 ghost use Rattle.cal_machine.specs.rules.Machine.{Machine};
@@ -24,14 +24,14 @@ use std::alloc::{AllocError, Global};
 use std::collections::BTreeSet;
 
 /// Loads the timers that the targets stand for, in their order. Without a target, these are the timers that other units
-/// start, each once, sorted by name; if `is_all`, also all others in the search path, and [`Loaded::started`] says which
-/// are started.
+/// start, each once, sorted by name; if `is_all`, also all others in the search path, and [`Loaded::started`] says
+/// which are started.
 ///
 /// `index` is the index of the search path. It has no effect if all targets are paths. A target is
 ///
 /// - a path, if it has a `/` or is `.` or `..`: a folder is read as if it were the only folder of the search path
-///   (systemd.unit(5), Unit File Load Path), and stands for all its timers with their drop-ins, each once, sorted by name;
-///   any other file stands for itself, without drop-ins;
+///   (systemd.unit(5), Unit File Load Path), and stands for all its timers with their drop-ins, each once, sorted by
+///   name; any other file stands for itself, without drop-ins;
 /// - otherwise the name of a timer, with or without `.timer`: its file is read, and then its drop-ins, also those of
 ///   its aliases (systemd.unit(5)).
 ///
@@ -68,7 +68,7 @@ pub fn load_timers<T: Tree>(
     Ok(loaded)
 }
 
-/// Loads the timers that are taken without a target.
+/// Loads the timers that other units start, or, if `is_all`, all timers in the search path.
 fn load_all<T: Tree>(
     alloc: Global,
     tree: &mut T,
@@ -203,7 +203,7 @@ fn load_path<T: Tree>(
     load_file(alloc, tree, target, loaded)
 }
 
-/// Loads the timer in a file.
+/// Loads the timer in the file at this path, without drop-ins.
 fn load_file<T: Tree>(
     alloc: Global,
     tree: &mut T,
@@ -242,7 +242,7 @@ fn load_folder<T: Tree>(
     push_unread(alloc, loaded, unread)
 }
 
-/// Loads the units with these stems. `index` is that of the folder.
+/// Loads the units of `folder` with these stems. `index` is the index of a search path that has only this folder.
 fn load_folder_units<T: Tree>(
     alloc: Global,
     tree: &mut T,
@@ -264,7 +264,7 @@ fn load_folder_units<T: Tree>(
     Ok(())
 }
 
-/// Loads the unit of a folder with this stem. `index` is that of the folder.
+/// Loads the unit of `folder` with this stem. `index` is the index of a search path that has only this folder.
 fn load_folder_unit<T: Tree>(
     alloc: Global,
     tree: &mut T,
@@ -306,7 +306,7 @@ fn push_unread(alloc: Global, loaded: &mut Loaded, unread: Vec<UnitFault>) -> Re
     Ok(())
 }
 
-/// Adds the error that a path can't be read.
+/// Adds an error which says that this path can't be read.
 fn push_unread_path(alloc: Global, loaded: &mut Loaded, fault: &UnitFault) -> Result<(), AllocError>
     ensures more { OnOk result (IsMore (λ machine path. ⊤)
         (λ machine path. UnreadPath (shown_fault fault.now) ∷ []) loaded.old loaded.new) }

@@ -182,7 +182,7 @@ fn push_zone_names(
     Ok(())
 }
 
-/// Appends a name, if there is one.
+/// Appends the name of the zone that a line names. `name` is `None` if the line names no zone.
 fn push_zone_name(
     alloc: Global,
     names: &mut Vec<String>,

@@ -22,7 +22,7 @@ kept : {K A : Type 0} (eq : K → K → Bool) (test : K → Bool) (old new : Lis
 unfolding KeepsOthers
 kept eq test old new h = h
 
--- `view` shows a key as a question
+-- In this module, `view` returns the question that a key of a map stands for.
 module _ {K Q A : Type 0} (view : K → Q) (compare : Q → Q → Ordering) (exact : CmpEqualImpliesEq compare) where
   abbrev pub get_at : BTreeMap K A → Q → Option A
   get_at m question = get_by (λ k. compare question (view k)) m
@@ -39,7 +39,7 @@ module _ {K Q A : Type 0} (view : K → Q) (compare : Q → Q → Ordering) (exa
             (λ k e. ap (λ d. is_eq (compare c d)) (sym (equal-is compare exact b (view k) e)) ∙ differs))
       ]
 
--- `new` has `answer` at the question `at`, and is like `old` at all others
+-- In this module, `new` has the answer `answer` to the question `at`, and the answers of `old` to all other questions.
 module _ {Q A : Type 0} (old new : Q → Option A) (at : Q) (answer : A) (changed : (c : Q) → ((c ≡ at) × (new c ≡ Some answer)) ⊎ (new c ≡ old c)) where
   pub extends : old at ≡ None → Extends old new
   extends none c a had =

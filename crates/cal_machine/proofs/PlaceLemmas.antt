@@ -68,7 +68,8 @@ walk_step machine last count less folder parts part rest more some = rw (more, s
 
 -- ## What a call returned
 
--- an error tells of another answer what it tells of this one, if that has the same errors
+-- Suppose that `other` is the same error as `answer` if `answer` is an error. If a failed call agrees with `answer`
+-- (`Tells`), then it also agrees with `other`.
 pub tells_err : {X Y A B : Type 0} (view : X → Y) (seen : A → B) (fault : faults.TreeFault) (answer : Result Y Unreadable) (other : Result B Unreadable)
     → Tells view (Err fault) answer → ((why : Unreadable) → answer ≡ Err why → other ≡ Err why) → Tells seen (Err fault) other
 tells_err view seen (faults.TheVariants.Unreadable why) answer other said same = same why said

@@ -33,7 +33,7 @@ links : map (place_of machine Followed) (codes "/file" ∷ codes "/down/c" ∷ c
 unfolding entries machine leads_to walk
 links = refl
 
--- something below a file, in a missing folder, or at a link to nothing
+-- something below a file, something in a missing folder, and something missing after a link and `..`
 missing : map (place_of machine Followed) (codes "/a/b/c/d" ∷ codes "/down/x//y" ∷ codes "/a/over/../x" ∷ [])
     ≡ leads_to (codes "/a/b/c/d") Missing ∷ leads_to (codes "/a/b/x/y") Missing ∷ leads_to (codes "/a/x") Missing ∷ []
 unfolding entries machine leads_to walk

@@ -1,4 +1,4 @@
-//! Copies of answers, which callers get while the answers themselves stay recorded.
+//! Copies of recorded answers. Callers get the copies, and the recorder keeps the answers for later calls.
 
 ghost use Rattle.std.specs.Prelude.{◌≡◌, IfOk, map, option_map, string_bytes};
 ghost use Rattle.cal_machine.specs.rules.Machine.{Tells, bytes_of, shown_entry, shown_listing};

@@ -1,8 +1,9 @@
-//! Following paths with all their links (path_resolution(7), symlink(7)).
+//! Following paths through all their links (path_resolution(7), symlink(7)).
 //!
-//! The system isn't asked to follow links, for two reasons. Below a root folder, it can't: it resolves an absolute
-//! target of a link from its own root instead. And it doesn't tell which folder a path ends up in. So each part of a
-//! path is looked at, and a link's target is followed part by part. A [`crate::Recorder`] looks at each part only once,
+//! The system isn't asked to follow links, for two reasons. If a machine's files are in a folder of the system
+//! (`--root`), that folder stands for the machine's root, but the system would look for the absolute target of a link
+//! in the system's own root. And the system doesn't tell which folder a path ends up in. So each part of a path is
+//! looked at, and a link's target is followed part by part. A [`crate::Recorder`] looks at each part only once,
 //! whichever paths lead through it.
 
 ghost use Rattle.std.specs.Prelude.{◌≡◌, map, string_bytes};
@@ -25,19 +26,20 @@ pub enum Last {
 /// Where a path leads.
 #[derive(Debug, Drop)]
 pub struct Place {
-    /// The path of the place, whose folders are no links. The root is the empty path, and a relative path starts with
+    /// The path of the place. No folder on it is a link. The root is the empty path, and a relative path starts with
     /// `.`, the folder in which the program runs.
     pub path: String,
-    /// What is there.
+    /// What is at this path: [`Entry::Missing`] if there is nothing, or if the path leads through something that isn't
+    /// a folder.
     pub entry: Entry,
 }
 
 /// What can be read at a path.
 #[derive(Debug, Drop)]
 pub enum Content {
-    /// Nothing is there.
+    /// Nothing is there, or the path leads through something that isn't a folder.
     Nothing,
-    /// A folder.
+    /// A folder. [`names_at`] returns the names in it.
     Folder,
     /// An empty file, or a device, which isn't opened.
     Blank,
@@ -53,8 +55,8 @@ const MAX_STEPS: usize = 1_000;
 /// the program runs.
 ///
 /// Fails with [`TreeFault::Unreadable`] if a part of the path can't be looked at, or if the path has more than 1,000
-/// parts, where the parts of the links' targets count, too: then the reason is [`Unreadable::Failed`]. Fails with
-/// [`TreeFault::NoMemory`] if allocation fails.
+/// parts, including the parts of the links' targets. For such a long path, the reason is [`Unreadable::Failed`]. Fails
+/// with [`TreeFault::NoMemory`] if allocation fails.
 pub fn find_place<T: Tree>(
     alloc: Global,
     tree: &mut T,
@@ -70,7 +72,7 @@ pub fn find_place<T: Tree>(
     walk(alloc, tree, last, MAX_STEPS, folder, parts)
 }
 
-/// Returns what is at a path, like [`find_place`] with [`Last::Kept`].
+/// Returns what is at a path. Links on the way are followed, but not a link at the end. Fails like [`find_place`].
 pub fn look_at<T: Tree>(alloc: Global, tree: &mut T, path: &str) -> Result<Entry, TreeFault>
     ensures known { (machine : Machine) → T.shows tree.new machine
         → Tells shown_entry result (entry_at machine path.now) }
@@ -115,7 +117,8 @@ pub fn read_at<T: Tree>(alloc: Global, tree: &mut T, path: &str) -> Result<Conte
     }
 }
 
-/// Finds the place to which the parts lead from a folder, whose path has no links, in at most `count` steps.
+/// Finds the place to which the parts of a path lead from `folder`, whose own path has no links. Fails like
+/// [`find_place`], with [`Unreadable::Failed`] if parts are left after `count` steps.
 fn walk<T: Tree>(
     alloc: Global,
     tree: &mut T,
@@ -143,7 +146,7 @@ fn walk<T: Tree>(
     }
 }
 
-/// Goes one step from a folder to this part, before the rest of the parts.
+/// Takes the step from a folder to `part` in it; `rest` are the parts that are left.
 fn step<T: Tree>(
     alloc: Global,
     tree: &mut T,

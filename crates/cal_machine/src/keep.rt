@@ -1,4 +1,4 @@
-//! Recording an answer under its question.
+//! Recording of answers about a machine. Each answer is stored under its question: a path, or the name of a variable.
 
 ghost use Rattle.std.specs.Prelude.{◌≡◌, IfOk, None, Some, OnOk};
 ghost use Rattle.std.specs.BTreeMap.{get_by_text};
@@ -8,8 +8,8 @@ use crate::tree::{TreeFault, Unreadable};
 use std::alloc::{AllocError, Global};
 use std::collections::BTreeMap;
 
-/// Returns what a call said about the machine, which may be an error. That memory ran out isn't about the machine, and
-/// so can't be recorded.
+/// Returns what a call said about the machine, which may be an error. Fails if memory ran out: that says nothing about
+/// the machine, and so can't be recorded.
 pub(crate) fn said<V: Drop>(
     outcome: Result<V, TreeFault>,
 ) -> Result<Result<V, Unreadable>, AllocError>

@@ -1,4 +1,4 @@
-//! What a machine has: its folders, files and links, and the variables of the environment.
+//! What a machine has: its folders, files and links, and its environment variables.
 #![tactic(auto)]
 
 mod copies;

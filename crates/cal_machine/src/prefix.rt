@@ -1,4 +1,4 @@
-//! The beginning of a text.
+//! Removal of a prefix from a text.
 
 ghost use Rattle.std.specs.Prelude.{◌≡◌, option_map};
 ghost use Rattle.cal_machine.specs.rules.Prefix.{after_prefix};

@@ -10,10 +10,10 @@ use std::alloc::Global;
 /// The calls by which a machine is read. Nothing is promised about what they return: the machine may change, so the
 /// same call may return something else each time.
 ///
-/// `gives` is true of every answer that a call returns; that memory ran out isn't an answer. Code that is generic over
-/// `Raw` knows nothing else of `gives`. So if it proves `gives` of an answer, a call returned that answer.
+/// `gives` is true of every answer that a call returns; running out of memory isn't an answer. Code that is generic
+/// over `Raw` knows nothing else of `gives`. So if it proves `gives` of an answer, a call returned that answer.
 ///
-/// Paths are those of a [`crate::Tree`].
+/// Paths have the form that [`crate::Tree`] explains.
 pub trait Raw {
     /// Whether a call may give this answer to this question.
     ghost gives: { Said → Bool } = { λ _. true };
@@ -30,7 +30,7 @@ pub trait Raw {
     fn read(&self, alloc: Global, file: &str) -> Result<Vec<u8>, TreeFault>
         ensures { IfSaid bytes_of result (λ answer. IsTrue (gives (FileIs file.now answer))) };
 
-    /// Returns the value of a variable, or `None` if it isn't set.
+    /// Returns the value of an environment variable, or `None` if the variable isn't set.
     fn variable(&self, alloc: Global, name: &str) -> Result<Option<String>, TreeFault>
         ensures { IfSaid (option_map string_bytes) result (λ answer. IsTrue (gives (VariableIs name.now answer))) };
 }

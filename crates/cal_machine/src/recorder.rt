@@ -14,7 +14,7 @@ use std::alloc::Global;
 use std::collections::BTreeMap;
 
 /// A [`Tree`] that asks each question of `raw` once and records the answer, even if it is an error. From then on, it
-/// gives the recorded answer. That memory ran out isn't an answer, and is never recorded.
+/// gives the recorded answer. Running out of memory isn't an answer, and is never recorded.
 ///
 /// So what it returns is the same as on a machine that doesn't change, and each answer is one that `raw` gave.
 #[derive(Drop)]

@@ -1,4 +1,4 @@
-//! The steps along a path, from what is at each of its parts.
+//! Single steps along a path: where the path goes on after one of its parts, depending on what is there.
 
 ghost use Rattle.std.specs.Prelude.{◌≡◌, ◌++◌, ◌∷◌, [], IfOk, MatchOption, OnOk, map, string_bytes};
 ghost use Rattle.std.specs.List.{flat_map};
@@ -29,7 +29,8 @@ pub(crate) fn take_first(parts: &mut Vec<String>) -> Option<String>
     Some(parts.remove(0))
 }
 
-/// Goes from a folder to `path`, where `entry` is, before the rest of the parts.
+/// Takes the step from `folder` to `path`, which is in it. `entry` is what is at `path`, and `rest` are the parts that
+/// are left.
 pub(crate) fn step_at(
     alloc: Global,
     last: Last,
@@ -51,7 +52,8 @@ pub(crate) fn step_at(
     }
 }
 
-/// Returns whether a link is followed, if these parts come after it.
+/// Returns whether a link is followed if the parts `rest` come after it: always if there are any, and otherwise as
+/// `last` says.
 fn is_followed(last: Last, rest: &[String]) -> bool
     ensures { result ≡ is_followed last (map string_bytes rest.now) }
 {
@@ -61,7 +63,8 @@ fn is_followed(last: Last, rest: &[String]) -> bool
     }
 }
 
-/// Returns the place of a path that can't go on from this entry, with the parts that are left.
+/// Returns the place of a path that can't go on from this entry; `rest` are the parts that are left. If there are any,
+/// nothing is at the place.
 fn place_at(mut path: String, rest: &[String], entry: Entry) -> Result<Place, AllocError>
     ensures { IfOk result (λ place. shown_place place
         ≡ place_at (string_bytes path) (map string_bytes rest.now) (shown_entry entry)) }
@@ -95,21 +98,22 @@ fn push_part(path: &mut String, part: &str) -> Result<(), AllocError>
     Ok(())
 }
 
-/// Returns whether a part stays in the folder in which it is.
+/// Returns whether a part leads nowhere else: it is empty or `.`.
 pub(crate) fn stays(part: &str) -> bool
     ensures { result ≡ stays part.now }
 {
     part.is_empty() || part == "."
 }
 
-/// Returns the path of a part of a folder.
+/// Returns the path of `part` in a folder.
 pub(crate) fn child(alloc: Global, folder: &str, part: &str) -> Result<String, AllocError>
     ensures { IfOk result (λ path. string_bytes path ≡ child folder.now part.now) }
 {
     format!(in alloc; "{folder}/{part}")
 }
 
-/// Returns the folder in which a path starts, if relative paths start in `folder`.
+/// Returns the folder in which a path starts: the root, which is the empty path, if `path` is absolute, and otherwise
+/// `folder`.
 pub(crate) fn start_in<'f>(folder: &'f str, path: &str) -> &'f str
     ensures { result.now ≡ start_in folder.now path.now }
 {
@@ -134,7 +138,7 @@ fn is_outside(folder: &str) -> bool
     folder == "." || folder.ends_with("/..")
 }
 
-/// Returns the path before its last slash.
+/// Returns the path before its last slash, or the root if it has no slash.
 fn before_last(path: &str) -> &str
     ensures { result.now ≡ before_last path.now }
 {
@@ -161,7 +165,7 @@ fn split(alloc: Global, path: &str) -> Result<Vec<&str>, AllocError>
     path.split('/').collect(alloc)
 }
 
-/// Returns the parts of a path, and then the rest.
+/// Returns the parts of a path, followed by `rest`.
 fn before(alloc: Global, path: &str, mut rest: Vec<String>) -> Result<Vec<String>, AllocError>
     ensures { IfOk result (λ parts. map string_bytes parts.items ≡ parts_of path.now ++ map string_bytes rest.items) }
 {

@@ -1,4 +1,4 @@
-//! Access to a machine: its folders, files and links, and the variables of the environment.
+//! Access to a machine: its folders, files and links, and its environment variables.
 
 ghost use Rattle.std.specs.Prelude.{◌≡◌, ℕ, option_map, string_bytes};
 ghost use Rattle.cal_machine.specs.rules.Machine.{Machine, Tells, bytes_of, shown_entry, shown_listing};
@@ -6,8 +6,8 @@ ghost use Rattle.cal_machine.specs.declared.tree.TreeFault.TheVariants.{NoMemory
 
 use std::alloc::{AllocError, AllocFailed, Global};
 
-/// The maximum number of bytes that are read of a file. It is one more than a file of a unit or a zone can have, so
-/// whether a file is too large can be seen from the bytes that were read.
+/// The maximum number of bytes that are read of a file. It is one more than the size limit of unit files and zone
+/// files, so whether a file is too large can be seen from the bytes that were read.
 pub const FILE_BYTES: usize = 1_048_577;
 
 /// Why something can't be read. This is a fact about the machine, and asking again gives the same error.
@@ -47,15 +47,15 @@ impl<T: Drop> From<AllocFailed<T>> for TreeFault {
 /// What is at a path.
 #[derive(Debug, Drop)]
 pub enum Entry {
-    /// Nothing.
+    /// Nothing is at the path.
     Missing,
     /// A file of 0 bytes.
     Empty,
-    /// Any other file.
+    /// Any other file. [`Tree::read`] returns its bytes.
     File,
     /// Anything that isn't a file, a folder or a link, such as a device, a FIFO or a socket. It is never opened.
     Device,
-    /// A folder.
+    /// A folder. A link to a folder is a [`Entry::Link`] instead.
     Folder,
     /// A symbolic link with this target.
     Link(String),
@@ -70,15 +70,16 @@ pub struct Names {
     pub unnamed: usize,
 }
 
-/// Access to the folders, files and links of a machine, and to the variables of the environment.
+/// Access to the folders, files and links of a machine, and to its environment variables.
 ///
-/// Paths that are passed to the methods must lead through no links: each folder on the way has to be a folder itself. A
-/// path is absolute and plain, as `/usr/lib`, where the root is the empty path; or it starts with `./`, and is relative
-/// to the folder in which the program runs. [`crate::find_place`] finds such paths.
+/// Paths that are passed to the methods must lead through no links: every part of a path except the last must be a
+/// folder, and not a link to one. A path is absolute and plain, such as `/usr/lib`, and the root is the empty path; or
+/// it starts with `./`, and is relative to the folder in which the program runs. [`crate::find_place`] finds such
+/// paths.
 ///
 /// The machine may change while it is read, but what the methods return never contradicts itself: after any calls there
-/// is a machine, fixed in time, that agrees with everything that they have returned (`some_machine`). `shows` is true of
-/// such machines, and each further call can only rule out some of them (`grows`).
+/// is a machine, fixed in time, that agrees with everything that they have returned (`some_machine`). `shows` is true
+/// of such machines, and each further call can only rule out some of them (`grows`).
 ///
 /// Errors are facts of the machine, too: if a method fails with [`TreeFault::Unreadable`], each machine that is shown
 /// has this error there. Only [`TreeFault::NoMemory`] says nothing about the machine.
@@ -104,7 +105,7 @@ pub trait Tree {
             → Tells bytes_of result (machine.file file.now) }
         ensures grows { (machine : Machine) → shows self.new machine → shows self.old machine };
 
-    /// Returns the value of a variable, or `None` if it isn't set.
+    /// Returns the value of an environment variable, or `None` if the variable isn't set.
     fn variable(&mut self, alloc: Global, name: &str) -> Result<Option<String>, TreeFault>
         ensures known { (machine : Machine) → shows self.new machine
             → Tells (option_map string_bytes) result (machine.variable name.now) }

@@ -1,5 +1,5 @@
 -- Lemmas on the expressions of a timer file: expressions that an exception covers are skipped, and the others are added
--- to the merge. An exception is an expression; when it elapses, the timer doesn't.
+-- to the merge.
 use Rattle.std.proofs.Common.{◌≡◌, ◌++◌, ℕ, zero, suc, ◌+◌, ◌<◌, false, List, [], ◌∷◌, length, map, get_or, ℤ, inr, sym, ap, ◌∙◌, arith, take}
 use Rattle.std.proofs.lemmas.List.{append_assoc, map-append}
 use Rattle.cal_elapse.proofs.CoveredLemmas.{elapses_except-kept, kept_one, kept_without, matches_among}

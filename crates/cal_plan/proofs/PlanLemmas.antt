@@ -62,8 +62,8 @@ merge_instants at base lists merge m low i h =
     IsInstant-elapse (λ (e : TimerLine Fields). e.expr) (zone_or_utc at) lists.expressions
     (map (timed_entry at) lists.exceptions) base i low (rw m.is at h)
 
--- if `es` are the meanings of the expressions of `list` in their zones, which are all known, then `timed_entry` returns
--- these meanings
+-- if the zones of all expressions of `list` are known, and `es` are these expressions in their zones (`IsTimed`), then
+-- `timed_entry` returns `es`
 pub timed_entries : (at : Setting) (list : List (TimerLine Fields)) (es : List Timed) → AllZip (IsTimed at) list es → map (timed_entry at) list ≡ es
 unfolding timed_entry
 timed_entries at [] [] h = refl
@@ -73,9 +73,9 @@ timed_entries at (line ∷ list) (e ∷ es) h =
     ap (λ (o : Option TimeZone). timed line.expr (unwrap_or o UTC) ∷ map (timed_entry at) list) h.0.1
     ∙ (ap (λ (t : Timed). t ∷ map (timed_entry at) list) (sym h.0.2) ∙ ap (λ (ts : List Timed). e ∷ ts) (timed_entries at list es h.1))
 
--- Suppose that `es` and `exceptions` are the meanings of a timer's expressions and exceptions in their zones, which are
--- all known. Then `elapses_of_lists` returns exactly the elapses of `es` after the base time, without those of
--- `exceptions`. An exception is an expression; when it elapses, the timer doesn't.
+-- Suppose that the zones of a timer's expressions and exceptions are all known, and that `es` and `exceptions` are the
+-- expressions and the exceptions in their zones (`IsTimed`). Then `elapses_of_lists` returns exactly the elapses of
+-- `es` after the base time, without those of `exceptions`.
 pub elapses_of_zones : (at : Setting) (base : ℤ) (lists : Timer Fields) (es exceptions : List Timed) → AllZip (IsTimed at) lists.expressions es → AllZip (IsTimed at) lists.exceptions exceptions
     → AreElapses es exceptions base (elapses_of_lists at base lists)
 unfolding elapses_of_lists

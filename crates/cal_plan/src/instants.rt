@@ -45,7 +45,7 @@ impl<S: Rising> Instants<S> {
         Instant::new(self.source.next()?)
     }
 
-    /// Returns the source.
+    /// Returns the source, which has yet to return the remaining numbers.
     pub fn into_inner(self) -> S
         ensures rest { S.rest result ≡ self }
         ensures instants { AreInstants self }

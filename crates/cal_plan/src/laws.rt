@@ -1,5 +1,5 @@
-//! Laws on the zones and the elapses of expressions and exceptions. An exception is an expression; when it elapses, the
-//! timer doesn't. Each law is a function that does nothing and whose contract is the law.
+//! Laws on the zones and the elapses of expressions and exceptions. Each law is a function that does nothing and whose
+//! contract is the law.
 
 ghost use Rattle.std.specs.Prelude.{◌≡◌, ℕ, ℤ, List, None, Some};
 ghost use Rattle.std.specs.List.{AllZip};

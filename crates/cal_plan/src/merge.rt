@@ -1,5 +1,4 @@
-//! The elapses of all expressions together, without those of the exceptions (systemd.timer(5), OnCalendar=). An
-//! exception is an expression; when it elapses, the timer doesn't.
+//! The elapses of all expressions together, without those of the exceptions (systemd.timer(5), OnCalendar=).
 
 ghost use Rattle.std.specs.Prelude.{◌≡◌, ◌≢◌, ◌++◌, [], ◌∷◌, None, MatchResult, false, true, map, IfOk, OnOk};
 ghost use Rattle.cal_zone.specs.rules.Setting.{setting_seen};
@@ -22,11 +21,11 @@ use cal_timer::TimerLine;
 use cal_zone::{Instant, Setting};
 use std::alloc::{AllocError, Global};
 
-/// Creates the source of the elapses of all expressions after `base`, without the elapses of the exceptions. Each
+/// Creates the source of the elapses after `base`: those of all expressions, without those of the exceptions. Each
 /// expression and each exception is evaluated in its own zone.
 ///
-/// Fails with [`PlanFault::NoSuchZone`] if one of these zones is neither `UTC` nor in the zone table, and with
-/// [`PlanFault::NoMemory`] if allocation fails. Calling `next` on the source doesn't allocate.
+/// Fails with [`PlanFault::NoSuchZone`] if an expression or an exception names a zone that is neither `UTC` nor in the
+/// zone table, and with [`PlanFault::NoMemory`] if allocation fails. Calling `next` on the source doesn't allocate.
 pub fn merge_of<'a>(
     alloc: Global,
     setting: Setting<'a>,

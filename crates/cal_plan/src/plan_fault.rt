@@ -1,5 +1,4 @@
-//! Why the elapses of expressions and exceptions can't be computed. An exception is an expression; when it elapses, the
-//! timer doesn't.
+//! Why the elapses of expressions and exceptions can't be computed.
 
 ghost use Rattle.std.specs.Prelude.{◌≡◌};
 ghost use Rattle.cal_plan.specs.declared.plan_fault.PlanFault.TheVariants.{NoMemory};
@@ -12,7 +11,8 @@ pub enum PlanFault {
     /// The expression or exception on the line with this number (counted from 1) names a zone that is neither `UTC` nor
     /// in the zone table.
     NoSuchZone(u32),
-    /// Allocation failed.
+    /// Allocation failed. [`crate::merge_of`] allocates only once it has found the zones of all expressions and
+    /// exceptions.
     NoMemory,
 }
 

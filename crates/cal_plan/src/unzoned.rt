@@ -1,5 +1,4 @@
-//! The first expression or exception whose zone isn't known. An exception is an expression; when it elapses, the timer
-//! doesn't.
+//! The first expression or exception whose zone isn't known.
 
 ghost use Rattle.std.specs.Prelude.{◌≡◌, map};
 ghost use Rattle.cal_zone.specs.rules.Setting.{setting_seen};

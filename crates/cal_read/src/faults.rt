@@ -1,5 +1,4 @@
-//! All errors in the texts of a timer (systemd.timer(5), OnCalendar=), not only the first. An exception is an
-//! expression after `X-ExceptOnCalendar=`; when it elapses, the timer doesn't.
+//! All errors in the texts of a timer (systemd.timer(5), OnCalendar=), not only the first.
 
 ghost use Rattle.std.specs.Prelude.{◌≡◌, ◌+◌, ◌<◌, ◌≤◌, ◌^◌, ◌++◌, [], IfOk, OnOk, All, length, map};
 ghost use Rattle.std.specs.Option.{option_to_list};
@@ -24,7 +23,7 @@ struct Counts {
 }
 
 impl Counts {
-    /// Returns the lengths after an assignment.
+    /// Returns the lengths of both lists after `assignment`. `self` has their lengths before it.
     fn with(self, assignment: Assignment<'_>) -> Counts
         ensures { result ≡ counts_with self (shown_assignment assignment.entry) }
     {

@@ -19,7 +19,8 @@ pub fn one_text_is_a_timer_file()
         → lists_of read (assignments_of (file ∷ [])) ≡ timer_of read file.text.now }
 {}
 
-/// The assignments of the section `Timer`, as [`crate::Assignments`] returns them, are those of a timer file.
+/// For the section `Timer`, [`crate::Assignments`] returns the same assignments as those that [`crate::read_timer`]
+/// applies.
 pub fn assignments_of_the_section_timer()
     ensures { (inside : Bool) (lines : List Line) → section_assignments (codes "Timer") inside lines ≡ assignments_in inside lines }
 {}

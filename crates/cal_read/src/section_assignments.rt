@@ -22,7 +22,7 @@ pub struct OwnedAssignment {
 }
 
 impl OwnedAssignment {
-    /// Returns the same assignment, which borrows its key and value.
+    /// Returns this assignment as an [`Assignment`], which borrows the key and the value.
     pub(crate) fn as_assignment(&self) -> Assignment<'_>
         ensures { shown_assignment result ≡ shown_owned_assignment self.now }
     {

@@ -1,5 +1,4 @@
-//! Timers that are read from several texts: a unit file and its drop-ins (systemd.unit(5)). An exception is an
-//! expression after `X-ExceptOnCalendar=`; when it elapses, the timer doesn't.
+//! Timers that are read from several texts: a unit file and its drop-ins (systemd.unit(5)).
 
 ghost use Rattle.std.specs.Prelude.{◌≡◌, ◌≢◌, ◌+◌, ◌<◌, ◌^◌, Ok, Err, MatchResult, IfErr, All, length};
 ghost use Rattle.cal_spec.specs.computed.Expr.{expr_in};
@@ -19,7 +18,7 @@ pub struct NumberedText<'t> {
     pub text: &'t str,
 }
 
-/// Why a timer that is read from several texts is invalid.
+/// Why reading a timer from several texts failed.
 #[derive(Clone, Copy, PartialEq, Eq, Debug)]
 pub struct FileFault {
     /// The index of the text that contains the invalid line. It is `None` if all lines are valid, and the error is that

@@ -16,7 +16,7 @@ use Rattle.cal_report.proofs.HeadlineLemmas.{each_report, is_answered, one_meani
 use Rattle.cal_request.specs.rules.Request.{Request}
 use Rattle.cal_request.specs.declared.verb.Verb.TheVariants.{Calendar}
 
--- The expressions that `AreAcceptedAmong` selects are accepted
+-- ## The expressions that `AreAcceptedAmong` selects are accepted
 
 all_found : (asked : Request) (texts : List (List ℕ)) (found : List (Option Expression)) → AllZip (IsReadAs asked) texts found
     → AllByRecursion (IsAccepted asked) (filter_map (λ it. it) found)
@@ -29,7 +29,7 @@ all_found asked (text ∷ texts) (Some e ∷ found) each = (each.0.1, all_found 
 pub all_accepted : (asked : Request) (texts : List (List ℕ)) (es : List Expression) → AreAcceptedAmong asked texts es → AllByRecursion (IsAccepted asked) es
 all_accepted asked texts es among = rw among.kept (all_found asked texts among.found among.each)
 
--- The output consists of the reports of the accepted expressions
+-- ## The output consists of the reports of the accepted expressions
 
 none_reported : (asked : Request) (base : ℤ) (text : List ℕ) (a : Answer) → IsRejected asked text
     → calendar_answer asked base text ≡ a → report_in a ≡ []
@@ -70,7 +70,7 @@ none_among asked read base verb sought among =
     let none = reports_are_among asked read base [] verb sought among in
     no_reports (λ e report. IsReportOf asked base (alone e) report) none.reports (report asked read).out none.each none.layout
 
--- There is exactly one list of accepted expressions
+-- ## There is exactly one list of accepted expressions
 
 found_in : (asked : Request) (base : ℤ) (text : List ℕ) (answer : Result (List ℕ) (List ℕ)) → IsAnswerTo asked base text answer → (it : Option Expression) × IsReadAs asked text it
 found_in asked base text (Ok report) h = (Some h.0, (sym h.1, h.2))

@@ -1,4 +1,4 @@
--- Lemmas on the answers to one text, and to several texts in order.
+-- Lemmas on writing the answers to texts in order: what is written so far, and what remains to be written.
 use Rattle.std.proofs.Common.{◌≡◌, ℕ, ◌<◌, Bool, true, false, ◌||◌, map, List, [], ◌∷◌, ◌++◌, length, take, Option, Result, Ok, Err, refl, sym, subst, ap, ◌∙◌, arith, codes}
 use Rattle.std.specs.Prelude.{is_err, if◌then◌else◌}
 use Rattle.std.specs.List.{flat_map, join_by, list_any}
@@ -83,7 +83,7 @@ unfolding status_left texts_status
 status_left-none Refused answer = refl
 status_left-none Fine answer = refl
 
--- One iteration of the loop over the texts: what remains to be written
+-- ## One iteration of the loop over the texts: what remains to be written
 
 pub out_next : (a b c : Option (List ℕ)) (answer : List ℕ → Answer) (follows_report fine : Bool) (answered : Status) (text : List ℕ) (texts rest : List (List ℕ)) (all : List ℕ) → texts ≡ text ∷ rest → answered ≡ status_in (answer text) → fine ≡ is_fine answered → Leaves a b (reports_left follows_report answer texts) all → Appends b c (later_text follows_report (answer text)) → Leaves a c (reports_left (follows_report || fine) answer rest) all
 out_next a b c answer follows_report fine answered text texts rest all e s f l w =
@@ -110,7 +110,7 @@ pub writes_nothing : {T E : Type 0} (a : Option (List ℕ)) (r : Result T E) →
 writes_nothing a (Ok x) = Appends-nil a
 writes_nothing a (Err e) = record { front = []; rest = []; whole = refl; written = Appends-nil a }
 
--- One iteration of the loop over the texts: what is written so far
+-- ## One iteration of the loop over the texts: what is written so far
 
 -- any texts `rest` may come after the texts in `done`: the reports of all these texts are the reports of `done`,
 -- followed by the reports of `rest`, which `reports_left` joins

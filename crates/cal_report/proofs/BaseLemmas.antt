@@ -40,12 +40,12 @@ is_from : (asked : Request) (text : Option (List ℕ)) (base : ℤ) → IsBaseFr
 is_from asked None base h = ap Ok (sym h)
 is_from asked (Some text) base h = base_of asked text base h
 
--- the base time that `base_in` returns is that of the request
+-- if `base_in` returns a base time, then it is the base time of the request, as `IsBase` says
 pub base_found : (asked : Request) (base : ℤ) → base_in asked ≡ Ok base → IsBase asked base
 unfolding base_in
 base_found asked base e = found_from asked asked.base base e
 
--- `base_in` returns the base time of the request
+-- if the request has a base time, as `IsBase` says, then `base_in` returns it
 pub base_is : (asked : Request) (base : ℤ) → IsBase asked base → base_in asked ≡ Ok base
 unfolding base_in
 base_is asked base h = is_from asked asked.base base h

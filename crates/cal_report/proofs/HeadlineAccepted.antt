@@ -42,7 +42,7 @@ some_found : {A : Type 0} (o : Option A) → is_none o ≡ false → (x : A) × 
 some_found None h = cc
 some_found (Some x) h = (x, refl)
 
--- If the status is `Fine`, every text was accepted
+-- ## If the status is `Fine`, every text was accepted
 
 found_is_zone : (asked : Request) (suffix : Option ZoneSuffix) (tz : TimeZone) → zone_for (setting_of asked) suffix ≡ Some tz → IsZoneFor asked suffix tz
 unfolding zone_for
@@ -100,7 +100,7 @@ fine_texts_are_accepted asked read base verb sought h =
     let fine = sym (ap (λ (r : Report). r.status) (report_of_texts asked read base verb sought)) ∙ h in
     texts_accepted asked base asked.texts (none_by_status _ fine)
 
--- If the status is `Fine`, the timer file was accepted
+-- ## If the status is `Fine`, the timer file was accepted
 
 spelled_unless : (number : ℕ) (text : List ℕ) (r : Result Fields SpecFault) → expr_in text ≡ r → bad_line number r ≡ None
     → (fields : Fields) × Spells text fields

@@ -54,7 +54,7 @@ each_answered asked base [] = tt
 each_answered asked base (text ∷ texts) =
     (answered_so asked base text (calendar_answer asked base text) refl, each_answered asked base texts)
 
--- The reports, the error lines and the status are the same for `lined` answers as for the answers themselves
+-- ## The reports, the error lines and the status are the same for `lined` answers as for the answers themselves
 
 report_more : (text : List ℕ) (a : Answer) (xs ys : List (List ℕ)) → xs ≡ ys → report_in a ++ xs ≡ cons_option (result_ok (lined text a)) ys
 report_more text (Ok report) xs ys h = ap (λ (l : List (List ℕ)). report ∷ l) h

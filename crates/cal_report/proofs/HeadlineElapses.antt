@@ -27,7 +27,7 @@ use Rattle.cal_report.specs.rules.TextReport.TimestampReport.{stamp_in}
 use Rattle.cal_request.specs.rules.Request.{Request}
 use Rattle.cal_report.proofs.HeadlineLemmas.{one_elapses}
 
--- Elapses are instants
+-- ## Elapses are instants
 
 second_low : (stamp : Result ℤ StampFault) (base : ℤ) → second_or_fault stamp ≡ Ok base → pos 0 ≤ℤ base
 second_low (Ok micros) base h = grind (arith, ints, signed_arith)
@@ -47,7 +47,7 @@ elapses_are_instants asked base s xs now sought h i there =
     let elapse = ((AreElapses-elapses_except (map meaning s.expressions) (map meaning s.exceptions) base).members i).1 ((h.members i).0 there) in
     IsInstant-elapse (λ (e : Expression). e.fields) (λ (e : Expression). e.tz) s.expressions (map meaning s.exceptions) base i (base_low asked base now sought) elapse
 
--- Continuing after an elapse
+-- ## Continuing after an elapse
 
 pub goes_on : (ts exceptions : List Timed) (base e : ℤ) (xs : List ℤ) (k : ℕ) → AreElapses ts exceptions base xs → slice_get xs k ≡ Some e → AreElapses ts exceptions e (drop (suc k) xs)
 goes_on ts exceptions base e xs k h at =
@@ -61,7 +61,7 @@ in_parts ts exceptions base e xs ys k m h at more =
     let rest : ys ≡ drop (suc k) xs = one_elapses ts exceptions e ys (drop (suc k) xs) more (goes_on ts exceptions base e xs k h at) in
     rw rest (sym (take-add (suc k) m xs))
 
--- What the clock of a zone shows
+-- ## What the clock of a zone shows
 
 pub is_shown : (fields : Fields) (tz : TimeZone) (i : ℤ) → IsPlace (timed fields tz) i
     → (local : ℕ) × (local < 7_258_118_400) × (matches (sets_of fields) local ≡ true) × (local_shown_at tz i ≡ pos local)

@@ -19,7 +19,7 @@ use Rattle.cal_request.specs.declared.request.RunFault.{RunFault}
 use Rattle.cal_request.specs.declared.request.Status.{Status}
 use Rattle.cal_request.specs.declared.verb.Verb.TheVariants.{Calendar}
 
--- Prefixes of lists that are joined with a separator
+-- ## Prefixes of lists that are joined with a separator
 
 -- a prefix of `xs ++ (c ∷ more)` either ends within `xs`, or contains `xs` and the separator `c`
 cut_once : {A : Type 0} (xs : List A) (c : A) (more front rest : List A) → xs ++ (c ∷ more) ≡ front ++ rest
@@ -139,7 +139,7 @@ same_front : {A : Type 0} (xs b d more others : List A) → xs ≡ b ++ more →
 same_front xs b d more others p q long =
     sym (take-append_seam b more) ∙ ap (take (length b)) (sym p ∙ q) ∙ ap (λ n. take n (d ++ others)) long ∙ take-append_seam d others
 
--- Requests for one of several texts
+-- ## Requests for one of several texts
 
 same_base : (asked : Request) (text : List ℕ) (base : Option (List ℕ)) → base_from (for_text asked text) base ≡ base_from asked base
 unfolding stamp_in

@@ -1,4 +1,4 @@
--- Lemmas on what a whole run wrote and what it returned.
+-- Lemmas on what a whole run wrote and what it returned: when `IsReported`, `ByReading` and `IsCut` hold.
 use Rattle.std.proofs.Common.{arith, ◌≡◌, ℕ, ℤ, Bool, true, false, List, [], Option, Result, Ok, Err, IfOk, refl, sym, ◌∙◌, subst}
 use Rattle.std.proofs.lemmas.List.{append-nil}
 use Rattle.std.proofs.KnownBytes.{Appends-nil}
@@ -40,7 +40,7 @@ pub error_reported : (r : Result Status RunFault) (a d e : Option (List ℕ)) (r
     → answer ≡ Err line → IfOk r (λ status. status ≡ Refused) → HadMemory read → Writes d e r line → IsReported r a a d e read (whole_report answer)
 error_reported r a d e read line answer is status had err = rw is (record { status = status; had = if_ok r (HadMemory read) had; out = writes_nothing a r; err = err; unread = λ h. absurd (had h) })
 
--- The contract of `run` for each kind of request
+-- ## The contract of `run` for each kind of request
 
 pub nothing_had : HadMemory (Ok [])
 nothing_had h = cc

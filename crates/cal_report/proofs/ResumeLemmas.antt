@@ -35,7 +35,7 @@ slice_get-taken n xs k e at =
     slice_get_read xs (length xs) k e refl (omega (arith, within, length-take n xs))
     (sym (get_or_from_slice_get (take n xs) k e e at) ∙ get_or-take n xs k e (omega (arith, within, length-take n xs)))
 
--- The first line of an elapse
+-- ## The first line of an elapse
 
 abbrev first_line : Zone → ℕ → ℤ → List ℕ
 first_line local number elapse = label_text number ++ (instant_text local elapse ++ codes "\n")
@@ -67,7 +67,7 @@ texts_in_parts local now number (x ∷ xs) ys =
     ∙ ap (λ (n : ℕ). elapse_texts local now (number + 1) xs ++ elapse_texts local now n ys) later)
     ∙ sym (append_assoc (elapse_text local now number x) (elapse_texts local now (number + 1) xs) (elapse_texts local now (number + length (x ∷ xs)) ys))
 
--- Where the first lines end
+-- ## Where the first lines end
 
 -- the number of bytes up to the end of the first line of `elapse`; `before` are the elapses shown before `elapse`, and
 -- `start` bytes come before all elapses
@@ -163,7 +163,7 @@ ends local now number start size (x ∷ xs) =
     let later = ends local now (number + 1) (start + length (elapse_text local now number x)) size xs in
     ends_from local now number start size x xs later.0 later.1 (nat_le (start + length (first_line local number x)) size) refl
 
--- The elapses whose first line is complete in a prefix
+-- ## The elapses whose first line is complete in a prefix
 
 -- if two texts are prefixes of the same text, the longer one begins with the shorter one
 longer_begins : (front rest lead more : List ℕ) → front ++ rest ≡ lead ++ more → length lead ≤ length front → Begins front lead
@@ -279,10 +279,10 @@ one_stands asked s shown front k m h g =
     let at_most : m < k → ⊥ = not_fewer asked s shown front m k g h in
     omega (arith, at_least, at_most)
 
--- The request that continues a report
+-- ## The request that continues a report
 
 -- if `from` is the base time of a request that continues after the first `k` elapses of `xs`, then the elapses after
--- `from` are those of `xs` without the first `k`
+-- `from` are the elements of `xs` after the first `k`
 elapses_from : (ts exceptions : List Timed) (base from : ℤ) (n : ℕ) (xs : List ℤ) (k : ℕ) → AreElapses ts exceptions base xs → IsBaseAfter base (take n xs) k from
     → AreElapses ts exceptions from (drop k xs)
 elapses_from ts exceptions base from n xs zero h after = subst (λ (b : ℤ). AreElapses ts exceptions b xs) (sym after) h
@@ -322,7 +322,7 @@ module _ (asked : Request) (base : ℤ) (shown : List ℤ) (k : ℕ) (again : Re
       ∙ (ap (λ (z : Zone). headings s ++ elapses_text z again.now (drop k shown)) begun.local
       ∙ ap (λ (i : ℤ). headings s ++ elapses_text asked.local i (drop k shown)) begun.now))
 
--- How to continue a prefix of a report
+-- ## How to continue a prefix of a report
 
 of_reports : (asked : Request) (base : ℤ) (e : Expression) (text : List ℕ) (reports : List (List ℕ))
     → AllZip (λ e report. IsReportOf asked base (alone e) report) (e ∷ []) reports
@@ -378,7 +378,7 @@ file_resumes asked bytes base s front rest verb sought file all cut =
     (timer_report_is again bytes begun.from s (begun.verb ∙ verb) (base_is again begun.from begun.sought) file
     (all_accepted_again asked base shown k again begun s all)).0)
 
--- What a run writes, whether or not it is cut off
+-- ## What a run writes, whether or not it is cut off
 
 -- whatever a call returns, what it wrote is a prefix of what it should have written
 pub front_written : {T E : Type 0} (result : Result T E) (old new : Option (List ℕ)) (text : List ℕ) → Writes old new result text → AppendsFront old new text

@@ -141,7 +141,7 @@ noon_thirty-elapses = elapse_at 1_704_112_200 (omega arith) noon_thirty-matches
 noon_thirty-elapses_again : IsElapse (timed noon_thirty UTC ∷ []) (pos 1_704_198_600)
 noon_thirty-elapses_again = elapse_at 1_704_198_600 (omega arith) noon_thirty-matches_again
 
--- A report with an error line
+-- ## A report with an error line
 
 two_spans : Request
 two_spans = record { verb = Timespan; texts = codes "1h" ∷ codes "5x" ∷ []; iterations = 1; base = None; now = pos 0; local = utc; zones = empty }
@@ -158,7 +158,7 @@ two_spans-status : (report two_spans (Ok [])).status ≡ Refused
 unfolding two_spans report answers_report base_in texts_status timespan_answer timespan_report units_text counts_in_row span_of pairs_in words_in worth_of is_number unit_named number_worth spellings_of unit_name digits
 two_spans-status = refl
 
--- An accepted request, to which the law `headline` applies
+-- ## An accepted request, to which the law `headline` applies
 
 -- `*:*:*`
 every_second : Fields
@@ -224,7 +224,7 @@ every-first xs h =
     rw (AreElapses-only (map meaning (every ∷ [])) [] (pos 1_704_112_200) xs h, elapses_except-none (map meaning (every ∷ [])) (pos 1_704_112_200))
     (first_elapse-least (map meaning (every ∷ [])) (pos 1_704_112_200) (pos 1_704_112_201) (omega (arith, ints)) every-elapses (λ j above _. next_is_least j above))
 
--- A timer file whose only expression is `*:*:*`
+-- a timer file whose only expression is `*:*:*`
 every_file : List ℕ
 every_file = codes "[Timer]\nOnCalendar=*:*:*\n"
 
@@ -276,9 +276,10 @@ every_file-is = record {
   some = omega arith;
 }
 
--- A request that continues `two_seconds` after its first elapse: this elapse is the base time, and one elapse fewer is
--- requested
+-- ## A request that continues a report
 
+-- the request `two_seconds`, continued after its first elapse: this elapse is the base time, and one elapse fewer is
+-- requested
 one_second : Request
 one_second = record { verb = Calendar; texts = codes "*:*:*" ∷ []; iterations = 1; base = Some (codes "@1704112201"); now = pos 1_704_112_200; local = utc; zones = empty }
 

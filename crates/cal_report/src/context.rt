@@ -10,6 +10,6 @@ pub struct Context<'a> {
     pub request: &'a Request,
     /// The base time: only elapses after this instant are reported.
     pub base: Instant,
-    /// The present and the zones. Instants are printed in the local zone.
+    /// The present, the local zone, in which instants are printed, and the table of zones.
     pub setting: Setting<'a>,
 }

@@ -61,7 +61,7 @@ fn put_more<W: Sink, S: Rising>(
     Ok(())
 }
 
-/// Writes one elapse in the local zone and in UTC, with its distance from the present.
+/// Writes one elapse in the local zone, in UTC unless the local zone is UTC, and with its distance from the present.
 fn put_elapse<W: Sink>(
     out: &mut W,
     number: u32,

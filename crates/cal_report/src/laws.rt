@@ -35,8 +35,8 @@ ghost use Rattle.cal_request.specs.declared.verb.Verb.TheVariants.{Calendar, Tim
 ///
 /// A matching instant is the place of a local second that matches: the second of Unix time to which `jiff`'s compatible
 /// conversion takes this local second, if the clock of the expression's zone shows it then. "Rising" means in
-/// increasing order. For a timer file, an elapse of an exception, which is an expression after `X-ExceptOnCalendar=`, is
-/// not a matching instant.
+/// increasing order. For a timer file, an elapse of an exception, which is an expression after `X-ExceptOnCalendar=`,
+/// is not a matching instant.
 pub fn headline()
     // If every expression is accepted, the report shows each of them in order: its heading, and then its first elapses.
     ensures calendar { (asked : Request) (read : Result (List ℕ) WholeFault) (base : ℤ) (es : List Expression)

@@ -24,11 +24,15 @@ pub enum Parsed<'a> {
     Calendar(Expr, Instants<Elapses<'a>>),
     /// The moment that a timestamp resolves to.
     Timestamp(Moment),
-    /// A time span.
+    /// The length of a time span.
     Timespan(Span),
 }
 
-/// Parses a text of this verb.
+/// Parses `text` as what the verb takes: a calendar expression, a timestamp or a time span.
+///
+/// Fails with [`TextFault::Spec`], [`TextFault::Stamp`] or [`TextFault::Span`] if `text` is invalid. An expression also
+/// fails with [`TextFault::NoSuchZone`] if it names a zone that is neither `UTC` nor in the table, and with
+/// [`TextFault::NoMemory`] if allocation fails.
 ///
 /// Everything that the report of the text needs is allocated here, so that writing the report cannot run out of
 /// memory. Parsing a timestamp or a time span allocates nothing.

@@ -249,7 +249,7 @@ fn answer_one<O: Sink, E: Sink>(
     }
 }
 
-/// Writes the report of a timer file, or an error line if the file is invalid.
+/// Writes the report of a timer file, or an error line if the file is rejected.
 fn answer_timer<R: Source, O: Sink, E: Sink>(
     alloc: Global,
     context: Context<'_>,
@@ -282,9 +282,9 @@ fn answer_timer<R: Source, O: Sink, E: Sink>(
     }
 }
 
-/// Writes an error line that begins with `text`: a text, the path of the timer file, or `--base-time`. `line` is
-/// the number of the invalid line of the file, if the error concerns one line. Returns [`Status::Refused`] if the
-/// error line could be written.
+/// Writes an error line that begins with `text`, which is the rejected text, the path of the timer file, or
+/// `--base-time`. `line` is the number of the invalid line of the file, if the error concerns one line. Returns
+/// [`Status::Refused`] if the error line could be written.
 fn report_error<E: Sink>(
     err: &mut E,
     text: &str,

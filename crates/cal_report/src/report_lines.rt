@@ -16,8 +16,7 @@ use cal_zone::{Instant, Moment};
 /// timer file.
 pub const ORIGINAL_LABEL: &[u8] = b"  Original form: ";
 
-/// The label before an exception in its original form: as it is written in the timer file. An exception is an
-/// expression at whose elapses a timer doesn't elapse.
+/// The label before an exception in its original form: as it is written in the timer file.
 pub const EXCEPT_LABEL: &[u8] = b"    Except form: ";
 
 /// Writes a line with `label` and `text`, and begins the next line with the label `Normalized form:`.

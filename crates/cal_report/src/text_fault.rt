@@ -1,4 +1,4 @@
-//! Why a text is rejected: a calendar expression, a timestamp or a time span.
+//! Why a calendar expression, a timestamp or a time span gets no report.
 
 ghost use Rattle.std.specs.Prelude.{◌≡◌};
 ghost use Rattle.cal_report.specs.rules.TextReport.{text_fault_message};
@@ -7,7 +7,7 @@ use cal_span::SpanFault;
 use cal_spec::SpecFault;
 use cal_stamp::StampFault;
 
-/// Why a text is rejected.
+/// Why a text gets no report: it is rejected, or memory ran out.
 #[derive(Clone, Copy, PartialEq, Eq, Debug)]
 pub enum TextFault {
     /// Not a valid calendar expression.

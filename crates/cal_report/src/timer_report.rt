@@ -1,6 +1,5 @@
 //! The report of a timer file: its expressions, its exceptions, and the next elapses of the timer, each with its
-//! distance from the present (systemd.timer(5), OnCalendar=). An exception is an expression at whose elapses a timer
-//! doesn't elapse.
+//! distance from the present (systemd.timer(5), OnCalendar=).
 
 ghost use Rattle.std.specs.Prelude.{◌≡◌, ◌≢◌, ℕ, List, Result, Ok, Err, MatchResult, false, map};
 ghost use Rattle.cal_bytes.specs.rules.Puts.{Puts};
@@ -30,7 +29,7 @@ pub struct TimerPlan<'a> {
     elapses: Instants<Merge<Elapses<'a>>>,
 }
 
-/// Why a timer file is rejected.
+/// Why a timer file gets no report: it is rejected, or memory ran out.
 #[derive(Clone, Copy, PartialEq, Eq, Debug)]
 pub enum TimerPlanFault {
     /// Reading the file failed, the file is too large, or it isn't a valid timer file.
@@ -102,7 +101,8 @@ pub fn read_plan<'a, R: Source>(
     }
 }
 
-/// Writes the report of a timer file.
+/// Writes the report of a timer file: its expressions, its exceptions and its next elapses, at most
+/// `context.request.iterations` of them.
 #[tactic(auto, using(cal_bytes::proofs::PutLemmas::puts))]
 pub fn write_timer<W: Sink>(
     out: &mut W,

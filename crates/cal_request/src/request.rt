@@ -8,7 +8,7 @@ use crate::verb::Verb;
 /// A request: a verb with its texts and options.
 #[derive(Debug, Drop)]
 pub struct Request {
-    /// What to report.
+    /// The verb, which decides what the report says.
     pub verb: Verb,
     /// The expressions, timestamps or spans in the order of the arguments; for [`Verb::Timer`], only the path of the
     /// timer file.
@@ -36,7 +36,7 @@ impl Status {
     ghost use Rattle.std.specs.Prelude.{◌≡◌};
     ghost use Rattle.cal_request.specs.rules.Status.{is_fine, status_and};
 
-    /// Returns whether the status is [`Status::Fine`].
+    /// Returns whether the status is [`Status::Fine`], which means that no error line was written.
     pub fn is_fine(self) -> bool
         ensures { result ≡ is_fine self }
     {
@@ -63,6 +63,6 @@ pub enum RunFault {
     OutFailed = 1,
     /// Writing an error line failed.
     ErrFailed = 2,
-    /// Out of memory.
+    /// Allocation failed while a calendar expression or a timer file was being answered.
     NoMemory = 3,
 }

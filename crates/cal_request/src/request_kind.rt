@@ -21,7 +21,7 @@ impl Request {
     ghost use Rattle.std.specs.String.{string_bytes};
     ghost use Rattle.cal_request.specs.rules.RequestKind.{kind_by, shown_kind};
 
-    /// Returns what the request asks about.
+    /// Returns what the request asks about: its verb and its texts, or the path of its timer file.
     pub fn kind(&self) -> RequestKind<'_>
         ensures { shown_kind result ≡ kind_by self.now.verb (map string_bytes self.now.texts.items) }
     {

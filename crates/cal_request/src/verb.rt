@@ -18,7 +18,7 @@ pub enum Verb {
     Timer,
 }
 
-/// A verb that takes texts.
+/// A verb whose arguments are texts to parse, and not the path of a timer file.
 #[derive(Clone, Copy, PartialEq, Eq, Debug)]
 pub enum TextVerb {
     /// [`Verb::Calendar`], whose texts are calendar expressions.

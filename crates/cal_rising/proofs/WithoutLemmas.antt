@@ -155,5 +155,6 @@ any_replaced n [] i s d lt h = absurd (omega arith)
 any_replaced n (x ∷ ss) zero s d lt h = ap (λ (b : Bool). b || list_any (λ xs. is_member int_eq xs n) (map numbers ss)) h
 any_replaced n (x ∷ ss) (suc i) s d lt h = ap (λ (b : Bool). is_member int_eq (numbers x) n || b) (any_replaced n ss i s d (omega arith) h)
 
--- whether a list has a number, if the code compares the words in which it stores numbers
+-- the lemmas for code that tests whether a list has a number by comparing 64-bit words, as a set of rules for the
+-- prover
 pub ruleset member_arith = (ints, to_z-of_z, is_member-head, is_member-reached)

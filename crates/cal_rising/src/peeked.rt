@@ -77,9 +77,10 @@ impl<S: Rising> Peeked<S> {
         }
     }
 
-    /// Returns whether `number` is still to be returned. The caller promises not to ask for a smaller number again, so
-    /// numbers below `number` may be dropped. If the source cannot tell whether it has `number`, its numbers are read
-    /// until `number` or a greater number is reached.
+    /// Returns whether `number` is yet to be returned, that is, whether it is the number read ahead or in the rest of
+    /// the source. The caller promises not to ask for a smaller number again, so numbers below `number` may be dropped.
+    /// If the source cannot tell whether it has `number`, its numbers are read until `number` or a greater number is
+    /// reached.
     #[tactic(auto, using(crate::proofs::WithoutLemmas::member_arith))]
     pub fn has_onward(&mut self, number: i64) -> bool
         ensures has { result ≡ is_member int_eq (numbers self.old) number }
@@ -98,8 +99,9 @@ impl<S: Rising> Peeked<S> {
         }
     }
 
-    /// Returns whether `number` is still to be returned, or `None` if the source cannot tell. If a number has been read
-    /// ahead and is at least `number`, the source is not asked.
+    /// Returns whether `number` is yet to be returned, that is, whether it is the number read ahead or in the rest of
+    /// the source. Returns `None` if the source cannot tell. If a number has been read ahead and is at least `number`,
+    /// the source is not asked.
     #[tactic(auto, using(crate::proofs::WithoutLemmas::member_arith))]
     fn has(&mut self, number: i64) -> Option<bool>
         ensures has { IfSome result (λ has. has ≡ is_member int_eq (numbers self.old) number) }

@@ -1,4 +1,5 @@
--- Lemmas on looking for a word in a list.
+-- Lemmas for a loop that tests the words of a list in order: if a word passes the test, some word of the list does; a
+-- word that doesn't pass can be left out.
 use Rattle.std.proofs.Common.{◌≡◌, ◌∙◌, ◌+◌, ◌<◌, ◌||◌, ℕ, Bool, Bor, true, false, List, add-one, ap, drop, drop-cons, get_or, length, map, refl, sym}
 use Rattle.std.proofs.lemmas.Bool.Decides.{same_from_decides}
 use Rattle.std.proofs.lemmas.Slice.Eq.{bytes_eq-Decides}

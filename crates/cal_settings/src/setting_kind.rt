@@ -12,8 +12,8 @@ use cal_bytes::is_among;
 /// A kind of setting in the section `Timer`. Calendar expressions and exceptions are of no kind.
 #[derive(Clone, Copy, PartialEq, Eq, Debug)]
 pub enum SettingKind {
-    /// How long after an event, such as boot, the unit starts: `OnBootSec=` and the other monotonic timers. The value is
-    /// a time span.
+    /// How long after an event, such as boot, the unit starts: `OnBootSec=` and the other monotonic timers. The value
+    /// is a time span.
     Monotonic,
     /// Whether a change of the clock or of the time zone starts the unit. The value is a boolean.
     Change,
@@ -84,7 +84,8 @@ fn find_kind(kinds: &[SettingKind], key: &[u8]) -> Option<SettingKind>
 }
 
 /// Returns whether systemd accepts the value for a setting of this kind; it ignores an assignment with any other value.
-/// A value of a monotonic timer or of `Unit=` that still has a `%` depends on the running system, and is taken as valid.
+/// If a value of a monotonic timer or of `Unit=` has a `%`, what it stands for may depend on the running system, and
+/// the value is taken as valid.
 pub fn is_taken_as(kind: SettingKind, value: &str) -> bool
     ensures { result ≡ is_taken_as (Some kind) value.now }
 {

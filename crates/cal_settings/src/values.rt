@@ -15,7 +15,7 @@ const YES: [&[u8]; 6] = [b"1", b"yes", b"y", b"true", b"t", b"on"];
 /// The words for a false boolean.
 const NO: [&[u8]; 6] = [b"0", b"no", b"n", b"false", b"f", b"off"];
 
-/// The time span that is longer than all others.
+/// The word for a time span that is longer than all others. [`read_span`] rejects it.
 const INFINITY: &str = "infinity";
 
 /// The suffixes of units (systemd.unit(5), Description).
@@ -36,7 +36,7 @@ const UNIT_SUFFIXES: [&[u8]; 11] = [
 /// The maximum length of a unit's name with its suffix, in bytes.
 const MAX_NAME: usize = 255;
 
-/// Returns whether the value may have specifiers.
+/// Returns whether the value has a `%`, with which every specifier begins (systemd.unit(5), Specifiers).
 pub fn has_percent(value: &str) -> bool
     ensures { result ≡ has_percent value.now }
 {

@@ -49,7 +49,7 @@ reduced-counts_of (unit ∷ units) n =
 remainder-all_units : (n : ℕ) → remainder all_units n ≡ 0
 remainder-all_units n = omega arith
 
--- the counts that division finds are the counts of a span of n microseconds
+-- the counts that division finds for n microseconds add up to n and satisfy `AreReduced`
 pub are_counts_of : (n : ℕ) → AreCounts n (counts_of all_units n)
 are_counts_of n = grind (arith, nat_tests, weight-counts_of-remainder, remainder-all_units, reduced-counts_of)
 

@@ -29,7 +29,6 @@ is_digit_by_value c small =
 pub kind_of_digit : (c : ℕ) → IsDigit c → kind_of c ≡ Numeric
 kind_of_digit c d = rw (d.blank, d.digit) refl
 
--- each byte is a digit
 abbrev pub AreDigits : List ℕ → Type 0
 AreDigits [] = Unit {0}
 AreDigits (c ∷ cs) = IsDigit c × AreDigits cs
@@ -41,7 +40,7 @@ are_digits_by_value (c ∷ cs) h = (is_digit_by_value c h.0, are_digits_by_value
 pub are_digits-decimal : (n : ℕ) → n < 2 ^ 64 → AreDigits (decimal n)
 are_digits-decimal n small = are_digits_by_value (decimal n) (decimal_is_IsNumeral n small).0.1
 
--- A word of digits is a number, and contains no decimal point
+-- ## A word of digits is a number, and contains no decimal point
 
 position_or_len-digits : (ds : List ℕ) → AreDigits ds → position_or_len is_point ds ≡ length ds
 position_or_len-digits [] h = refl

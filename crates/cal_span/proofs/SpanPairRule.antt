@@ -40,7 +40,7 @@ are_pairs (w ∷ []) = ([], first_alone w [] (is_kind Numeric w.kind) refl tt, r
 are_pairs (w ∷ v ∷ ws) =
     first_of_two w v ws (is_kind Numeric w.kind) (is_kind Letter v.kind) refl refl (are_pairs ws) (are_pairs (v ∷ ws))
 
--- If pairs follow the rule `ArePairs`, they are the pairs that `pairs_of` forms
+-- ## If pairs follow the rule `ArePairs`, they are the pairs that `pairs_of` forms
 
 pairs_with_unit : (w v : Piece) (ws : List Piece) → w.kind ≡ Numeric → v.kind ≡ Letter → pairs_of (w ∷ v ∷ ws) ≡ record { number = w.text; unit = Some v.text } ∷ pairs_of ws
 pairs_with_unit w v ws n l = rw (n, l) refl

@@ -23,7 +23,7 @@ use Rattle.cal_span.proofs.SpanDigits.{AreDigits, are_digits-decimal, kind_of_di
 use Rattle.cal_span.proofs.SpanWords.{is_kind-same}
 use Rattle.cal_span.proofs.SpanRuns.{BeginsApart}
 
--- The words of printed counts
+-- ## The words of printed counts
 
 -- a byte below 128 is a character of its own
 characters-ascii : (b : ℕ) (bytes : List ℕ) → b < 128 → characters (b ∷ bytes) ≡ record { kind = kind_of b; text = b ∷ [] } ∷ characters bytes
@@ -134,7 +134,7 @@ words-row c cs within =
     ∙ ap (λ (ps : List Piece). record { kind = Numeric; text = decimal c.number } ∷ record { kind = Letter; text = unit_name c.unit } ∷ filter (λ w. not (is_kind Blank w.kind)) ps) others
     ∙ ap (λ (ps : List Piece). record { kind = Numeric; text = decimal c.number } ∷ record { kind = Letter; text = unit_name c.unit } ∷ ps) (words-spaced cs)
 
--- The pairs of printed counts, and their values
+-- ## The pairs of printed counts, and their values
 
 abbrev pub pair_of : Count → Pair
 pair_of c = record { number = decimal c.number; unit = Some (unit_name c.unit) }
@@ -164,7 +164,7 @@ judged-counts sum [] within = ap Ok (omega arith)
 judged-counts sum (c ∷ cs) within =
     grind (arith, nat_tests, worth-pair_of, small_number, le-leb, judged-counts (sum + c.number * size_of c.unit) cs (omega arith))
 
--- The value of a printed span, and of a number without a unit
+-- ## The value of a printed span, and of a number without a unit
 
 span_of-row : (cs : List Count) → 0 < weight cs → weight cs ≤ limit → span_of (counts_in_row cs) ≡ Ok (weight cs)
 unfolding span_of pairs_in

@@ -28,7 +28,7 @@ worth_fault : (p : Pair) (f : SpanFault) → worth_of p ≡ Err f → (f ≡ Bad
 unfolding worth_of
 worth_fault p f e = worth_fault_by p.number (is_number p.number) (unit_in p.unit) f e
 
--- the rule `Judges` for pairs that come after other pairs with this sum
+-- the rule `Judges` for pairs that come after pairs whose values add up to this sum
 abbrev JudgesFrom : ℕ → List Pair → Result ℕ SpanFault → Type 0
 JudgesFrom sum ps (Ok n) = (k : ℕ) × AreWorth ps k × (n ≡ sum + k) × (n ≤ limit)
 JudgesFrom sum ps (Err f) =

@@ -59,7 +59,7 @@ runs_apart (s ∷ ss) = apart_first s (runs ss) (runs_apart ss)
 pub runs_longest : (text : List ℕ) → AreApart (runs (characters text))
 runs_longest text = runs_apart (characters text)
 
--- If runs follow the rules `AreRuns` and `AreApart`, they are the runs that `runs` finds
+-- ## If runs follow the rules `AreRuns` and `AreApart`, they are the runs that `runs` finds
 
 -- if a run of kind `k` is put in front of these runs, it stays a run of its own: there are no runs, or the first run is
 -- of another kind

@@ -1,4 +1,4 @@
-//! The units of time spans.
+//! The units of time spans: their lengths and their spellings.
 
 ghost use Rattle.std.specs.Prelude.{◌≡◌, ◌≤◌, ◌<◌, length, map};
 ghost use Rattle.cal_span.specs.rules.UnitSpellings.{spellings_of};

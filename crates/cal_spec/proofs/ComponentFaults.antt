@@ -1,4 +1,4 @@
--- Parsing a component fails with the error that the rule gives.
+-- Parsing a component fails with an error if and only if the component has this error by the rule `HasComponentFault`.
 use Rattle.std.proofs.Common.{ℕ, suc, ◌+◌, ◌-◌, ◌≤◌, ◌≡◌, ◌⊎◌, inl, inr, Bool, true, false, cond, List, [], ◌∷◌, ◌++◌, codes, length, Option, Some, None, Ok, Err, refl, sym, ap, ◌∙◌, arith, eqb, subst}
 use Rattle.std.specs.Option.{option_or}
 use Rattle.std.specs.List.{AllByRecursion, slice_split}
@@ -27,7 +27,7 @@ use Rattle.cal_spec.proofs.PartFaults.{part_fault_found, part_fault_only, value_
 use Rattle.cal_spec.proofs.PartRule.{part_found}
 use Rattle.cal_spec.proofs.ReadLemmas.{bind_err, unless_err}
 
--- ## Counted parts
+-- ## Parsing and the rule count the same parts
 
 uncounted_is : (slot : Slot) → uncounted slot ≡ cond (is_time slot) 1 0
 uncounted_is Hour = refl
@@ -45,7 +45,7 @@ counted_is : (slot : Slot) (parts : Option (List Part)) → counted slot parts �
 counted_is slot None = omega arith
 counted_is slot (Some ps) = elim (cases_Bool (is_time slot)) [ inl time ↦ rw (time, uncounted_is slot, time) refl | inr date ↦ rw (date, uncounted_is slot, date) (omega arith) ]
 
--- ## Syntax
+-- ## Errors in the syntax of the parts
 
 piece_by : (slot : Slot) (room number : ℕ) (text : List ℕ) (e : SpecFault) (full : Bool) → number + room ≡ 241 → eqb room 0 ≡ full → cond full (Err TooManyParts) (part_of slot text >>= λ p. Ok (with_full_years slot p)) ≡ Err e → HasPieceFault slot number text e
 piece_by slot room number text e true sum is at =
@@ -81,7 +81,8 @@ renumbered slot m n text e same h = subst (λ (k : ℕ). HasPieceFault slot k te
 abbrev IsSomePart : List ℕ → Type 0
 IsSomePart text = (p : Part) × IsPartText text p
 
--- one of the pieces has the error, and all pieces before it are parts; the first piece has this number
+-- one of the pieces has the error, and all pieces before it are parts; `number` is the number of counted parts up to
+-- and including the first piece
 record SyntaxFrom (slot : Slot) (number : ℕ) (pieces : List (List ℕ)) (e : SpecFault) : Type 0 where
   pub done : List (List ℕ)
   pub piece : List ℕ
@@ -128,7 +129,7 @@ shapes_only slot room number (t ∷ done) piece after e sum are at =
     let more = shapes_only slot (room - 1) (number + 1) done piece after e (omega (arith, few, sum)) are.1 (renumbered slot (number + suc (length done)) (number + 1 + length done) piece e (omega arith) at) in
     rw (due, more) refl
 
--- ## Values
+-- ## Errors in the values of the parts
 
 record ValuesFrom (slot : Slot) (ps : List Part) (e : SpecFault) : Type 0 where
   pub done : List Part
@@ -166,7 +167,7 @@ values_only : (slot : Slot) (done : List Part) (part : Part) (after : List Part)
 values_only slot [] part after e sound at = rw (value_fault_only slot part e at) refl
 values_only slot (p ∷ done) part after e sound at = rw (no_fault_of slot p sound.0) (values_only slot done part after e sound.1 at)
 
--- ## Components
+-- ## Errors of one component
 
 listed_found : (slot : Slot) (before room : ℕ) (text : List ℕ) (e : SpecFault) → before + room ≡ 240 → parts_listed slot room text ≡ Err e
     → HasSyntaxFault slot before (slice_split is_comma text) e ⊎ HasFaultInValues slot before (slice_split is_comma text) e
@@ -238,7 +239,7 @@ component_fault_only slot before room text e sum h =
     let none = false_from_ne_true (is_star text) (λ star. h.0 ((bytes_eq-Decides text (codes "*")).0 star)) in
     rw (none, listed_only slot before room text e sum h.1) refl
 
--- ## Three components, which are parsed from left to right
+-- ## Errors of three components, which are parsed from left to right
 
 record ReadBefore (slot : Slot) (before room : ℕ) (text : List ℕ) (parts : Option (List Part)) : Type 0 where
   pub is : IsComponent slot text parts

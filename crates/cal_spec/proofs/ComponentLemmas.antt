@@ -18,7 +18,7 @@ use Rattle.cal_spec.specs.declared.spec_fault.SpecFault.TheVariants.{OutOfField,
 use Rattle.cal_bytes.proofs.General.{some_piece, option_or_none}
 use Rattle.cal_spec.proofs.ReadLemmas.{Follows, bind_ok, unless_ok, cond_ok}
 
--- If a part passes the checks of its values, its values are valid
+-- ## If a part passes the checks of its values, its values are valid
 
 no_fault : (a b c d : Bool) → cond a (Some OutOfField) (cond b (Some BackwardRange) (cond c (Some ZeroRepeat) (cond d (Some NoRepeat) None))) ≡ None → (a ≡ false) × (b ≡ false) × (c ≡ false) × (d ≡ false)
 no_fault false false false false at = (refl, refl, refl, refl)
@@ -71,7 +71,7 @@ sound_parts slot (p ∷ ps) at =
     let none = option_or_none (fault_of slot p) (first_value_fault slot ps) at in
     (sound_part slot p none.0, sound_parts slot ps none.1)
 
--- Parsing returns one part for each text between commas, and no more parts than are allowed
+-- ## Parsing returns one part for each text between commas, and no more parts than are allowed
 
 -- if `part_due` succeeds, then `room` isn't 0, and the result is the part that `part_of` returns, with two-digit years
 -- expanded

@@ -22,7 +22,7 @@ use Rattle.cal_spec.proofs.ComponentLemmas.{ListedRead, component_is, part_due_i
 use Rattle.cal_spec.proofs.PartRule.{part_found, part_only}
 use Rattle.cal_bytes.proofs.General.{some_piece, list_all-wider, list_all-both, IsClear, Apart, clear_of, split_join_with_byte}
 
--- If the values of a part are valid, the part passes the checks of its values
+-- ## If the values of a part are valid, the part passes the checks of its values
 
 within_is : (slot : Slot) (n : ℕ) → IsWithin slot n → is_within slot n ≡ true
 within_is slot n h = and_from (leb (least slot) n) (leb n (greatest slot)) (le-leb (least slot) n h.0) (le-leb n (greatest slot) h.1)
@@ -55,7 +55,7 @@ pub no_first_fault : (slot : Slot) (ps : List Part) → AllByRecursion (IsValidP
 no_first_fault slot [] sound = refl
 no_first_fault slot (p ∷ ps) sound = rw (no_fault_of slot p sound.0) (no_first_fault slot ps sound.1)
 
--- If parsing a component succeeds, the grammar allows the component
+-- ## If parsing a component succeeds, the grammar allows the component
 
 pub parts_found : (slot : Slot) (room : ℕ) (ts : List (List ℕ)) (ps : List Part) → parts_of slot room ts ≡ Ok ps → AllZip (IsPartOf slot) ts ps
 parts_found slot room [] ps at = let none : [] ≡ ps = cc in rw (← none) tt
@@ -83,7 +83,7 @@ component_found slot room text c at =
       | inr listed ↦ rw listed.1.1 (listed_found slot room text listed.1.0 listed.1.2)
     ]
 
--- The bytes that can occur in parts and components
+-- ## The bytes that can occur in parts and components
 
 -- the bytes that can occur in a part: points, slashes and digits
 abbrev pub is_part_byte : ℕ → Bool
@@ -135,7 +135,7 @@ pub component_bytes : (slot : Slot) (text : List ℕ) (c : Option (List Part)) �
 component_bytes slot text None is = rw is refl
 component_bytes slot text (Some ps) is = rw is.whole (joined_bytes slot is.texts ps is.parts)
 
--- If the grammar allows a component, parsing it succeeds
+-- ## If the grammar allows a component, parsing it succeeds
 
 pub part_due_only : (slot : Slot) (room : ℕ) (text : List ℕ) (p : Part) → IsPartOf slot text p → 0 < room → part_due slot room text ≡ Ok p
 unfolding part_due

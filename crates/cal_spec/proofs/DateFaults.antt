@@ -1,4 +1,5 @@
--- Parsing a date or a time fails with the error that the rule gives.
+-- Parsing a date or a time fails with an error if and only if it has this error by the rule `HasDateFault` or
+-- `HasTimeFault`.
 use Rattle.std.proofs.Common.{ℕ, ◌+◌, ◌≡◌, inl, inr, Bool, true, false, cond, List, [], ◌∷◌, codes, Option, Some, None, Err, refl, sym}
 use Rattle.std.specs.Prelude.{filter}
 use Rattle.std.specs.List.{AllByRecursion, onto_first, slice_split}
@@ -76,7 +77,7 @@ date_texts_only word t h = date_shape_only word t h.year h.month h.day h.shape
 time_texts_only : (word : List ℕ) (t : TimeTexts) → HasTimeTexts word t → time_texts word ≡ Some t
 time_texts_only word t h = time_shape_only word t h.hour h.minute h.second h.shape
 
--- ## Dates
+-- ## The errors of dates
 
 date_by : (word : List ℕ) (e : SpecFault) (o : Option DateTexts) → date_texts word ≡ o → date_due o ≡ Err e → HasDateFault word e
 unfolding date_fields
@@ -100,7 +101,7 @@ date_fault_only word e (inl none) = rw none.1 (no_date word (date_texts word) re
 date_fault_only word e (inr (t, texts, wrong)) =
     rw (date_texts_only word t texts) (three_only Year Month (day_slot t.from_end) t.year t.month t.day (λ year month day. record { year = year; month = month; day = day; from_end = t.from_end }) 0 240 e refl wrong)
 
--- ## Times
+-- ## The errors of times
 
 time_by : (before room : ℕ) (word : List ℕ) (e : SpecFault) (o : Option TimeTexts) → before + room ≡ 240 → time_texts word ≡ o → time_due room o ≡ Err e → HasTimeFault before word e
 unfolding time_fields

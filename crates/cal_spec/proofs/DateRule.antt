@@ -53,7 +53,7 @@ filter_kept : (p : ℕ → Bool) (xs : List ℕ) → AllByRecursion (λ b. p b �
 filter_kept p [] = tt
 filter_kept p (x ∷ xs) = grind (arith, filter_kept p xs)
 
--- Splitting a date into its components agrees with the grammar
+-- ## Splitting a date into its components agrees with the grammar
 
 sign_by : (s : ℕ) (tilde : Bool) → is_tilde s ≡ tilde → is_date_sign s ≡ true → last_sign tilde ≡ s ∷ []
 sign_by s true is test = ap (λ b. b ∷ []) (sym (eqb-true s 126 is))
@@ -112,7 +112,7 @@ pub date_shape_only : (word : List ℕ) (t : DateTexts) → IsClear is_date_sign
 date_shape_only word t y m d (inl whole) = ap date_texts whole ∙ three_only t.year t.month t.day t.from_end y m d
 date_shape_only word t y m d (inr shape) = ap date_texts shape.1 ∙ two_only t.month t.day t.from_end m d ∙ ap Some (with_star t shape.0)
 
--- Splitting a time into its components agrees with the grammar
+-- ## Splitting a time into its components agrees with the grammar
 
 time_by_found : (ts : List (List ℕ)) (t : TimeTexts) → time_texts_by ts ≡ Some t → IsTimeShape (join_with_byte 58 ts) t
 time_by_found (a ∷ b ∷ []) t at =
@@ -141,7 +141,7 @@ pub time_shape_only : (word : List ℕ) (t : TimeTexts) → IsClear is_colon t.h
 time_shape_only word t h m s (inl whole) = ap time_texts whole ∙ time_three_only t.hour t.minute t.second h m s
 time_shape_only word t h m s (inr shape) = ap time_texts shape.1 ∙ time_two_only t.hour t.minute h m ∙ ap Some (with_zeros t shape.0)
 
--- No component contains `-`, `~` or a colon
+-- ## No component contains `-`, `~` or a colon
 
 pub component_no_sign : Apart is_component_byte is_date_sign
 component_no_sign b h = grind (arith, nat_tests)
@@ -152,7 +152,7 @@ component_no_colon b h = grind (arith, nat_tests)
 component_clear : (p : ℕ → Bool) (slot : Slot) (text : List ℕ) (c : Option (List Part)) → Apart is_component_byte p → IsComponent slot text c → IsClear p text
 component_clear p slot text c apart is = clear_of is_component_byte p text apart (component_bytes slot text c is)
 
--- If parsing a date or a time succeeds, the grammar allows it
+-- ## If parsing a date or a time succeeds, the grammar allows it
 
 pub is_date : (word : List ℕ) (weekdays : List Bool) (d : DateFields) (h : TimeFields) (name : Option ZoneSuffix) → date_in_word word ≡ Ok d → IsDate word (fields_with weekdays d h name)
 is_date word weekdays d h name at =
@@ -181,7 +181,7 @@ is_time room word weekdays d h name at =
       second = component_found Second (room - counted Hour h.hour - counted Minute h.minute) t.second h.second read.second;
     }
 
--- If the grammar allows a date or a time, parsing it succeeds
+-- ## If the grammar allows a date or a time, parsing it succeeds
 
 -- 240 counted parts are allowed in all; no component has more of them than are left after the components before it
 pub record AreFew (f : Fields) : Type 0 where

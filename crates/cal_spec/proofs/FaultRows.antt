@@ -1,4 +1,5 @@
--- Examples of errors, from the rule and without the parser: parts and values that have an error, and words that have none.
+-- Examples of errors by the rule: errors in the syntax of parts, errors in their values, and an error of a whole text.
+-- They are proved without the parser.
 use Rattle.std.proofs.Common.{ℕ, inl, inr, codes, replicate, None, Some, refl, arith}
 use Rattle.std.proofs.lemmas.List.{length-replicate}
 use Rattle.cal_spec.specs.rules.PartFaultRule.{HasPartFault, HasValueFault}
@@ -6,11 +7,11 @@ use Rattle.cal_spec.specs.rules.GrammarFaultRule.{HasFault}
 use Rattle.cal_spec.specs.declared.slot.Slot.TheVariants.{Hour, Second, Year}
 use Rattle.cal_spec.specs.declared.spec_fault.SpecFault.TheVariants.{BackwardRange, FractionalSecond, NumberTooLarge, OutOfField, TextTooLong}
 
--- a fraction after a number above 9,999
+-- in the seconds: `10000.5` has a number above 9,999 and a fraction, and the number is reported
 large : HasPartFault Second (codes "10000.5") NumberTooLarge
 large = inl ((codes "10000.5", inl refl, record { digits = codes "10000"; after = codes ".5"; whole = refl; are_digits = refl; ends = refl; large = omega arith }), refl)
 
--- a number above 9,999 after a slash
+-- in the hour: the step of `1..2/10000x` is above 9,999, which is reported instead of the `x`
 large_step : HasPartFault Hour (codes "1..2/10000x") NumberTooLarge
 large_step = inl (
   (
@@ -29,7 +30,7 @@ large_step = inl (
   refl,
 )
 
--- a fraction after two points
+-- in the seconds: the end of the range `1..5.` is followed by a point, as if a fraction came next
 fraction : HasPartFault Second (codes "1..5.") FractionalSecond
 fraction = inr (inl (
   (
@@ -56,6 +57,6 @@ outside within = let high = within.0.1 in absurd (omega (arith, high))
 backward : HasValueFault Year (record { start = 2012; end = Some 2001; step = Some 0 }) BackwardRange
 backward = (((omega arith, omega arith), (omega arith, omega arith)), λ forward. omega (arith, forward))
 
--- 4,097 spaces
+-- 4,097 spaces: the text has no words, but its length is reported
 too_long : HasFault (replicate 4097 32) TextTooLong
 too_long = inl (let size = length-replicate {A = ℕ} 4097 32 in omega (arith, size), refl)

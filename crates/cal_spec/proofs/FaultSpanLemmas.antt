@@ -9,8 +9,8 @@ use Rattle.cal_bytes.specs.rules.Trim.{trim_end_matches}
 use Rattle.cal_bytes.specs.rules.Separators.{is_blank}
 use Rattle.cal_spec.specs.rules.WordsOfText.{IsWordAt}
 
--- contracts give `&text[from..]` as `take (length text - from) (drop from text)`, which is the text without its first
--- `from` bytes
+-- contracts describe the slice `&text[from..]` as `take (length text - from) (drop from text)`; this is the text
+-- without its first `from` bytes
 pub rest_from : (text : List ℕ) (from : ℕ) → take (length text - from) (drop from text) ≡ drop from text
 rest_from text from = take_all (length text - from) (drop from text) (omega (arith, length-drop from text))
 

@@ -1,4 +1,4 @@
--- Parsed fields are valid.
+-- What each step of a successful parse has returned. From this it follows that the parsed fields are valid.
 use Rattle.std.proofs.Common.{ℕ, ℤ, ◌-◌, ◌+◌, ◌≤◌, ◌≡◌, Bool, true, false, cond, List, [], ◌∷◌, length, map, Option, Some, None, Ok, Err, Result, refl, arith, ltb, codes, subst}
 use Rattle.std.specs.Prelude.{IfOk, is_some}
 use Rattle.std.specs.List.{list_any, slice_split}
@@ -42,7 +42,7 @@ use Rattle.cal_spec.proofs.ComponentLemmas.{IsRead, component_read}
 use Rattle.cal_bytes.proofs.General.{some_piece}
 use Rattle.cal_spec.proofs.ReadLemmas.{bind_ok, cond_ok, three_ok, four_ok}
 
--- ## The components of dates and times
+-- ## If parsing a date or a time succeeds, so does parsing each of its components
 
 pub record DateRead (t : DateTexts) (d : DateFields) : Type 0 where
   pub year : component_of Year max_counted_parts t.year ≡ Ok d.year
@@ -101,7 +101,7 @@ pub time_found : (room : ℕ) (word : List ℕ) (h : TimeFields) → time_in_wor
 unfolding time_in_word
 time_found room word h at = time_found_by room word (time_texts word) h refl at
 
--- ## Weekday lists
+-- ## If parsing a weekday list succeeds, so does parsing each of its items, and at least one weekday matches
 
 pub record ItemsRead (t : List ℕ) (ts : List (List ℕ)) (items : List WeekdayRange) : Type 0 where
   pub first : WeekdayRange
@@ -177,7 +177,7 @@ is_week (Some word) days at =
     let found = weekdays_found word days at in
     rw found.is at (week_of_items (without_comma word) found.items found.read)
 
--- ## Zones
+-- ## A zone that parsing returns is valid
 
 name_kept : (word : List ℕ) (utc : Bool) → is_zone_name word ≡ true → is_zone_name (cond utc (codes "UTC") word) ≡ true
 unfolding is_zone_name
@@ -209,7 +209,7 @@ is_zone [] (Some suffix) at = cc
 is_zone (w ∷ []) suffix at = zone_by w (is_zone_name w) suffix refl at
 is_zone (w ∷ v ∷ ws) suffix at = cc
 
--- ## The words of a text
+-- ## If parsing a text succeeds, so does parsing its weekdays, its date, its time and its zone
 
 abbrev pub fields_with : List Bool → DateFields → TimeFields → Option ZoneSuffix → Fields
 fields_with weekdays date time name = record {
@@ -268,7 +268,7 @@ text_found text f at =
     let read = cond_ok (ltb max_text_bytes (length text)) TextTooLong (fields_due (roles_of (words text))) f at in
     text_found_by text (roles_of (words text)) f (ltb-false max_text_bytes (length text) read.0) refl read.1
 
--- ## Counted parts
+-- ## All parts of a date are counted, and all but the first part of each component of a time
 
 pub counted_date : (slot : Slot) (c : Option (List Part)) → is_time slot ≡ false → counted slot c ≡ parts_in c
 counted_date slot None test = refl
@@ -282,7 +282,7 @@ pub day_no_time : (from_end : Bool) → is_time (day_slot from_end) ≡ false
 day_no_time true = refl
 day_no_time false = refl
 
--- ## Valid values
+-- ## Dates, times and fields that parsing returns are valid
 
 pub record IsDateRead (d : DateFields) : Type 0 where
   pub year : IsRead Year max_counted_parts d.year

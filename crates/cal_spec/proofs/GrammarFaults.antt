@@ -1,4 +1,4 @@
--- Parsing a text fails with the error that the rule gives.
+-- Parsing a text fails with an error if and only if the text has this error by the rule `HasFault`.
 use Rattle.std.proofs.Common.{ℕ, ◌+◌, ◌≤◌, ◌≡◌, ◌⊎◌, inl, inr, Bool, true, false, cond, List, [], ◌∷◌, length, Option, Some, None, Ok, Err, refl, sym, ap, ◌∙◌, arith, ltb}
 use Rattle.std.specs.Prelude.{Result, is_some}
 use Rattle.std.specs.List.{slice_split}
@@ -33,7 +33,7 @@ use Rattle.cal_spec.proofs.WeekdayRule.{weekdays_by_rule, weekdays_only}
 use Rattle.cal_spec.proofs.WholeRule.{valid_found, valid_only}
 use Rattle.cal_spec.proofs.WordRule.{roles_found, roles_only, zone_only, zone_read}
 
--- ## Weekdays
+-- ## The errors of weekday lists
 
 days_err : (o : Option WeekdayRange) (e : SpecFault) → ok_or o BadWeekday ≡ Err e → e ≡ BadWeekday
 days_err None e at = cc
@@ -92,7 +92,7 @@ weekdays_fault_only : (word : Option (List ℕ)) (e : SpecFault) → HasWeekdays
 weekdays_fault_only None e h = absurd h
 weekdays_fault_only (Some word) e h = weekdays_only_by word e (weekdays_of word) refl h
 
--- ## The words after the time
+-- ## The error of the words after the time, which is always `StrayWord`
 
 suffix_due_err : (o : Option ZoneSuffix) (e : SpecFault) → suffix_due o ≡ Err e → e ≡ StrayWord
 suffix_due_err None e at = cc
@@ -113,7 +113,7 @@ stray_by : (rest : List (List ℕ)) (r : Result (Option ZoneSuffix) SpecFault) �
 stray_by rest (Ok zone) at none = let read = zone_read rest zone at in absurd (none read.last zone read.rest_is read.is)
 stray_by rest (Err e) at none = at ∙ ap Err (suffix_err rest e at)
 
--- ## A time after a valid date
+-- ## The errors of the time, and of the words after it, if the date is valid
 
 read_left : (d : DateFields) → IsDateRead d → (parts_in d.year + parts_in d.month + parts_in d.day ≤ 240) × (parts_in d.year + parts_in d.month + parts_in d.day + room_after d ≡ 240)
 read_left d read =
@@ -136,7 +136,7 @@ after_date p weekdays d e week date wrong =
       at_fault = time_fault_found (parts_in d.year + parts_in d.month + parts_in d.day) (room_after d) p.time e left.1 wrong;
     }
 
--- the fields without a time
+-- the fields with `*` as hour, minute and second
 abbrev dated : Fields → Fields
 dated f = record {
   weekdays = f.weekdays;
@@ -177,7 +177,7 @@ stray_word p weekdays d h e week date time wrong = record {
   no_zone = no_zone p.rest e wrong;
 }
 
--- ## All words
+-- ## The error of the first invalid word
 
 words_fault_found : (p : WordRoles) (e : SpecFault) → fields_at p ≡ Err e → HasWordFault p e
 unfolding fields_at
@@ -212,7 +212,7 @@ words_fault_only p e (inr (inr (inr (h, is)))) =
     let few = are_few f h.few in
     rw (weekdays_only p.weekdays f.weekdays h.weekdays, date_only p.date f few h.date, time_only p.time f few h.time, stray_by p.rest (suffix_in p.rest) refl h.no_zone, is) refl
 
--- ## The whole text
+-- ## The error of a whole text
 
 no_words : (ws : List (List ℕ)) → roles_of ws ≡ None → ws ≡ []
 unfolding roles_of
@@ -240,7 +240,7 @@ fault_only text e (inr (short, inr (p, roles, wrong))) =
     let found : roles_of (words text) ≡ Some p = roles_only (words text) p roles in
     rw (le-ltb max_text_bytes (length text) short, found) (words_fault_only p e wrong)
 
--- ## A text has fields or one error
+-- ## Each text has either fields or exactly one error
 
 pub one_fault : (text : List ℕ) (d e : SpecFault) → HasFault text d → HasFault text e → d ≡ e
 one_fault text d e first second = let one = fault_only text d first in let two = fault_only text e second in cc

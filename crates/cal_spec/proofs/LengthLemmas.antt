@@ -25,7 +25,7 @@ use Rattle.cal_spec.proofs.NormalFieldsLemmas.{are_normal, component_sound, fiel
 use Rattle.cal_spec.proofs.NormalLemmas.{each_part}
 use Rattle.cal_bytes.proofs.General.{check_all, each_checked}
 
--- The numbers in a normal form are small
+-- ## The numbers in a normal form are small
 
 -- if there is a number, it is below `bound`
 abbrev pub IsBelow : ℕ → Option ℕ → Type 0
@@ -99,7 +99,7 @@ unfolding normal_second
 small_second None h = tt
 small_second (Some ps) h = small_starred (normal_parts ps) (starred (normal_parts ps)) (starred_is (normal_parts ps)) (small_component Second (Some ps) h)
 
--- Upper bounds for the length of the text of small parts
+-- ## Upper bounds for the length of the text of small parts
 
 number_length : (lead : List ℕ) (width most n : ℕ) → 0 < most → width ≤ most → n < 10 ^ most → n < 10_000 → length (number_text lead width n) ≤ length lead + most
 unfolding number_text
@@ -168,9 +168,9 @@ fields_length f year month day hour minute second few =
     let lg = row_length (codes ":") 2 f.second (omega arith) second in
     omega (arith, lead_length f.from_end, length-append a (b ++ (c ++ (d ++ (e ++ (g ++ []))))), length-append b (c ++ (d ++ (e ++ (g ++ [])))), length-append c (d ++ (e ++ (g ++ []))), length-append d (e ++ (g ++ [])), length-append e (g ++ []), length-append g [])
 
--- Upper bounds for the length of weekdays, zones and whole expressions. The bound of 20 bytes for weekdays is checked
--- by computing the text of each set of weekdays.
+-- ## Upper bounds for the length of weekdays, zones and whole expressions
 
+-- the text of weekdays has at most 20 bytes, which is checked by computing the text of each set of weekdays
 short_weekdays : check_all 7 (λ days. nat_le (length (weekdays_text days)) 20) ≡ true
 unfolding weekdays_text runs_text run_text name_of
 short_weekdays = refl

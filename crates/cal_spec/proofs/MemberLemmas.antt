@@ -171,7 +171,7 @@ pub matches_stay : (f : Fields) (local : ℕ) → IsValidFields f → matches (s
 unfolding matches
 matches_stay f local valid = rw (date_stays f (civil_date (local / 86_400)) valid, time_stays f (local % 86_400) valid) refl
 
--- a day component and its normal form match the same numbers, also if only the first counts from the month's end
+-- a day component and its normal form match the same numbers, even if only the component counts from the month's end
 day_members : (from_end : Bool) (c : Option (List Part)) (v : ℕ) → AreParts c → component_has (day_slot (normal_from_end from_end c)) (normal_component c) v ≡ component_has (day_slot from_end) c v
 day_members true None v h = refl
 day_members false None v h = refl

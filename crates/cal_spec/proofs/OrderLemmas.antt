@@ -10,7 +10,7 @@ use Rattle.cal_rising.proofs.OrderLemmas.{has-insert_key}
 use Rattle.cal_spec.specs.computed.NormalParts.{in_order}
 
 module _ {A : Type 0} (cmp : A → A → Ordering) where
-  -- the sorted list has the same elements
+  -- `in_order` returns a list with the same elements as the list that it sorts
   pub has_in_order : IsAntisymmetric cmp → (z : A) (xs : List A) → Has (in_order cmp xs) z ↔ Has xs z
   has_in_order exact z [] = (λ h. h, λ h. h)
   has_in_order exact z (x ∷ xs) =
@@ -20,7 +20,7 @@ module _ {A : Type 0} (cmp : A → A → Ordering) where
         λ h. elim h [ inl same ↦ here.1 (inl same) | inr k ↦ here.1 (inr (rest.1 k)) ],
       )
 
-  -- the sorted list is strictly increasing
+  -- the list that `in_order` returns is strictly increasing
   pub sorted_in_order : IsTotalOrder cmp → (xs : List A) → IsStrictlySortedBy cmp (in_order cmp xs)
   unfolding IsStrictlySortedBy
   sorted_in_order total [] = tt

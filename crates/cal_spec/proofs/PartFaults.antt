@@ -1,4 +1,5 @@
--- Parsing a part fails with the error that the rule gives.
+-- Parsing a part, or checking its values, fails with an error if and only if the part has this error by the rule:
+-- `HasPartFault` for its syntax, and `HasValueFault` for its values.
 use Rattle.std.proofs.Common.{ℕ, ◌<◌, ◌≡◌, ◌⊎◌, inl, inr, Bool, true, false, cond, ◌&&◌, List, [], ◌∷◌, ◌++◌, codes, length, take, drop, Option, Some, None, Ok, Err, refl, sym, ap, ◌∙◌, arith, ltb, subst}
 use Rattle.std.specs.Prelude.{Result}
 use Rattle.std.specs.List.{list_all, prefix_len}
@@ -93,7 +94,7 @@ second_is : (slot : Slot) → is_second slot ≡ true → slot ≡ Second
 second_is Second h = refl
 second_is slot h = cc
 
--- ## If a number is due, the errors are those of the rule
+-- ## The errors of parsing a number
 
 abbrev DueErr : Slot → List ℕ → SpecFault → Type 0
 DueErr slot text e =
@@ -154,7 +155,7 @@ at_number slot text rest e due at =
       | inr (inr fraction) ↦ inr (inr ((fraction.0.0, (rest, due, fraction.0.1)), fraction.1))
     ]
 
--- the text after two points, or after a slash, at the start of a text
+-- if the first symbol of a text is `..`, the other symbols are those of the text after the two points
 dots_at : (text : List ℕ) (ss : List Symbol) → symbols text ≡ dots ∷ ss → (rest : List ℕ) × (text ≡ codes ".." ++ rest) × (ss ≡ symbols rest)
 dots_at text ss at =
     let whole : text ≡ 46 ∷ 46 ∷ written ss = sym (written-symbols text) ∙ ap written at in
@@ -173,7 +174,8 @@ at_end_err : (slot : Slot) (text : List ℕ) (p : Part) (ss : List Symbol) (e : 
 at_end_err slot text p [] e at = cc
 at_end_err slot text p (s ∷ ss) e at = bad_err {A = Part} slot text e at
 
--- the error of a step, before which the text has a number and perhaps the end of a range
+-- In this module, `front` is the number with which `text` begins, and `a` is its value. If parsing what follows `front`
+-- fails, the error is one that the rule can give a part.
 module _ (slot : Slot) (text front : List ℕ) (a : ℕ) (e : SpecFault) (start_is : IsNumber front a) where
   step_err : (middle rest : List ℕ) (last : Option ℕ) → text ≡ front ++ (middle ++ (codes "/" ++ rest)) → IsNext (codes "..") middle last → with_step slot a last (symbols rest) ≡ Err e → PartErr slot text e
   unfolding with_step
@@ -224,7 +226,8 @@ part_err slot text e at =
 
 -- ## If the rule gives a part an error, parsing it fails with this error
 
--- what stands before a number of a part is parsed without an error
+-- In this module, `rest` has the error `e` where a number is due. A part that ends with `rest` has this error, too, if
+-- everything before `rest` is valid.
 module _ (slot : Slot) (rest : List ℕ) (e : SpecFault) (due : number_due slot (symbols rest) ≡ Err e) where
   step_lead : (front middle : List ℕ) (a : ℕ) (last : Option ℕ) → IsNumber front a → IsNext (codes "..") middle last → part_of slot (front ++ (middle ++ (codes "/" ++ rest))) ≡ Err e
   unfolding part_of after_start after_end with_step
@@ -315,7 +318,7 @@ part_fault_only slot text e (inl large) = rw large.1 (large_only slot text large
 part_fault_only slot text e (inr (inl fraction)) = rw fraction.1 (fraction_only slot text fraction.0)
 part_fault_only slot text e (inr (inr bad_one)) = rw bad_one.1 (malformed_by slot text (part_of slot text) refl bad_one.0)
 
--- ## The values of a part
+-- ## Errors in the values of a part
 
 within_by : (slot : Slot) (p : Part) → is_outside slot p.start p.end ≡ false → AreWithin slot p
 within_by slot p test = (start_within slot p.start p.end test, end_within slot p.start p.end test)

@@ -17,7 +17,7 @@ use Rattle.cal_spec.specs.declared.spec_fault.SpecFault.TheVariants.{NumberTooLa
 use Rattle.cal_spec.proofs.ReadLemmas.{bind_ok, cond_ok}
 use Rattle.cal_spec.proofs.SymbolLemmas.{IsSymbol, symbols_lone, symbols_number, symbols_sound}
 
--- The symbols of a text determine the text
+-- ## The symbols of a text determine the text
 
 abbrev pub spelled : Symbol → List ℕ
 spelled (digits ds) = ds
@@ -55,7 +55,7 @@ written-symbols (b ∷ []) = written-byte b [] (is_ascii_digit b)
 written-symbols (b ∷ c ∷ bs) =
     written-pair b c (symbols bs) (symbols (c ∷ bs)) (is_point b && is_point c) refl (written-symbols (c ∷ bs) ∙ ap (λ more. c ∷ more) (sym (written-symbols bs))) ∙ ap (λ more. b ∷ c ∷ more) (written-symbols bs)
 
--- If parsing a part succeeds, the grammar allows the part
+-- ## If parsing a part succeeds, the grammar allows the part
 
 pub record NumberRead (ss : List Symbol) (r : Counted) : Type 0 where
   pub text : List ℕ
@@ -119,8 +119,8 @@ end_read slot a b [] p sound at = record { step = None; back = refl; is = cc }
 end_read slot a b (slash ∷ ss) p sound at = step_read slot a (Some b) ss p sound.1 at
 end_read slot a b ss p sound at = cc
 
--- `p` is a part with the start `a`. `text` is the rest of the part's text: `..` and the end, if `p` has an end, and
--- then a slash and the step, if `p` has a step.
+-- `p` is a part with the start `a`. `text` is what follows the start in the text of the part: `..` and the end, if `p`
+-- has an end, and then a slash and the step, if `p` has a step.
 pub record IsRest (text : List ℕ) (a : ℕ) (p : Part) : Type 0 where
   pub middle : List ℕ
   pub back : List ℕ
@@ -180,7 +180,7 @@ part_found slot text p at =
     let whole : text ≡ read.text ++ (rest.middle ++ rest.back) = sym (written-symbols text) ∙ ap written read.is ∙ ap (λ more. read.text ++ more) rest.whole in
     part_by text read.text rest.middle rest.back one.value.number rest.last rest.step p rest.is whole read.number rest.end_is rest.step_is
 
--- If the grammar allows a part, parsing it succeeds
+-- ## If the grammar allows a part, parsing it succeeds
 
 pub number_due_is : (slot : Slot) (ds : List ℕ) (n : ℕ) (ss : List Symbol) → IsNumber ds n → starts_with_point ss ≡ false → number_due slot (digits ds ∷ ss) ≡ Ok (record { number = n; after = ss })
 number_due_is slot ds n ss number apart =
@@ -214,7 +214,7 @@ unfolding after_start
 start_only slot a back None none = rw none refl
 start_only slot a back (Some r) next = rw (next.1, slash_symbols next.0) (step_only slot a None next.0 r next.2)
 
--- What follows a number in a part begins neither with a digit nor with a single point
+-- ## What follows a number in a part begins neither with a digit nor with a single point
 
 back_no_digit : (back : List ℕ) (step : Option ℕ) → IsNext (codes "/") back step → begins_with is_ascii_digit back ≡ false
 back_no_digit back None none = rw none refl

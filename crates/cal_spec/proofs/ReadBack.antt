@@ -45,7 +45,7 @@ pub record IsReadable (f : Fields) : Type 0 where
   pub minute : AreSmall f.minute
   pub second : AreSmall f.second
 
--- The printed date and time are a word for the date, a space, and a word for the time
+-- ## The printed date and time are a word for the date, a space, and a word for the time
 
 date_word : Fields → List ℕ
 date_word f = component_text 4 f.year ++ (45 ∷ (component_text 2 f.month ++ (day_lead f.from_end ++ component_text 2 f.day)))
@@ -64,8 +64,9 @@ unfolding fields_text row_text date_word time_word
 fields_printed f =
     layout (day_lead f.from_end) (component_text 4 f.year) (component_text 2 f.month) (component_text 2 f.day) (component_text 2 f.hour) (component_text 2 f.minute) (component_text 2 f.second)
 
--- The bytes that can occur in a date or in a time: the bytes of components, and separators. None of them is a letter or
--- a blank.
+-- ## The bytes that can occur in a date or in a time
+--
+-- These are the bytes of components, and separators. None of them is a letter or a blank.
 
 abbrev is_date_byte : ℕ → Bool
 is_date_byte b = is_component_byte b || (nat_eq b 45 || nat_eq b 126)
@@ -151,7 +152,7 @@ time_zone f h =
     let sign = front_no_sign (component_text 2 f.hour) (58 ∷ (component_text 2 f.minute ++ (58 ∷ component_text 2 f.second))) (printed_some Hour 2 f.hour h.valid.hour h.hour) (printed_bytes Hour 2 f.hour h.valid.hour h.hour) in
     rw (letter, sign) refl
 
--- The grammar allows the printed date and the printed time
+-- ## The grammar allows the printed date and the printed time
 
 lead_is : (t : Bool) → day_lead t ≡ last_sign t
 lead_is true = refl
@@ -178,7 +179,7 @@ time_printed f h = record {
   second = component_printed Second 2 f.second h.valid.second h.second;
 }
 
--- Splitting the printed date, time and zone into words
+-- ## Splitting the printed date, time and zone into words
 
 word_first : (w rest : List ℕ) → list_any is_blank w ≡ false → 0 < length w → words (w ++ (32 ∷ rest)) ≡ w ∷ words rest
 unfolding words
@@ -212,7 +213,7 @@ words_of_fields f h =
     ∙ word_first (date_word f) (time_word f ++ after) (clear_of is_date_byte is_blank (date_word f) date_no_blank (date_bytes f h)) (date_some f h)
     ∙ ap (λ ws. date_word f ∷ ws) (words_to_zone (time_word f) f.zone (clear_of is_time_byte is_blank (time_word f) time_no_blank (time_bytes f h)) (time_some f h) h.valid.zone)
 
--- The parser recognizes the printed weekdays, date, time and zone
+-- ## The parser recognizes the printed weekdays, date, time and zone
 
 roles : Option (List ℕ) → Fields → WordRoles
 roles weekdays f = record { weekdays = weekdays; date = date_word f; time = time_word f; rest = zone_words f.zone }
@@ -253,7 +254,7 @@ roles_back f weekdays h days =
     let name = zone_back f.zone h.valid.zone in
     rw (days, date, time, name) refl
 
--- Parsing a whole printed expression returns the same fields
+-- ## Parsing a whole printed expression returns the same fields
 
 back_by : (f : Fields) (ws : List (List ℕ)) (p : WordRoles) → length (expr_text f) < 4_096 → words (expr_text f) ≡ ws → roles_of ws ≡ Some p → fields_at p ≡ Ok f → fields_in (expr_text f) ≡ Ok f
 unfolding fields_in

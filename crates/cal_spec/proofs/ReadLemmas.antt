@@ -37,7 +37,7 @@ pub cond_ok : {A : Type 0} (test : Bool) (e : SpecFault) (r : Result A SpecFault
 cond_ok true e r y at = cc
 cond_ok false e r y at = (refl, at)
 
--- Three and four parsers that run one after the other
+-- ## Three and four parsers that run one after the other
 
 pub record Three {A B C D : Type 0} (r : Result A SpecFault) (g : A → Result B SpecFault) (h : A → B → Result C SpecFault) (k : A → B → C → D) (y : D) : Type 0 where
   pub a : A

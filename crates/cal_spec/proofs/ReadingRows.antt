@@ -1,5 +1,5 @@
--- Examples of invalid texts and of their errors, checked by computation: parsing returns these errors, and the rule
--- gives them.
+-- Examples of invalid texts and of their errors. Parsing fails with these errors, which is checked by computation; and
+-- the texts have these errors by the rule `HasFault`.
 use Rattle.std.proofs.Common.{◌≡◌, codes, refl, Err, List, [], ◌∷◌, ℕ, map}
 use Rattle.std.specs.List.{AllByRecursion}
 use Rattle.cal_spec.specs.rules.GrammarFaultRule.{HasFault}
@@ -86,6 +86,6 @@ faults_of_rows (r ∷ rs) same =
     let more : map (λ (row : Row). fields_in row.0) rs ≡ map (λ (row : Row). Err row.1) rs = cc in
     (fault_found r.0 r.1 first, faults_of_rows rs more)
 
--- the rule gives each text its error
+-- by the rule `HasFault`, each text has the error in its row
 rows_have_faults : AllByRecursion (λ (row : Row). HasFault row.0 row.1) rows
 rows_have_faults = faults_of_rows rows rows_at_fault

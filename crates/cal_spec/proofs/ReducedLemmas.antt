@@ -1,5 +1,5 @@
--- The normal form of a part: a range ends at the last number that it reaches, and the part matches the same values as
--- before.
+-- The normal form of a part: a range ends at the last number that it reaches. The normal form matches the same values
+-- as the part.
 use Rattle.std.proofs.Common.{◌≡◌, ℕ, ◌+◌, ◌-◌, ◌*◌, ◌/◌, ◌%◌, ◌<◌, ◌≤◌, cond, Bool, true, false, nat_eq, nat_le, Option, None, Some, refl, ap, ◌∙◌, inl, inr, arith}
 use Rattle.std.proofs.Math.Nat.{mul-le-mul_right, mul-mod_left}
 use Rattle.std.proofs.lemmas.Bool.{ne_eqb, eqb-true, eqb-false, leb-true, le-leb, and_parts, and_from, cases_lt}

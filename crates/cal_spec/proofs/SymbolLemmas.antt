@@ -84,7 +84,7 @@ pair_of_symbols : (b : ℕ) (ss ts : List Symbol) (pair : Bool) → AllByRecursi
 pair_of_symbols b ss ts true all more = (tt, all)
 pair_of_symbols b ss ts false all more = byte_of_symbols b ts (is_ascii_digit b) refl more
 
--- `IsSymbol` holds for all symbols of a text
+-- each run of digits among the symbols of a text has one or more bytes, all of them digits (`IsSymbol`)
 pub symbols_sound : (text : List ℕ) → AllByRecursion IsSymbol (symbols text)
 symbols_sound [] = tt
 symbols_sound (b ∷ []) = byte_of_symbols b [] (is_ascii_digit b) refl tt
@@ -93,8 +93,7 @@ symbols_sound (b ∷ c ∷ bs) = pair_of_symbols b (symbols bs) (symbols (c ∷ 
 pub sound_at : (text : List ℕ) (ss : List Symbol) → symbols text ≡ ss → AllByRecursion IsSymbol ss
 sound_at text ss at = rw at at (symbols_sound text)
 
--- like `digits_first`, but instead of the test for digits, it is known that the value of the first byte is from 48 to
--- 57
+-- if the first byte of a text is from 48 to 57, the first symbol of the text is the run of its leading digits
 pub digits_at_front : (text : List ℕ) → 0 < length text → 48 ≤ get_or text 0 0 → get_or text 0 0 ≤ 57 → symbols text ≡ digits (take (prefix_len is_ascii_digit text) text) ∷ symbols (drop (prefix_len is_ascii_digit text) text)
 digits_at_front [] some low high = absurd (omega arith)
 digits_at_front (b ∷ bs) some low high = digits_first b bs (and_from _ _ (le-leb 48 b low) (le-leb b 57 high))

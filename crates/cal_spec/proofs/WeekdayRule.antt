@@ -24,7 +24,7 @@ use Rattle.cal_spec.specs.declared.weekdays.WeekdayRange.{WeekdayRange}
 use Rattle.cal_spec.proofs.FieldLemmas.{items_of-cons, weekdays_found}
 use Rattle.cal_bytes.proofs.General.{list_all-both, some_none, some_pieces, list_all-wider, IsClear, Apart, clear_of, split_join_with_byte}
 
--- The parser recognizes exactly the names of weekdays that the grammar allows
+-- ## The parser recognizes exactly the names of weekdays that the grammar allows
 
 same_word : (text name : List ℕ) → str_eq_ignore_ascii_case text name ≡ true → map to_ascii_lowercase text ≡ map to_ascii_lowercase name
 same_word text name test = (bytes_eq-Decides (map to_ascii_lowercase text) (map to_ascii_lowercase name)).0 test
@@ -72,7 +72,7 @@ pub name_letters : (text : List ℕ) (day : Weekday) → IsName text day → lis
 name_letters text day (inl is) = letters_by text (ap (list_all is_ascii_lowercase) is ∙ (names_of day).2)
 name_letters text day (inr is) = letters_by text (ap (list_all is_ascii_lowercase) is ∙ (names_of day).3)
 
--- Splitting a text after its leading letters
+-- ## Splitting a text after its leading letters
 
 front_len : (xs rest : List ℕ) → list_all is_ascii_alphabetic xs ≡ true → begins_with_letter rest ≡ false → position_or_len is_no_letter (xs ++ rest) ≡ length xs
 front_len [] [] all stop = refl
@@ -87,7 +87,7 @@ letters_at xs rest all stop =
     let len = front_len xs rest all stop in
     (ap (λ n. take n (xs ++ rest)) len ∙ take_at xs rest _ refl, ap (λ n. drop n (xs ++ rest)) len ∙ drop_at xs rest _ refl)
 
--- If parsing an item succeeds, the grammar allows the item
+-- ## If parsing an item succeeds, the grammar allows the item
 
 pub record JointRead (text : List ℕ) (name : List ℕ) : Type 0 where
   pub joint : List ℕ
@@ -146,7 +146,7 @@ unfolding days_of
 item_found item days at =
     rw take-append-drop at (item_by (leading_letters item) (after_letters item) (day_named (leading_letters item)) days refl at)
 
--- If the grammar allows an item, parsing it succeeds
+-- ## If the grammar allows an item, parsing it succeeds
 
 joint_passed : (joint last : List ℕ) → (joint ≡ codes "..") ⊎ (joint ≡ codes "-") → 0 < length last → (begins_with_letter (joint ++ last) ≡ false) × (after_joint (joint ++ last) ≡ Some last)
 joint_passed joint last (inl dots) some = rw dots (refl, refl)
@@ -172,7 +172,7 @@ item_only text days (inr two) =
     let letters = letters_at two.first (two.joint ++ two.last) (name_letters two.first days.first two.first_name) passed.0 in
     rw (two.whole, letters.0, letters.1, name_only two.first days.first two.first_name, days_joined days.first (two.joint ++ two.last) two.last passed.1, name_only two.last days.last two.last_name) refl
 
--- If parsing a weekday list succeeds, the grammar allows the list
+-- ## If parsing a weekday list succeeds, the grammar allows the list
 
 items_found : (ts : List (List ℕ)) (items : List WeekdayRange) → items_of ts ≡ Ok items → AllZip IsItem ts items
 items_found [] items at = let none : [] ≡ items = cc in rw (← none) tt
@@ -222,7 +222,7 @@ pub weekdays_by_rule : (word : Option (List ℕ)) (days : List Bool) → weekday
 weekdays_by_rule None days at = let is : map (λ day. true) week ≡ days = cc in sym is
 weekdays_by_rule (Some word) days at = list_found word days at
 
--- Items that the grammar allows have no commas, and parsing them succeeds
+-- ## Items that the grammar allows have no commas, and parsing them succeeds
 
 -- the bytes that can occur in an item of a weekday list: letters, points and dashes
 abbrev is_item_byte : ℕ → Bool
@@ -254,8 +254,9 @@ items_only (t ∷ ts) (d ∷ items) zip =
     let more = items_only ts items zip.1 in
     ((clear_of is_item_byte is_comma t item_no_comma (item_bytes t d zip.0), more.0), rw (item_only t d zip.0, more.1) refl)
 
--- Removing a trailing comma: a text that ends in a letter is unchanged, and if a comma follows the letter, only this
--- comma is removed
+-- ## Removing a trailing comma
+--
+-- A text that ends in a letter is unchanged. If a comma follows the letter, only this comma is removed.
 
 pub record EndsInLetter (text : List ℕ) : Type 0 where
   pub front : List ℕ
@@ -320,7 +321,7 @@ trimmed_is : (word : List ℕ) (text : List ℕ) → EndsInLetter text → (word
 trimmed_is word text ends (inl same) = ap without_comma same ∙ kept text ends
 trimmed_is word text ends (inr more) = ap without_comma more ∙ taken_by text
 
--- If the grammar allows a weekday list, the list begins with the name of a weekday, and parsing it succeeds
+-- ## If the grammar allows a weekday list, the list begins with the name of a weekday, and parsing it succeeds
 
 pub record BeginsWithName (text : List ℕ) (day : Weekday) : Type 0 where
   pub name : List ℕ

@@ -54,7 +54,7 @@ valid_only text f valid =
     let roles_are = roles_only (words text) e.roles e.roles_are in
     rw (le-ltb max_text_bytes (length text) valid.short, roles_are) (fields_only text f e (are_few f valid.few))
 
--- the fields of a valid text are valid
+-- the fields that the grammar gives a valid text satisfy `IsValidFields`
 pub valid_in : (text : List ℕ) (f : Fields) → IsValid text f → IsValidFields f
 valid_in text f valid = valid_fields text f (valid_only text f valid)
 

@@ -22,7 +22,7 @@ use Rattle.cal_spec.specs.rules.ZoneSuffix.{ZoneSuffix, at_offset, kept_name, of
 use Rattle.cal_spec.proofs.SuffixLemmas.{offset_suffix}
 use Rattle.cal_spec.specs.declared.shorthand.Shorthand.{Shorthand}
 
--- Parsing a word as a zone succeeds if and only if the grammar allows the word as a zone.
+-- ## Parsing a word as a zone succeeds if and only if the grammar allows the word as a zone
 
 pub record ZoneRead (rest : List (List ℕ)) (suffix : Option ZoneSuffix) : Type 0 where
   pub last : Option (List ℕ)
@@ -56,7 +56,7 @@ pub zone_only : (last : Option (List ℕ)) (suffix : Option ZoneSuffix) → IsZo
 zone_only None suffix is = ap Ok (sym is)
 zone_only (Some word) suffix is = word_only word suffix is
 
--- The grammar gives words the roles that the parser finds
+-- ## The grammar gives words the roles that the parser finds
 
 abbrev IsWeekdaysWord : List ℕ → Type 0
 IsWeekdaysWord w = (begins_with_letter w ≡ true) × (shorthand_named w ≡ None)
@@ -138,7 +138,7 @@ roles_found (w ∷ ws) p at =
     let is : roles_by (shorthand_named w) w ws ≡ p = cc in
     rw (← is) (found_by w ws (shorthand_named w) refl)
 
--- The parser finds the roles that the grammar gives the words
+-- ## The parser finds the roles that the grammar gives the words
 
 after_date_is : (weekdays : Option (List ℕ)) (date : List ℕ) (time : Option (List ℕ)) (rest : List (List ℕ)) → IfSome time (IsTimeAfter (Some date)) → AllByRecursion IsSignless (given time) → IsPastTime time rest → roles_after_date weekdays date (given time ++ rest) ≡ record { weekdays = weekdays; date = date; time = unwrap_or time midnight; rest = rest }
 after_date_is weekdays date None [] kind signless past = refl

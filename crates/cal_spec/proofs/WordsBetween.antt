@@ -76,7 +76,7 @@ words_found text =
     let some = some_piece is_blank text in
     rw some.2 (words_by text some.0 some.1 (spread_of text some.0 some.1 some.2))
 
--- Leading blanks don't change the words of a text, and a text of blanks has no words
+-- ## Leading blanks don't change the words of a text, and a text of blanks has no words
 
 words_lead : (lead text : List ℕ) → list_all is_blank lead ≡ true → words (lead ++ text) ≡ words text
 words_lead [] text blanks = refl

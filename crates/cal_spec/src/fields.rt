@@ -21,7 +21,7 @@ pub struct TimeFields {
     pub second: Option<Vec<Part>>,
 }
 
-/// The fields of a calendar expression.
+/// The fields of a calendar expression: weekdays, date, time and zone. `zone` is `None` if the expression has no zone.
 #[derive(PartialEq, Eq, Debug, Drop)]
 pub struct Fields {
     /// Which weekdays match, from Monday to Sunday.

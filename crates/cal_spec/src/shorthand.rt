@@ -68,7 +68,7 @@ impl Shorthand {
         }
     }
 
-    /// Returns what the shorthand stands for.
+    /// Returns the weekdays, date and time that the shorthand stands for.
     pub(crate) fn expansion(self) -> ShorthandExpansion
         ensures { shown_expansion result ≡ expansion_of self }
     {

@@ -19,7 +19,7 @@ pub enum Slot {
 }
 
 impl Slot {
-    /// Returns the least number that this slot allows.
+    /// Returns the least number that this slot allows as the start or the end of a part.
     pub fn least(self) -> u16
         ensures { result ≡ least self }
     {
@@ -30,7 +30,7 @@ impl Slot {
         }
     }
 
-    /// Returns the greatest number that this slot allows.
+    /// Returns the greatest number that this slot allows as the start or the end of a part. A step may be greater.
     pub fn greatest(self) -> u16
         ensures { result ≡ greatest self }
     {

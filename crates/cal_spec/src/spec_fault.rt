@@ -4,8 +4,8 @@ ghost use Rattle.std.specs.Prelude.{◌≡◌};
 
 use thiserror::Error;
 
-/// Why a text is not a valid calendar expression (systemd.time(7), Calendar Events): the error of the first check that
-/// fails.
+/// Why parsing a calendar expression failed (systemd.time(7), Calendar Events): the error of the first check that
+/// fails, or `NoMemory`.
 #[derive(Clone, Copy, PartialEq, Eq, Debug, Error)]
 pub enum SpecFault {
     /// The text has no words.
@@ -52,7 +52,7 @@ pub enum SpecFault {
     /// leading letters don't name a weekday.
     #[error("unknown shorthand")]
     UnknownShorthand = 14,
-    /// Out of memory.
+    /// Allocation failed, so it isn't known whether the text is valid.
     #[error("")]
     NoMemory = 15,
 }

@@ -16,7 +16,7 @@ use std::alloc::Global;
 /// The zone in which an expression is interpreted.
 #[derive(PartialEq, Eq, Debug, Drop)]
 pub enum ZoneSuffix {
-    /// The zone with this name.
+    /// The zone with this name, which hasn't been looked up. `UTC` is in upper case, however it was written.
     Name(String),
     /// A fixed UTC offset in seconds.
     Offset(i32),

@@ -31,7 +31,7 @@ digit_no_letter b h = grind (arith, nat_tests)
 letter_no_digit : (b : ℕ) → is_ascii_alphabetic b ≡ true → is_ascii_digit b ≡ false
 letter_no_digit b h = grind (arith, nat_tests)
 
--- What each word begins with and contains
+-- ## What each word begins with and contains
 
 pub record IsNumber (word : List ℕ) : Type 0 where
   pub some : 0 < length word
@@ -152,7 +152,7 @@ unfolding time_written
 time_begins word micros h =
     let p = time_word word _ micros refl h in rw p.whole (digit_first p.hour (58 ∷ p.after) p.is_hour)
 
--- If words and a civil time satisfy `IsCivilTime`, parsing the words gives this civil time
+-- ## If words and a civil time satisfy `IsCivilTime`, parsing the words gives this civil time
 
 pub means_from : (find : List ℕ → Option TimeZone) (word : List ℕ) (zone : TimeZone) → MeansZone find word zone → zone_of_word find word ≡ Ok zone
 means_from find word zone (inl name) = rw (name.0, name.1) refl
@@ -198,7 +198,7 @@ pub only : (at : Setting) (ws : List (List ℕ)) (c : CivilStamp) → IsCivilTim
 only at ws c h =
     ap (civil_time at) h.whole ∙ civil_from at h.weekday h.date h.time h.zone c.weekday c.day c.micros c.zone h.some h.has_weekday h.has_date h.has_time h.has_zone
 
--- If parsing words gives a civil time, the words and the civil time satisfy `IsCivilTime`
+-- ## If parsing words gives a civil time, the words and the civil time satisfy `IsCivilTime`
 
 means_name : (found : Option TimeZone) (zone : TimeZone) → name_found found ≡ Ok zone → found ≡ Some zone
 means_name None zone h = cc

@@ -15,7 +15,7 @@ use Rattle.cal_stamp.specs.computed.Stamp.{after_second, in_moments, moment_in, 
 use Rattle.cal_stamp.specs.rules.StampRule.{counted}
 use Rattle.cal_stamp.specs.computed.StampForm.{form_of, form_of_solid}
 
--- The form of a text that is `@` and digits
+-- ## The form of a text that is `@` and digits
 
 solid_digits : (ds : List ℕ) → AreDigits ds → AllByRecursion (λ b. is_blank b ≡ false) ds
 solid_digits [] h = tt
@@ -41,7 +41,7 @@ unfolding form_of
 form_of-counted ds h =
     ap form_of_solid (sym (trim_only is_blank (64 ∷ ds) (64 ∷ ds) (solid_trimmed (64 ∷ ds) (refl, solid_digits ds h))))
 
--- The proof of `counted_seconds_read_back` in `cal_stamp::laws`
+-- ## The proof of `counted_seconds_read_back` in `cal_stamp::laws`
 
 in_time : (micros : ℤ) → pos 0 ≤ℤ micros → micros ≤ℤ pos 7_258_211_998_000_000 → in_moments micros ≡ Ok micros
 unfolding in_moments

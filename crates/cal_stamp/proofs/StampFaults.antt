@@ -21,7 +21,7 @@ use Rattle.cal_stamp.specs.computed.StampForm.{form_of}
 use Rattle.cal_stamp.specs.declared.fault.StampFault.{StampFault}
 use Rattle.cal_stamp.specs.declared.fault.StampFault.TheVariants.{NoSuchDate, OutOfRange, WrongWeekday}
 
--- Steps that never fail with `NoSuchDate`
+-- ## Steps that never fail with `NoSuchDate`
 
 abbrev Never : {A : Type 0} → Result A StampFault → Type 0
 Never r = r ≡ Err NoSuchDate → ⊥
@@ -95,7 +95,7 @@ no_moment_of_civil_stamp : (now : ℤ) (c : CivilStamp) → moment_of_civil_stam
 unfolding moment_of_civil_stamp
 no_moment_of_civil_stamp now c = never_if _ _ (Err WrongWeekday) (no_settle_on c.zone _ c.micros) (λ h. cc)
 
--- Steps that can fail with `NoSuchDate`
+-- ## Steps that can fail with `NoSuchDate`
 
 body : (at : Setting) (weekday : Option Weekday) (ws : List (List ℕ)) → after_weekday at weekday ws ≡ Err NoSuchDate → HasNoSuchDate ws
 body at weekday [] h = cc

@@ -18,10 +18,9 @@ use Rattle.cal_stamp.specs.rules.StampDate.{is_hyphen, date_numbers}
 use Rattle.cal_stamp.specs.rules.StampTime.{second_written, time_numbers}
 use Rattle.cal_stamp.specs.declared.fault.StampFault.TheVariants.{OutOfRange}
 
--- Fractions of a second
+-- ## Fractions of a second
 
--- if a unit is worth `size`, a fraction of this unit is worth at most 9 * `size` times the number of digits in the
--- fraction
+-- in a unit of `size` microseconds, the digits `ds` after a decimal point add at most 9 * `size` microseconds each
 pub fraction_bound : (size place : ℕ) (ds : List ℕ) → list_all is_ascii_digit ds ≡ true → fraction_worth size place ds ≤ length ds * (9 * size)
 fraction_bound size place [] h = omega arith
 fraction_bound size place (d ∷ ds) h =
@@ -32,7 +31,7 @@ fraction_bound size place (d ∷ ds) h =
     let whole : digit_value d * size ≤ 9 * size = mul-le-mul_right size (omega arith) in
     omega (arith, rest, part, whole)
 
--- Dates and times with too many pieces
+-- ## Dates and times with too many pieces
 
 -- the next three lemmas: a date is invalid if hyphens split it into more than three pieces, a time if colons split it
 -- into more than three, and seconds if points split them into more than two
@@ -51,7 +50,7 @@ unfolding second_written
 no_second word whole digits b1 b2 first next =
     let more = some_piece is_point b2 in rw (first, next, more.2) refl
 
--- Moments
+-- ## Moments
 
 pub too_late : (micros : ℤ) → last_moment <ℤ micros → in_moments micros ≡ Err OutOfRange
 unfolding in_moments

@@ -31,7 +31,7 @@ use Rattle.cal_stamp.proofs.StampFaultRuleLemmas.{err_of, first-found, first-onl
 use Rattle.cal_stamp.proofs.StampLemmas.{too_late}
 use Rattle.cal_stamp.proofs.StampRuleLemmas as form_rule
 
--- The range of moments
+-- ## The range of moments
 
 cases_moment : (micros : ℤ) → IsMoment micros ⊎ ((micros <ℤ pos 0) ⊎ (last_moment <ℤ micros))
 cases_moment (pos n) =
@@ -73,7 +73,7 @@ is_outside micros fault h =
       | inr (inr late) ↦ (let e = sym (too_late micros late) ∙ h in (cc, λ is. omega (arith, signed_arith, is.1)))
     ]
 
--- Days
+-- ## Days
 
 around : (local : ℤ) → ((day_of local *ℤ pos 86_400) ≤ℤ local) × (local <ℤ (day_of local *ℤ pos 86_400 +ℤ pos 86_400))
 around (pos n) = (omega (arith, signed_arith), omega (arith, signed_arith))
@@ -102,7 +102,7 @@ only_day : (now : ℤ) (zone : TimeZone) (written : Option ℤ) (day : ℤ) → 
 only_day now zone None day h = only_today now zone day h
 only_day now zone (Some written) day h = h
 
--- Weekdays
+-- ## Weekdays
 
 in_weeks : (z : ℤ) → z ≡ int_div_euclid z (pos 7) *ℤ pos 7 +ℤ pos (unsigned_abs (int_rem_euclid z (pos 7)))
 in_weeks (pos n) = omega (arith, signed_arith)
@@ -127,7 +127,7 @@ unfolding weekday_number
 fits None day h = refl
 fits (Some weekday) day h = eq-eqb _ _ (of_week (day +ℤ pos 3) h.0 (monday_zero weekday) (below_seven weekday) h.1)
 
--- Times of day
+-- ## Times of day
 
 is_time : (zone : TimeZone) (day : ℤ) (micros : ℕ) (time : ℤ) → settle_on zone day micros ≡ Ok time → IsTimeOfDay zone day micros time × IsMoment time
 unfolding settle_on
@@ -150,7 +150,7 @@ settles_outside zone day micros fault h =
     let is = is_outside _ fault h in
     (is.0, _, record { second = micros / 1_000_000; rest = micros % 1_000_000; whole = omega arith; below = omega arith; settled = refl }, is.1)
 
--- What each form resolves to
+-- ## What each form resolves to
 
 span_after : (second : ℤ) (span : List ℕ) (value : Result ℕ SpanFault) (time : ℤ) → span_of span ≡ value → after_second second value ≡ Ok time → LiesAfter second span time × IsMoment time
 span_after second span (Ok n) time e h =
@@ -227,7 +227,7 @@ meant now at (counted span) time h = lies_after (pos 0) span time h
 meant now at (from_today shift ws) time h = is_midnight now at shift ws time h
 meant now at (civil ws) time h = is_civil_moment now at ws time h
 
--- What each text resolves to
+-- ## What each text resolves to
 
 by_form : (now : ℤ) (at : Setting) (text : List ℕ) (form : Form) → HasForm text form → moment_in now at text ≡ moment_of_form now at form
 unfolding moment_in
@@ -251,7 +251,7 @@ resolves now at text time = (
 pub beyond : (now : ℤ) (at : Setting) (text : List ℕ) (form : Form) (time : ℤ) → HasForm text form → MeansTime now at form time → (IsMoment time → ⊥) → moment_in now at text ≡ Err OutOfRange
 beyond now at text form time has h out = by_form now at text form has ∙ meant now at form time h ∙ outside time out
 
--- The error of a civil time
+-- ## The error of a civil time
 
 wrong_weekday : (now : ℤ) (at : Setting) (ws : List (List ℕ)) (c : CivilStamp) (day : ℤ) → IsCivilTime at ws c → IsDay now c.zone c.day day → (FallsOn c.weekday day → ⊥) → moment_of_form now at (civil ws) ≡ Err WrongWeekday
 unfolding moment_of_civil_stamp

@@ -46,8 +46,10 @@ use Rattle.cal_stamp.specs.rules.StampPrinted.{ShowsMinutes, ShowsYear}
 use Rattle.cal_stamp.specs.rules.StampViews.{setting}
 use Rattle.cal_stamp.specs.declared.fault.StampFault.TheVariants.{NoSuchDate, StrayWord}
 
--- The form of a printed instant, which consists of a weekday, a date, a time and a zone. The names of definitions and
--- lemmas say `line` for a printed instant.
+-- ## The form of a printed instant
+--
+-- A printed instant consists of a weekday, a date, a time and a zone. The names of definitions and lemmas say `line`
+-- for a printed instant.
 
 abbrev after_name : List ℕ → List ℕ → List ℕ → List ℕ
 after_name date time zone = 32 ∷ (date ++ (32 ∷ (time ++ (32 ∷ zone))))
@@ -163,7 +165,7 @@ module _ (day : Weekday) (name date time zone : List ℕ) (is : IsLine day name 
     fits = inr (λ other p. absurd (omega (arith, line_long, ap length p.0)), inr (λ other p. absurd (omega (arith, line_long, ap length p.0)), fits_sign));
   }
 
--- Parsing the words of a printed instant, from left to right
+-- ## Parsing the words of a printed instant, from left to right
 
 date_first : (at : Setting) (day : Weekday) (name date time zone : List ℕ) → IsDayName day name → list_any is_colon date ≡ false
     → civil_time at (line_words name date time zone) ≡ (day_written date >>= λ number. after_date at (Some day) number (time ∷ zone ∷ []))
@@ -180,7 +182,7 @@ then_zone at day number micros word zone meant = rw meant refl
 no_zone : (at : Setting) (day : Option Weekday) (number : Option ℤ) (micros : ℕ) (word : List ℕ) → zone_of_word at.find word ≡ Err StrayWord → civil_stamp_in at day number micros (word ∷ []) ≡ Err StrayWord
 no_zone at day number micros word meant = rw meant refl
 
--- The text that is printed for a date, a second of the day and the word for a zone
+-- ## The text that is printed for a date, a second of the day and the word for a zone
 
 abbrev date_in : Date → List ℕ
 date_in date = date_word (year_of date) date.month date.day
@@ -188,7 +190,6 @@ date_in date = date_word (year_of date) date.month date.day
 abbrev time_in : ℕ → List ℕ
 time_in second = time_word (hour_of second) (minute_of second) (second_of second)
 
--- the weekday of the date
 abbrev day_in : Date → Weekday
 day_in date = slice_index_or week (weekday_of date) Sunday
 
@@ -246,7 +247,7 @@ unfolding instant_text civil_of
 printed_line zone secs =
     fields_printed (shown_date zone secs) (second_of_day (local_in zone secs)) (shown_offset zone secs) (shown_word zone secs)
 
--- The moment to which a printed instant resolves
+-- ## The moment to which a printed instant resolves
 
 second_below : (secs : ℤ) → second_of_day secs < 86_400
 second_below secs = omega (arith, signed_arith)
@@ -314,7 +315,7 @@ unfolding moment_of_civil_stamp
 moment_back now local secs zone date h back e =
     rw (fits date (day_of local) e) (settle_on_back zone local secs h back)
 
--- The proof of `printed_instants_read_back` in `cal_stamp::laws`
+-- ## The proof of `printed_instants_read_back` in `cal_stamp::laws`
 
 -- if the year of a printed instant is from 1970 to 2199, its date and its time are valid, so what remains is to parse
 -- its zone and to convert the civil time to a moment

@@ -29,7 +29,7 @@ use Rattle.std.proofs.lemmas.List.Folds.{list_any-append}
 clear_append : (p : ℕ → Bool) (xs ys : List ℕ) → IsClear p xs → IsClear p ys → IsClear p (xs ++ ys)
 clear_append p xs ys first second = list_any-append p xs ys ∙ or_from (list_any p xs) (list_any p ys) first second
 
--- Numbers
+-- ## Numbers
 
 -- `ds` is a list of 1 to `width` digits that stand for the number `n`
 record IsPrinted (width n : ℕ) (ds : List ℕ) : Type 0 where
@@ -68,7 +68,7 @@ digit_no_hyphen b h = grind (arith, nat_tests)
 digit_no_blank : (b : ℕ) → is_ascii_digit b ≡ true → is_blank b ≡ false
 digit_no_blank b h = grind (arith, nat_tests)
 
--- Three numbers with the byte `sign` between them
+-- ## Three numbers with the byte `sign` between them
 
 abbrev row : ℕ → List ℕ → List ℕ → List ℕ → List ℕ
 row sign a b c = a ++ (sign ∷ (b ++ (sign ∷ c)))
@@ -82,7 +82,7 @@ row_split p sign a b c is first second third =
     split_at p a sign (b ++ (sign ∷ c)) first is
     ∙ ap (λ ts. a ∷ ts) (split_at p b sign c second is ∙ ap (λ ts. b ∷ ts) (split_alone p c third))
 
--- The date
+-- ## The date
 
 abbrev pub date_word : ℕ → ℕ → ℕ → List ℕ
 date_word year month day = row 45 (padded 4 year) (padded 2 month) (padded 2 day)
@@ -170,7 +170,7 @@ other_date_back date from none =
     due date from
     ∙ rw (same, other_tests (year_of date) date.month date.day (month_length date) (λ low high. none (omega (arith, signed_arith, same, low), omega (arith, signed_arith, same, high)))) refl
 
--- The time
+-- ## The time
 
 abbrev pub time_word : ℕ → ℕ → ℕ → List ℕ
 time_word hour minute second = row 58 (padded 2 hour) (padded 2 minute) (padded 2 second)
@@ -234,7 +234,7 @@ pub time_some : (hour minute second : ℕ) → IsClock hour minute second → 0 
 time_some hour minute second h =
     some_front (padded 2 hour) (58 ∷ (padded 2 minute ++ (58 ∷ padded 2 second))) (in_two hour (omega (arith, h.hour_in))).number.some
 
--- The weekday
+-- ## The weekday
 
 -- `name` has three bytes, begins with a letter, contains no blank, and is parsed as the weekday `day`
 pub record IsDayName (day : Weekday) (name : List ℕ) : Type 0 where

@@ -41,7 +41,7 @@ pub record IsLastWord (word : List ℕ) : Type 0 where
   pub from : 43 ≤ last_byte word
   pub to : last_byte word ≤ 90
 
--- The bytes of an offset
+-- ## The bytes of an offset
 
 -- whether a byte is from `+` to `:`, as all signs, digits and colons are
 abbrev is_signed_byte : ℕ → Bool
@@ -95,7 +95,7 @@ signed_last text h =
 signed_no_letter : (text : List ℕ) → IsSigned text → begins_with_letter text ≡ false
 signed_no_letter text h = rw h.whole (no_letter h.sign h.to)
 
--- The text of an offset
+-- ## The text of an offset
 
 abbrev hour_in : ℤ → List ℕ
 hour_in offset = two (unsigned_abs offset / 3_600)
@@ -156,7 +156,7 @@ offset_signed_by offset false h e = rw (in_seconds offset e) (signed_by offset _
 offset_signed : (offset : ℤ) → IsOffsetSeconds offset → IsSigned (offset_text offset)
 offset_signed offset h = offset_signed_by offset _ h refl
 
--- A printed offset of whole minutes is parsed as the same offset, and any other printed offset is rejected
+-- ## A printed offset of whole minutes is parsed as the same offset, and any other printed offset is rejected
 
 whole_minutes : (offset : ℤ) → IsOffsetSeconds offset → unsigned_abs offset % 60 ≡ 0 → AreWholeMinutes offset
 whole_minutes offset h whole =
@@ -199,7 +199,7 @@ seconds_unread : (find : List ℕ → Option TimeZone) (offset : ℤ) → IsOffs
 seconds_unread find offset h e =
     rw (signed_no_letter (offset_text offset) (offset_signed offset h), long_none (offset_text offset) _ (seconds_long offset h e) refl) refl
 
--- The word for a zone
+-- ## The word for a zone
 
 settle_of-ahead : (offset local : ℤ) → IsOffsetSeconds offset → settle_of (fixed_offset_zone offset) local ≡ local -ℤ offset
 unfolding fixed_offset_zone

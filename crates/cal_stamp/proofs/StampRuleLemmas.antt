@@ -16,7 +16,7 @@ use Rattle.cal_bytes.specs.rules.Separators.{is_blank, words}
 use Rattle.cal_stamp.specs.rules.StampRule.{Form, present, later, earlier, counted, from_today, civil, IsNothing, IsPresent, IsBehindSign, IsBeforeWord, IsRelativeDay, IsCivilForm, OrElse, FitsByWords, FitsByEnd, FitsBySign, FitsFirst, HasForm}
 use Rattle.cal_stamp.specs.computed.StampForm.{day_shift, form_of, form_by_end, form_of_solid, form_of_words, form_by_day, form_by_ago, form_by_left}
 
--- There is at most one form
+-- ## There is at most one form
 
 abbrev IsOne : (List ℕ → Form → Type 0) → Type 0
 IsOne P = (core : List ℕ) (f g : Form) → P core f → P core g → f ≡ g
@@ -75,7 +75,7 @@ one_by_sign =
 one_fits : IsOne FitsFirst
 one_fits = or_else IsNothing (OrElse IsPresent FitsBySign) one_nothing (or_else IsPresent FitsBySign one_present one_by_sign)
 
--- The form that `form_of` returns is the first form that matches
+-- ## The form that `form_of` returns is the first form that matches
 
 by_sign : (Q : List ℕ → Form → Type 0) (means : List ℕ → Form) (sign b : ℕ) (bs : List ℕ) (rest : Form) (test : Bool) → (b == sign) ≡ test → Q (b ∷ bs) rest
     → OrElse (IsBehindSign (sign ∷ []) means) Q (b ∷ bs) (if test then means bs else rest)
@@ -115,9 +115,9 @@ by_words core (w ∷ ws) are =
     (by_day (OrElse (IsRelativeDay (codes "tomorrow") (pos 1)) IsCivilForm) (codes "yesterday") (neg_ℤ (pos 1)) core w ws _ _ refl are
     (by_day IsCivilForm (codes "tomorrow") (pos 1) core w ws None _ refl are (ap civil (sym are))))
 
--- The next four lemmas: if the part of a text after its last blank is `word`, the text ends with a blank and `word`.
--- Conversely, if a text ends with a blank and `word`, and `word` has no blanks, then `word` is the part after the last
--- blank of the text.
+-- The next four lemmas: if a text has a blank, the part after its last blank is shorter than the text. If this part is
+-- `word`, the text ends with a blank and `word`. Conversely, if a text ends with a blank and `word`, and `word` has no
+-- blanks, then the part after the last blank is as long as `word`, and it is `word`.
 some_blank_within : (text : List ℕ) → list_any is_blank text ≡ true → suffix_len is_solid text < length text
 some_blank_within text some =
     elim (cases_lt (suffix_len is_solid text) (length text)) [

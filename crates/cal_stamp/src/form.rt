@@ -8,7 +8,7 @@ ghost use Rattle.cal_stamp.specs.rules.StampViews.{form_seen, shift_of};
 use crate::text::{before_word, text_after_first};
 use cal_bytes::{first_word, trim_blanks};
 
-/// Yesterday, today or tomorrow.
+/// A day relative to the present day in the zone of the timestamp.
 #[derive(Clone, Copy)]
 pub(crate) enum RelativeDay {
     Yesterday,

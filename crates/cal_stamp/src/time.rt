@@ -54,8 +54,8 @@ fn time_of(hour: &[u8], minute: &[u8], micros: Option<u64>) -> Option<u64>
     Some((hour * 3_600 + minute * 60) * MICROS_PER_SECOND + micros?)
 }
 
-/// Parses the seconds of a time, which are either `S` alone or `S.` and one or more digits, and returns microseconds.
-/// Returns `None` for anything else.
+/// Parses the seconds of a time and returns microseconds. The seconds are a number of one or two digits, at most 59,
+/// which may be followed by a point and one or more digits. Returns `None` for anything else.
 #[tactic(auto, unfolding(crate::specs::rules::StampTime::second_written))]
 fn read_second(word: &[u8]) -> Option<u64>
     ensures value { result ≡ second_written word.now }

@@ -9,7 +9,7 @@ use Rattle.cal_tasks.specs.rules.ClockNotes.{AreEnough}
 use Rattle.cal_tasks.specs.computed.KeptNotes.{IsLatest, Keeps, KeepsCovered, max_kept}
 use Rattle.cal_tasks.specs.declared.clock_note.ClockNote.{ClockNote}
 
--- the note at `i` is the latest, and `note` is earlier
+-- `note` is earlier than the note at `i`
 abbrev IsEarlier : List ClockNote → ℕ → ClockNote → Type 0
 IsEarlier notes i note = (d : ClockNote) → note.local <ℤ (get_or notes i d).local
 
@@ -35,7 +35,7 @@ keeps_replaced notes note i is lower many n (inl (k, below, at)) =
       | inr other ↦ inl (k, rw length-set below, get_or-set_other notes i k note n other ∙ at)
     ]
 
--- a note that isn't later than all others takes the place of the latest one
+-- if there are enough notes, and `note` is earlier than the latest one, `Keeps` holds after it replaces the latest one
 pub replaced : (notes : List ClockNote) (note : ClockNote) (i : ℕ) → max_kept ≤ length notes → (AreEnough max_kept notes note.local → ⊥) → IsLatest notes i → Keeps notes note (set notes i note)
 replaced notes note i many few is =
     let late : (d : ClockNote) → (get_or notes i d).local ≤ℤ note.local → ⊥
@@ -55,7 +55,7 @@ pub record IsLatestBefore (notes : List ClockNote) (i index : ℕ) : Type 0 wher
   pub inside : index < length notes
   pub none_later : (d : ClockNote) → AllWithin (λ (kept : ClockNote). kept.local ≤ℤ (get_or notes index d).local) notes 0 i
 
--- the note at `i` isn't later either
+-- if no note up to the one at `i` is later than the one at `index`, `IsLatestBefore` holds for `i + 1` and `index`
 pub still_latest : (notes : List ClockNote) (i index : ℕ) (d₀ : ClockNote) → i < length notes → (get_or notes i d₀).local ≤ℤ (get_or notes index d₀).local → IsLatestBefore notes i index → IsLatestBefore notes (i + 1) index
 still_latest notes i index d₀ more le is = record {
   inside = is.inside;
@@ -63,7 +63,7 @@ still_latest notes i index d₀ more le is = record {
       (λ e. let here = local_at notes i e d₀ more in let last = local_at notes index d d₀ is.inside in omega (arith, ints));
 }
 
--- the note at `i` is later
+-- if the note at `i` isn't earlier than the one at `index`, none of the notes before `i + 1` is later than it
 pub next_latest : (notes : List ClockNote) (i index : ℕ) (d₀ : ClockNote) → i < length notes → (get_or notes index d₀).local ≤ℤ (get_or notes i d₀).local → IsLatestBefore notes i index → IsLatestBefore notes (i + 1) i
 next_latest notes i index d₀ more le is = record {
   inside = more;

@@ -68,7 +68,7 @@ notes_of_line at now lines i zone line tz old new h is zoned same keeps before =
       }
     ]) new keeps.sound
 
--- no note about the expressions up to the one at `i` is missing, if this was so before
+-- no note about the expressions up to the one at `i` is missing, if none about the expressions before it was missing
 pub all_of_line : (at : Setting) (now : ℤ) (lines : List declared_line.TimerLine) (i zone : ℕ) (line : declared_line.TimerLine) (tz : TimeZone) (old new : List ClockNote) → i < length lines → line ≡ get_or lines i line
     → zone_for at (shown line).expr.zone ≡ Some tz → AreInOneZone lines zone i → KeepsAllOf tz (sets_of (shown line).expr) now zone old new → AllWithin (AreNotesOf at now (map shown lines) max_kept old) (map shown lines) 0 i
     → AllWithin (AreNotesOf at now (map shown lines) max_kept new) (map shown lines) 0 (i + 1)

@@ -24,7 +24,7 @@ shown_near tz second =
     let range = offset_at-in_range tz (nanos_of_seconds second) in
     (omega (arith, signed_arith, range.0), omega (arith, signed_arith, range.1))
 
--- the same fact about a local second that is shown, with its instant given in two ways
+-- what the clock shows at `second`, with other names for the instant and for the local second
 pub shown_same : (tz : TimeZone) (second other shown local : ℤ) → local_shown_at tz second ≡ shown → other ≡ second → shown ≡ local → local_shown_at tz other ≡ local
 shown_same tz second other shown local is same now = ap (local_shown_at tz) same ∙ is ∙ now
 
@@ -69,7 +69,7 @@ none_inside tz after from days out low same = λ k few instant.
       | inr until ↦ same.same k until
     ]
 
--- the UTC offset at `low` isn't the one a second later
+-- if the UTC offset at `low` isn't the one a second later, the later second is a change of the zone
 pub change_after : (tz : TimeZone) (low change : ℤ) (width : ℕ) (offset : ℤ) → change ≡ low +ℤ pos width → width ≡ 1 → IsInstant change → utc_offset tz low ≡ offset
     → (utc_offset tz (low +ℤ pos width) ≡ offset → ⊥) → IsZoneChange tz change
 change_after tz low change width offset is one instant same other =

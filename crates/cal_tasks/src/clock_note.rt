@@ -14,7 +14,7 @@ pub enum ClockChange {
 /// A local time that an expression of a timer matches and that a clock change skips or repeats.
 #[derive(Clone, Copy, PartialEq, Eq, PartialOrd, Ord, Debug)]
 pub struct ClockNote {
-    /// The local time, in seconds since 1970-01-01 00:00:00 on the same clock.
+    /// The local time, in seconds since 1970-01-01 00:00:00 on the clock of the zone.
     pub local: i64,
     pub change: ClockChange,
     /// The index, among the timer's expressions, of the first expression that names the same zone as the expression
@@ -42,8 +42,8 @@ impl ClockNote {
 /// The local times of a timer that the next clock changes skip or repeat.
 #[derive(Debug, Drop)]
 pub struct ClockNotes {
-    /// The earliest of these local times, at most 16.
+    /// The earliest notes about such local times, at most 16, sorted by local time.
     pub first: Vec<ClockNote>,
-    /// Whether there are more than these.
+    /// Whether there are more notes than those in `first`.
     pub has_more: bool,
 }

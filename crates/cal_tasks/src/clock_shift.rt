@@ -15,9 +15,9 @@ use cal_zone::{Instant, Zone, place};
 /// The gap or the fold of a change of a zone, as a range of local seconds.
 #[derive(Clone, Copy)]
 pub(crate) struct ClockShift {
-    /// The first of these local seconds.
+    /// The first local second of the gap or fold.
     pub(crate) from: i64,
-    /// The local second after the last of them.
+    /// The local second after the last one of the gap or fold.
     pub(crate) to: i64,
     /// `Skipped` if the clock is set forward, and `Repeated` if it is set back.
     pub(crate) kind: ClockChange,
@@ -57,8 +57,8 @@ fn shown_unchanged(zone: Zone<'_>, change: Instant) -> i64
     local_shown(zone, before) + 1
 }
 
-/// Returns whether the change skips or repeats `local`, by the kind of `shift`. `shift` must be that of this change, and
-/// `local` must be in it.
+/// Returns whether the change skips or repeats `local`, by the kind of `shift`. `shift` must be the gap or fold of
+/// this change, and `local` must be in it.
 pub(crate) fn is_changed(zone: Zone<'_>, change: Instant, shift: ClockShift, local: i64) -> bool
     requires shift { IsShiftOf (zone_of zone) change.secs shift }
     requires local { IsLocalSecond local }

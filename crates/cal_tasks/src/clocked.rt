@@ -5,7 +5,7 @@ use cal_zone::{Instant, Zone};
 /// The present and the local zone. The elapses of a timer depend on both.
 #[derive(Clone, Copy)]
 pub struct Clocked<'a> {
-    /// The present instant.
+    /// The present, in whole seconds of Unix time. The next elapses are those after it.
     pub now: Instant,
     /// The local zone: the zone of expressions that don't end in a zone or a UTC offset.
     pub local: Zone<'a>,

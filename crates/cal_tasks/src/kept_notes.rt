@@ -14,8 +14,8 @@ pub(crate) const MAX_NOTES: usize = 16;
 /// The number of notes that are kept: one more than are returned, to know whether there are more.
 const MAX_KEPT: usize = MAX_NOTES + 1;
 
-/// Adds a note, unless it's already there, or there are 17 notes and none of them is later. If there are 17 notes and one
-/// of them is later, the note replaces the latest one.
+/// Adds a note, unless it's already there, or there are 17 notes and none of them is later. If there are 17 notes and
+/// one of them is later, the note replaces the latest one.
 pub(crate) fn keep(notes: &mut Vec<ClockNote>, note: ClockNote) -> Result<(), AllocError>
     ensures { OnOk result (Keeps notes.old.items note notes.new.items) }
 {

@@ -1,4 +1,4 @@
-//! The order of elapses.
+//! Sorting the elapses of several timers by instant.
 
 ghost use Rattle.std.specs.Prelude.{IsPermutation, IsSorted};
 ghost use Rattle.cal_tasks.specs.rules.SeveralTimers.{by_instant};

@@ -1,4 +1,4 @@
-//! The report of `same`: what only one of two timers has, instants at which it elapses and settings.
+//! The report of `same`: the instants at which only one of two timers elapses, and the settings that only one has.
 
 ghost use Rattle.std.specs.Prelude.{◌≡◌, ◌≢◌, IfOk, MatchResult, map, string_bytes};
 ghost use Rattle.std.specs.List.{list_any};
@@ -17,14 +17,14 @@ use cal_plan::PlanFault;
 use cal_timers_report::{Comparison, Side};
 use std::alloc::{AllocError, Global};
 
-/// Compares two timers: for each of them, the first instant after the present, through 2199, at which it elapses and the
-/// other doesn't, and the settings that it has and the other doesn't. These are the settings that decide when the timer
-/// starts a unit, and which unit that is, in the order of the files. They are compared as texts, so `OnBootSec=60` and
-/// `OnBootSec=1min` differ.
+/// Compares two timers: for each of them, the first instant after the present, through 2199, at which it elapses and
+/// the other doesn't, and the settings that it has and the other doesn't. These are the settings that decide when the
+/// timer starts a unit, and which unit that is, in the order of the files. They are compared as texts, so
+/// `OnBootSec=60` and `OnBootSec=1min` differ.
 ///
-/// The call takes longest if the timers elapse at the same instants: then it computes all their elapses through 2199, once
-/// for each of the timers. Fails with [`PlanFault::NoSuchZone`] if an expression or an exception of a timer names a zone
-/// that wasn't loaded for this timer, and with [`PlanFault::NoMemory`] if allocation fails.
+/// The call takes longest if the timers elapse at the same instants: then it computes all their elapses through 2199,
+/// once for each of the timers. Fails with [`PlanFault::NoSuchZone`] if an expression or an exception of a timer names
+/// a zone that wasn't loaded for this timer, and with [`PlanFault::NoMemory`] if allocation fails.
 pub fn compare<'a>(
     alloc: Global,
     at: Clocked<'_>,

@@ -32,8 +32,9 @@ use std::alloc::{AllocError, Global};
 /// expression's zone skips or repeats: each once for each zone, in the order of local times, and at most 16 of them.
 ///
 /// A change of a zone is an instant at which its UTC offset isn't the one a second before. The change after the present
-/// is searched for within 1,096 days (three years), and the one after it within 1,096 days of the first. If an offset lasts less than
-/// a day, its changes may not be found. No note about a change that is found is missing, up to the limit of 16.
+/// is searched for within 1,096 days (three years), and the one after it within 1,096 days of the first. If an offset
+/// lasts less than a day, its changes may not be found. No note about a change that is found is missing, up to the
+/// limit of 16.
 ///
 /// Fails with [`PlanFault::NoSuchZone`] if an expression names a zone that wasn't loaded, and with
 /// [`PlanFault::NoMemory`] if allocation fails.
@@ -187,8 +188,8 @@ fn add_notes_of_change(
     Ok(())
 }
 
-/// Returns where the search for local seconds from `from` on starts: at `from`, or at the nearest local second from 0 to
-/// [`LOCAL_END`].
+/// Returns where the search for local seconds from `from` on starts: at `from`, or at the nearest local second from 0
+/// to [`LOCAL_END`].
 #[tactic(auto, using(cal_civil::proofs::LocalLemmas::local_arith))]
 fn search_start(from: i64) -> i64
     ensures low { pos 0 ≤ℤ result }

@@ -15,13 +15,13 @@ use cal_spec::{Expr, Field, SpecFault, find_day, letters_len, read_expr};
 use cal_zone::{Instant, Setting, ZoneTable};
 use std::alloc::{AllocError, Global};
 
-/// Why there is no instant for a text.
+/// Why a text can't be parsed as an instant.
 #[derive(Clone, Copy, PartialEq, Eq, Debug)]
 pub enum WhenFault {
     /// The text is neither a weekday with a time that elapses nor a timestamp. This is the reason why it isn't a
     /// timestamp.
     NoInstant(StampFault),
-    /// Out of memory.
+    /// Out of memory. The text may still be valid.
     NoMemory,
 }
 

@@ -11,7 +11,6 @@ use cal_zone::{Instant, Zone, civil};
 /// The number of days in which the next change of a zone is searched for: three years.
 const MAX_DAYS: u32 = 1_096;
 
-/// The number of seconds in a day.
 const DAY_SECONDS: u32 = 86_400;
 
 /// Returns the next change of a zone after `after`: an instant at which the zone's UTC offset isn't the one a second

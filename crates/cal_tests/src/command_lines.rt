@@ -149,9 +149,9 @@ calendar|--zones=Test/Fixed=a=b|a -> calendar 1 with Test/Fixed of a=b|a
 timestamp|--zones=A==|a -> timestamp 1 with A of =|a
 ";
 
-/// Bad values, and requests for help or the version. If several options have bad values, only the first one in the
-/// order `--iterations`, `--now`, `--zones`, `--local` is reported. A missing text is reported before a bad value.
-/// After `--`, `--help` is a text.
+/// Bad values, requests for help or the version, and unknown verbs. If several options have bad values, only the first
+/// one in the order `--iterations`, `--now`, `--zones`, `--local` is reported. A missing text is reported before a bad
+/// value. After `--`, `--help` is a text.
 const OTHERS: &str = "\
 calendar|--iterations=0|--now=5|daily -> bad iterations
 calendar|--local=5x|--zones=x|--now=5|--iterations=0|daily -> bad iterations

@@ -106,7 +106,7 @@ fn check(alloc: Global, rows: &[Row<'_>]) -> Result<(), Fail> {
     Ok(())
 }
 
-/// Like `check`, for one row and with the timer file read from `input`.
+/// Runs the request of one row, with the timer file read from `input`, and expects the texts and the status of the row.
 fn check_input<R: Source>(
     alloc: Global,
     row: &Row<'_>,
@@ -141,7 +141,7 @@ fn status(row: &Row<'_>) -> Status {
     }
 }
 
-/// Runs the request of a row.
+/// Runs the request of a row and returns the result of the run. Fails if the request can't be made.
 fn run_row<R: Source, O: Sink, E: Sink>(
     alloc: Global,
     row: &Row<'_>,
@@ -174,7 +174,6 @@ fn local_zone<'z>(local: Local, zones: &'z KnownZones) -> Result<Zone<'z>, Fail>
     }
 }
 
-/// Returns copies of the texts.
 fn copies(alloc: Global, texts: &[&str]) -> Result<Vec<String>, AllocError> {
     let mut all = Vec::new(alloc);
     for text in texts {
@@ -183,7 +182,8 @@ fn copies(alloc: Global, texts: &[&str]) -> Result<Vec<String>, AllocError> {
     Ok(all)
 }
 
-/// Creates the request of a row.
+/// Creates the request of a row. Fails if the iterations are not from 1 to 1,000,000, if a base time is given for a
+/// verb that computes no elapses, or if the verb `timer` doesn't have exactly one text.
 fn request(alloc: Global, row: &Row<'_>) -> Result<Request, Fail> {
     let (verb, iterations) = (row.verb, row.iterations);
     if iterations < 1 || iterations > 1_000_000 {

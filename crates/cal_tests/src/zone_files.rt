@@ -55,7 +55,7 @@ fn check(alloc: Global, rows: &[Row<'_>]) -> Result<(), Fail> {
 /// The result of loading a file, and whether its source failed.
 type Loaded = (Result<(), LoadFault>, bool);
 
-/// Loads the file of a row into the table.
+/// Loads the file of a row into the table, from a source that returns at most 50 bytes in each call.
 fn load(alloc: Global, table: &mut ZoneTable, row: &Row<'_>) -> Result<Loaded, Fail> {
     let bytes = row.bytes.to_vec(alloc)?;
     let mut from = Port::new(Faulty::new(bytes, 50, row.limit, row.then));
@@ -63,7 +63,8 @@ fn load(alloc: Global, table: &mut ZoneTable, row: &Row<'_>) -> Result<Loaded, F
     Ok((loaded, from.failed()))
 }
 
-/// Expects the result of loading the file to be that of the row.
+/// Expects the result of loading the file to be the one that the row wants, and the source to have failed if and only
+/// if this result is `ReadFailed`.
 fn expect_loaded(row: &Row<'_>, (loaded, failed): Loaded) -> Result<(), Fail> {
     ensure(loaded == row.want, row.name)?;
     ensure(failed == (row.want == Err(LoadFault::ReadFailed)), row.name)

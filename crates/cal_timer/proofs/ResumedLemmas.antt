@@ -1,5 +1,4 @@
--- Lemmas on what each assignment and each logical line does to the lists of expressions and exceptions. An exception is
--- an expression after `X-ExceptOnCalendar=`; when it elapses, the timer doesn't.
+-- Lemmas on what each assignment and each logical line does to the lists of expressions and exceptions.
 use Rattle.std.proofs.Common.{arith, ◌≡◌, ◌≤◌, ◌<◌, ℕ, Bool, true, false, List, [], ◌∷◌, ◌++◌, length, codes, refl, Some, None, Result, Ok, Err}
 use Rattle.std.specs.Str.{bytes_eq}
 use Rattle.std.specs.Prelude.{nat_le}

@@ -1,6 +1,5 @@
--- Examples that check the definitions of timer files. An exception is an expression after `X-ExceptOnCalendar=`; when
--- it elapses, the timer doesn't. In each example, either every expression is valid and is parsed as its own text
--- (`reads`), or every expression is invalid (`rejects`).
+-- Examples that check the definitions of timer files. In each example, either every expression is valid and is parsed
+-- as its own text (`reads`), or every expression is invalid (`rejects`).
 use Rattle.std.proofs.Common.{◌≡◌, ℕ, List, [], ◌∷◌, ◌++◌, codes, refl, Result, Ok, Err}
 use Rattle.std.specs.Prelude.{map}
 use Rattle.std.specs.List.{flat_map}

@@ -1,6 +1,5 @@
 -- Lemmas for the statements in `cal_timer::laws`: on the lines of the section `Timer`, on the lists of expressions and
--- exceptions, and on `JudgesTimer`, which holds for the result of `lists_of` and for no other. An exception is an
--- expression after `X-ExceptOnCalendar=`; when it elapses, the timer doesn't.
+-- exceptions, and on `JudgesTimer`, which holds for the result of `lists_of` and for no other.
 use Rattle.std.proofs.Common.{◌≡◌, ◌<◌, ℕ, Bool, true, false, List, [], ◌∷◌, ◌++◌, codes, filter, length, refl, sym, subst, ap, ◌∙◌, arith, append_assoc, append-nil, Option, Some, None, Result, Ok, Err}
 use Rattle.std.specs.List.{after_last, list_any}
 use Rattle.std.specs.Option.{option_or}

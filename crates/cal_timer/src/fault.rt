@@ -1,5 +1,4 @@
-//! The errors for timer files. An exception is an expression after `X-ExceptOnCalendar=`; when it elapses, the timer
-//! doesn't.
+//! The errors for timer files.
 
 ghost use Rattle.std.specs.Prelude.{◌≡◌};
 ghost use Rattle.cal_timer.specs.declared.fault.TimerFault.TheVariants.{NoMemory};
@@ -7,7 +6,7 @@ ghost use Rattle.cal_timer.specs.declared.fault.TimerFault.TheVariants.{NoMemory
 use cal_spec::SpecFault;
 use std::alloc::{AllocError, AllocFailed};
 
-/// Why a timer file is invalid.
+/// Why reading a timer file failed.
 ///
 /// The first error is reported: errors in reading the input come first, then invalid UTF-8, then the errors of the
 /// lines in order, and last `NothingToDo`. Lines are numbered from 1, or from the number that
@@ -26,7 +25,7 @@ use std::alloc::{AllocError, AllocFailed};
 /// | 7      | `NoMemory`    |
 #[derive(Clone, Copy, PartialEq, Eq, Debug)]
 pub enum TimerFault {
-    /// A read failed.
+    /// Reading the input failed, before it was known whether it is a valid timer file.
     ReadFailed,
     /// The input has more than 1,048,576 bytes.
     TooLarge,
@@ -38,7 +37,7 @@ pub enum TimerFault {
     TooMany(u32),
     /// The list of expressions is empty after the last line, even if there are exceptions.
     NothingToDo,
-    /// Out of memory.
+    /// Allocation failed, so it isn't known whether the timer file is valid.
     NoMemory,
 }
 

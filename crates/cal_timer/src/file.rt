@@ -1,5 +1,4 @@
-//! Reading timer files (systemd.timer(5), OnCalendar=; systemd.syntax(7)). An exception is an expression after
-//! `X-ExceptOnCalendar=`; when it elapses, the timer doesn't.
+//! Reading timer files (systemd.timer(5), OnCalendar=; systemd.syntax(7)).
 
 ghost use Rattle.std.specs.Prelude.{◌≡◌, ◌≢◌, ◌+◌, ◌≤◌, ◌↔◌, ◌==◌, ℕ, List, Ok, Err, Result, MatchResult, IsTrue, false, length, count_by};
 ghost use Rattle.std.specs.Result.{IsErrOf};

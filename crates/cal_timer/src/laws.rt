@@ -1,6 +1,5 @@
 //! Laws of the definitions that the contracts of [`crate::read_timer`] and [`crate::TimerLists`] use. Each law is a
-//! function that does nothing and whose contract is the law. An exception is an expression after `X-ExceptOnCalendar=`;
-//! when it elapses, the timer doesn't.
+//! function that does nothing and whose contract is the law.
 
 ghost use Rattle.std.specs.Prelude.{◌≡◌, ◌∷◌, ◌++◌, [], ℕ, Bool, List, Ok, Result, codes, false, filter, true, if◌then◌else◌};
 ghost use Rattle.std.specs.List.{list_any};

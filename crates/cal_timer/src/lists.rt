@@ -1,5 +1,4 @@
-//! The lists of expressions (systemd.timer(5), OnCalendar=) and of exceptions, which are built line by line. An
-//! exception is an expression after `X-ExceptOnCalendar=`; when it elapses, the timer doesn't.
+//! The lists of expressions (systemd.timer(5), OnCalendar=) and of exceptions, which are built line by line.
 
 ghost use Rattle.std.specs.Prelude.{◌≡◌, ◌≢◌, ◌+◌, ◌<◌, ◌^◌, ◌∷◌, List, Some, Ok, Err, IfErr, MatchResult, false, length, map};
 ghost use Rattle.cal_spec.specs.computed.Expr.{expr_in};

@@ -1,5 +1,4 @@
-//! The calendar expressions of a timer (systemd.timer(5), OnCalendar=), and its exceptions. An exception is an
-//! expression after `X-ExceptOnCalendar=`; when it elapses, the timer doesn't.
+//! The calendar expressions of a timer (systemd.timer(5), OnCalendar=), and its exceptions (`X-ExceptOnCalendar=`).
 
 ghost use Rattle.std.specs.Prelude.{◌≡◌, map};
 ghost use Rattle.cal_timer.specs.rules.TimerView.{shown};
@@ -16,7 +15,7 @@ pub struct TimerLine {
     pub number: u32,
     /// The expression as it is written in the file, without leading and trailing blanks and carriage returns.
     pub text: String,
-    /// The parsed expression.
+    /// The expression, parsed and in normal form.
     pub expr: Expr,
 }
 

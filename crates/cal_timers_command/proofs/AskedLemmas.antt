@@ -25,8 +25,8 @@ among p kind [] at holds = absurd at
 among p kind (k ∷ ks) (inl same) holds = grind (arith, ap p same)
 among p kind (k ∷ ks) (inr later) holds = grind (arith, among p kind ks later holds)
 
--- if `clap` reports an error of this kind, which is one of `kinds` or a failed allocation, then each `fault` that may be
--- reported for it is one that may be reported for `kinds`
+-- if `clap` reports an error of this kind, which is one of `kinds` or a failed allocation, then each `fault` that may
+-- be reported for it is one that may be reported for `kinds`
 pub reported_fault : (kinds : Kinds) (kind : ErrorKind) (fault : Fault) → (kind ≡ OutOfMemory) ⊎ IsAmong kind kinds → IsReportedOf kind fault → IsRefusalOf kinds fault
 reported_fault kinds kind (usage text) (inl full) reported = absurd (reported.1.0 full)
 reported_fault kinds kind (usage text) (inr at) reported = (among (λ k. not (is_of_help k)) kind kinds at (ap not reported.0), reported.1.1)
@@ -34,7 +34,7 @@ reported_fault kinds kind (help text) (inl full) reported = absurd (reported.1.0
 reported_fault kinds kind (help text) (inr at) reported = (among is_of_help kind kinds at reported.0, reported.1.1)
 reported_fault kinds kind no_memory is reported = tt
 
--- the names of the rows are those of the entries
+-- the entries that `clap` found have the same names as the rows that `rows_of` makes from them
 pub names_found : (found : Found) → map (λ entry. entry.0.now) found.entries.items ≡ map (λ row. row.id) (rows_of found)
 names_found found = go found.entries.items
   where

@@ -59,21 +59,21 @@ pub instant_some : (made : Option Instant) (secs : ℤ) → IsSome made ↔ IsIn
     → option_map (λ instant. instant.secs) made ≡ Some secs
 instant_some made secs variant value inside = grind (arith, variant)
 
--- the error with a message is the one that `answer` is
+-- if `answer` is an error with this message, `fault` is that error or a failed allocation
 pub usage_fault : {A : Type 0} (answer : Result A Fault) (message : Text) (fault : CommandFault) → IsUsageOf message fault → answer ≡ Err (usage message)
     → 0 < length message → IsFaultIn answer fault
 usage_fault answer message (Usage text) is same some = (same ∙ ap (λ t. Err (usage t)) (sym is), rw is some)
 usage_fault answer message (Help text) is same some = absurd is
 usage_fault answer message NoMemory is same some = tt
 
--- an error of the first step is the error of all
+-- an error of the first step is also the error of both steps together
 pub fault_then : {A B : Type 0} (answer : Result A Fault) (next : A → Result B Fault) (fault : CommandFault) → IsFaultIn answer fault
     → IsFaultIn (then_with answer next) fault
 fault_then answer next (Usage text) is = (ap (λ r. then_with r next) is.0, is.1)
 fault_then answer next (Help text) is = absurd is
 fault_then answer next NoMemory is = tt
 
--- the error for a value that isn't read
+-- if `read` rejects the value `text`, the error with the message about `text` is the error of `option_value`
 pub value_fault : {A : Type 0} (read : Text → Option A) (message : Text → Text) (given : Option Text) (text : Text) (fault : CommandFault) → given ≡ Some text → read text ≡ None
     → IsUsageOf (message text) fault → 0 < length (message text) → IsFaultIn (option_value read message given) fault
 value_fault read message given text fault is bad words some =

@@ -37,12 +37,14 @@ impl Question {
     /// - `between`: two times, and then any number of units, files and folders.
     /// - `same`: two units, files or expressions.
     /// - `next`: one or more expressions.
+    /// - `due`: at most one unit or file.
     ///
     /// The options are:
     ///
     /// - `--count=N` or `-n N`, for `show` and `next`: a number from 1 to 1,000,000, in digits only.
     /// - `--zone=ZONE`: a zone, whose form isn't checked here. `--utc` is the same as `--zone=UTC`.
-    /// - `--in=ZONE`, for all verbs except `lint`: likewise.
+    /// - `--in=ZONE`, for all verbs except `lint`: the zone in which times are shown. Its form isn't checked here,
+    ///   either.
     /// - `--now=@N`: `@` and a number from 0 to 7,258,211,998, in digits only.
     /// - `--root=DIR`: the path of a folder.
     /// - `--user`, for all verbs except `next`: the user's units instead of the system's.
@@ -65,7 +67,7 @@ impl Question {
     }
 }
 
-/// Converts the matches to a question.
+/// Returns the question that the verb and the values in `matches` ask, or the error of the first invalid value.
 fn question_found(alloc: Global, matches: &ArgMatches<'_>) -> Result<Question, CommandFault>
     ensures question { IfOk result (λ question. question_found (subcommand_rows_of matches.now) ≡ Ok (shown_question question)) }
     ensures fault { IfErr result (IsFaultIn (question_found (subcommand_rows_of matches.now))) }
@@ -79,7 +81,7 @@ fn question_found(alloc: Global, matches: &ArgMatches<'_>) -> Result<Question, C
     question_of(alloc, verb, values)
 }
 
-/// Converts the matches of a verb to a question.
+/// Returns the question that a verb with these values asks, or the error of the first invalid value.
 fn question_of(alloc: Global, verb: Verb, values: &ArgMatches<'_>) -> Result<Question, CommandFault>
     ensures question { IfOk result (λ question. question_for verb (rows_of (found_of values.now)) ≡ Ok (shown_question question)) }
     ensures fault { IfErr result (IsFaultIn (question_for verb (rows_of (found_of values.now)))) }

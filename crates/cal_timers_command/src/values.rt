@@ -17,7 +17,7 @@ use std::alloc::{AllocError, Global};
 /// The maximum value of `--count`.
 const MAX_COUNT: u64 = 1_000_000;
 
-/// The end of each message.
+/// The end of each message about an invalid value, as in the messages of `clap`.
 const HINT: &str = "\n\nFor more information, try '--help'.\n";
 
 /// Returns the value of `--count`, a number from 1 to [`MAX_COUNT`], or `None` if the option isn't given. Fails with
@@ -208,7 +208,7 @@ fn no_value(alloc: Global, option: Argument) -> CommandFault
     }
 }
 
-/// Returns the error about a value that isn't empty.
+/// Returns the error about an invalid value that isn't empty.
 fn invalid_value(alloc: Global, option: Argument, text: &str, reason: &str) -> CommandFault
     ensures { IsUsageOf (invalid_value option.name.now option.value_name.now reason.now text.now) result }
 {
@@ -231,7 +231,7 @@ fn no_value_text(alloc: Global, option: Argument) -> Result<String, AllocError>
     Ok(message)
 }
 
-/// Returns the message about a value that isn't empty, worded as `clap` words such messages.
+/// Returns the message about an invalid value that isn't empty, worded as `clap` words such messages.
 fn invalid_value_text(
     alloc: Global,
     option: Argument,

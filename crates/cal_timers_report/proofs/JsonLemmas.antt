@@ -1,4 +1,4 @@
--- Writing arrays one value after the other, and objects one member after the other.
+-- Lemmas on writing arrays one value after the other, and objects one member after the other.
 use Rattle.std.proofs.Common.{◌≡◌, ℕ, List, [], ◌∷◌, ◌++◌, map, refl, sym, ap, ◌∙◌, append_assoc}
 use Rattle.std.specs.List.{flat_map}
 use Rattle.json.specs.Json.{Json}
@@ -15,7 +15,7 @@ items_closed : (values : List Json) → items_tokens (items_of values) ≡ value
 items_closed [] = refl
 items_closed (value ∷ values) = ap (λ ts. json_tokens value ++ ts) (items_closed values) ∙ sym (append_assoc (json_tokens value) (values_tokens values) (end_array ∷ []))
 
--- values between the brackets of an array
+-- writing an opening bracket, then values, and then a closing bracket writes an array of these values
 pub array_closed : (before : List Token) (values : List Json) → ((before ++ begin_array ∷ []) ++ values_tokens values) ++ end_array ∷ [] ≡ before ++ json_tokens (array_of values)
 array_closed before values =
     append_assoc (before ++ begin_array ∷ []) (values_tokens values) (end_array ∷ [])
@@ -38,7 +38,7 @@ members_closed (m ∷ ms) old new puts =
     ∙ append_assoc (old ++ key m.0 ∷ []) (json_tokens m.1) (members_tokens (members_of ms))
     ∙ append_assoc old (key m.0 ∷ []) (json_tokens m.1 ++ members_tokens (members_of ms))
 
--- members between the brackets of an object
+-- writing an opening brace, then members, and then a closing brace writes an object with these members
 pub object_put : (ms : List (List ℕ × Json)) (before opened last after : List Token) → opened ≡ before ++ begin_object ∷ [] → Puts opened ms last → after ≡ last ++ end_object ∷ [] → after ≡ before ++ json_tokens (object_of ms)
 object_put ms before opened last after begun puts ended =
     ended ∙ members_closed ms opened last puts

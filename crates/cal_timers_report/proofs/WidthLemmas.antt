@@ -1,4 +1,4 @@
--- The widest of a list that grows.
+-- Lemmas on the greatest width in a list after one more element is appended.
 use Rattle.std.proofs.Common.{◌≡◌, ℕ, ◌+◌, ◌<◌, max, List, [], ◌∷◌, ◌++◌, length, map, take, get_or, ap, ◌∙◌, arith}
 use Rattle.std.proofs.lemmas.List.{map_more}
 use Rattle.cal_timers_report.specs.rules.Columns.{widest}

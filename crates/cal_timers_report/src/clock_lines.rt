@@ -65,8 +65,8 @@ fn push_labeled(out: &mut String, label: &str, time: &ClockTime<'_>) -> Result<(
     push_line(out, time)
 }
 
-/// Appends what a clock change does to a local time, and a line feed. The local time is converted to a date and a time as
-/// if it were in UTC, since a skipped local time has no instant in its own zone.
+/// Appends what a clock change does to a local time, and a line feed. The local time is converted to a date and a time
+/// as if it were in UTC, since a skipped local time has no instant in its own zone.
 fn push_line(out: &mut String, time: &ClockTime<'_>) -> Result<(), AllocError>
     ensures { OnOk result (string_bytes out.new ≡ string_bytes out.old ++ clock_line (clock_time_seen time.now)) }
 {

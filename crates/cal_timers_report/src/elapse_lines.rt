@@ -12,8 +12,8 @@ use crate::times::{instant_width, push_instant};
 use cal_zone::{InstantFormatter, Zone};
 use std::alloc::{AllocError, Global};
 
-/// Returns a line for each elapse: the instant, as clocks in the zone show it, and the name of the timer. If there are no
-/// elapses, returns an empty text.
+/// Returns a line for each elapse: the instant, as clocks in the zone show it, and the name of the timer. If there are
+/// no elapses, returns an empty text.
 pub fn between_text(
     alloc: Global,
     zone: Zone<'_>,

@@ -113,7 +113,7 @@ fn row_of(
     })
 }
 
-/// Returns the next elapse as clocks show it.
+/// Returns the next elapse as clocks in the zone of `formatter` show it, or `-` if there is none.
 fn next_cell(
     alloc: Global,
     formatter: &mut InstantFormatter<'_>,
@@ -130,7 +130,7 @@ fn next_cell(
     Ok(text)
 }
 
-/// Returns how long it is until the next elapse.
+/// Returns how long it is until the next elapse, or `-` if there is none.
 fn left_cell(alloc: Global, now: Instant, next: Option<Instant>) -> Result<String, AllocError>
     ensures { IfOk result (λ text. string_bytes text ≡ left_cell now.secs (option_map (λ instant. instant.secs) next)) }
 {

@@ -5,7 +5,7 @@ ghost use Rattle.cal_timers_report.specs.rules.Emphasis.{begin_text, end_text};
 
 use std::alloc::AllocError;
 
-/// The style in which text is printed.
+/// How text is printed: the width of the terminal, and whether bold and red are used.
 #[derive(Clone, Copy, PartialEq, Eq, Debug)]
 pub struct Style {
     /// The width of the terminal, in characters. The notes in the table of timers are cut to fit into it.

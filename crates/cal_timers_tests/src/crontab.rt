@@ -9,8 +9,8 @@ use cal_spec::{Expr, write_expr};
 use std::alloc::Global;
 use std::test::Fail;
 
-/// Time fields, each with the expressions that elapse when cron runs the line, or with the column and the message of the
-/// error.
+/// Time fields, each with the expressions that elapse when cron runs the line, or with the column and the message of
+/// the error.
 static TIME_FIELDS: [(&str, &str); 68] = [
     ("5 0 * * *", "*-*-* 00:05:00"),
     ("15 14 1 * *", "*-*-01 14:15:00"),
@@ -27,7 +27,7 @@ static TIME_FIELDS: [(&str, &str); 68] = [
     ("007 09 * * *", "*-*-* 09:07:00"),
     ("*/60 * * * *", "*-*-* *:00:00"),
     ("5-5/3 * * * *", "*-*-* *:05:00"),
-    // A step keeps its end if systemd 252 would go on past it, as from minute 56 to minute 3, or from hour 22 to hour 0.
+    // A step keeps its end if systemd 252 would go on past it, as from minute 56 to minute 3, or hour 22 to hour 0.
     ("*/5 * * * *", "*-*-* *:00/5:00"),
     ("*/7 * * * *", "*-*-* *:00..56/7:00"),
     ("10-59/15 * * * *", "*-*-* *:10..55/15:00"),

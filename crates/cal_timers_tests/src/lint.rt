@@ -1,4 +1,5 @@
-//! Tests of advice that `calendar-timers lint` doesn't give, since no file has the texts and places that it is about.
+//! Tests of hints and findings with arguments that `calendar-timers lint` never passes: an empty text, and lines and
+//! columns at which it finds no problems.
 
 use cal_library_tests::shared::ensure;
 use cal_lint::{Doubt, Finding, Problem, ProblemKind, find_hint};
@@ -17,8 +18,8 @@ fn no_hint_for_an_empty_text(rt: HostRuntime) -> Result<(), Fail> {
 type Row = (u32, u32, &'static str, &'static str);
 
 static PLACES: [Row; 3] = [
-    // A column counts bytes, and the caret is placed by characters: before the word, `Ä`, `ö` and the tab have 5 bytes
-    // and are printed as 6 characters.
+    // A column counts bytes, and the caret is placed by characters: before the word, `Ä`, `ö` and the tab have 5
+    // bytes and are printed as 6 characters.
     (
         1,
         6,

@@ -1,4 +1,4 @@
-//! A machine in memory.
+//! A machine in memory, with files, links and folders at given paths.
 
 use cal_answers::System;
 use cal_machine::{Entry, Names, Raw, TreeFault, Unreadable};

@@ -1,10 +1,10 @@
--- A step of following aliases.
+-- What `follow` and `following` return, given the destination of the stem that is looked up first.
 use Rattle.std.proofs.Common.{◌≡◌, ℕ, suc, List, Option, Some, ap, refl}
 use Rattle.cal_unit_index.specs.rules.Destinations.{Destination}
 use Rattle.cal_unit_index.specs.rules.Destinations.Destination.{AliasOf}
 use Rattle.cal_unit_index.specs.rules.Units.{follow, following, from_destination, looked_up, max_aliases}
 
--- if `other` is the stem by which `stem` is looked up, and it has this destination
+-- one step of `follow`, if `stem` is looked up by the stem `other`, and `found` is the destination of `other`
 pub follow_on : (lookup : List ℕ → Option Destination) (count n : ℕ) (stem other : List ℕ) (found : Option Destination)
     → count ≡ suc n → other ≡ looked_up lookup stem → found ≡ lookup other
     → from_destination (follow lookup n) other found ≡ follow lookup count stem

@@ -1,4 +1,4 @@
--- Steps of the loops that read folders, and of the loops over what was read.
+-- What one more folder, stem or name adds to the index, and to the sets and lists that loops make from the index.
 use Rattle.std.proofs.Common.{◌≡◌, ◌∙◌, ◌+◌, ◌<◌, ℕ, Bool, true, false, cond, List, [], ◌∷◌, ◌++◌, Option, Some, None, refl, sym, ap, append_assoc, get_or, inl, inr, length, map, option_map, string_bytes, take}
 use Rattle.std.specs.Prelude.{◌||◌, String, Vec, is_some, slice_get}
 use Rattle.std.specs.BTreeSet.{insert_key}
@@ -61,7 +61,8 @@ pub mapped_more : {X Y Z : Type 0} (f : Y → Option Z) (view : X → Y) (xs : L
     → filter_map f (map view xs) ++ option_to_list (f (view x)) ≡ filter_map f (map view (xs ++ x ∷ []))
 mapped_more f view xs x = sym (filter_map_more f (map view xs) (view x)) ∙ ap (filter_map f) (sym (map-append view xs (x ∷ [])))
 
--- if `before` is `start` with what `f` gives for `xs`, and `after` also has what `f` gives for `x`
+-- if `before` is `start` followed by what `f` gives for `xs`, and `after` also has what `f` gives for `x`, then `after`
+-- is `start` followed by what `f` gives for `xs` and `x`
 pub appended_more : {X Y Z : Type 0} (f : Y → Option Z) (view : X → Y) (start before after : List Z) (xs : List X) (x : X)
     → after ≡ before ++ option_to_list (f (view x)) → before ≡ start ++ filter_map f (map view xs)
     → after ≡ start ++ filter_map f (map view (xs ++ x ∷ []))
@@ -74,7 +75,8 @@ appended_more f view start before after xs x added held =
 next_taken : {X : Type 0} (xs : List X) (i : ℕ) (x : X) → i < length xs → x ≡ get_or xs i x → take (i + 1) xs ≡ take i xs ++ x ∷ []
 next_taken xs i x h is = take_more xs i x h ∙ ap (λ y. take i xs ++ y ∷ []) (sym is)
 
--- a set of what `f` gives for the first items of a list, with what it gives for the next one
+-- if `before` is the sorted set of what `f` gives for the first `i` items, then with what it gives for the next item it
+-- is the set for the first `i + 1`
 pub set_more : {X Y : Type 0} (f : Y → Option (List ℕ)) (view : X → Y) (xs : List X) (i : ℕ) (x : X) (before after : List (List ℕ))
     → i < length xs → x ≡ get_or xs i x
     → after ≡ with_texts before (option_to_list (f (view x))) → before ≡ sorted_once (filter_map f (map view (take i xs)))
@@ -95,7 +97,7 @@ or_none : {X : Type 0} (o : Option X) → option_or o None ≡ o
 or_none None = refl
 or_none (Some x) = refl
 
--- if a stem had no destination, and now has one, but nothing else has changed
+-- entering a destination for a stem that had none changes what is found for this stem, and for no other
 pub entered_new : {X Y : Type 0} (view : X → Y) (old new : List ℕ → Option X) (stem other : List ℕ) (destination : X)
     → is_some (old stem) ≡ false → new other ≡ cond (bytes_eq stem other) (Some destination) (old other)
     → option_map view (new other) ≡ option_or (option_map view (old other)) (cond (bytes_eq other stem) (Some (view destination)) None)
@@ -121,7 +123,7 @@ among_either None None true true = refl
 among_either None None true false = refl
 among_either None d false c = refl
 
--- adding stems, and then one more
+-- adding stems to an index, and then one more, is adding all of them
 pub stems_more : (machine : Machine) (path : List (List ℕ)) (folder : List ℕ) (stems : List (List ℕ)) (stem : List ℕ) (old mid new : UnitIndex)
     → HasStems machine path folder stems old mid → HasStems machine path folder (stem ∷ []) mid new
     → HasStems machine path folder (stems ++ stem ∷ []) old new
@@ -158,7 +160,8 @@ first_more f xs x = ap (λ ys. slice_get ys 0) (filter_map_more f xs x) ∙ firs
 
 -- ## Folders
 
--- `old` is the index of the folders `done`; `after` also has what the stems in one more folder lead to
+-- if `old` is the index of the folders `done`, and `after` also has what the stems in one more folder lead to, then
+-- `after` with this folder is the index of `done` and this folder
 pub folder_more : (machine : Machine) (path : List (List ℕ)) (folder : List ℕ) (done : List (List ℕ)) (old after : UnitIndex)
     (unreadable : Vec UnitFault Global) (folders : Vec SearchFolder Global) (item : SearchFolder)
     → map shown_fault unreadable.items ≡ map shown_fault old.unreadable.items ++ faults_of_listing folder (names_at machine folder)
@@ -190,11 +193,12 @@ folder_more machine path folder done old after unreadable folders item faulty is
 
 -- ## The index of a whole search path
 
--- two look-ups that give the same for each stem are the same
+-- two look-ups that find the same for each stem are equal
 pub same_lookup : {X : Type 0} (one other : List ℕ → Option X) → ((stem : List ℕ) → one stem ≡ other stem) → one ≡ other
 same_lookup one other same = λ i stem. same stem i
 
--- what is made of each folder of an index is made of each folder of the search path
+-- if `make` is applied to each folder of an index, the result is the same as for each folder of the search path on the
+-- machine
 pub each_folder : {X : Type 0} (machine : Machine) (path : List (List ℕ)) (index : UnitIndex) (make : (List ℕ → Option Destination) → List (List ℕ) → List X)
     → map shown_folder index.folders.items ≡ map (searched machine) path
     → ((stem : List ℕ) → destination_of index stem ≡ destination_in machine path stem)

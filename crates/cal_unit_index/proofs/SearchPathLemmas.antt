@@ -12,12 +12,12 @@ pub any_of_texts : (p : List ℕ → Bool) (texts : List (String Global)) → li
 any_of_texts p [] = refl
 any_of_texts p (text ∷ texts) = ap (λ rest. p (string_bytes text) || rest) (any_of_texts p texts)
 
--- a text from the environment, or a default
+-- the bytes of a text from the environment, or of a default if there is no such text
 pub now_or : (text : Option (Bor (List ℕ))) (default : Bor (List ℕ)) → (unwrap_or text default).now ≡ unwrap_or (option_copied text) default.now
 now_or (Some text) default = refl
 now_or None default = refl
 
--- the directories that the code finds are those of the variables
+-- the folders in the directories that the code finds are those that the definition derives from the variables
 pub directories_are : (variables : UserVariables) (config share : List ℕ) (runtime_dirs config_dirs data_dirs : List (List ℕ))
     → runtime_dirs ≡ option_to_list (option_copied variables.runtime_dir)
     → config_dirs ≡ paths_in (unwrap_or (option_copied variables.config_dirs) (codes "/etc/xdg"))

@@ -1,4 +1,4 @@
--- Steps of the loops that find which timers are started.
+-- What one more item adds to the sets and lists of the loops that find which timers are started.
 use Rattle.std.proofs.Common.{◌≡◌, ◌∙◌, ℕ, List, [], ◌∷◌, ◌++◌, All, ap, append-nil, map, refl, string_bytes, sym}
 use Rattle.std.specs.BTreeSet.{insert_key}
 use Rattle.std.specs.Cmp.Lexicographic.{slice_cmp}
@@ -28,20 +28,23 @@ flat_more F view xs x = sym (
     ∙ flat_map-append F (map view xs) (view x ∷ [])
     ∙ ap (λ ys. flat_map F (map view xs) ++ ys) (append-nil (F (view x))))
 
--- if `before` has the texts `xs` in addition to `start`, and `after` also has the texts `ys`
+-- if `before` is `start` with the texts `xs`, and `after` also has the texts `ys`, then `after` is `start` with the
+-- texts `xs` and `ys`
 pub texts_more : (start before after xs ys : List (List ℕ)) → after ≡ with_texts before ys → before ≡ with_texts start xs
     → after ≡ with_texts start (xs ++ ys)
 texts_more start before after xs ys added held =
     added ∙ ap (λ texts. with_texts texts ys) held ∙ sym (fold-append (insert_key (slice_cmp nat_cmp)) start xs ys)
 
--- if `before` has the texts that `F` gives for `xs`, and `after` also has those for `x`
+-- if `before` is `start` with the texts that `F` gives for `xs`, and `after` also has those that it gives for `x`, then
+-- `after` is `start` with the texts for `xs` and `x`
 pub texts_of_more : {X Y : Type 0} (F : Y → List (List ℕ)) (view : X → Y) (start before after : List (List ℕ)) (xs : List X) (x : X)
     → after ≡ with_texts before (F (view x)) → before ≡ with_texts start (flat_map F (map view xs))
     → after ≡ with_texts start (flat_map F (map view (xs ++ x ∷ [])))
 texts_of_more F view start before after xs x added held =
     texts_more start before after (flat_map F (map view xs)) (F (view x)) added held ∙ ap (with_texts start) (flat_more F view xs x)
 
--- the same for lists
+-- if `before` has the items that `F` gives for `xs`, and `after` also has those that it gives for `x`, then `after` has
+-- the items for `xs` and `x`
 pub items_of_more : {X Y Z : Type 0} (F : Y → List Z) (view : X → Y) (before after : List Z) (xs : List X) (x : X)
     → after ≡ before ++ F (view x) → before ≡ flat_map F (map view xs) → after ≡ flat_map F (map view (xs ++ x ∷ []))
 items_of_more F view before after xs x added held = added ∙ ap (λ ys. ys ++ F (view x)) held ∙ flat_more F view xs x

@@ -1,5 +1,5 @@
--- Examples that check which timers are started, most of which were tried with `systemd --test` of systemd 252. `/etc` is
--- the more important of the two folders in the search path.
+-- Examples that check which timers are started, most of which were tried with `systemd --test` of systemd 252. `/etc`
+-- is the more important of the two folders in the search path.
 use Rattle.std.proofs.Common.{◌≡◌, ◌++◌, ℕ, List, [], ◌∷◌, Result, Ok, Err, codes, filter, map, refl, None}
 use Rattle.std.specs.Prelude.{if◌then◌else◌}
 use Rattle.std.specs.List.{list_any}
@@ -31,7 +31,7 @@ always =
     in_folder [] (codes "etc") Folder ∷ in_folder [] (codes "lib") Folder ∷ in_folder [] (codes "dev") Folder
     ∷ in_folder (codes "/dev") (codes "null") Device ∷ []
 
--- a machine that has all this; the folders at the paths `closed` can't be read
+-- a machine that has the entries `all`; the folders at the paths `closed` can't be read
 abbrev machine : List Found → List (List ℕ) → Machine
 machine all closed =
     record {
@@ -56,7 +56,7 @@ timers = codes "timers.target.wants"
 abbrev in_lib : List (List ℕ × Entry) → List Found
 in_lib entries = in_folder (codes "/lib") timers Folder ∷ map (λ entry. in_folder (codes "/lib/timers.target.wants") entry.0 entry.1) entries
 
--- the same in `/etc`
+-- the wants folder of `timers.target` in `/etc`, with these names and entries
 abbrev in_etc : List (List ℕ × Entry) → List Found
 in_etc entries = in_folder (codes "/etc") timers Folder ∷ map (λ entry. in_folder (codes "/etc/timers.target.wants") entry.0 entry.1) entries
 
@@ -66,9 +66,9 @@ starts name = (name, Link (codes "/lib/a.timer"))
 abbrev masks : List ℕ → List ℕ × Entry
 masks name = (name, Link (codes "/dev/null"))
 
--- In the first row, only the name of a link counts, and an instance is started, too. A link
--- with the name of a template starts an instance of it, here `t@timers`. Names of other units and hidden names are left
--- out. In the second row, what isn't a link starts nothing.
+-- In the first row, only the name of a link counts, and an instance is started, too. A link with the name of a template
+-- starts an instance of it, here `t@timers`. Names of other units and hidden names are left out. In the second row,
+-- what isn't a link starts nothing.
 plain_rows : map started_on
     (in_lib (starts (codes "b.timer") ∷ starts (codes "a@i.timer") ∷ starts (codes "a.service") ∷ starts (codes "t@.timer") ∷ starts (codes ".c.timer") ∷ [])
     ∷ in_lib ((codes "a.timer", File) ∷ (codes "b.timer", Empty) ∷ (codes "c.timer", Folder) ∷ (codes "d.timer", Device) ∷ [])
@@ -77,8 +77,8 @@ plain_rows : map started_on
 unfolding by_name file_stem instance_of is_stem listed_stem unit_kind_of unit_stem without_suffix walk
 plain_rows = refl
 
--- A link starts a timer if it leads to nothing or to itself, or if its target isn't UTF-8. A link that leads to a device or
--- to an empty file doesn't.
+-- A link starts a timer if it leads to nothing or to itself, or if its target isn't UTF-8. A link that leads to a
+-- device or to an empty file doesn't.
 led_rows : started_on (in_lib (
     (codes "a.timer", Link (codes "/none")) ∷ (codes "b.timer", Link (codes "b.timer")) ∷ (codes "c.timer", Link (codes "../e")) ∷ masks (codes "d.timer") ∷ [])
     ++ (codes "/lib/timers.target.wants", (codes "f.timer", Err NotUtf8)) ∷ in_folder (codes "/lib") (codes "e") Empty ∷ [])
@@ -86,8 +86,8 @@ led_rows : started_on (in_lib (
 unfolding by_name file_stem instance_of is_stem listed_stem unit_kind_of unit_stem without_suffix walk
 led_rows = refl
 
--- In the first two rows, what is in `/etc` hides what has the same name in `/lib`; in the second one, it hides a mask. In the
--- third row, it doesn't hide what has the same name in a folder with another name.
+-- In the first two rows, what is in `/etc` hides what has the same name in `/lib`; in the second one, it hides a mask.
+-- In the third row, it doesn't hide what has the same name in a folder with another name.
 hidden_rows : map started_on
     ((in_etc (masks (codes "a.timer") ∷ (codes "b.timer", File) ∷ []) ++ in_lib (starts (codes "a.timer") ∷ starts (codes "b.timer") ∷ starts (codes "c.timer") ∷ []))
     ∷ (in_lib (masks (codes "a.timer") ∷ []) ++ in_etc (starts (codes "a.timer") ∷ []))
@@ -119,8 +119,8 @@ abbrev with_template : List ℕ → List Found
 with_template folder =
     in_folder (codes "/lib") folder Folder ∷ in_folder (codes "/lib/" ++ folder) (codes "t@.timer") (Link (codes "/lib/t@.timer")) ∷ []
 
--- The instance is that of the unit with the wants folder, or this unit's name without its suffix. The last four folders are
--- for many units.
+-- The instance is that of the unit with the wants folder, or this unit's name without its suffix. The last four folders
+-- are for many units.
 template_rows : map (λ folder. started_on (with_template folder)) (codes "a.b.target.wants" ∷ codes "a@i.target.requires" ∷ codes "a-.target.wants" ∷ codes "a@.target.wants" ∷ codes "target.wants" ∷ codes ".wants" ∷ [])
     ≡ (codes "t@a.b" ∷ []) ∷ (codes "t@i" ∷ []) ∷ [] ∷ [] ∷ [] ∷ [] ∷ []
 unfolding by_name file_stem instance_of is_stem listed_stem unit_kind_of unit_stem without_suffix walk

@@ -1,4 +1,4 @@
--- Lemmas on removing the suffix of a name.
+-- `strip_suffix` removes the suffix of a name as `without_suffix` says.
 use Rattle.std.proofs.Common.{◌≡◌, ◌-◌, ◌≤◌, ℕ, true, false, List, None, refl, sym, ap, ◌∙◌, arith, length, take}
 use Rattle.std.specs.List.{ends_with}
 use Rattle.std.specs.Prelude.{nat_eq}

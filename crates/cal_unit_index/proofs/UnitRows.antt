@@ -114,8 +114,9 @@ instances : map (unit_on templates path) (codes "foo@" ∷ codes "foo@x" ∷ cod
 unfolding walk after_prefix template_of listed_stem file_stem unit_stem without_suffix is_stem unit_kind_of instance_of
 instances = refl
 
--- An instance has the same names, whichever is asked for. `al@x` and `el@y` are names of one instance each. `bar@w` is no
--- name of `foo@w`, which has a file of its own, and `bar@z` is no name of `foo@z`, because it has a file of its own.
+-- An instance has the same names, whichever is asked for. `al@x` and `el@y` are names of one instance each. `bar@w`
+-- isn't a name of `foo@w`, which has a file of its own, and `bar@z` isn't a name of `foo@z`, because it has a file of
+-- its own.
 instance_names : map (names_for templates path) (codes "bar@x" ∷ codes "foo@x" ∷ codes "el@y" ∷ codes "foo@w" ∷ codes "foo@z" ∷ codes "bar@z" ∷ [])
     ≡ (codes "foo@x" ∷ codes "al@x" ∷ codes "bar@x" ∷ []) ∷ (codes "foo@x" ∷ codes "al@x" ∷ codes "bar@x" ∷ [])
     ∷ (codes "foo@y" ∷ codes "bar@y" ∷ codes "el@y" ∷ []) ∷ (codes "foo@w" ∷ []) ∷ (codes "foo@z" ∷ []) ∷ (codes "bar@z" ∷ []) ∷ []

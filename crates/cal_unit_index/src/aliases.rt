@@ -1,5 +1,5 @@
-//! The aliases and the units in a search path (systemd.unit(5), Description). A stem is a unit's name without its suffix
-//! `.timer`.
+//! The aliases and the units in a search path (systemd.unit(5), Description). A stem is a unit's name without its
+//! suffix `.timer`.
 
 ghost use Rattle.std.specs.Prelude.{◌≡◌, ◌++◌, IfOk, OnOk, filter, map, option_map, string_bytes, ◌∷◌, []};
 ghost use Rattle.std.specs.List.{flat_map};
@@ -20,14 +20,13 @@ use std::collections::BTreeSet;
 /// An alias of a unit.
 #[derive(Debug, Drop)]
 pub(crate) struct Alias {
-    /// The stem of the alias.
     pub stem: String,
     /// The stem under which the unit's file is found, which can be a template's.
     pub unit: String,
 }
 
-/// Returns all aliases, in the order of the folders, and by name in each. If several folders have the name of an alias,
-/// it is there several times.
+/// Returns all aliases, in the order of the folders, and sorted by name in each. An alias whose name is in several
+/// folders is in the list several times.
 ///
 /// systemd leaves out an alias whose unit is masked. It isn't left out here, because that is only known once the unit's
 /// file is read.
@@ -74,7 +73,8 @@ fn push_alias(
     Ok(())
 }
 
-/// Returns the alias with this stem. Returns `None` if the stem isn't an alias, or if following it doesn't lead to a file.
+/// Returns the alias with this stem. Returns `None` if the stem isn't an alias, or if following it doesn't lead to a
+/// file.
 fn alias_with(alloc: Global, index: &UnitIndex, stem: &str) -> Result<Option<Alias>, AllocError>
     ensures { IfOk result (λ alias. option_map shown_alias alias ≡ alias_with (destination_of index.now) stem.now) }
 {

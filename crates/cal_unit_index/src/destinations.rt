@@ -1,5 +1,5 @@
-//! Where the names of units lead (systemd.unit(5), Description and Unit File Load Path). A stem is a unit's name without
-//! its suffix `.timer`.
+//! Where the names of units lead (systemd.unit(5), Description and Unit File Load Path). A stem is a unit's name
+//! without its suffix `.timer`.
 
 ghost use Rattle.std.specs.Prelude.{◌≡◌, IfOk, map, option_map, string_bytes};
 ghost use Rattle.std.specs.List.{list_any};
@@ -20,8 +20,8 @@ pub(crate) enum Destination {
     Alias(String),
 }
 
-/// Returns where a stem leads by its path in this folder of the search path. Returns `None` if what is there isn't the
-/// file of a unit.
+/// Returns where a stem leads according to this folder of the search path. Returns `None` if what is at the stem's path
+/// in the folder isn't the file of a unit.
 ///
 /// A link that leads into the search path is an alias of the unit with the name at the end of the path to which it
 /// leads. If it can't be an alias of this unit, it leads nowhere. Any other link is itself the unit's file.
@@ -41,7 +41,7 @@ pub(crate) fn find_destination<T: Tree>(
     destination_of_entry(alloc, tree, path, folder, stem, file, entry)
 }
 
-/// Returns where a stem leads by what is at its path `file` in this folder.
+/// Returns where a stem leads, given what is at `file`, its path in this folder.
 fn destination_of_entry<T: Tree>(
     alloc: Global,
     tree: &mut T,

@@ -11,7 +11,6 @@ use std::collections::BTreeMap;
 pub(crate) struct DropIn {
     /// The file's name in the folder.
     pub name: String,
-    /// The file's path.
     pub path: String,
 }
 

@@ -1,4 +1,4 @@
-//! What of a unit's files and folders can't be used.
+//! Paths of a unit's files and folders that can't be used.
 
 ghost use Rattle.std.specs.Prelude.{◌≡◌, IfOk};
 ghost use Rattle.cal_unit_index.specs.rules.Index.{shown_fault};
@@ -22,9 +22,8 @@ pub enum Reason {
 /// A path that can't be used, and why.
 #[derive(Debug, Drop)]
 pub struct UnitFault {
-    /// The path.
+    /// The path of a folder, a file or a link.
     pub path: String,
-    /// Why it can't be used.
     pub reason: Reason,
 }
 

@@ -17,7 +17,7 @@ const FILE_LIMIT: usize = FILE_BYTES - 1;
 /// A file of a unit.
 #[derive(Debug, Drop)]
 pub struct UnitText {
-    /// Its path.
+    /// The path at which it was read.
     pub path: String,
     /// Its bytes, at most 1,048,576.
     pub bytes: Vec<u8>,
@@ -37,8 +37,7 @@ pub enum FileRead {
 /// The texts of a unit's drop-ins.
 #[derive(Debug, Drop)]
 pub struct DropInTexts {
-    /// The drop-ins that were read, in their order. Empty files, folders, devices and links to nothing are read as
-    /// nothing.
+    /// The drop-ins that were read, in their order. Empty files, folders, devices and links to nothing are skipped.
     pub texts: Vec<UnitText>,
     /// The drop-ins that can't be read or are too large.
     pub faults: Vec<UnitFault>,

@@ -24,7 +24,7 @@ pub(crate) enum End<'i> {
         /// The stem under which the file was found.
         stem: &'i str,
     },
-    /// Nowhere within the allowed number of aliases.
+    /// Not within the allowed number of aliases.
     Endless,
 }
 
@@ -53,7 +53,8 @@ pub(crate) fn following<'i>(index: &'i UnitIndex, stem: &'i str) -> End<'i>
     }
 }
 
-/// Returns where following aliases ends from a stem to which an alias leads, where at most `count` stems are looked up.
+/// Follows aliases from a stem to which an alias leads, and returns where this ends. At most `count` stems are looked
+/// up.
 fn follow<'i>(index: &'i UnitIndex, count: usize, stem: &'i str) -> End<'i>
     ensures { shown_end result ≡ follow (destination_of index.now) count stem.now }
 {
@@ -71,7 +72,7 @@ fn follow<'i>(index: &'i UnitIndex, count: usize, stem: &'i str) -> End<'i>
     }
 }
 
-/// Returns the stem by which a unit is looked up to which an alias leads: its own, but that of its template if it is an
+/// Returns the stem by which the target of an alias is looked up: its own, or its template's if it is the stem of an
 /// instance that leads nowhere.
 fn looked_up<'i>(index: &UnitIndex, stem: &'i str) -> &'i str
     ensures { result.now ≡ looked_up (destination_of index.now) stem.now }

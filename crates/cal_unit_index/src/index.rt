@@ -15,7 +15,7 @@ use cal_machine::Tree;
 use std::alloc::{AllocError, Global};
 use std::collections::{BTreeMap, BTreeSet};
 
-/// What the folders of a search path have.
+/// An index of what the folders of a search path have.
 #[derive(Debug, Drop)]
 pub struct UnitIndex {
     pub(crate) folders: Vec<SearchFolder>,
@@ -27,7 +27,6 @@ pub struct UnitIndex {
 /// A folder of the search path.
 #[derive(Debug, Drop)]
 pub struct SearchFolder {
-    /// The path of the folder.
     pub path: String,
     pub(crate) names: BTreeSet<String>,
 }
@@ -60,8 +59,8 @@ impl UnitIndex {
         Ok(index)
     }
 
-    /// Returns the stems in the search path that aren't those of templates, and that lead to a file or an alias. They are
-    /// sorted by their bytes.
+    /// Returns the stems in the search path that aren't those of templates, and that lead to a file or an alias. They
+    /// are sorted by their bytes.
     ///
     /// Fails only if allocation fails.
     pub fn unit_names(&self, alloc: Global) -> Result<BTreeSet<String>, AllocError>
@@ -71,8 +70,8 @@ impl UnitIndex {
         find_unit_names(alloc, self)
     }
 
-    /// Returns what can't be read, in the order of the search path: folders, and in the other folders the files of timers
-    /// and links whose targets can't be followed. Nothing else is missing from the index.
+    /// Returns what can't be read, in the order of the search path: folders, and in the other folders the files of
+    /// timers and links whose targets can't be followed. Nothing else is missing from the index.
     pub fn unreadable(&self) -> &[UnitFault]
         ensures { result.now ≡ self.now.unreadable.items }
     {

@@ -63,7 +63,7 @@ fn instance_in(folder: &str) -> Option<&str>
     }
 }
 
-/// Returns the name before its last dot.
+/// Returns the part of a name before its last dot, or `None` if it has no dot.
 fn before_dot(name: &str) -> Option<&str>
     ensures { option_map (λ before. before.now) result ≡ before_dot name.now }
 {

@@ -12,7 +12,6 @@ use crate::unit_name::listed_stem;
 use std::alloc::{AllocError, Global};
 use std::collections::BTreeSet;
 
-/// Returns the set of these names.
 pub(crate) fn name_set(alloc: Global, names: Vec<String>) -> Result<BTreeSet<String>, AllocError>
     ensures { IfOk result (λ set. map string_bytes set.keys ≡ sorted_once (map string_bytes names.items)) }
 {
@@ -38,7 +37,7 @@ pub(crate) fn has_name(set: &BTreeSet<String>, name: &str) -> bool
     set.contains(name)
 }
 
-/// Returns the stems of the timers whose files these names can be, in the order of the names.
+/// Returns the stems of the timers to which files with these names can belong, in the order of the names.
 pub(crate) fn timer_stems(alloc: Global, names: &BTreeSet<String>) -> Result<Vec<&str>, AllocError>
     ensures { IfOk result (λ stems. map (λ stem. stem.now) stems.items ≡ stems_of (map string_bytes names.now.keys)) }
 {

@@ -21,9 +21,9 @@ use std::collections::BTreeSet;
 
 /// Returns the stems of all names of a unit: its own, and then the others, sorted by their bytes, each once.
 ///
-/// `file` is what [`crate::find_unit`] found for the stem `asked`. The other names are `asked` and those that aliases give
-/// to the unit. An alias that is a template gives its name with the unit's instance, unless that name leads to another
-/// file. An alias that is an instance gives its name only to the same instance.
+/// `file` is what [`crate::find_unit`] found for the stem `asked`. The other names are `asked` and those that aliases
+/// give to the unit. An alias that is a template gives its name with the unit's instance, unless that name leads to
+/// another file. An alias that is an instance gives its name only to the same instance.
 ///
 /// Fails only if allocation fails.
 pub fn names_of(
@@ -143,7 +143,7 @@ fn unless_elsewhere(index: &UnitIndex, file: &str, name: String) -> Option<Strin
     Some(name)
 }
 
-/// Returns whether following ended at a file, but not at that of the stem `file`.
+/// Returns whether following aliases ended at a file, but not at the one that was found under the stem `file`.
 fn is_elsewhere(file: &str, found: End<'_>) -> bool
     ensures { result ≡ is_elsewhere file.now (shown_end found.entry) }
 {

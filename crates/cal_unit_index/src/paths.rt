@@ -27,7 +27,7 @@ pub(crate) fn all_texts(alloc: Global, path: &[String]) -> Result<Vec<&str>, All
     Ok(texts)
 }
 
-/// Returns the plain paths of the folders, each once, at its first place.
+/// Returns the plain paths of the folders ([`plain_path`]), each only where it occurs first.
 #[tactic(auto, unfolding(crate::specs::rules::SearchPath::each_once))]
 pub(crate) fn each_once(alloc: Global, folders: &[&str]) -> Result<Vec<String>, AllocError>
     ensures { IfOk result (λ path. map string_bytes path.items ≡ each_once (map (λ folder. folder.now) folders.now)) }
@@ -75,7 +75,7 @@ pub(crate) fn parts_of(alloc: Global, path: &str) -> Result<Vec<&str>, AllocErro
     path.split('/').collect(alloc)
 }
 
-/// Returns the parts with a slash before each, without those that are empty or `.`.
+/// Joins the parts that are neither empty nor `.`, with a slash before each.
 fn joined(alloc: Global, parts: &[&str]) -> Result<String, AllocError>
     ensures { IfOk result (λ path. string_bytes path ≡ flat_map below (map (λ part. part.now) parts.now)) }
 {

@@ -16,7 +16,8 @@ use cal_machine::{Tree, TreeFault, Unreadable, names_at};
 use std::alloc::{AllocError, Global};
 use std::collections::{BTreeMap, BTreeSet};
 
-/// Adds what a folder of the search path has to the index. What is there already stays.
+/// Enters a folder of the search path in the index: its names, and where the timers in it lead. A timer that has a
+/// destination already keeps it.
 pub(crate) fn read_folder<T: Tree>(
     alloc: Global,
     tree: &mut T,
@@ -74,7 +75,7 @@ fn push_unreadable(
     Ok(())
 }
 
-/// Adds where the timers with these names in a folder lead.
+/// Enters in the index where the timers with these names in a folder lead.
 fn read_names<T: Tree>(
     alloc: Global,
     tree: &mut T,
@@ -91,7 +92,7 @@ fn read_names<T: Tree>(
     read_stems(alloc, tree, path, folder, stems.as_slice(), index)
 }
 
-/// Adds where these stems in a folder lead.
+/// Enters in the index where the timers with these stems in a folder lead.
 fn read_stems<T: Tree>(
     alloc: Global,
     tree: &mut T,
@@ -110,7 +111,7 @@ fn read_stems<T: Tree>(
     Ok(())
 }
 
-/// Adds where this stem in a folder leads, or that its file can't be read.
+/// Enters in the index where the timer with this stem in a folder leads, or that its file can't be read.
 fn read_stem<T: Tree>(
     alloc: Global,
     tree: &mut T,

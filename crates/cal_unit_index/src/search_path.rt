@@ -202,7 +202,8 @@ fn user_folders(alloc: Global, directories: Directories<'_>) -> Result<Vec<Strin
     folders_at(alloc, &places)
 }
 
-/// Returns, for each place, `DIRECTORY/systemd/NAME` for each of its directories.
+/// Returns `DIRECTORY/systemd/NAME` for each item of `places`, which has directories and a name, and for each of its
+/// directories.
 fn folders_at(alloc: Global, places: &[(&[&str], &str)]) -> Result<Vec<String>, AllocError>
     ensures { IfOk result (λ folders. map string_bytes folders.items ≡ flat_map folders_at (map shown_place places.now)) }
 {
@@ -242,7 +243,6 @@ fn push_folder(
     Ok(())
 }
 
-/// Appends the texts.
 fn push_texts<'a>(folders: &mut Vec<&'a str>, texts: &'a [String]) -> Result<(), AllocError>
     ensures { OnOk result (map (λ folder. folder.now) folders.new.items
         ≡ map (λ folder. folder.now) folders.old.items ++ map string_bytes texts.now) }

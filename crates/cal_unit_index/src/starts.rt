@@ -1,6 +1,6 @@
-//! Which timers other units start, whether or not these are started themselves (systemd.unit(5), Description). A stem is
-//! a unit's name without its suffix `.timer`. A wants folder is a folder `NAME.wants` or `NAME.requires` below a folder of
-//! the search path.
+//! Which timers other units start, whether or not those units are started themselves (systemd.unit(5), Description). A
+//! stem is a unit's name without its suffix `.timer`. A wants folder is a folder `NAME.wants` or `NAME.requires` below
+//! a folder of the search path.
 
 ghost use Rattle.std.specs.Prelude.{◌≡◌, ◌++◌, ◌∷◌, [], ℕ, List, All, IfOk, OnOk, filter, map, option_map, string_bytes};
 ghost use Rattle.std.specs.List.{filter_map, flat_map};
@@ -30,8 +30,8 @@ use std::collections::{BTreeMap, BTreeSet};
 pub struct Started {
     /// The stems of the timers. Whether these timers exist isn't examined.
     pub stems: BTreeSet<String>,
-    /// The folders `NAME.wants` and `NAME.requires` that can't be read, sorted by name, and those with the same name from
-    /// the least important one to the most important one.
+    /// The folders `NAME.wants` and `NAME.requires` that can't be read, sorted by name. Folders with the same name go
+    /// from the least important one to the most important one.
     pub unreadable: Vec<UnitFault>,
 }
 
@@ -136,8 +136,9 @@ fn is_wants_name(name: &str) -> bool
     name.ends_with(b".wants") || name.ends_with(b".requires")
 }
 
-/// Adds the timers that are started by the wants folders with this name, and those of these folders that can't be read.
-/// `roots` has the folders of the search path, from the least important one to the most important one.
+/// Adds the timers that are started by the wants folders with this name, and appends the wants folders that can't be
+/// read to `unreadable`. `roots` has the folders of the search path, from the least important one to the most important
+/// one.
 fn add_named<T: Tree>(
     alloc: Global,
     tree: &mut T,

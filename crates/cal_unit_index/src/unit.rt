@@ -14,9 +14,11 @@ use std::alloc::{AllocError, Global};
 /// The file of a unit, and the names by which it was found.
 #[derive(Debug, Drop)]
 pub struct UnitFile {
-    /// The path of the file in a folder of the search path. It can be a link to a file elsewhere, and can mask the unit.
+    /// The path of the file in a folder of the search path. It can be a link to a file elsewhere, and can mask the
+    /// unit.
     pub path: String,
-    /// The stem under which the file was found. For an instance without a file of its own, this is the stem of a template.
+    /// The stem under which the file was found. For an instance without a file of its own, this is the stem of a
+    /// template.
     pub file: String,
     /// The unit's own stem.
     pub stem: String,
@@ -25,7 +27,7 @@ pub struct UnitFile {
 /// What is found under the name of a unit.
 #[derive(Debug, Drop)]
 pub enum Unit {
-    /// Nothing.
+    /// No file. If the name is that of an instance, its template has no file, either.
     NotFound,
     /// The name is that of a template, which isn't a unit. Whether it has a file isn't examined.
     Template,
@@ -37,10 +39,10 @@ pub enum Unit {
 
 /// Finds the unit with this stem in the index of a search path.
 ///
-/// A name leads to the first file or link with this name in the folders of the search path that can be a unit's. Anything
-/// else is skipped, such as a folder or a link that can't be an alias. If the name is an alias, the unit is the one to
-/// which the alias leads. If it leads to an instance without a file of its own, or if the name is that of an instance and
-/// leads nowhere, its template's file is the unit's file.
+/// A name leads to the first file or link with this name in the folders of the search path that can be a unit's.
+/// Anything else is skipped, such as a folder or a link that can't be an alias. If the name is an alias, the unit is
+/// the one to which the alias leads. If it leads to an instance without a file of its own, or if the name is that of an
+/// instance and leads nowhere, its template's file is the unit's file.
 ///
 /// Fails only if allocation fails.
 pub fn find_unit(alloc: Global, index: &UnitIndex, stem: &str) -> Result<Unit, AllocError>
@@ -74,7 +76,7 @@ fn unit_from(alloc: Global, stem: &str, found: End<'_>) -> Result<Unit, AllocErr
     }
 }
 
-/// Returns the own stem of the unit that was asked for by `stem`, if its file was found under the stem `file`.
+/// Returns the unit's own stem, if the unit was asked for by `stem`, and its file was found under the stem `file`.
 fn own_stem(alloc: Global, file: &str, stem: &str) -> Result<String, AllocError>
     ensures { IfOk result (λ own. string_bytes own ≡ own_stem file.now stem.now) }
 {

@@ -46,7 +46,8 @@ pub(crate) fn file_stem(name: &str) -> Option<&str>
     unit_stem(name)
 }
 
-/// Returns the stem of the timer whose file a name in a folder of the search path can be. Hidden files are left out.
+/// Returns the stem of the timer to which a file with this name in a folder of the search path can belong. Hidden files
+/// are left out.
 #[tactic(auto, unfolding(crate::specs::rules::UnitName::listed_stem))]
 pub(crate) fn listed_stem(name: &str) -> Option<&str>
     ensures { option_map (λ stem. stem.now) result ≡ listed_stem name.now }

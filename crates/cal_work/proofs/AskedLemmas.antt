@@ -35,7 +35,7 @@ use Rattle.cal_work.specs.rules.System.{Known, Seen, GivesTime, Opens, SeesBytes
 use Rattle.cal_work.specs.rules.Works.{Fits, FitsArguments, ReadsZone, SeesFile, SeesZone, SeesZones}
 use Rattle.cal_bytes.proofs.General.{some_none}
 
--- What the arguments ask for
+-- ## What the arguments ask for
 
 -- if the arguments ask for `ask`, then no other result of parsing them is right, except that memory ran out
 asked_for : (arguments : List (List ℕ)) (ask : Ask) (parsed : Result Ask CommandFault) → IsAskOf arguments (Ok ask) → IsAskOf arguments parsed
@@ -51,7 +51,7 @@ asked_for arguments ask (Err (bad_value message)) given is =
     let never : ◌≡◌ {A = Result Ask CommandFault} (Ok ask) (Err (bad_value message)) = sym given.1 ∙ is.1 in cc
 asked_for arguments ask (Err no_memory) given is = inr refl
 
--- The instant that `--now` gives
+-- ## The instant that `--now` gives
 
 most_instant : (n : ℕ) → n ≤ 7_258_211_998 → IsInstant (pos n)
 most_instant n h = (omega (arith, ints, h), omega (arith, ints, h))
@@ -86,7 +86,8 @@ instant_in_option None now h =
     subst (λ o. IfSome o IsInstant) same tt
 instant_in_option (Some text) now h = instant_if_some (present_in text) now _ refl (present_instant text) h
 
--- if all values are valid, so is that of `--now`, and it is the present that is asked for
+-- if the values of all options are valid, then the value of `--now` is valid, and the resulting `ask` has it as its
+-- present
 read_in_turn : (iterations : Option ℕ) (now : Option (Option ℤ)) (zones : Option (List ZoneItem)) (local : Option LocalZone)
     (made : ℕ → Option ℤ → List ZoneItem → LocalZone → Ask) (ask : Ask) → ((i : ℕ) (n : Option ℤ) (z : List ZoneItem) (l : LocalZone) → (made i n z l).now ≡ n)
     → unless_bad bad_iterations iterations (λ i. unless_bad bad_now now (λ n. unless_bad bad_zones zones (λ z. unless_bad bad_local local (λ l. Ok (made i n z l))))) ≡ Ok ask
@@ -126,9 +127,9 @@ instant_given : (arguments : List (List ℕ)) (ask : Ask) → IsAskOf arguments 
 unfolding ask_in
 instant_given arguments ask asks = instant_found (parsed_in arguments) ask asks.1
 
--- Stops
+-- ## Stops
 
--- the stop writes nothing to standard output, and its status doesn't say success
+-- the stop writes nothing to standard output, and its status isn't 0
 pub record IsFault (stop : Stop) : Type 0 where
   pub out : stop.out ≡ []
   pub status : stop.status ≡ 0 → ⊥
@@ -151,7 +152,7 @@ loading_fault name (Zone zone.TooLarge) = is_fault _ 2 two
 loading_fault name (Zone zone.NoMemory) = is_fault _ 1 one
 loading_fault name (Zone zone.NameTaken) = is_fault _ 2 two
 
--- The zone files
+-- ## The zone files
 
 opens_of : (opened : Option (Option (List ℕ))) (limit : ℕ) (bytes : List ℕ) → SeesBytes opened limit (Some (Ok bytes)) → Opens opened (Some (Some bytes))
 opens_of None limit bytes h = tt
@@ -244,7 +245,7 @@ zones_are known before items (Ok other) table is h =
     subst (AreZonesOf known before items) same h
 zones_are known before items (Err stop) table is h = cc
 
--- The local zone and the present instant
+-- ## The local zone and the present instant
 
 unless_fault : (found : Bool) (local : ClockZone) (stop : Stop) → IsFault stop → IfErr (if found then Ok local else Err stop) IsFault
 unless_fault true local stop h = tt
@@ -289,7 +290,7 @@ present_is known None (Some secs) now instant gives h =
     let found = in_range secs now _ refl h in
     subst (λ t. GivesTime known.time (Some t) × IsInstant t) found.0 (gives, found.1)
 
--- All steps together
+-- ## All steps together
 
 -- the end of the work is the report of the request, or a stop of the run
 pub record Ran (known : Known) (ask : Ask) (world : World) (end : Result Report Stop) : Type 0 where

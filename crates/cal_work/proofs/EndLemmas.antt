@@ -29,7 +29,7 @@ append_known-nil : (b : Option (List ℕ)) → append_known b [] ≡ b
 append_known-nil None = refl
 append_known-nil (Some xs) = ap (λ l. Some l) (append-nil xs)
 
--- What is written for a stop
+-- ## What is written for a stop
 
 -- Suppose that a run failed with `fault`, for which the exit status is 1, and that a prefix of each text of the outcome
 -- was written. Then what was written and the status agree with the outcome in the sense of `WritesOf`.
@@ -111,7 +111,7 @@ reports_stop LocalName r out1 out' err1 err' t expected out err s = early_writte
 reports_stop Clock r out1 out' err1 err' t expected out err s = early_written Clock r expected out out1 out' err err1 err' s.0 s.1 s.2 OnErr refl (texts_fit Clock) t
 reports_stop (Open path) r out1 out' err1 err' t expected out err s = early_written (Open path) r expected out out1 out' err err1 err' s.0 s.1 s.2 OnErr refl (texts_fit (Open path)) t
 
--- Which part of a text has reached standard output, and which part is still in its buffer
+-- ## Which part of a text has reached standard output, and which part is still in its buffer
 
 -- if a prefix of the text was written, then the bytes that reached the output and those still in the buffer make up a
 -- prefix of the text
@@ -131,7 +131,7 @@ reaches_flushed (Err fault) before written reached text w s = reaches_front befo
 pub reaches_unflushed : (before written reached : Option (List ℕ)) (text : List ℕ) → Writes {T = Unit} {E = RunFault} before written (Ok tt) text → Flushes written reached false → Reaches {T = Unit} before reached (Err OutFailed) text
 reaches_unflushed before written reached text w s = reaches_front before written reached text false (whole_front before written text w) s
 
--- From the arguments to the exit status
+-- ## From the arguments to the exit status
 
 -- if `Writes` holds on standard error for the result before the flush, then it also holds for the result after the
 -- flush

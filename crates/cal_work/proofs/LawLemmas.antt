@@ -25,7 +25,7 @@ use Rattle.cal_zone.specs.declared.zone_files.LoadFault.{LoadFault}
 use Rattle.cal_command.proofs.CommandLineLemmas.{taken_arguments}
 use Rattle.cal_bytes.proofs.General.{some_none}
 
--- What the program sees of one file
+-- ## What the program sees of one file
 
 fits_limit : (b : Bool) (all : List ℕ) (limit : ℕ) → nat_le (length all) limit ≡ b → length all ≤ limit → taken_of b all ≡ Ok all
 fits_limit true all limit is h = refl
@@ -57,13 +57,12 @@ known_open limit (Some (Some all)) came some h = (taken_of (nat_le (length all) 
 
 -- `IsOr` says that the first result is equal to the second, or is the stop for running out of memory. It holds for two
 -- sequences of steps if it holds for their first steps and for the steps after them.
-
 and_then_or : {A B : Type 0} (next other : A → Result B Stop) (r s : Result A Stop) → IsOr r s → ((x : A) → r ≡ Ok x → IsOr (next x) (other x)) → IsOr (and_then next r) (and_then other s)
 and_then_or next other (Ok x) s (inl e) h = rw (sym e) (h x refl)
 and_then_or next other (Err stop) s (inl e) h = rw (sym e) (inl refl)
 and_then_or next other r s (inr e) h = rw e (inr refl)
 
--- Loading the zone files
+-- ## Loading the zone files
 
 after_load : (known : Known) (items : List ZoneItem) (found : List ZoneFound) (name : List ℕ)
     → ((more : ZoneMap) → SeesZones known more items found → IsOr (table_by more items found) (table_by more items (known_zones known items found)))
@@ -94,7 +93,7 @@ zones_known known table (item ∷ items) (f ∷ found) all h =
           zone_unread (λ more. table_by more items found) (λ more. table_by more items (known_zones known items found)) table item f open_file.0 _ (is_zone_name item.name) refl e open_file.1
     ]
 
--- Reading the clock and the timer file
+-- ## Reading the clock and the timer file
 
 present_known : (given clock : Option ℤ) (time : Option (Option ℤ)) → IsSome time → IfNone given (GivesTime time clock) → present_by given clock ≡ present_by given (known_time time)
 unfolding present_by
@@ -111,7 +110,7 @@ run_known known asked seen (for_file path) all h =
       | inr e ↦ rw e (inr refl)
     ]
 
--- All steps together
+-- ## All steps together
 
 ask_known : (known : Known) (ask : Ask) (world : World) → TellsAll known → Fits known ask world → IsOr (outcome_of ask world) (outcome (known_world known ask world))
 unfolding outcome outcome_of known_world run_by

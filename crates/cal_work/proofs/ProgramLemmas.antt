@@ -1,5 +1,5 @@
--- Lemmas for the clause `headline` of `work`: if the arguments make a request for elapses, what is printed is the report
--- that answers it, or nothing.
+-- Lemmas for the clause `headline` of `work`: if the arguments make a request for elapses, what is printed is the
+-- report that answers it, or nothing.
 use Rattle.std.proofs.Common.{◌≡◌, ◌⊎◌, inl, inr, ◌++◌, ℕ, ℤ, Bool, true, List, [], ◌∷◌, Option, None, Some, Result, Ok, Err, refl, sym, ap, subst, ◌∙◌, append-nil, append_assoc, codes, decimal}
 use Rattle.std.specs.Io.KnownBytes.{Appends, Keeps, append_known}
 use Rattle.std.proofs.KnownBytes.{Appends-kept}
@@ -49,7 +49,7 @@ use Rattle.cal_work.specs.rules.System.{Known, Seen, Sees}
 use Rattle.cal_work.specs.rules.Works.{Reaches, SeesFile, SeesFor, Works, WritesErr}
 use Rattle.cal_work.proofs.AskedLemmas.{Ends, IsFault, Ran, is_fault, one, work_ends}
 
--- The status
+-- ## The status
 
 never_fine : Refused ≡ Fine → ⊥
 never_fine h = cc
@@ -73,9 +73,9 @@ status_of : (written : Result Unit RunFault) (end : Result Report Stop) → writ
 status_of (Ok done) end all = refl
 status_of (Err fault) end all = cc
 
--- What is on the outputs
+-- ## What is on the outputs
 
--- what was written to standard error if nothing failed
+-- if nothing failed, the whole text was written to standard error, and nothing else
 err_written : (old new : Option (List ℕ)) (failed : Bool) (written : Result Unit RunFault) (text : List ℕ) → written ≡ Ok tt → WritesErr old new failed written text → Appends old new text
 err_written old new failed (Ok done) text all w = Appends-kept old w.before new text w.text_bytes w.line
 err_written old new failed (Err fault) text all w = cc
@@ -114,7 +114,7 @@ keeps None new h = tt
 keeps (Some xs) None h = h
 keeps (Some xs) (Some ys) h = h ∙ append-nil xs
 
--- How the run of a request ends
+-- ## How the run of a request ends
 
 -- the end is a report that answers the request
 record EndsAnswered (known : Known) (asked : Request) (taking : Verb) (end : Result Report Stop) : Type 0 where
@@ -124,7 +124,7 @@ record EndsAnswered (known : Known) (asked : Request) (taking : Verb) (end : Res
   is : end ≡ Ok report
   answers : Answers taking known asked base report
 
--- at the end nothing is printed on standard output, and the status doesn't say success
+-- if the work ends with `end`, nothing is printed on standard output, and the status isn't 0
 record EndsBlank (end : Result Report Stop) : Type 0 where
   out : out_text end ≡ []
   failed : (written : Result Unit RunFault) → ended_status written end ≡ 0 → ⊥
@@ -141,7 +141,7 @@ stop_status (Err NoMemory) stop fault h = one h
 stop_blank : (stop : Stop) → IsFault stop → EndsBlank (Err stop)
 stop_blank stop fault = record { out = fault.out; failed = λ written. stop_status written stop fault }
 
--- a report that is one error line
+-- if the report is a single error line, nothing is printed on standard output, and the status isn't 0
 refused_blank : (line : List ℕ) → EndsBlank (Ok (whole_report (Err line)))
 refused_blank line = record { out = refl; failed = λ written zero. never_fine (ends_fine written (whole_report (Err line)) zero).fine }
 
@@ -149,7 +149,7 @@ baseless : (after : ℤ → Report) (based : Result ℤ StampFault) (fault : Sta
 baseless after (Ok base) fault is = cc
 baseless after (Err other) fault is = refused_blank _
 
--- Requests for `calendar`
+-- ## Requests for `calendar`
 
 calendar_runs : (asked : Request) (seen : Seen) (read : Result (List ℕ) WholeFault) → asked.verb ≡ verb.Calendar → run_by asked seen ≡ Ok (report asked read)
 unfolding run_by report
@@ -161,7 +161,7 @@ unfolding report
 calendar_blank asked read fault is none =
     subst (λ v. EndsBlank (Ok (report_on asked read (kind_by v asked.texts)))) (sym is) (baseless _ (base_in asked) fault none)
 
--- the output doesn't depend on what reading a file returned
+-- if the verb is `calendar`, standard output doesn't depend on what reading a file returned
 same_out : (asked : Request) (read other : Result (List ℕ) WholeFault) → asked.verb ≡ verb.Calendar → (report asked read).out ≡ (report asked other).out
 unfolding report
 same_out asked read other is =
@@ -190,7 +190,7 @@ calendar_ends known asked seen (Ok base) is based = inl (record {
 calendar_ends known asked seen (Err fault) is none =
     inr (subst EndsBlank (sym (calendar_runs asked seen (Ok []) is)) (calendar_blank asked (Ok []) fault is none))
 
--- Requests for `timer`
+-- ## Requests for `timer`
 
 line_begins : (name rest : List ℕ) → Begins (name ++ (codes ":" ++ rest)) (name ++ codes ":")
 line_begins name rest = record { rest = rest; is = sym (append_assoc name (codes ":") rest) }
@@ -223,7 +223,7 @@ never_read : (asked : Request) (base : ℤ) (name text : List ℕ) (fault : Whol
 unfolding timer_answer
 never_read asked base name text fault h = cc
 
--- the report of a timer file with a valid base time
+-- if the base time is valid, the report of a request for a timer file is the answer to the file
 timer_is : (asked : Request) (base : ℤ) (read : Result (List ℕ) WholeFault) → asked.verb ≡ verb.Timer → base_in asked ≡ Ok base
     → report asked read ≡ whole_report (timer_answer asked base (timer_path asked.texts) read)
 unfolding report
@@ -304,7 +304,7 @@ run_ends known asked seen verb.Timer is seeks sees = timer_ends known asked seen
 run_ends known asked seen verb.Timestamp is seeks sees = absurd (false≢true seeks)
 run_ends known asked seen verb.Timespan is seeks sees = absurd (false≢true seeks)
 
--- What the program prints
+-- ## What the program prints
 
 nothing : (ended : Ended) (out reached : Option (List ℕ)) (end : Result Report Stop) → EndsBlank end → ended.status ≡ ended_status ended.written end
     → Reaches out reached ended.written (out_text end) → PrintsNothing ended out reached

@@ -52,9 +52,10 @@ no_ok : {T E : Type 0} (r : Result T E) (P : T → Type 0) → IsErr r → IfOk 
 no_ok (Ok x) P h = absurd (false≢true h)
 no_ok (Err e) P h = tt
 
--- How a stop agrees with the definitions
+-- ## How a stop agrees with the definitions
 
--- a stop that isn't due to a failed output agrees with `shown`, the report of this stop
+-- if a stop isn't due to a failed output, and `shown` is its report, then the stop agrees with `shown`, as `StopsAs`
+-- says
 pub is_stop : {X : Type 0} (stop : declared_stop.Stop) (shown : Stop) → stops_for_out stop ≡ false → stops_for_err stop ≡ false → shown_stop stop ≡ shown → StopsAs {X = X} stop (Err shown)
 is_stop stop shown out err is = record { before_out = out; before_err = err; stopped = refl; same = λ h. ap (λ s. Err s) (sym is) }
 
@@ -71,7 +72,7 @@ stop_inside x y a b p q h = cc
 pub stops_other : {A B : Type 0} (stop : declared_stop.Stop) (shown : Stop) → StopsAs {X = A} stop (Err shown) → StopsAs {X = B} stop (Err shown)
 stops_other {A = A} stop shown s = record { before_out = s.before_out; before_err = s.before_err; stopped = refl; same = λ h. ap (λ x. Err x) (stop_inside {A = A} (Err shown) (Err (shown_stop stop)) shown (shown_stop stop) refl refl (s.same h)) }
 
--- What the program sees of a file
+-- ## What the program sees of a file
 
 -- if a result of reading a file agrees with the file's known bytes, then it is also possible if nothing is known about
 -- the bytes
@@ -123,7 +124,7 @@ unfolding came_of came_within
 came_uncut None limit = refl
 came_uncut (Some all) limit = grind arith
 
--- Loading the zone files
+-- ## Loading the zone files
 
 reads_unnamed : (name : List ℕ) (came : Result (List ℕ) WholeFault) → is_zone_name name ≡ false → ReadsZone name (Some came) None
 reads_unnamed name (Ok bytes) h = λ named. absurd (false≢true (sym h ∙ named))
@@ -200,10 +201,10 @@ loads_none known table item opens = record {
   loads = refl;
 }
 
--- `rest` is what the program finds in `left`, the files that remain to be loaded. `found` is something that it could
--- find in all files. With these, adding all files to the empty table gives the same table or stop as adding the
--- remaining files to `table`, the table so far. `GoesOn`, the invariant of the loop over the zone files, says that such
--- a `found` exists for every `rest`.
+-- `table` is the table so far, `left` are the files that remain to be loaded, and `rest` is what the program finds in
+-- these files. `found` is what it may have found in all files, `items`. Loading `items` with `found` into the empty
+-- table gives the same table or stop as loading `left` with `rest` into `table`. `GoesOn`, the invariant of the loop
+-- over the zone files, says that there is such a `found` for every `rest`.
 pub record Continues (known : Known) (items : List ZoneItem) (table : ZoneMap) (left : List ZoneItem) (rest : List ZoneFound) : Type 0 where
   pub found : List ZoneFound
   pub sees : SeesZones known empty items found
@@ -240,7 +241,7 @@ none_left view known items left table result is same goes =
     let on = (rw is at goes) [] tt in
     record { found = on.found; sees = on.sees; answers = on.same ∙ ap (λ m. Ok m) same }
 
--- Determining the local zone
+-- ## Determining the local zone
 
 pub finds_rule : (rule : List ℕ) (table : ZoneMap) (zone : ClockZone) (rules : TimeZone) → IsSome (rule_read rule) → IsPosixZone rule rules → zone_of zone ≡ rules → is_utc zone ≡ false → FindsLocal (λ z. z) (by_rule rule) table (Ok zone)
 unfolding local_by
@@ -274,7 +275,7 @@ local_refused (at_offset seconds) table h = absurd h
 local_refused (by_rule rule) table h = unread_rule rule table (is_some (rule_read rule)) refl h
 local_refused (of_name name) table h = absurd h
 
--- How the work ended
+-- ## How the work ended
 
 -- if a stop before the run agrees with `expected`, and nothing was written, then the work ended as `EndsAs` says
 pub early : (stop : declared_stop.Stop) (expected : Result Report Stop) (out err : Option (List ℕ)) → StopsAs stop expected → EndsAs (Err stop) expected out out err err
@@ -386,8 +387,9 @@ file_stops known asked name stop out err is opens s =
     (record { bytes = sees_none _ _ opens; sure = λ e. refl })
     (early stop (Err (unopened_stop name)) out err (stops_other stop (unopened_stop name) s))
 
--- All steps together: the work stops at the zone files, at the local zone or at the present instant, or it gets to the
--- run
+-- ## All steps together
+--
+-- The work stops at the zone files, at the local zone or at the present instant, or it gets to the run.
 
 module _ (known : Known) (ask : Ask) (stop : declared_stop.Stop) (out err : Option (List ℕ)) where
   pub zones_stop : ReadsZones (λ table. table) known ask.zones (Err stop) → Answered known ask (Err stop) out out err err

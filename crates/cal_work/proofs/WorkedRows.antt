@@ -1,5 +1,6 @@
--- The example system meets the conditions of the law `known_systems_decide`, and those of the clause `headline` of
--- `work`. A law is the contract of a function that does nothing.
+-- The example system `bare_system` meets the conditions of the law `known_systems_decide`, and the arguments
+-- `calendar daily` meet the conditions of the clause `headline` of `work`. A law is the contract of a function that
+-- does nothing.
 use Rattle.std.proofs.Common.{◌≡◌, ◌⊎◌, inl, inr, refl, sym, ap, subst, ◌∙◌, Bool, true, false, List, [], ◌∷◌, Option, None, Some, Result, Ok, Err, codes, pos, ℕ, map}
 use Rattle.std.specs.Io.KnownBytes.{Appends}
 use Rattle.std.proofs.KnownBytes.{Appends-kept}
@@ -47,13 +48,13 @@ pub bare_fits : FitsArguments bare_system daily_arguments daily_world
 unfolding instant_in local_by present_by table_by
 bare_fits = record { parsed = daily_asked; fits = record { zones = tt; after = (refl, refl, tt) } }
 
--- A run to which the clause `headline` applies
+-- ## A run to which the clause `headline` applies
 
--- what `calendar daily` asks of the system
+-- the request that `calendar daily` makes of `bare_system`
 daily_request : Request
 daily_request = asked_at daily_ask empty utc (pos 0)
 
--- the fields of `daily`, which are those of `*-*-* 00:00:00`
+-- the fields of `daily`, which is a shorthand for `*-*-* 00:00:00`
 daily_fields : Fields
 daily_fields = record {
   weekdays = true ∷ true ∷ true ∷ true ∷ true ∷ true ∷ true ∷ [];
@@ -78,7 +79,7 @@ daily_accepted : IsAccepted daily_request daily
 unfolding daily daily_fields daily_request zone_of
 daily_accepted = record { spelled = read_is_spelled (codes "daily") daily_fields daily_read; zone = refl }
 
--- the report of `calendar daily` on this system
+-- the report of `calendar daily` on `bare_system`
 pub daily_report : Report
 daily_report = report daily_request (Ok [])
 
@@ -102,7 +103,7 @@ daily_outcome : outcome daily_world ≡ Ok daily_report
 unfolding daily_report daily_request outcome outcome_of table_by local_by present_by instant_in run_by report
 daily_outcome = refl
 
--- the only outcome of `calendar daily` on this system, whatever the world is
+-- the only outcome of `calendar daily` on `bare_system`, whatever the world is
 daily_known : (world : World) → known_outcome bare_system (Ok daily_ask) world ≡ Ok daily_report
 unfolding daily_report daily_request outcome outcome_of table_by local_by present_by instant_in run_by report known_world known_zones
 daily_known world = refl

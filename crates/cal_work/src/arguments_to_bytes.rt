@@ -34,7 +34,7 @@ use std::convert::AsStr;
 /// How the work ended.
 #[derive(Clone, Copy, PartialEq, Eq, Debug)]
 pub struct Ended {
-    /// The exit status.
+    /// The exit status: 0, 1 or 2, as [`work`] says.
     pub status: u8,
     /// Whether everything was written. If not, the reason was reported on standard error, unless standard error has
     /// failed.
@@ -96,7 +96,7 @@ fn status_by(written: Result<(), RunFault>, status: u8) -> u8
     }
 }
 
-// The work, up to the first step that fails
+// ## The work, up to the first step that fails
 
 /// Parses the arguments and does what they ask for.
 fn answer_arguments<S: System, T: AsStr, O: Sink, E: Sink>(
@@ -141,7 +141,7 @@ fn answer<S: System, O: Sink, E: Sink>(
     run_request(alloc, system, &ask.request, now, local, &table, out, err)
 }
 
-// The steps of `answer`
+// ## The steps of `answer`
 
 /// Reads the zone files, in order, into a new table. If a file can't be loaded, returns the stop for this file, and
 /// doesn't open the files after it.
@@ -213,7 +213,7 @@ fn local_zone<'t>(
         LocalZone::Offset(seconds) => Ok(Zone::offset(*seconds)),
         LocalZone::Posix(_) => match rules {
             Some(rules) => Ok(Zone::rules(rules)),
-            // The rules were parsed before, since the zone borrows them.
+            // `read_rules` has parsed the rules. They can't be parsed here, because the zone borrows them.
             None => unreachable!(),
         },
         LocalZone::Name(name) => match table.find(name.as_str()) {
@@ -301,7 +301,7 @@ fn open_file<S: System>(alloc: Global, system: &S, path: &str) -> Result<S::File
     }
 }
 
-// What is reported at the end
+// ## What is reported at the end
 
 /// If the work stopped early, reports why. A failed output and running out of memory are not reported here, but by
 /// `report_fault` after the output is flushed. Returns how the work ends if the output can be flushed.

@@ -69,7 +69,7 @@ pub(crate) enum Outlet {
     Later(RunFault),
 }
 
-/// Returns where an error in the arguments, or help, is reported.
+/// Returns where help, an error in the arguments, or running out of memory while they are parsed is reported.
 fn command_outlet(fault: &CommandFault) -> Outlet
     ensures { result ≡ command_outlet (shown_fault fault.now) }
 {
@@ -90,7 +90,8 @@ fn load_outlet(fault: LoadFault) -> Outlet
     }
 }
 
-/// Returns the exit status for an error in the arguments, or for help.
+/// Returns the exit status: 0 for help or the version, 1 for running out of memory, and 2 for an error in the
+/// arguments.
 fn command_status(fault: &CommandFault) -> u8
     ensures { result ≡ (command_stop (shown_fault fault.now)).status }
 {
@@ -101,7 +102,7 @@ fn command_status(fault: &CommandFault) -> u8
     }
 }
 
-/// Returns the exit status for a zone file that can't be loaded.
+/// Returns the exit status for a zone file that can't be loaded: 1 if memory ran out, and otherwise 2.
 fn load_status(fault: LoadFault) -> u8
     ensures { result ≡ (load_stop [] fault).status }
 {
@@ -139,7 +140,7 @@ pub fn write_stop<W: Sink>(out: &mut W, stop: &Stop) -> Result<(), WriteFault>
     }
 }
 
-/// Writes the error line for invalid arguments, or the text of help.
+/// Writes the text of help or of a usage error, or the error line for a bad value or for running out of memory.
 fn write_command<W: Sink>(out: &mut W, fault: &CommandFault) -> Result<(), WriteFault>
     requires { W.is_failed out.old ≡ false }
     ensures { Puts W.Sink out.old out.new result (command_text (shown_fault fault.now)) }
@@ -162,7 +163,7 @@ fn write_load<W: Sink>(out: &mut W, name: &str, fault: LoadFault) -> Result<(), 
     }
 }
 
-/// Writes an error line about a zone file, with its name and the message.
+/// Writes an error line with this message about the file of the zone `name`, an item of `--zones`.
 fn write_zones<W: Sink>(out: &mut W, name: &str, message: &str) -> Result<(), WriteFault>
     requires { W.is_failed out.old ≡ false }
     ensures { Puts W.Sink out.old out.new result (zones_line name.now message.now) }

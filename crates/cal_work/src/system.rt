@@ -10,7 +10,7 @@ use cal_bytes::Source;
 /// What contracts know about a system is what its `tells` says: nothing about the real system, and possibly everything
 /// about a system that exists only in memory.
 pub trait System {
-    /// An open file.
+    /// An open file, whose bytes are read through [`Source`].
     type File: Source + Drop;
 
     /// What is known about the system's files and its clock.

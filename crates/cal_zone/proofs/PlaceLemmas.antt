@@ -139,24 +139,24 @@ settle_of-offset zone ahead local e = ap (λ tz. settle_of tz local) (zone_of-of
 pub settle_of-rules : (zone : Zone) (rules : Bor Rules) (local : ℤ) → zone.kind ≡ ByRules rules → settle_of (zone_of zone) local ≡ settle_of rules.now local
 settle_of-rules zone rules local e = ap (λ tz. settle_of tz local) (zone_of-rules zone rules e)
 
--- If `shown` is the civil time of `local`, and `zone` reports the same for it as `tz`, the instant that `jiff`'s
--- compatible conversion picks in `zone` is the one that `settle_of` returns for `tz`. It differs from `local` by at most
--- 25:59:59.
+-- If `shown` is the civil time of `local`, and `jiff` reports the same for it in `zone` as in `tz` (unambiguous, in a
+-- gap or in a fold, with the same offsets), the instant that `jiff`'s compatible conversion picks in `zone` is the one
+-- that `settle_of` returns for `tz`. It differs from `local` by at most 25:59:59.
 pub picked : (tz zone : TimeZone) (shown : DateTime) (local : ℤ) → CanSettle local → shown ≡ datetime_of local → ambiguous_at zone shown ≡ ambiguous_at tz shown
     → (instant_of shown (compatible_offset (ambiguous_at zone shown)) ≡ nanos_of_seconds (settle_of tz local)) × IsOffsetSeconds (local -ℤ settle_of tz local)
 picked tz zone shown local within e of =
     let day : IsEpochDay (day_of local) = (omega (arith, signed_arith), omega (arith, signed_arith)) in
     (instant_of-settled tz (ambiguous_at zone shown) shown local day e of, settle_of-near tz local)
 
--- The sets below are for functions and laws whose proofs need nothing else: their attribute `tactic` names the set.
+-- ## Rulesets, named in the attribute `tactic` of functions and laws
 
--- the place of a local second in a zone with rules
+-- the lemmas on the place of a local second in a zone with rules
 pub ruleset placed_by = (local_arith, place_of-shown, place_of-skipped)
 
--- the places of local seconds in a zone of any kind
+-- the lemmas on the places of local seconds in a zone of any kind
 pub ruleset places = (local_arith, zone_of-utc, zone_of-rules, place_of-UTC, place_of-offset)
 
--- the results of `settle_of` in a zone of any kind
+-- the lemmas on the results of `settle_of` in a zone of any kind
 pub ruleset settles = (local_arith, zone_of-utc, settle_of-rules, settle_of-UTC, settle_of-offset)
 
 pub ruleset fixed_places = (place_of-fixed_zone, settle_of-fixed_zone)

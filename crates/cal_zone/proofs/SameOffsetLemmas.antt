@@ -120,8 +120,10 @@ year_comes y second year under second_in begun before =
     let day = epoch_day-date_of (day_of second) second_in in
     of_the_year (date_of (day_of second)) (y +ℤ pos 1) (omega (arith, signed_arith), omega (arith, signed_arith)) (omega (arith, signed_arith)) (omega (arith, signed_arith))
 
--- Like `civil_in_year`, but `other` is after the year of `past`. Then `local` and `other` are in the next year, and
--- `jiff` reports the same for their civil times.
+-- `past` isn't before 1970, `other` is 374,397 seconds after `past` and after the year of `past`, and `local` isn't
+-- before `other`. If `local` is at least 374,397 seconds before the first transition after `past`, then `local` and
+-- `other` are in the next year, and `jiff` reports the same for their civil times: unambiguous, in a gap or in a fold,
+-- with the same offsets.
 civil_in_next_year : (rule : Posix) (d : Dst) (past other local : ℤ) (next : ℤ × OffsetInfo) → rule.dst ≡ Some d → next_by rule d (datetime_of past).date.year (nanos_of_seconds past) ≡ Some next
     → pos 0 ≤ℤ past → (past +ℤ pos 374_397) ≡ other → other ≤ℤ local → IsLocalSecond local → nanos_of_seconds (local +ℤ pos 374_397) ≤ℤ next.0
     → year_end (datetime_of past).date.year ≤ℤ other → ambiguous_at (ByRule rule) (datetime_of local) ≡ ambiguous_at (ByRule rule) (datetime_of other)

@@ -43,8 +43,8 @@ offset_at-in_range (Tzif table) n = (Table.offset_at table.now n).in_range
 pub offset_at-offset : (zone : Zone) (ahead : FixedOffset) (n : ℤ) → zone.kind ≡ AtOffset ahead → offset_at (zone_of zone) n ≡ ahead.seconds
 offset_at-offset zone ahead n e = ap (λ tz. offset_at tz n) (zone_of-offset zone ahead e) ∙ offset_at-fixed_zone (offset_of ahead) n
 
--- the UTC offsets of each kind of zone
+-- the lemmas on the UTC offsets of each kind of zone, as a set of rules for the prover
 pub ruleset offsets = (zone_of-utc, zone_of-rules, offset_at-UTC, offset_at-offset)
 
--- for the zone with a fixed offset
+-- the lemmas on zones with a fixed UTC offset, as a set of rules for the prover
 pub ruleset fixed = (signed_arith, zone_of-ahead, nearest)

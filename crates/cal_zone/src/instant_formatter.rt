@@ -57,7 +57,7 @@ impl<'z> InstantFormatter<'z> {
         }
     }
 
-    /// Returns the zone.
+    /// Returns the zone that was passed to [`InstantFormatter::new`].
     pub fn zone(&self) -> Zone<'z>
         ensures { result ≡ self.now }
     {

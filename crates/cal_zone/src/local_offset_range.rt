@@ -129,7 +129,7 @@ pub(crate) fn range_end_in_zone(zone: TimeZone<'_>, local: i64, constant_until: 
     }
 }
 
-/// Like [`range_end_in_zone`], for a POSIX rule.
+/// Returns the end of a range of local seconds under a POSIX rule, as [`range_end_in_zone`] describes it.
 fn range_end_by_rule(rule: posix::TimeZone, local: i64, constant_until: Instant) -> i64
     requires local_in { IsLocalSecond local }
     requires constant { HasConstantOffset (ByRule rule) (local -ℤ pos transition_margin) constant_until.secs }

@@ -61,7 +61,7 @@ impl<'z> PlaceCache<'z> {
         }
     }
 
-    /// Returns the zone.
+    /// Returns the zone that was passed to [`PlaceCache::new`].
     pub fn zone(&self) -> Zone<'z>
         ensures { result ≡ self.now }
     {

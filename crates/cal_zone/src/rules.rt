@@ -49,8 +49,8 @@ impl Rules {
 
     /// Parses a POSIX rule such as `CET-1CEST,M3.5.0,M10.5.0/3`.
     ///
-    /// Fails with [`ZoneFault::BadRule`] if and only if `jiff` can't parse the rule. `jiff` keeps a rule without
-    /// allocating, so `alloc` is unused; it belongs to the signature, as in every call that makes `Rules`.
+    /// Fails with [`ZoneFault::BadRule`] if and only if `jiff` can't parse the rule. `alloc` is unused, because `jiff`
+    /// stores a rule without allocating. It is a parameter in case rules need memory some day.
     pub fn posix(alloc: Global, rule: &str) -> Result<Rules, ZoneFault>
         ensures read { IsOk result ↔ IsSome (read_whole rule.now) }
         ensures zone { IfOk result (IsPosixZone rule.now) }
@@ -84,7 +84,7 @@ impl Rules {
         }
     }
 
-    /// Like [`Rules::file`], for a name that has been checked already.
+    /// Parses a zone file, as [`Rules::file`] does, for a name that has been checked already.
     pub fn named_file(alloc: Global, name: ZoneName<'_>, bytes: &[u8]) -> Result<Rules, ZoneFault>
         ensures { MatchResult result
             (IsFileZone name.entry.text.now bytes.now)

@@ -1,4 +1,4 @@
-//! Time zones.
+//! The type of time zones. It tells UTC itself from a zone whose UTC offset is always 0.
 
 ghost use Rattle.std.specs.Prelude.{◌≡◌, true, false};
 ghost use Rattle.jiff.specs.Types.{Offset};
@@ -54,7 +54,7 @@ impl<'t> Zone<'t> {
         }
     }
 
-    /// Returns the zone with these rules.
+    /// Returns the zone with these rules. It isn't the same as [`Zone::utc`], even if its UTC offset is always 0.
     #[tactic(auto, unfolding(crate::specs::rules::Zone::zone_of))]
     pub fn rules(rules: &'t Rules) -> Zone<'t>
         ensures zone { zone_of result ≡ rules.now }

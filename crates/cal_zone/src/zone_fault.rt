@@ -1,4 +1,4 @@
-//! The errors for zones.
+//! The errors in parsing the rules of a zone, and in adding a zone to a table.
 
 ghost use Rattle.std.specs.Prelude.{◌≡◌};
 

@@ -69,7 +69,8 @@ pub fn load_zone<R: Source>(
     }
 }
 
-/// Like [`load_zone`], for a name that has been checked already.
+/// Reads a zone file and adds its rules to the table, as [`load_zone`] does, under a name that has been checked
+/// already.
 pub fn load_named<R: Source>(
     alloc: Global,
     table: &mut ZoneTable,

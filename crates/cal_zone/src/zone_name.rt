@@ -27,7 +27,7 @@ impl<'a> ZoneName<'a> {
         }
     }
 
-    /// Returns the text of the name.
+    /// Returns the name as a text, which is known to have the form of a zone's name.
     pub fn as_str(self) -> &'a str
         ensures value { result.now ≡ self.entry.text.now }
         ensures form { is_zone_name result.now ≡ true }

@@ -66,7 +66,7 @@ impl ZoneTable {
         }
     }
 
-    /// Like [`ZoneTable::add`], for a name that has been checked already.
+    /// Adds a zone with these rules, as [`ZoneTable::add`] does, under a name that has been checked already.
     pub fn add_named(&mut self, name: ZoneName<'_>, rules: Rules) -> Result<(), (Rules, ZoneFault)>
         ensures added { MatchResult result
             (λ _. IsAddable self.old name.entry.text.now

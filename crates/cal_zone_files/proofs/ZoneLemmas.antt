@@ -45,7 +45,8 @@ pub empty_has_none : (machine : Machine) → HasZonesOf machine empty
 unfolding zone_named
 empty_has_none machine name other = rw (other, get-empty {X = TimeZone} (slice_cmp nat_cmp) name) tt
 
--- if the zone that was parsed from bytes was inserted, and nothing else was changed, this zone was added
+-- if the zone that was parsed from `bytes` was inserted into a table under a free name, and nothing else was changed,
+-- then `IsZoneAdded` is true of the two tables
 pub zone_added : (old new : ZoneMap) (text name bytes : List ℕ) (zone : TimeZone) → text ≡ name → is_taken old name ≡ false → new ≡ insert old text zone
     → IsFileZone text bytes zone → IsZoneAdded old new name (IsFileZone name bytes)
 zone_added old new text name bytes zone same free inserted parsed =
@@ -56,16 +57,19 @@ zone_added old new text name bytes zone same free inserted parsed =
       added = inserted ∙ ap (λ name. insert old name zone) same;
     }
 
--- a zone that was parsed from bytes is the zone of the machine if the machine's file has these bytes
+-- if `zone` was parsed from `bytes`, the content of the machine's zone file for `name`, then it is the zone in that
+-- file (`IsZoneOn`)
 pub parsed_on : (machine : Machine) (name bytes : List ℕ) (zone : TimeZone) → zone_file machine name ≡ Ok bytes
     → IsFileZone name bytes zone → IsZoneOn machine name zone
 parsed_on machine name bytes zone read parsed = rw read parsed
 
--- an error in reading the machine's file is the reason why it can't be used
+-- if the machine's zone file for `name` can't be read, the error in reading it is the reason why it can't be used
+-- (`IsReasonOn`)
 pub unreadable_on : (machine : Machine) (name : List ℕ) (reason : FileReason) → zone_file machine name ≡ Err reason → IsReasonOn machine name reason
 unreadable_on machine name reason read = rw read refl
 
--- so is an error in its bytes
+-- if the content of the machine's zone file for `name` is rejected, the error is the reason why the file can't be used
+-- (`IsReasonOn`), unless memory ran out
 rejected_on : (machine : Machine) (name bytes : List ℕ) (fault : ZoneFault) → zone_file machine name ≡ Ok bytes
     → fault ≢ zones.NoMemory → IsFileFault name bytes fault → IsReasonOn machine name (reasons.Load (loads.Zone fault))
 rejected_on machine name bytes fault read other rejected = rw read (other, rejected)
@@ -79,19 +83,21 @@ rejection_on machine name bytes path zones.BadFile same read rejected = (same, r
 rejection_on machine name bytes path zones.TooLarge same read rejected = (same, rejected_on machine name bytes zones.TooLarge read (λ e. cc) rejected)
 rejection_on machine name bytes path zones.NameTaken same read rejected = absurd rejected
 
--- if an origin can't be read, that is what the local zone is
+-- if an origin can't be read, so that the zone is `UnreadIn` this origin, then the error that is returned,
+-- `unread_fault`, agrees with that (`IsResultOf`)
 pub unread_is : {X Y : Type 0} (view : X → Y) (zone_of : Result Y Unreadable → MachineLocalZone) (origin : Origin)
     → ((why : Unreadable) → zone_of (Err why) ≡ UnreadIn origin) → (fault : trees.TreeFault) (answer : Result Y Unreadable)
     → Tells view (Err fault) answer → IsResultOf (zone_of answer) (Err (unread_fault origin fault))
 unread_is view zone_of origin unread (trees.TheVariants.Unreadable why) answer known = ap zone_of known ∙ unread why
 unread_is view zone_of origin unread trees.TheVariants.NoMemory answer known = tt
 
--- the machine's own zone is the one in the bytes of its file
+-- the machine's own zone is the one in the file to which /etc/localtime leads, or `None` if that isn't a valid zone
+-- file
 pub machine_zone_in : (machine : Machine) (bytes : List ℕ) (found : Option TimeZone) → bytes_in (content_at machine localtime) ≡ Ok bytes
     → IsZoneIn bytes found → IsMachineZone machine found
 machine_zone_in machine bytes found read is = rw read is
 
--- without such a file, there is none
+-- if the file to which /etc/localtime leads can't be read, the machine has no zone of its own
 pub no_machine_zone : (machine : Machine) (reason : FileReason) → bytes_in (content_at machine localtime) ≡ Err reason → IsMachineZone machine None
 no_machine_zone machine reason read = rw read refl
 
@@ -133,13 +139,14 @@ added_zones machine old new name IsZone a on held other utc =
 either_of : (a b : Bool) → a ≡ false → b ≡ true → (a || b) ≡ true
 either_of a b off on = rw (off, on) refl
 
--- if the table has a zone for this name, the machine has it too
+-- if a table has a zone for this name, and this zone is the one in the machine's zone file, then the machine's zone
+-- file is a valid one (`HasZone`)
 pub usable_of : (machine : Machine) (other : List ℕ) (o : Option TimeZone) → is_some o ≡ true → IfSome o (IsZoneOn machine other) → HasZone machine other
 usable_of machine other None there on = absurd (false≢true there)
 usable_of machine other (Some zone) there on = (zone, on)
 
--- if the table has the zones of all names before this index, the error of loading the name at the index is the first
--- error
+-- if the table has the zones of all names before this index, an error in loading the zone of the name at the index is
+-- the first error (`IsFirstError`)
 pub error_at : (machine : Machine) (names : List (String Global)) (index : ℕ) (name : List ℕ) (after : List (List ℕ)) (table : ZoneMap) (fault : ZonesFault)
     → map string_bytes (drop index names) ≡ name ∷ after → IsLoadError machine name fault
     → ((other : List ℕ) → is_some (zone_named table other) ≡ (is_utc_name other || list_any (bytes_eq other) (map string_bytes (take index names))))

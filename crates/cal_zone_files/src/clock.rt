@@ -1,4 +1,5 @@
-//! Which zone is meant by the option, by the variable `TZ`, or without either.
+//! Which zone to use: the zone that an option names, or else the environment variable `TZ`, or else the machine's own
+//! zone.
 
 ghost use Rattle.std.specs.Prelude.{◌≡◌, IfOk, option_map};
 ghost use Rattle.cal_machine.specs.rules.Machine.{Machine};
@@ -9,10 +10,10 @@ use crate::texts::{ZoneText, argument_zone, variable_zone};
 use cal_machine::{Tree, TreeFault};
 use std::alloc::Global;
 
-/// The zone of local times, or the zone in which times are shown.
+/// A zone to use as the local zone, or as the zone in which times are shown.
 #[derive(Debug, Drop)]
 pub enum MachineLocalZone {
-    /// UTC.
+    /// UTC itself, which differs from the offset 0: times in UTC are printed with `UTC`.
     Utc,
     /// A UTC offset in seconds, from -93,540 to 93,540.
     Offset(i32),
@@ -37,8 +38,8 @@ pub enum MachineLocalZone {
 /// Otherwise, the zone is the machine's.
 ///
 /// Fails with [`ZonesFault::Unclear`] if the option or the variable decides and doesn't say which zone to use, with
-/// [`ZonesFault::Unread`] if the variable can't be read or is not UTF-8, and with [`ZonesFault::NoMemory`] if allocation
-/// fails.
+/// [`ZonesFault::Unread`] if the variable can't be read or is not UTF-8, and with [`ZonesFault::NoMemory`] if
+/// allocation fails.
 pub fn find_local_zone<T: Tree>(
     alloc: Global,
     tree: &mut T,

@@ -27,9 +27,9 @@ pub enum FileReason {
 /// Why the zone to use can't be determined, or why a zone file can't be loaded.
 #[derive(Debug, Drop)]
 pub enum ZonesFault {
-    /// This origin doesn't say which zone to use.
+    /// The text of this option or variable has none of the forms that name a zone.
     Unclear(Origin),
-    /// This origin can't be read, or its text is not UTF-8.
+    /// This origin can't be read, or its text is not UTF-8. Only the variable can fail like this.
     Unread(Origin),
     /// The zone file at this path can't be used, for this reason.
     At(String, FileReason),

@@ -1,4 +1,4 @@
-//! Loading the machine's own zone, and the zones that expressions name.
+//! Loading of zone files: the file of the machine's own zone, and the files of zones that have a name.
 
 ghost use Rattle.std.specs.Prelude.{◌≡◌, ◌||◌, ℕ, List, IfErr, IfOk, OnErr, OnOk, false, is_some, map, string_bytes};
 ghost use Rattle.std.specs.List.{list_any};
@@ -20,10 +20,10 @@ use std::alloc::{AllocError, Global};
 /// (RFC 8536). The name `UTC`, ignoring case, needs no file, and a name may be repeated.
 ///
 /// Fails with [`ZonesFault::At`] and the path of the first file that can't be used: with [`FileReason::NotFound`] if
-/// nothing is there, with [`FileReason::Load`] and [`LoadFault::ReadFailed`] if a folder is there or if the path can't be
-/// followed or read, or else with [`FileReason::Load`] and the error of [`Rules::file`]; a device counts as an empty file.
-/// So an invalid name fails with `NotFound`, unless there is something at its path. Fails with [`ZonesFault::NoMemory`]
-/// if allocation fails.
+/// nothing is there, with [`FileReason::Load`] and [`LoadFault::ReadFailed`] if a folder is there or if the path can't
+/// be followed or read, or else with [`FileReason::Load`] and the error of [`Rules::file`]; a device counts as an empty
+/// file. So an invalid name fails with `NotFound`, unless there is something at its path. Fails with
+/// [`ZonesFault::NoMemory`] if allocation fails.
 pub fn load_zones<T: Tree>(
     alloc: Global,
     tree: &mut T,
@@ -87,7 +87,7 @@ pub fn load_machine_zone<T: Tree>(alloc: Global, tree: &mut T) -> Result<Option<
     }
 }
 
-/// Returns the zone of a zone file with these bytes, or `None` if this isn't a zone file.
+/// Returns the zone of a zone file with these bytes, or `None` if the bytes aren't a valid zone file.
 fn zone_in(alloc: Global, bytes: &[u8]) -> Result<Option<Rules>, AllocError>
     ensures { IfOk result (IsZoneIn bytes.now) }
 {

@@ -13,7 +13,7 @@ use std::alloc::Global;
 /// The path that leads to the file of the machine's zone (localtime(5)).
 pub(crate) const LOCALTIME: &str = "/etc/localtime";
 
-/// What an origin says about the zone. Rules and names are parts of the origin's text.
+/// What the text of an option or of the variable `TZ` says about the zone. Rules and names are parts of this text.
 #[derive(Clone, Copy, Debug)]
 pub(crate) enum ZoneText<'t> {
     Utc,
@@ -25,7 +25,7 @@ pub(crate) enum ZoneText<'t> {
     Named(ZoneName<'t>),
     /// The machine's own zone.
     OfMachine,
-    /// This origin doesn't say which zone to use.
+    /// The text of this option or variable doesn't say which zone to use.
     Unclear(Origin),
 }
 

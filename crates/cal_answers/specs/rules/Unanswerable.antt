@@ -13,8 +13,8 @@ use Rattle.cal_answers.specs.rules.LocalClock.{local_zone_of, shown_zone_of}
 use Rattle.cal_answers.specs.rules.MachinePath.{machine_path}
 use Rattle.cal_answers.specs.rules.Present.{IsPresent}
 
--- A zone can't be used if its rule isn't valid, if the file for its name can't be used, or if the option or `TZ` is unclear
--- or can't be read. The machine's own zone is UTC if /etc/localtime doesn't lead to a zone file.
+-- A zone can't be used if its rule isn't valid, if the file for its name can't be used, or if the option or `TZ` is
+-- unclear or can't be read. The machine's own zone is UTC if /etc/localtime doesn't lead to a zone file.
 abbrev pub IsUnusable : Machine → MachineLocalZone → Type 0
 IsUnusable machine InUtc = ⊥
 IsUnusable machine (Ahead seconds) = ⊥

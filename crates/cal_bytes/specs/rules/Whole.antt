@@ -31,7 +31,7 @@ IsWholeFault old new limit ReadFailed = CameWithin old new limit
 IsWholeFault old new limit TooLarge = CameBeyond old new limit
 IsWholeFault old new limit NoMemory = CameWithin old new limit
 
--- whether the error is that a read failed
+-- whether the error is `ReadFailed`, the only error after which the source has failed
 abbrev pub is_read_failed_fault : WholeFault → Bool
 is_read_failed_fault ReadFailed = true
 is_read_failed_fault TooLarge = false

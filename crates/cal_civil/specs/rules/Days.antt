@@ -68,7 +68,7 @@ last_of_december d last december =
     let bounds = days_in_month_bounds d.year d.month in
     omega (arith, d.day_in.1)
 
--- the day number of 9999-12-31 is the number whose value the lemma `days_from_civil-max` states
+-- the day number of 9999-12-31 is `days_from_civil (pos 9999) 12 31`; the lemma `days_from_civil-max` states its value
 epoch_day_is : (d : Date) → d.year ≡ pos 9999 → d.month ≡ 12 → d.day ≡ 31 → epoch_day d ≡ days_from_civil (pos 9999) 12 31
 epoch_day_is d year month day = rw (year, month, day)
 

@@ -22,7 +22,7 @@ last_local_second = 7_258_118_399
 abbrev pub seconds_per_day : ℕ
 seconds_per_day = 86_400
 
--- the first and the last supported year
+-- the supported years are `first_year` to `last_year`
 abbrev pub first_year : ℕ
 first_year = 1_970
 
@@ -49,7 +49,8 @@ day_of local = int_div_euclid local (pos seconds_per_day)
 abbrev pub second_of_day : ℤ → ℕ
 second_of_day local = unsigned_abs (int_rem_euclid local (pos seconds_per_day))
 
--- the hour, the minute and the second of a time of day that is given in seconds since midnight
+-- the next three definitions: the hour, the minute and the second of a time of day that is given in seconds since
+-- midnight
 abbrev pub hour_of : ℕ → ℕ
 hour_of second = second / 3_600
 

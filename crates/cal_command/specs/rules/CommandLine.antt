@@ -15,7 +15,7 @@ use Rattle.cal_command.specs.rules.OptionValues.{count_in, local_zone_in, presen
 use Rattle.cal_command.specs.declared.value_option.ValueOption.{ValueOption}
 use Rattle.cal_command.specs.rules.VerbMatches.{VerbMatches, elapse_option, verb_matches_in, instant_option}
 
--- ---- the command, as it is described to `clap`
+-- ## The command, as it is described to `clap`
 
 -- an option that takes one value and may be given once
 abbrev pub option_rule : Text → Rule
@@ -51,11 +51,11 @@ program_shape = record (new_app (codes "calendar-analyze")).top { no_binary_name
 abbrev pub command_app : App
 command_app = record { top = record program_shape { is_leaf = false }; subs = map verb_shape all_verbs }
 
--- adds options and positional arguments to the command
+-- adds options and positional arguments to the command, after those that it has
 abbrev pub with_rules : App → List Rule → App
 with_rules app rules = record app { top = record app.top { rules = app.top.rules ++ rules } }
 
--- adds subcommands to the command
+-- adds subcommands to the command, in the order of the list
 abbrev pub with_subcommands : App → List Shape → App
 with_subcommands app [] = app
 with_subcommands app (shape ∷ shapes) = with_subcommands (with_subcommand app shape) shapes
@@ -68,7 +68,7 @@ takes_arguments arguments = takes command_app arguments
 unfoldable pub faults_in : List Text → Kinds
 faults_in arguments = fault_of command_app arguments
 
--- ---- what the arguments ask for, if `clap` parses them
+-- ## What the arguments ask for, if `clap` parses them
 
 -- what `clap` finds in the arguments
 unfoldable pub parsed_in : List Text → Option VerbMatches
@@ -107,7 +107,7 @@ unless_empty (text ∷ texts) answer = answer
 unfoldable pub ask_in : List Text → Result Ask CommandFault
 ask_in arguments = option_map_or (λ found. unless_empty found.texts (read_options found)) (parsed_in arguments) (Err nothing_asked)
 
--- ---- which results are right
+-- ## Which results are right
 
 abbrev pub is_of_help : ErrorKind → Bool
 is_of_help DisplayHelp = true
@@ -122,9 +122,10 @@ HasRead arguments answer = (faults_in arguments ≡ []) × (ask_in arguments ≡
 abbrev pub HasRefused : List Text → (ErrorKind → Bool) → Type 0
 HasRefused arguments is_kind = (takes_arguments arguments ≡ false) × (list_any is_kind (faults_in arguments) ≡ true)
 
--- `fault` is right for the arguments: usage or help if `clap` rejects them for such a reason, and the error for the
--- first invalid value, or `nothing_asked`, if `clap` parses them; the error for a failed allocation is right for all
--- arguments
+-- `fault` is right for the arguments. If `clap` rejects them, `help` is right if one possible reason is a request for
+-- help or the version, and `usage` is right if one possible reason is anything else. If `clap` parses them, the error
+-- for the first invalid value is right, or `nothing_asked`. The error for a failed allocation is right for all
+-- arguments.
 abbrev pub IsFaultOf : List Text → CommandFault → Type 0
 IsFaultOf arguments (usage text) = HasRefused arguments (λ kind. not (is_of_help kind)) ⊎ HasRead arguments (Err (usage text))
 IsFaultOf arguments (help text) = HasRefused arguments is_of_help
@@ -144,7 +145,7 @@ IsReportedOf kind (help text) = (is_of_help kind ≡ true) × (kind ≢ OutOfMem
 IsReportedOf kind no_memory = ⊤
 IsReportedOf kind _ = ⊥
 
--- `fault` is the error that `answer` is, or it is the error for a failed allocation; it is neither usage nor help
+-- `answer` is the error `fault`, or `fault` is the error for a failed allocation; `fault` is neither usage nor help
 abbrev pub IsFaultOrNoMemory : CommandFault → Result Ask CommandFault → Type 0
 IsFaultOrNoMemory (usage text) answer = ⊥
 IsFaultOrNoMemory (help text) answer = ⊥

@@ -48,7 +48,7 @@ zone_items_in [] = Some []
 zone_items_in (item ∷ items) =
     option_and_then (λ zone. option_map (λ zones. zone ∷ zones) (zone_items_in items)) (zone_item_in item)
 
--- the maximum number of items of `--zones`
+-- the maximum number of items of `--zones`; more items are an error
 abbrev pub max_zones : ℕ
 max_zones = 64
 

@@ -6,7 +6,7 @@ use Rattle.cal_request.specs.declared.verb.Verb.TheVariants.{Calendar}
 use Rattle.clap.specs.declared.builder.value_parser.Reading.TheVariants as reading
 use Rattle.clap.specs.declared.parser.matches.ValueSource.TheVariants as source
 
--- `calendar daily`
+-- the arguments of `calendar-analyze calendar daily`: a verb and one text, without options
 abbrev pub daily_arguments : List (List ℕ)
 daily_arguments = codes "calendar" ∷ codes "daily" ∷ []
 
@@ -14,7 +14,7 @@ daily_arguments = codes "calendar" ∷ codes "daily" ∷ []
 abbrev pub daily_matches : VerbMatches
 daily_matches = record { verb = Calendar; texts = codes "daily" ∷ []; rows = record { id = codes "text"; values = codes "daily" ∷ []; count = None; source = Some source.CommandLine; reading = reading.AsWritten } ∷ [] }
 
--- what `calendar daily` asks for
+-- what `calendar daily` asks for: all options have their default values
 abbrev pub daily_ask : Ask
 daily_ask = default_ask Calendar (codes "daily" ∷ [])
 
@@ -24,7 +24,7 @@ options_arguments =
     codes "calendar" ∷ codes "--iterations=3" ∷ codes "--base-time" ∷ codes "now" ∷ codes "daily" ∷ codes "--now" ∷ codes "@5"
     ∷ codes "--zones" ∷ codes "Here=here.tz" ∷ codes "--local" ∷ codes "Here" ∷ codes "weekly" ∷ []
 
--- what the arguments `options_arguments` ask for
+-- what `options_arguments` ask for: both texts, and a value for every option
 abbrev pub options_ask : Ask
 options_ask = record (default_ask Calendar (codes "daily" ∷ codes "weekly" ∷ [])) {
   iterations = 3;

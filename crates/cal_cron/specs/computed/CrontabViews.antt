@@ -1,4 +1,4 @@
--- The lines of a crontab, as the functions of this crate return them, as plain data.
+-- How contracts see the structs that this crate returns for the lines of a crontab: with the bytes of their texts.
 use Rattle.std.specs.Prelude.{Option, None, Some}
 use Rattle.std.specs.Option.{option_map}
 use Rattle.cal_cron.specs.computed.Translation.{shown_exprs}

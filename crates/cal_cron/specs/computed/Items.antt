@@ -39,7 +39,7 @@ value_in field text =
 abbrev pub step_within : ℕ → Result ℕ FieldFault
 step_within n = if n == 0 then Err ZeroStep else (if nat_lt max_step n then Err LargeStep else Ok n)
 
--- parses a step
+-- parses a step: a number from 1 to `max_step`
 unfoldable pub step_in : List ℕ → Result ℕ FieldFault
 step_in text = if is_number text then step_within (digits_value 10 text) else Err BadStep
 
@@ -73,7 +73,7 @@ span_in field text =
     if bytes_eq text (codes "*") then Ok (Some (record { first = least field; last = greatest field; step = 1 }))
     else span_at field (cut 45 text)
 
--- the range with the step, or an error if there is no range
+-- the range with the step, or `StepAlone` if the text before the step is neither `*` nor `a-b`
 abbrev pub stepped : List ℕ → Option CronRange → Result CronRange FieldFault
 stepped step None = Err StepAlone
 stepped step (Some r) = step_in step >>= λ s. Ok (record { first = r.first; last = r.last; step = s })
@@ -86,7 +86,7 @@ abbrev pub item_at : CronField → List ℕ → Option Cut → Result CronRange 
 item_at field text None = span_in field text >>= unstepped field text
 item_at field text (Some found) = span_in field found.front >>= stepped found.back
 
--- parses an item
+-- parses an item: `a`, `a-b` or `*`, or one of the latter two with a step, `/s`
 unfoldable pub item_in : CronField → List ℕ → Result CronRange FieldFault
 item_in field text = item_at field text (cut 47 text)
 
@@ -100,6 +100,6 @@ items_in field room [] = Ok []
 items_in field room (t ∷ ts) =
     item_due field room t >>= λ r. items_in field (room - 1) ts >>= λ rs. Ok (r ∷ rs)
 
--- parses a field
+-- parses a field: at most `max_items` items that are separated by commas
 unfoldable pub field_in : CronField → List ℕ → Result (List CronRange) FieldFault
 field_in field text = items_in field max_items (slice_split is_comma text)

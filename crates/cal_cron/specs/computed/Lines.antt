@@ -47,7 +47,7 @@ shortcut_by word None =
 unfoldable pub shortcut_in : List ℕ → Result LineTexts CronFault
 shortcut_in word = shortcut_by word (shortcut_named word)
 
--- the texts of the five fields
+-- the texts of the five fields: the five words of the line, or those that its only word stands for
 abbrev pub texts_in : List (List ℕ) → Result LineTexts CronFault
 texts_in [] = Err FieldCount
 texts_in (w ∷ []) = shortcut_in w

@@ -7,7 +7,7 @@ use Rattle.cal_cron.specs.declared.cron_field.CronField.{CronField}
 use Rattle.cal_cron.specs.declared.cron_field.CronField.TheVariants.{Minute, Hour, Day, Month, Weekday}
 use Rattle.cal_cron.specs.declared.items.CronRange.{CronRange}
 
--- the range is between two numbers, doesn't run backwards, and has a step
+-- the range is between two numbers, doesn't run backwards, and has a step of at least 1
 pub record IsRange (low high : ℕ) (r : CronRange) : Type 0 where
   pub from : low ≤ r.first
   pub forward : r.first ≤ r.last

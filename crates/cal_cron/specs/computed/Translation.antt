@@ -20,7 +20,8 @@ use Rattle.cal_cron.specs.declared.items.CronRange.{CronRange}
 abbrev pub is_all : Slot → CronRange → Bool
 is_all slot r = (r.first == least slot) && ((r.last == greatest slot) && (r.step == 1))
 
--- whether the step, continued past the greatest number of the slot, comes back to the least number
+-- Whether the step, continued past the greatest number of the months or minutes, comes back to the least number. Hours
+-- don't count: if a step comes back to hour 0, systemd 252 fails in zones whose clock is set forward at midnight.
 abbrev pub goes_round : Slot → CronRange → Bool
 goes_round Month r = (r.first == 1) && (12 % r.step == 0)
 goes_round Minute r = (r.first == 0) && (60 % r.step == 0)
@@ -28,7 +29,8 @@ goes_round slot r = false
 
 -- Whether the range is written as a repetition without an end. After its last number, systemd 252 goes on to the number
 -- that the step reaches past the greatest number of the slot, and so loses elapses, or fails if the clock changes. This
--- does no harm if the last number is the greatest one, or if the next number is the least one of the months or minutes.
+-- does no harm if the last number is the greatest one, or if the number past it is the first month or the first minute
+-- again.
 abbrev pub is_open : Slot → CronRange → Bool
 is_open slot r =
     ((r.last == greatest slot) && (nat_lt 1 r.step && nat_le r.step (r.last - r.first)))

@@ -55,7 +55,7 @@ pub record IsWithin (field : CronField) (n : ℕ) : Type 0 where
   pub above : least field ≤ n
   pub below : n ≤ greatest field
 
--- the text is a name of the number `n`, or a number that the field allows
+-- the text is a name of the number `n` in the field, or is `n` in digits, and the field allows `n`
 abbrev pub IsValue : CronField → List ℕ → ℕ → Type 0
 IsValue field text n = (name_in field text ≡ Some n) ⊎ (IsNumber text n × IsWithin field n)
 
@@ -77,17 +77,17 @@ pub record IsStar (field : CronField) (text : List ℕ) (r : CronRange) : Type 0
 abbrev pub IsSpan : CronField → List ℕ → CronRange → Type 0
 IsSpan field text r = IsStar field text r ⊎ IsBetween field text r
 
--- the greatest step
+-- the greatest number that may follow the `/` of an item
 abbrev pub max_step : ℕ
 max_step = 9999
 
--- a single value
+-- a single value, which is a range that begins and ends with this value
 pub record IsSingle (field : CronField) (text : List ℕ) (r : CronRange) : Type 0 where
   pub value : IsValue field text r.first
   pub last : r.last ≡ r.first
   pub step : r.step ≡ 1
 
--- `*` or `a-b`, each number of it
+-- `*` or `a-b`, with all its numbers
 pub record IsWhole (field : CronField) (text : List ℕ) (r : CronRange) : Type 0 where
   pub span : IsSpan field text r
   pub step : r.step ≡ 1
@@ -105,7 +105,7 @@ pub record IsStepped (field : CronField) (text : List ℕ) (r : CronRange) : Typ
 abbrev pub IsItem : CronField → List ℕ → CronRange → Type 0
 IsItem field text r = IsSingle field text r ⊎ (IsWhole field text r ⊎ IsStepped field text r)
 
--- the maximum number of items of a field
+-- the maximum number of items of a field; with it, an expression has at most the 240 parts that are allowed
 abbrev pub max_items : ℕ
 max_items = 60
 

@@ -27,7 +27,7 @@ abbrev pub begins_with_star : List ℕ → Bool
 begins_with_star [] = false
 begins_with_star (b ∷ bs) = b == 42
 
--- whether a word begins with `@`, as the words do that stand for fields
+-- whether a word begins with `@`, as all words that stand for fields do
 abbrev pub begins_with_at : List ℕ → Bool
 begins_with_at [] = false
 begins_with_at (b ∷ bs) = b == 64

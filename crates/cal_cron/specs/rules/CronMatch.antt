@@ -17,11 +17,12 @@ range_has r value = (nat_le r.first value && nat_le value r.last) && ((value - r
 abbrev pub field_has : List CronRange → ℕ → Bool
 field_has rs value = list_any (λ r. range_has r value) rs
 
--- whether the field has the weekday, which is counted from 0 for Monday; in the field, Monday is 1, and Sunday is 0 or 7
+-- whether the field has the weekday, counted from 0 for Monday; in the field, Monday is 1, and Sunday is 0 or 7
 abbrev pub weekday_has : List CronRange → ℕ → Bool
 weekday_has rs day = field_has rs ((day + 1) % 7) || ((day == 6) && field_has rs 7)
 
--- the day matches: both fields match if one of them begins with `*`, otherwise one of the two matches
+-- the day matches: both the day of the month and the weekday match if one of these fields begins with `*`, and
+-- otherwise at least one of the two matches
 abbrev pub day_matches : Bool → Bool → Bool → Bool
 day_matches star day weekday = if star then day && weekday else day || weekday
 
@@ -40,7 +41,7 @@ cron_matches s local =
     nat_lt local seconds_in_all
     && (cron_date s (civil_date (local / seconds_per_day)) && cron_time s (local % seconds_per_day))
 
--- the expressions of a line
+-- the expressions of a line: one, or two if the days of the month and the weekdays need an expression each
 pub record CronExprs : Type 0 where
   pub first : Fields
   pub other : Option Fields
@@ -60,7 +61,7 @@ pub record RunsAs (text : List ℕ) (first : Fields) (other : Option Fields) : T
   pub line : IsLine text schedule
   pub same : (local : ℕ) → exprs_match first other local ≡ cron_matches schedule local
 
--- `value` is every `step`-th number from `first` that isn't above `last`
+-- `count` steps lead from `first` to `value`, which isn't above `last`
 pub record IsReached (r : CronRange) (value : ℕ) : Type 0 where
   pub count : ℕ
   pub is : value ≡ r.first + count * r.step

@@ -31,7 +31,7 @@ field_message StepAlone = codes "step after a single value"
 field_message TooManyItems = codes "more than 60 items"
 field_message field_fault.NoMemory = []
 
--- the message of an error, which names the field and is empty only for `NoMemory`
+-- the message of an error, which names the field if the error is in one; empty only for `NoMemory`
 abbrev pub message_of : CronFault → List ℕ
 message_of FieldCount = codes "expected five fields"
 message_of UnknownShortcut = codes "unknown word after @"
@@ -53,7 +53,7 @@ word_start text from = from + prefix_len is_blank (drop from text)
 abbrev pub word_end : List ℕ → ℕ → ℕ
 word_end text from = word_start text from + position_or_len is_blank (drop (word_start text from) text)
 
--- the index after the words of the fields before this one
+-- the index directly after the field before this one, or 0 for the minute, which is the first field
 abbrev pub fields_end : List ℕ → CronField → ℕ
 fields_end text Minute = 0
 fields_end text Hour = word_end text 0

@@ -21,7 +21,7 @@ abbrev pub format_of_path : List ℕ → CrontabFormat
 format_of_path path =
     if bytes_eq path (codes "/etc/crontab") || starts_with nat_eq path (codes "/etc/cron.d/") then System else User
 
--- What a line has
+-- ## What a line has
 
 -- whether the line, without leading and trailing blanks, is empty or a comment
 abbrev pub says_nothing : List ℕ → Bool
@@ -57,7 +57,7 @@ unfoldable pub time_end : List ℕ → ℕ
 time_end line =
     if begins_with_at (drop (word_start line 0) line) then word_end line 0 else word_end line (fields_end line Weekday)
 
--- The command and its input: the first `%` that no backslash escapes ends the command
+-- ## The command and its input: the first `%` that no backslash escapes ends the command
 
 -- whether the byte ends the command; `escaped` says whether a backslash escapes the byte
 abbrev pub ends_command : Bool → ℕ → Bool
@@ -67,7 +67,7 @@ ends_command escaped b = not escaped && (b == 37)
 abbrev pub escapes_next : Bool → ℕ → Bool
 escapes_next escaped b = not escaped && (b == 92)
 
--- the number of bytes of the command at the start of the text
+-- the number of bytes of the command at the start of the text; `escaped` says whether the first byte is escaped
 abbrev pub command_len : Bool → List ℕ → ℕ
 command_len escaped [] = 0
 command_len escaped (b ∷ bs) = if ends_command escaped b then 0 else 1 + command_len (escapes_next escaped b) bs
@@ -108,7 +108,7 @@ abbrev pub lacks : CrontabFormat → Job → Option EntryFault
 lacks Argument job = None
 lacks format job = if is_missing job.user then Some NoUser else (if is_empty job.command then Some NoCommand else None)
 
--- what an entry says: the expressions of its time fields, or None if cron runs the command when it starts
+-- an entry: the expressions of its time fields, or None if these are `@reboot`, its user, its command, and its input
 pub record Entry : Type 0 where
   pub time : Option CronExprs
   pub user : Option (List ℕ)
@@ -125,9 +125,9 @@ pub data Content : Type 0 where
   Runs : (entry : Entry) → Content
   Invalid : (fault : LineFault) → Content
 
--- The time fields
+-- ## The time fields
 
--- the result of reading `@reboot` is None, and that of any other time fields their expressions
+-- the expressions of the time fields, or None for `@reboot`, which isn't an error of an entry
 abbrev pub time_of : Result CronExprs CronFault → Result (Option CronExprs) CronFault
 time_of (Ok exprs) = Ok (Some exprs)
 time_of (Err Reboot) = Ok None
@@ -136,7 +136,7 @@ time_of (Err fault) = Err fault
 abbrev pub time_text : List ℕ → List ℕ
 time_text line = take (time_end line) line
 
--- An entry
+-- ## An entry
 
 abbrev pub entry_by : List ℕ → Option CronExprs → Job → Option EntryFault → Content
 entry_by line time job None = Runs (record { time = time; user = job.user; command = job.command; input = job.input })
@@ -156,7 +156,7 @@ entry_with format line (Err fault) =
 unfoldable pub entry_in : (List ℕ → Result CronExprs CronFault) → CrontabFormat → List ℕ → Content
 entry_in read format line = entry_with format line (time_of (read (time_text line)))
 
--- A crontab
+-- ## A crontab
 
 abbrev pub content_by : (List ℕ → Result CronExprs CronFault) → CrontabFormat → List ℕ → Option Assignment → Content
 content_by read format line None = entry_in read format line

@@ -6,7 +6,8 @@ use Rattle.cal_elapse.specs.computed.Bits.{is_bit, is_bit_in}
 use Rattle.cal_rising.specs.rules.Elements.{Has}
 use Rattle.cal_elapse.specs.rules.Search.{IsFirstPassing}
 
--- the number of cells; proofs take its value from the lemma below, so that none of them unfolds a list of this length
+-- The number of cells. Proofs use the lemma below, which states the value, instead of unfolding the definition: with
+-- the definition unfolded, the prover could build a list of this length.
 pub cells_in_all : ℕ
 cells_in_all = 187_200
 
@@ -14,7 +15,7 @@ pub cells_in_all-is : cells_in_all ≡ 187_200
 unfolding cells_in_all
 cells_in_all-is = refl
 
--- the number of cells again, under a name that proofs may unfold, because no list gets its length from this name
+-- The number of cells, under a second name. Proofs may unfold this name, because it isn't used as the length of a list.
 abbrev pub cell_count : ℕ
 cell_count = 187_200
 

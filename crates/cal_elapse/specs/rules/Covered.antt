@@ -1,5 +1,4 @@
--- Expressions whose elapses are all elapses of exceptions. An exception is an expression at whose elapses a timer
--- doesn't elapse. systemd has no exceptions; they are this project's own.
+-- Expressions whose elapses are all elapses of exceptions. systemd has no exceptions; they are this project's own.
 use Rattle.std.specs.Prelude.{◌≡◌, ◌⊎◌, ℕ, ℤ, Bool, true, List}
 use Rattle.cal_elapse.specs.rules.Elapses.{IsElapse, IsPlace, Timed}
 use Rattle.cal_spec.specs.rules.Match.{Sets}

@@ -1,4 +1,5 @@
 -- The elapses of calendar expressions, and the meaning of an expression in a zone: systemd.time(7), Calendar Events.
+-- Some expressions are exceptions: at their elapses, a timer doesn't elapse.
 use Rattle.std.specs.Prelude.{◌≡◌, ◌⊎◌, ◌↔◌, ◌<◌, ℕ, Bool, true, List, [], ◌∷◌, Option, Some, ℤ, ◌<ℤ◌, pos}
 use Rattle.std.specs.Ordering.{int_cmp}
 use Rattle.std.specs.List.Sorted.{IsStrictlySortedBy}
@@ -28,8 +29,7 @@ abbrev pub IsElapse : List Timed → ℤ → Type 0
 IsElapse [] i = ⊥
 IsElapse (e ∷ es) i = IsPlace e i ⊎ IsElapse es i
 
--- `i` is an elapse of at least one of the expressions `es` and of none of the exceptions; an exception is an expression
--- at whose elapses a timer doesn't elapse
+-- `i` is an elapse of at least one of the expressions `es` and of none of the exceptions
 abbrev pub IsElapseExcept : List Timed → List Timed → ℤ → Type 0
 IsElapseExcept es exceptions i = IsElapse es i × (IsElapse exceptions i → ⊥)
 

@@ -14,8 +14,7 @@ places e = filter_map e.place (filter e.matches (range_with_len 0 seconds_in_all
 unfoldable pub elapses_after : List Timed → ℤ → List ℤ
 elapses_after es b = union (map (λ e. filter (int_lt b) (places e)) es)
 
--- the elapses after `b` of the expressions `es`, without those of the exceptions; an exception is an expression at
--- whose elapses a timer doesn't elapse
+-- the elapses after `b` of the expressions `es`, without those of the exceptions
 unfoldable pub elapses_except : List Timed → List Timed → ℤ → List ℤ
 elapses_except es exceptions b = without (elapses_after es b) (elapses_after exceptions b)
 

@@ -87,7 +87,7 @@ impl Searcher {
 
     /// Returns the first match at or after a local second, or the first one after a given match; `start` says which of
     /// the two. Also returns the number of months examined. Each call counts as one search. The result is the same as
-    /// that of `next_local`.
+    /// that of `next_local`, called for the first local second that may be the result.
     #[inline(always)]
     #[tactic(auto, using(cal_civil::proofs::LocalLemmas::local_arith))]
     pub fn search(&mut self, start: SearchStart) -> Found
@@ -166,7 +166,7 @@ impl Searcher {
         self.most_months = self.most_months.max(1);
     }
 
-    /// Returns the matches after `local`, which must itself match, in the same minute. Bit i of the result stands for
+    /// Returns the matches that follow `local` in its minute. `local` must itself match. Bit i of the result stands for
     /// the local second that comes i + 1 seconds after `local`.
     #[tactic(auto, using(cal_civil::proofs::LocalLemmas::local_arith))]
     fn rest_of_minute(&self, local: i64) -> u64
@@ -177,8 +177,8 @@ impl Searcher {
         self.masks.seconds >> (second_of_minute(local) + 1)
     }
 
-    /// Returns the minutes with matches after the minute of `local` in the same hour. Bit i of the result stands for
-    /// the minute that comes i + 1 minutes after that of `local`, which must itself match.
+    /// Returns the minutes with matches that follow the minute of `local` in its hour. `local` must itself match. Bit i
+    /// of the result stands for the minute that comes i + 1 minutes after the minute of `local`.
     #[tactic(auto, using(cal_civil::proofs::LocalLemmas::local_arith))]
     fn rest_of_hour(&self, local: i64) -> u64
         requires inside { IsLocalSecond local }

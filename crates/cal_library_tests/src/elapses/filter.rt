@@ -8,8 +8,8 @@ use cal_elapse::Rising;
 use std::alloc::Global;
 use std::test::Fail;
 
-/// The instants that are compared are later than this one. The rule [`FORWARD_AND_BACK`] has both its transitions in the
-/// three days after it.
+/// The instants that are compared are later than this one. The rule [`FORWARD_AND_BACK`] has both its transitions in
+/// the three days after it.
 const BASE: i64 = 1_711_756_800;
 
 /// The last instant that is compared, three days after [`BASE`].
@@ -24,8 +24,9 @@ fn is_in_either(local: i64) -> bool {
     second == 30 || (second == 13 && minute % 7 == 0)
 }
 
-/// Returns the instants in the range at which the zone's clock first shows a local second: any one, or only those that
-/// `*:0/7:13` or `*:*:30` matches. They are sorted, and each instant is in the list once.
+/// Returns the instants after [`BASE`] and up to [`LIMIT`] at which the zone's clock first shows a local second: any
+/// local second if `is_every` is true, and otherwise one that `*:0/7:13` or `*:*:30` matches. The instants are sorted,
+/// and each is in the list once.
 fn by_filter(alloc: Global, zone: Zone<'_>, is_every: bool) -> Result<Vec<i64>, Fail> {
     let mut instants = Vec::new(alloc);
     for local in BASE - MAX_OFFSET..=LIMIT + MAX_OFFSET {
@@ -45,7 +46,7 @@ fn by_filter(alloc: Global, zone: Zone<'_>, is_every: bool) -> Result<Vec<i64>, 
     Ok(instants)
 }
 
-/// Expects the source to return these instants, and then no other instant in the range.
+/// Expects the source to return these instants, and then no other instant up to [`LIMIT`].
 fn expect_all<S: Rising>(source: &mut S, instants: &[i64]) -> Result<(), Fail> {
     expect_first(source, instants)?;
     let after = source.next().unwrap_or(i64::MAX);
@@ -61,13 +62,13 @@ fn agree(alloc: Global, texts: &[&str], is_every: bool) -> Result<(), Fail> {
     expect_all(&mut merge, &instants)
 }
 
-/// Tests an expression that matches every second.
+/// Compares the elapses of an expression that matches every second with the instants that `by_filter` returns.
 #[test]
 fn forward_and_soon_back(rt: HostRuntime) -> Result<(), Fail> {
     agree(rt.alloc(), &["*:*:*"], true)
 }
 
-/// Tests two expressions, merged.
+/// Compares the merged elapses of two expressions with the instants that `by_filter` returns.
 #[test]
 fn merged_forward_and_soon_back(rt: HostRuntime) -> Result<(), Fail> {
     agree(rt.alloc(), &["*:0/7:13", "*:*:30"], false)

@@ -23,8 +23,7 @@ static COUNTED: [Counted; 4] = [
         &[(256, DAILY), (1, RESET), (1, "OnCalendar=hourly")],
         Ok(&[(259, "hourly")]),
     ),
-    // In the next row, there are too many exceptions, which have a limit of their own. (When an exception elapses, the
-    // timer doesn't.)
+    // In the next row, there are too many exceptions, which have a limit of their own.
     (
         &[(257, EXCEPTION), (1, DAILY)],
         Err(TimerFault::TooMany(258)),

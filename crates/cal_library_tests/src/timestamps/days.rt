@@ -51,8 +51,8 @@ today Mars/One|yesterday Fri|tomorrow today|today U!|12:00 today|2012-11-23 toda
     ],
 };
 
-/// Instants in seconds of Unix time, each with what timestamps resolve to if this instant is the present. The clock
-/// skips midnight on 2024-03-10, and shows midnight on 2024-11-03 twice.
+/// Instants in seconds of Unix time, each with what timestamps resolve to if this instant is the present. The clock of
+/// the local zone skips midnight on 2024-03-10, and shows midnight on 2024-11-03 twice.
 static DAYS_OF_A_CHANGE: [(i64, Table); 2] = [
     // In this row, the present is on the day whose midnight is skipped.
     (

@@ -17,7 +17,7 @@ has_names key =
 abbrev pub is_replaced : ℕ → Bool
 is_replaced b = (b == 34) || (b == 39) || (b == 37)
 
--- whether the name can stand in the value of this key: it is that of a unit, and an alias is a timer
+-- whether the name can stand in the value of this key: it is the name of a unit, and for an alias, of a timer
 abbrev pub is_allowed : List ℕ → List ℕ → Bool
 is_allowed key name =
     is_unit_name name && (not (bytes_eq key (codes "Alias")) || ends_with nat_eq name (codes ".timer"))

@@ -18,7 +18,7 @@ use Rattle.cal_spec.specs.declared.spec_fault.SpecFault.{SpecFault}
 use Rattle.cal_lint.specs.declared.open_steps.OpenStepFlaw.{OpenStepFlaw}
 use Rattle.cal_lint.specs.declared.open_steps.OpenStepFlaw.TheVariants.{LosesElapses, FailsAtClockChanges, FailsAtMidnightChanges}
 
--- The numbers of a field
+-- ## The numbers of a field
 
 abbrev pub first_number : Field → ℕ
 first_number Year = first_year
@@ -28,7 +28,8 @@ first_number Hour = 0
 first_number Minute = 0
 first_number Second = 0
 
--- the last number of a field; a month has 31 days here, as December and January have
+-- the last number of a field; months have 31 days here, since a step in the days loses elapses only from December to
+-- January (`can_follow`)
 abbrev pub last_number : Field → ℕ
 last_number Year = last_year
 last_number Month = 12
@@ -55,15 +56,15 @@ component_value from_end field n = n
 abbrev pub is_member : Fields → Field → ℕ → Bool
 is_member f field n = members_of field (sets_of f) (component_value f.from_end field n)
 
--- The number at which the search goes on
+-- ## The number at which the search goes on
 
 -- whether the numbers `start`, `start` + `step`, .. of a step without an end include `n`, which isn't below `start`
 abbrev pub step_reaches : ℕ → Option ℕ → Option ℕ → ℕ → Bool
 step_reaches start None (Some step) n = (n - start) % step == 0
 step_reaches start end step n = false
 
--- whether the part is a step without an end that, past the field's last number, reaches the number `n` of the next
--- hour, day, month or year
+-- whether the part is a step without an end that goes on past the field's last number and reaches the number `n` in the
+-- next larger unit, as a step of minutes that goes on to minute 63 reaches minute 3 of the next hour
 abbrev pub part_reaches : Bool → Field → ℕ → Part → Bool
 part_reaches from_end field n p = step_reaches (component_value from_end field p.start) p.end p.step (n + count_of field)
 
@@ -77,12 +78,13 @@ abbrev pub stops_in_time : Fields → Field → Bool
 stops_in_time f Second = false
 stops_in_time f field = is_member f field (last_number field)
 
--- the least number of the next hour, day, month or year that a step without an end reaches
+-- the least number of the field that a step without an end reaches in the next larger unit
 abbrev pub first_reached : Fields → Field → Option ℕ
 first_reached f field = find (any_reaches f.from_end field (component field f)) (numbers_of field)
 
--- the number of the next hour, day, month or year at which the search goes on because of steps without an end, or None
--- if it goes on at the first number, as it should
+-- The number of the field at which steps without an end make the search go on in the next larger unit: 3 if it goes on
+-- at minute 63, which is minute 3 of the next hour. None if no step does so; then the search goes on at the first
+-- number, as it should.
 abbrev pub resumes_at : Fields → Field → Option ℕ
 resumes_at f field = if stops_in_time f field then None else first_reached f field
 
@@ -90,11 +92,12 @@ abbrev pub is_before : Option ℕ → Option ℕ → Bool
 is_before (Some a) (Some b) = nat_lt a b
 is_before a b = false
 
--- Lost elapses
+-- ## Lost elapses
 
--- Whether the units before and after the change of hour, day, month or year can both match: minutes 59 and 0, hours 23
--- and 0, the last and the first day of a month, or December and January. Only this field is examined. So the flaw is
--- also reported for expressions whose weekdays or dates are never consecutive, such as `Mon *:0/7`.
+-- Whether the next larger field matches both before and after it starts over: minutes 59 and 0 for the seconds, hours
+-- 23 and 0 for the minutes, the last and the first day of a month for the hours, and December and January for the days.
+-- No other field is examined. So the flaw is also reported for expressions whose weekdays or dates are never
+-- consecutive, such as `Mon *:0/7`.
 abbrev pub can_follow : Fields → Field → Bool
 can_follow f Year = false
 can_follow f Month = false
@@ -103,14 +106,14 @@ can_follow f Hour = members_of Day (sets_of f) 1 && list_any (members_of Day (se
 can_follow f Minute = is_member f Hour 23 && is_member f Hour 0
 can_follow f Second = is_member f Minute 59 && is_member f Minute 0
 
--- Whether systemd 252 loses elapses because the search goes on after the field's first member. It loses those of the
--- seconds at the start of an hour, of the minutes at the start of a day, of the hours on the first day of a month, and
--- of the days in January.
+-- Whether systemd 252 loses elapses because the search goes on after the field's first member. If the step is in the
+-- seconds, the lost elapses are at the start of an hour; if it is in the minutes, at the start of a day; if it is in
+-- the hours, on the first day of a month; if it is in the days, in January.
 abbrev pub loses_elapses : Fields → Field → Bool
 loses_elapses f field =
     is_before (find (is_member f field) (numbers_of field)) (resumes_at f field) && can_follow f field
 
--- Failures at clock changes
+-- ## Failures at clock changes
 
 -- whether the clock may change: the zone isn't UTC, and isn't a UTC offset; not all other zones have clock changes
 abbrev pub may_change : Option ZoneSuffix → Bool
@@ -118,9 +121,9 @@ may_change None = true
 may_change (Some (of_name name)) = not (is_utc_name name)
 may_change (Some (at_offset seconds)) = false
 
--- Whether the search fails, or loses an elapse, around a clock change. When it goes on past the field's first number,
--- systemd 252 returns to the first one, but interprets it in summer time or winter time as at the number that the step
--- reached. If the clock changes in between, it can return to the previous day, and search forever.
+-- Whether the search fails, or loses an elapse, around a clock change. If the search goes on at a number after the
+-- field's first one, systemd 252 returns to the first one, but still in the summer time or winter time of the number
+-- that the step reached. If the clock changes in between, it can return to the previous day, and search forever.
 -- For days, the number at which the search goes on depends on the length of the month, so any such number counts here.
 abbrev pub fails_at_changes : Fields → Field → Bool
 fails_at_changes f Month = is_before (Some 1) (resumes_at f Month)
@@ -128,7 +131,7 @@ fails_at_changes f Day = is_some (resumes_at f Day)
 fails_at_changes f Hour = is_before (Some 0) (resumes_at f Hour)
 fails_at_changes f field = false
 
--- All flaws
+-- ## All flaws
 
 -- Whether the expression has this flaw. `FailsAtMidnightChanges` is the last of `flaws`, so it is found only if the
 -- search goes on at hour 0.

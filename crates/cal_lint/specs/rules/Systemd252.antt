@@ -19,7 +19,9 @@ use Rattle.cal_spec.specs.rules.WeekdayNames.{day_named, days_of, leading_letter
 use Rattle.cal_lint.specs.declared.older_systemd.Rejection.{Rejection}
 use Rattle.cal_lint.specs.declared.older_systemd.Rejection.TheVariants.{Tab, Blanks, PastSunday, OneSecond, SecondStep, DaysFromEnd, Offset, ZoneName}
 
--- Blanks. Spaces divide an expression into pieces, and an empty piece stands for an additional space.
+-- ## Blanks
+
+-- Spaces divide an expression into pieces, and an empty piece stands for an additional space.
 
 abbrev pub is_tab : ℕ → Bool
 is_tab b = b == 9
@@ -49,14 +51,14 @@ has_extra [] = false
 has_extra ([] ∷ pieces) = true
 has_extra ((b ∷ bs) ∷ pieces) = has_extra_after (is_weekday_list (b ∷ bs) || is_date (b ∷ bs)) pieces
 
--- Weekdays
+-- ## Weekdays
 
 -- whether an item of a weekday list is a range that ends on an earlier day of the week than it begins
 abbrev pub runs_past_sunday : List ℕ → Bool
 runs_past_sunday item =
     option_map_or (λ days. nat_lt (monday_zero days.last) (monday_zero days.first)) (days_of item) false
 
--- Seconds
+-- ## Seconds
 
 -- the seconds of a time: the text after its second colon, or nothing if there is no second colon
 abbrev pub seconds_in : List ℕ → List ℕ
@@ -100,9 +102,9 @@ is_above bound digits = list_all is_ascii_digit digits && nat_lt bound (digits_v
 abbrev pub has_large_step : List ℕ → Bool
 has_large_step part = is_above max_second_step (step_in (slice_split is_slash part))
 
--- Days
+-- ## Days
 
--- the end of a part, or its start if it has no end
+-- the greatest number that is written in a part, besides the step: its end, or its start if it has no end
 abbrev pub end_or_start : Part → ℕ
 end_or_start p = unwrap_or p.end p.start
 
@@ -121,13 +123,13 @@ late_among (Some ps) = has_late_part 28 ps
 abbrev pub has_late_days : Fields → Bool
 has_late_days f = f.from_end && late_among f.day
 
--- Zones
+-- ## Zones
 
 abbrev pub is_empty : List ℕ → Bool
 is_empty [] = true
 is_empty (b ∷ bs) = false
 
--- All reasons
+-- ## All reasons
 
 -- whether this piece makes systemd 252 reject an expression for this reason; a piece is an item of a weekday list, a
 -- part of the seconds, or one of the texts that slashes separate in a zone's name

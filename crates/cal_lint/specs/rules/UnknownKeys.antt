@@ -1,6 +1,5 @@
--- The keys of a timer that systemd 252 ignores because it doesn't know them: systemd.unit(5), [Unit] and [Install] Section
--- Options, and systemd.timer(5), Options. This project adds the key `X-ExceptOnCalendar=` for exceptions. When an
--- exception elapses, the timer doesn't.
+-- The keys of a timer that systemd 252 ignores because it doesn't know them: systemd.unit(5), [Unit] and [Install]
+-- Section Options, and systemd.timer(5), Options. This project adds the key `X-ExceptOnCalendar=` for exceptions.
 use Rattle.std.specs.Prelude.{ℕ, ◌-◌, Bool, false, not, ◌&&◌, ◌||◌, List, [], ◌∷◌, codes, drop, is_some, length, min, nat_eq, take}
 use Rattle.std.specs.List.{list_any, starts_with}
 use Rattle.std.specs.Str.{bytes_eq, str_eq_ignore_ascii_case}
@@ -9,7 +8,8 @@ use Rattle.cal_timer.specs.rules.TimerText.{exception_key}
 use Rattle.cal_lint.specs.declared.sections.Section.{Section}
 use Rattle.cal_lint.specs.declared.sections.Section.TheVariants.{Unit, Timer, Install}
 
--- whether systemd 252 knows the key in the section `Unit`; the keys are in the order in which it lists them itself
+-- whether systemd 252 knows the key in the section `Unit`; the keys are in the order in which
+-- `systemd --dump-configuration-items` prints them
 unfoldable pub is_unit_key : List ℕ → Bool
 is_unit_key key =
     list_any (bytes_eq key) (codes "Description" ∷ codes "Documentation" ∷ codes "SourcePath" ∷ codes "Requires" ∷ codes "Requisite"
@@ -45,12 +45,12 @@ is_unit_key key =
     ∷ codes "AssertOSRelease" ∷ codes "AssertMemoryPressure" ∷ codes "AssertCPUPressure" ∷ codes "AssertIOPressure"
     ∷ codes "CollectMode" ∷ [])
 
--- whether the key is one of the section `Install`
+-- whether the key is known in the section `Install`
 abbrev pub is_install_key : List ℕ → Bool
 is_install_key key =
     list_any (bytes_eq key) (codes "Alias" ∷ codes "WantedBy" ∷ codes "RequiredBy" ∷ codes "Also" ∷ codes "DefaultInstance" ∷ [])
 
--- whether the key is one of the section `Timer`, or this project's key for exceptions
+-- whether systemd 252 knows the key in the section `Timer`, or the key is this project's key for exceptions
 abbrev pub is_timer_key : List ℕ → Bool
 is_timer_key key = is_some (kind_of key) || list_any (bytes_eq key) (codes "OnCalendar" ∷ exception_key ∷ [])
 

@@ -1,5 +1,6 @@
--- What targets stand for, and what became of everything that was looked for. A target is how a user names timers: the
--- name of a unit, with or without its suffix (systemctl(1), Parameter Syntax), or the path of a file or folder.
+-- What targets stand for, and the result of loading it: each unit or file that a target stands for ends up as a timer,
+-- as masked, or as an error. A target is how a user names timers: the name of a unit, with or without its suffix
+-- (systemctl(1), Parameter Syntax), or the path of a file or folder.
 use Rattle.std.specs.Prelude.{◌≡◌, ⊤, ◌⊎◌, ◌==◌, ℕ, nat_eq, IsTrue, Bool, true, false, not, ◌&&◌, ◌||◌, if◌then◌else◌, List, [], ◌∷◌, ◌++◌, All, Option, None, Some, Result, Ok, Err, codes, filter, length, map, string_bytes}
 use Rattle.std.specs.List.{ends_with, flat_map, list_any, starts_with}
 use Rattle.std.specs.Str.{bytes_eq}
@@ -38,15 +39,15 @@ root = codes "/"
 abbrev pub is_path : List ℕ → Bool
 is_path target = list_any is_slash target || (bytes_eq target (codes ".") || bytes_eq target (codes ".."))
 
--- the path, or that of the root if it is empty
+-- the path, or `/` if it is empty
 abbrev pub unless_empty : List ℕ → List ℕ
 unless_empty path = if length path == 0 then root else path
 
--- the path without the slashes at its end; the path of the root keeps one
+-- the path without the slashes at its end; a path that has nothing but slashes keeps one
 abbrev pub without_slashes : List ℕ → List ℕ
 without_slashes path = unless_empty (trim_end_matches is_slash path)
 
--- what comes before `/NAME` in the path of a file in this folder: the folder's path, or nothing for the root
+-- what comes before `/NAME` in the path of a file in this folder: the folder's path, or nothing for the folder `/`
 abbrev pub before_slash : List ℕ → List ℕ
 before_slash folder = if bytes_eq folder root then [] else folder
 
@@ -84,12 +85,13 @@ IsUnreadFault folder names faults.TheVariants.NoMemory = ⊤
 -- ## The units of a folder
 
 -- A folder that is a target is read as if it were the only folder of the search path: systemd.unit(5), Unit File Load
--- Path. These are the stems of the own names of its units. An instance of a template also counts if a folder `NAME.wants`
--- or `NAME.requires` in it links it.
+-- Path. These are the stems of the own names of its units. An instance of a template also counts if a folder
+-- `NAME.wants` or `NAME.requires` in it links it.
 abbrev pub units_in_folder : Machine → List ℕ → List (List ℕ)
 units_in_folder machine folder = all_units machine (folder ∷ [])
 
--- what can't be read: folders `NAME.wants` and `NAME.requires` in the folder, the folder itself, and files of timers in it
+-- what can't be read: folders `NAME.wants` and `NAME.requires` in the folder, the folder itself, and files of timers in
+-- it
 abbrev pub unread_in_folder : Machine → List ℕ → List Fault
 unread_in_folder machine folder = unreadable_wants machine (folder ∷ []) ++ unreadable_in machine (folder ∷ [])
 
@@ -104,7 +106,7 @@ pub data Sought : Type 0 where
   FolderUnit : (folder : List ℕ) → (stem : List ℕ) → Sought
   UnreadPath : (fault : Fault) → Sought
 
--- what a folder stands for: its units, and what of it can't be read
+-- what a folder stands for: its units, and what can't be read of it
 abbrev pub sought_in : Machine → List ℕ → List Sought
 sought_in machine folder = map (FolderUnit folder) (units_in_folder machine folder) ++ map UnreadPath (unread_in_folder machine folder)
 
@@ -125,9 +127,10 @@ name_of (SingleFile path) = path
 name_of (FolderUnit folder stem) = path_in folder (unit_name stem)
 name_of (UnreadPath fault) = fault.path
 
--- ## What became of it
+-- ## What was found
 
--- This is a correct result for the unit with this stem. A name that isn't valid has no stem, so no unit is found for it.
+-- This is a correct result for the unit with this stem. A name that isn't valid has no stem, so no unit is found for
+-- it.
 abbrev pub IsFoundIfValid : Machine → List (List ℕ) → Option (List ℕ) → Result targets.LoadedTarget TargetLoadFault → Type 0
 IsFoundIfValid machine path None found = found ≡ Err (faults.TheVariants.Target NotFound)
 IsFoundIfValid machine path (Some stem) found = IsFoundOf machine path stem found
@@ -142,7 +145,7 @@ abbrev pub IsFoundAt : Machine → List ℕ → Result targets.LoadedTarget Targ
 IsFoundAt machine path (Ok found) = IsReadAt machine path found
 IsFoundAt machine path (Err fault) = IsTimerFileFault machine path fault
 
--- this is the error that a path can't be read
+-- this is the error which says that a path can't be read
 abbrev pub IsUnread : Fault → Result targets.LoadedTarget TargetLoadFault → Type 0
 IsUnread unread (Ok found) = ⊥
 IsUnread unread (Err fault) = IsPathFault unread.path unread.reason fault
@@ -163,8 +166,8 @@ pub record Outcome : Type 0 where
 abbrev pub IsOutcome : Machine → List (List ℕ) → Outcome → Type 0
 IsOutcome machine path outcome = IsFound machine path outcome.sought outcome.found
 
--- Whether it goes unreported if there is no file. It does only for a unit that no target stands for, whose name in the
--- search path may be a link to nothing.
+-- Whether the lack of a file goes unreported: only for a unit that no target stands for, because its name in the search
+-- path may be a link to nothing.
 abbrev pub may_be_absent : Sought → Bool
 may_be_absent (ListedUnit stem) = true
 may_be_absent (NamedUnit name) = false
@@ -184,8 +187,8 @@ IsAccounted all outcome =
     IsTrue (may_be_absent outcome.sought && is_absent outcome.found) ⊎ IsReported all (name_of outcome.sought) outcome.found
 
 -- Everything that was loaded comes from these outcomes: the timers are those that were found, in this order; what is
--- masked was found to be masked, in this order; and each error is among the faults, unless it goes unreported. There may
--- be other faults, such as those of drop-ins.
+-- masked was found to be masked, in this order; and each error is among the faults, unless it goes unreported. There
+-- may be other faults, such as those of drop-ins.
 pub record AreLoadedFrom (outcomes : List Outcome) (loaded : Loaded) : Type 0 where
   pub timers : loaded.timers.items ≡ flat_map timers_of outcomes
   pub masked : map string_bytes loaded.masked.items ≡ flat_map masked_of outcomes
@@ -221,7 +224,7 @@ pub record AreAdded (outcomes : List Outcome) (old new : Loaded) : Type 0 where
   pub accounted : All (IsAccounted new.faults.items) outcomes
   pub kept : Keeps old.faults.items new.faults.items
 
--- `new` is `old` with everything in addition that is to be looked for
+-- `new` is `old` with the outcomes of everything in `sought`, in this order
 pub record IsMore (Knows : Machine → List (List ℕ) → Type 0) (sought : Machine → List (List ℕ) → List Sought) (old new : Loaded) : Type 0 where
   pub outcomes : List Outcome
   pub added : AreAdded outcomes old new

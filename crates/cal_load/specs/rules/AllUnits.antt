@@ -126,7 +126,7 @@ IsFileFault machine read file name files faults.TheVariants.NoMemory = ⊤
 abbrev pub IsTimerFileFault : Machine → List ℕ → TargetLoadFault → Type 0
 IsTimerFileFault machine path fault = IsFileFault machine (file_at machine path) path path (text_at machine path) fault
 
--- the error for a unit that was asked for by the stem `asked`, by what is found for this stem
+-- the error for a unit that was asked for by the stem `asked`, given what is found for this stem
 abbrev pub IsUnitReason : Machine → List (List ℕ) → List ℕ → Unit → TargetReason → Type 0
 IsUnitReason machine path asked Unfound reason = reason ≡ NotFound
 IsUnitReason machine path asked TemplateOnly reason = reason ≡ Template

@@ -65,9 +65,9 @@ pub record IsUnusableZone (machine : Machine) (entries : List (TimerLine Fields)
   pub is_unusable : IsReasonOn machine zone reason
   pub is_first : first_with_zone zone entries ≡ Some target
 
--- Why these texts don't make a timer: `target` is the first of them that is invalid, and `fault` is the error of parsing
--- it. Or all of them are valid, the zone file at `path` can't be used, and `target` is the first that names its zone.
--- `Shows` holds for the machines that agree with what the tree returned.
+-- Why these texts don't make a timer: `target` is the first of them that is invalid, and `fault` is the error of
+-- parsing it. Or all of them are valid, the zone file at `path` can't be used, and `target` is the first that names its
+-- zone. `Shows` holds for the machines that agree with what the tree returned.
 abbrev pub IsExpressionReason : (Machine → Type 0) → List (List ℕ) → List ℕ → TargetReason → Type 0
 IsExpressionReason Shows texts target NotFound = ⊥
 IsExpressionReason Shows texts target Template = ⊥
@@ -92,13 +92,14 @@ HasOneFault Shows texts loaded =
     (loaded.timers.items ≡ [])
     × ((fault : TargetFault) × (loaded.faults.items ≡ fault ∷ []) × IsExpressionReason Shows texts (string_bytes fault.target) fault.reason)
 
--- These texts made a timer, or there is an error that says why they don't make one. `Shows` is as above.
+-- These texts made a timer, or there is an error that says why they don't make one. `Shows` holds for the machines that
+-- agree with what the tree returned.
 abbrev pub IsTimerOrReason : (Machine → Type 0) → List (List ℕ) → Loaded → Type 0
 IsTimerOrReason Shows texts loaded = (loaded.masked.items ≡ []) × (HasOneTimer loaded ⊎ HasOneFault Shows texts loaded)
 
 -- ## Steps
 
--- unless memory ran out, the error is the one of parsing this text
+-- unless memory ran out, the error says why this text can't be parsed
 abbrev pub IsParseError : List ℕ → TargetLoadFault → Type 0
 IsParseError text error =
     error ≢ faults.TheVariants.NoMemory → (fault : SpecFault) × (error ≡ faults.TheVariants.Target (Expression fault)) × (expr_in text ≡ Err fault)

@@ -1,4 +1,4 @@
--- The settings of a timer that systemd ignores because of what is only known of the timer as a whole: values that are
+-- The settings of a timer that systemd ignores for reasons that a line by itself doesn't show: values that are
 -- invalid once their specifiers are filled in, and each `Unit=` that doesn't count (systemd.timer(5), Options;
 -- systemd.unit(5), Specifiers). Values that are invalid without specifiers aren't among them.
 use Rattle.std.specs.Prelude.{ℕ, nat_lt, Bool, false, not, ◌&&◌, if◌then◌else◌, List, ◌∷◌, [], Option, Some, None, option_map}
@@ -38,13 +38,13 @@ value_fault kind name a = if has_percent a.value && not (is_valid_for name a) th
 abbrev pub name_fault : List ℕ → Assignment → Option WhyIgnored
 name_fault name a = if names_itself name a then Some OwnName else None
 
--- whether the line with this number is below the line whose `Unit=` counts; lines are numbered from file to file
+-- whether the line with this number is below the line whose `Unit=` counts; line numbers continue from file to file
 abbrev pub is_below : Option ℕ → ℕ → Bool
 is_below None number = false
 is_below (Some counted) number = nat_lt counted number
 
--- why systemd ignores a `Unit=` of the timer `name`, if the one in the line `counted` counts: below that line, systemd
--- doesn't look at its value
+-- why systemd ignores a `Unit=` of the timer `name`, if the one in the line `counted` counts: systemd doesn't look at
+-- the value of any `Unit=` below that line
 abbrev pub unit_fault : List ℕ → Option ℕ → Assignment → Option WhyIgnored
 unit_fault name counted a =
     if is_below counted a.number then Some SecondUnit else option_or (value_fault Started name a) (name_fault name a)

@@ -1,5 +1,5 @@
--- The assignments of a timer with their specifiers filled in: systemd.unit(5), Specifiers. systemd fills them in in
--- `OnCalendar=`, in monotonic timers and in `Unit=`; we do so in exceptions, too.
+-- The assignments of a timer with their specifiers filled in: systemd.unit(5), Specifiers. systemd fills in those of
+-- `OnCalendar=`, of monotonic timers and of `Unit=`; we also fill in those of exceptions.
 use Rattle.std.specs.Prelude.{ℕ, Bool, false, true, not, ◌&&◌, ◌||◌, ◌==◌, if◌then◌else◌, List, [], ◌∷◌, ◌++◌, Option, None, Some, codes, filter, length}
 use Rattle.std.specs.List.{after_last, filter_map, list_any}
 use Rattle.std.specs.Str.{bytes_eq}
@@ -13,7 +13,7 @@ use Rattle.cal_load.specs.rules.Specifiers.Filling.{Text, Unclear, Invalid}
 abbrev pub is_unit_key : List ℕ → Bool
 is_unit_key key = bytes_eq key (codes "Unit")
 
--- whether the value of the assignment may have specifiers
+-- whether the value has a `%`, and the key is one in whose values specifiers are filled in
 abbrev pub may_have_specifiers : Assignment → Bool
 may_have_specifiers a =
     has_percent a.value
@@ -23,8 +23,8 @@ may_have_specifiers a =
 abbrev pub value_filled : List ℕ → Assignment → Filling
 value_filled own a = if is_unit_key a.key then unit_filled_of own a.value else filled_of own a.value
 
--- whether a value can be used after its specifiers were filled in; an empty one doesn't count, and no expression, time
--- span or name of a unit has a `%`
+-- whether a value with its specifiers filled in can be valid: an empty one isn't, nor is one with a `%`, since no
+-- expression, time span or name of a unit has one
 abbrev pub is_usable : List ℕ → Bool
 is_usable text = not (length text == 0 || has_percent text)
 
@@ -39,9 +39,9 @@ resolved_by a (Text text) =
 resolved_by a Unclear = if is_expression a then None else Some a
 resolved_by a Invalid = unusable a
 
--- The assignment of the timer with the name `own`, with its specifiers filled in, or None if it is dropped. An expression
--- that depends on more than the timer's name is dropped here: `unclear_in` has it. Other assignments that depend on more
--- than the name are left as they are.
+-- The assignment of the timer with the name `own`, with its specifiers filled in, or None if it is dropped. An
+-- expression that depends on more than the timer's name is dropped here: `unclear_in` has it. Other assignments that
+-- depend on more than the name are left as they are.
 unfoldable pub resolved : List ℕ → Assignment → Option Assignment
 resolved own a = if may_have_specifiers a then resolved_by a (value_filled own a) else Some a
 

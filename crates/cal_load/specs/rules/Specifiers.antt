@@ -123,7 +123,7 @@ known_specifiers name =
     ∷ (codes "%", Text (codes "%"))
     ∷ []
 
--- what a specifier of this list stands for, by its letter; any other specifier is invalid
+-- what the specifier with this letter stands for if it is in `known_specifiers`; any other specifier is invalid
 abbrev pub known_in : List ℕ → ℕ → Filling
 known_in name letter = unwrap_or (lookup (bytes_eq (letter ∷ [])) (known_specifiers name)) Invalid
 

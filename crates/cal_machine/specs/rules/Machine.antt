@@ -1,4 +1,4 @@
--- A machine: its folders, files and links, and the variables of the environment. Links are as in symlink(7).
+-- A machine: its folders, files and links, and its environment variables. Links are as in symlink(7).
 use Rattle.std.specs.Prelude.{◌≡◌, ⊤, ℕ, List, [], Option, Result, Ok, Err, Vec, map, string_bytes}
 use Rattle.std.specs.declared.alloc.Global.{Global}
 use Rattle.cal_machine.specs.declared.tree.Entry as entries
@@ -6,7 +6,8 @@ use Rattle.cal_machine.specs.declared.tree.Names as listings
 use Rattle.cal_machine.specs.declared.tree.TreeFault as faults
 use Rattle.cal_machine.specs.declared.tree.Unreadable.{Unreadable}
 
--- What is at a path. A device is anything that isn't a file, a folder or a link.
+-- What is at a path. `Empty` is a file of 0 bytes, and `File` any other file. A device is anything that isn't a file, a
+-- folder or a link.
 pub data Entry : Type 0 where
   Missing : Entry
   Empty : Entry
@@ -23,9 +24,9 @@ pub record Listing : Type 0 where
 abbrev pub no_names : Listing
 no_names = record { names = []; unnamed = 0 }
 
--- Each part of a machine has an answer to every question, which may be that it can't be read. `entry` is what is at
--- each path, `names` are the names in each folder, and `file` has the bytes of each file, but at most the first
--- 1,048,577 of them: one more than a file of a unit or a zone can have. These three are only asked for paths that lead
+-- A machine has an answer to every question, which may be that something can't be read. `entry` is what is at each
+-- path, `names` are the names in each folder, and `file` has the bytes of each file, but at most the first 1,048,577 of
+-- them: one more than the size limit of unit files and zone files. These three are only asked for paths that lead
 -- through no links; Places.antt says where all other paths lead. `variable` is the value of each variable, None if it
 -- isn't set.
 pub record Machine : Type 0 where

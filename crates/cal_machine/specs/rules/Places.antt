@@ -27,7 +27,7 @@ is_slash byte = byte == slash
 abbrev pub parts_of : List ℕ → List (List ℕ)
 parts_of path = slice_split is_slash path
 
--- whether a part stays in the folder in which it is: an empty part or `.`
+-- whether a part leads nowhere else: it is empty or `.`
 abbrev pub stays : List ℕ → Bool
 stays part = bytes_eq part [] || bytes_eq part (codes ".")
 
@@ -38,7 +38,7 @@ child folder part = folder ++ slash ∷ part
 abbrev pub below : List ℕ → List ℕ
 below part = if stays part then [] else slash ∷ part
 
--- The folder in which a path starts, if relative paths start in `folder`. The root is the empty text.
+-- The folder in which a path starts: the root, which is the empty path, if `path` is absolute, and otherwise `folder`.
 abbrev pub start_in : List ℕ → List ℕ → List ℕ
 start_in folder path = if starts_with nat_eq path (codes "/") then [] else folder
 
@@ -46,18 +46,18 @@ start_in folder path = if starts_with nat_eq path (codes "/") then [] else folde
 abbrev pub is_outside : List ℕ → Bool
 is_outside folder = bytes_eq folder (codes ".") || ends_with nat_eq folder (codes "/..")
 
--- the path before its last slash; a path without a slash is that of the root
+-- the path before its last slash, or the root if it has no slash
 abbrev pub before_last : List ℕ → List ℕ
 before_last path = unwrap_or (option_map (λ index. take index path) (rfind_below slash path (length path))) []
 
--- The folder to which `..` leads from a folder. Above the root is the root itself. Above the folder in which the program
--- runs, `..` is kept, because the path has no part that could be left out.
+-- The folder to which `..` leads from a folder. Above the root is the root itself. Above the folder in which the
+-- program runs, `..` is kept, because the path has no part that could be left out.
 abbrev pub above : List ℕ → List ℕ
 above folder = if is_outside folder then child folder (codes "..") else before_last folder
 
 -- ## Where a path leads
 
--- a path whose folders are no links, and what is there
+-- a path whose folders aren't links, and what is there
 pub record Place : Type 0 where
   pub path : List ℕ
   pub entry : Entry
@@ -66,12 +66,13 @@ abbrev pub is_last : List (List ℕ) → Bool
 is_last [] = true
 is_last (part ∷ rest) = false
 
--- The place of a path that can't go on from this entry, with the parts that are left. If there are any, nothing is at
--- the path, and they are appended as they are.
+-- The place of a path that can't go on from this entry; `rest` are the parts that are left. If there are any, nothing
+-- is at the place, and its path ends with them, unresolved.
 abbrev pub place_at : List ℕ → List (List ℕ) → Entry → Place
 place_at path rest entry = record { path = path ++ flat_map below rest; entry = if is_last rest then entry else Missing }
 
--- whether a link is followed, if these parts come after it
+-- whether a link is followed if the parts `rest` come after it: always if there are any, and otherwise only if the
+-- first argument is `Followed`
 abbrev pub is_followed : Last → List (List ℕ) → Bool
 is_followed Followed rest = true
 is_followed Kept rest = not (is_last rest)
@@ -81,8 +82,8 @@ pub data Step : Type 0 where
   On : (folder : List ℕ) → (rest : List (List ℕ)) → Step
   Ended : (place : Place) → Step
 
--- the step from a folder to this path in it, where this entry is; the parts of a link's target come before those that
--- are left
+-- The step from `folder` to `path`, which is in it; the last argument is what is at `path`. `rest` are the parts that
+-- are left. If a link is followed, the parts of its target are put before them.
 abbrev pub step_at : Last → List ℕ → List ℕ → List (List ℕ) → Entry → Step
 step_at last folder path rest Folder = On path rest
 step_at last folder path rest (Link target) =
@@ -118,18 +119,18 @@ walk machine last (suc count) folder (part ∷ rest) = after_step (walk machine 
 abbrev pub max_steps : ℕ
 max_steps = 1000
 
--- The place to which a path leads. The folders on the way are followed if they are links. Whether a link at the end is
--- followed, too, says `last`. The folder in which the program runs is `.`.
+-- The place to which a path leads. The folders on the way are followed if they are links. `last` says whether a link at
+-- the end is followed, too. The folder in which the program runs is `.`.
 abbrev pub place_of : Machine → Last → List ℕ → Result Place Unreadable
 place_of machine last path = walk machine last max_steps (start_in (codes ".") path) (parts_of path)
 
 -- ## What is at a path
 
--- what is at a path, where a link at the end isn't followed
+-- what is at a path; a link at the end of the path isn't followed
 abbrev pub entry_at : Machine → List ℕ → Result Entry Unreadable
 entry_at machine path = seen (λ place. place.entry) (place_of machine Kept path)
 
--- what follows from a place that can be found
+-- the result of `what` for a place, or the error if the place can't be found
 abbrev pub at_place : {X : Type 0} → (Place → Result X Unreadable) → Result Place Unreadable → Result X Unreadable
 at_place what (Ok place) = what place
 at_place what (Err why) = Err why
@@ -157,7 +158,7 @@ content_in machine path Device = Ok Blank
 content_in machine path Folder = Ok InFolder
 content_in machine path (Link target) = Ok Nothing
 
--- what can be read at the end of a path, where links are followed
+-- what can be read at the end of a path; all links are followed
 abbrev pub content_at : Machine → List ℕ → Result Content Unreadable
 content_at machine path = at_place (λ place. content_in machine place.path place.entry) (place_of machine Followed path)
 

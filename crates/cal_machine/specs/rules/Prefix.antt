@@ -1,4 +1,4 @@
--- The beginning of a text, such as a folder at the beginning of a path.
+-- A text without its prefix, such as a path without the folder at its beginning.
 use Rattle.std.specs.Prelude.{ℕ, nat_eq, List, Option, None, Some, drop, if◌then◌else◌, length}
 use Rattle.std.specs.List.{starts_with}
 

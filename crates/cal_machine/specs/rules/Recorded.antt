@@ -24,7 +24,7 @@ Adds {Q} {A} old new added with =
     (question : Q) (answer : A) → new question ≡ Some answer
     → (old question ≡ Some answer) ⊎ ((question ≡ added) × (answer ≡ with))
 
--- recorded answers, each to a question that is one text
+-- recorded answers of one kind, each stored under its question, which is a path or the name of a variable
 abbrev pub Answers : Type 0 → Type 0
 Answers X = BTreeMap (String Global) (Result X Unreadable)
 

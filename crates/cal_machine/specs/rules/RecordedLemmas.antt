@@ -28,7 +28,7 @@ module _ (looked : Answers entries.Entry) (names : Answers listings.Names) (file
   recorded_agrees = agrees _ (some_machine-matches (seen_of looked names files variables))
 
 module _ (gives : Said → Bool) (looked : Answers entries.Entry) (names : Answers listings.Names) (files : Answers (Vec ℕ Global)) (variables : Answers (Option (String Global))) where
-  -- if each recorded answer was given, each answer that was read was given
+  -- if each recorded answer is one that a call gave, then so is each answer that was read
   pub given : IsHonest gives looked names files variables → AllGiven gives (seen_of looked names files variables)
   given honest = record {
     given_entry = λ path answer. from_seen (seen shown_entry) (λ said. IsTrue (gives (EntryIs path said))) _ answer (honest.in_entries path);

@@ -7,7 +7,7 @@ use Rattle.cal_machine.specs.declared.tree.Unreadable.TheVariants.{Failed}
 use Rattle.cal_machine.specs.rules.Machine.{Entry, Listing, Machine, no_names}
 use Rattle.cal_machine.specs.rules.Machine.Entry.{Missing}
 
--- what `view` shows of an answer
+-- an answer with `view` applied to what was found; an error stays the same
 abbrev pub seen : {X Y : Type 0} → (X → Y) → Result X Unreadable → Result Y Unreadable
 seen view (Ok found) = Ok (view found)
 seen view (Err why) = Err why

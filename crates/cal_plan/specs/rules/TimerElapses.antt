@@ -1,5 +1,5 @@
 -- The elapses of expressions and of exceptions, each in its zone, and the merge that yields the elapses of the timer:
--- systemd.timer(5), OnCalendar=. An exception is an expression; when it elapses, the timer doesn't.
+-- systemd.timer(5), OnCalendar=.
 use Rattle.std.specs.Prelude.{◌≡◌, ◌++◌, ℤ, false, map, List, None, Some}
 use Rattle.std.specs.Option.{unwrap_or}
 use Rattle.jiff.specs.Types.{TimeZone, UTC}
@@ -20,7 +20,8 @@ use Rattle.cal_plan.specs.rules.ZoneFor.{unzoned, zone_for}
 abbrev pub lists_shown : List declared_line.TimerLine → List declared_line.TimerLine → Timer Fields
 lists_shown lines exceptions = record { expressions = map shown lines; exceptions = map shown exceptions }
 
--- the zone of the expression on this line is known, and `e` is the meaning of the expression in this zone
+-- the zone of the expression on this line is known, and `e` has the local seconds that the expression matches, and the
+-- instants to which this zone resolves them
 abbrev pub IsTimed : Setting → TimerLine Fields → Timed → Type 0
 IsTimed at line e = (tz : TimeZone) × (zone_for at line.expr.zone ≡ Some tz) × (e ≡ timed line.expr tz)
 
@@ -29,7 +30,8 @@ IsTimed at line e = (tz : TimeZone) × (zone_for at line.expr.zone ≡ Some tz) 
 abbrev pub zone_or_utc : Setting → TimerLine Fields → TimeZone
 zone_or_utc at line = unwrap_or (zone_for at line.expr.zone) UTC
 
--- the meaning of the expression on this line in the zone that `zone_or_utc` returns
+-- the local seconds that the expression on this line matches, and the instants to which the zone that `zone_or_utc`
+-- returns resolves them
 unfoldable pub timed_entry : Setting → TimerLine Fields → Timed
 timed_entry at line = timed line.expr (zone_or_utc at line)
 

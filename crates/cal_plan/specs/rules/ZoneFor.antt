@@ -1,6 +1,5 @@
 -- The zone in which an expression is evaluated (systemd.time(7), Calendar Events), the first line whose expression
--- names a zone that isn't known, and the error for it. An exception is an expression, too; when it elapses, the timer
--- doesn't.
+-- names a zone that isn't known, and the error for it.
 use Rattle.std.specs.Prelude.{ℕ, Bool, List, min, Option, None, Some, is_none, ◌≡◌}
 use Rattle.std.specs.List.{find}
 use Rattle.std.specs.Option.{option_map}
@@ -38,7 +37,7 @@ lesser_line (Some x) None = Some x
 lesser_line (Some x) (Some y) = Some (min x y)
 
 -- The number of the first line, among the expressions and the exceptions, that names a zone missing from the zone
--- table. An exception is an expression; when it elapses, the timer doesn't.
+-- table.
 unfoldable pub unzoned : Setting → Timer Fields → Option ℕ
 unzoned at lists = lesser_line (first_unzoned at lists.expressions) (first_unzoned at lists.exceptions)
 

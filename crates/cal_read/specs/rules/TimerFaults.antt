@@ -1,7 +1,6 @@
 -- All errors in the texts of a timer, in the order of their lines: each expression (systemd.timer(5), OnCalendar=) or
--- exception that is invalid or over the limit. An exception is an expression after `X-ExceptOnCalendar=`; when it
--- elapses, the timer doesn't. Exceptions, and the limit of 256 entries in each list, are this project's own. Invalid
--- expressions and exceptions count towards the limit.
+-- exception that is invalid or over the limit. Exceptions, and the limit of 256 entries in each list, are this
+-- project's own. Invalid expressions and exceptions count towards the limit.
 use Rattle.std.specs.Prelude.{ℕ, ◌+◌, List, [], ◌∷◌, ◌++◌, map, Some, Result}
 use Rattle.std.specs.Option.{option_to_list}
 use Rattle.cal_spec.specs.declared.spec_fault.SpecFault.{SpecFault}

@@ -11,7 +11,7 @@ use Rattle.cal_read.specs.declared.texts.NumberedText.{NumberedText}
 use Rattle.cal_timer.specs.declared.fault.TimerFault.{TimerFault}
 use Rattle.cal_timer.specs.declared.fault.TimerFault.TheVariants.{NothingToDo}
 
--- the assignments of one text
+-- the assignments in the section `Timer` of one text, which may begin with a byte order mark
 abbrev pub assignments_at : NumberedText → List Assignment
 assignments_at file = assignments_in false (logical_lines file.first (without_mark file.text.now))
 

@@ -9,7 +9,7 @@ use Rattle.cal_report.specs.declared.timer_report.TimerPlan.{TimerPlan}
 use Rattle.cal_report.specs.declared.timer_report.TimerPlanFault.{TimerPlanFault}
 use Rattle.cal_report.specs.declared.timer_report.TimerPlanFault.TheVariants as errors
 
--- the report of a parsed timer file
+-- the report of a parsed timer file: its headings, and its first elapses, at most `asked.iterations` of them
 abbrev pub plan_text : Request → TimerPlan → List ℕ
 plan_text asked plan =
     joined (lists_text plan.timer ∷ elapses_text asked.local asked.now (take asked.iterations plan.elapses) ∷ [])

@@ -15,6 +15,6 @@ abbrev pub IsBaseFrom : Request → Option (List ℕ) → ℤ → Type 0
 IsBaseFrom asked None base = base ≡ asked.now
 IsBaseFrom asked (Some text) base = (moment : ℤ) × ResolvesTo asked.now (setting_of asked) text moment × IsSecondOf moment base
 
--- `base` is the base time of the request
+-- `base` is the base time of the request `asked`, which may give a timestamp for it (`asked.base`)
 abbrev pub IsBase : Request → ℤ → Type 0
 IsBase asked base = IsBaseFrom asked asked.base base

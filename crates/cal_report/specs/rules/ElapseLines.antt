@@ -12,7 +12,7 @@ label_text number =
     if number == 1 then codes "    Next elapse: "
     else joined (replicate (8 - length (decimal number)) 32 ∷ codes "Iter. #" ∷ decimal number ∷ codes ": " ∷ [])
 
--- the lines of one elapse: in the local zone and in UTC, and its distance from the present
+-- the lines of one elapse: in the local zone, in UTC unless the local zone is UTC, and its distance from the present
 unfoldable pub elapse_text : Zone → ℤ → ℕ → ℤ → List ℕ
 elapse_text local now number elapse =
     joined (label_text number ∷ instant_text local elapse ∷ codes "\n" ∷ utc_line local elapse ∷ codes "       From now: " ∷ distance_text (micros_of now) (micros_of elapse) ∷ codes "\n" ∷ [])

@@ -16,8 +16,7 @@ use Rattle.cal_request.specs.declared.request.Status.{Status}
 abbrev pub original_label : List ℕ
 original_label = codes "  Original form: "
 
--- the label before an exception in its original form, as it is written in the timer file; when an exception elapses,
--- the timer doesn't
+-- the label before an exception in its original form, as it is written in the timer file
 abbrev pub except_label : List ℕ
 except_label = codes "    Except form: "
 

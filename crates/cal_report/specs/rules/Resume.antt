@@ -28,7 +28,6 @@ abbrev pub up_to_line : Request → Schedule → List ℤ → ℤ → List ℕ
 up_to_line asked s before elapse =
     headings s ++ (elapse_texts asked.local asked.now 1 before ++ (label_text (length before + 1) ++ (instant_text asked.local elapse ++ codes "\n")))
 
--- `text` begins with `lead`
 pub record Begins (text lead : List ℕ) : Type 0 where
   pub rest : List ℕ
   pub is : text ≡ lead ++ rest

@@ -39,7 +39,7 @@ secs_or_fault = result_map_both (λ instant. instant.secs) (λ fault. fault)
 unfoldable pub base_in : Request → Result ℤ StampFault
 base_in asked = base_from asked asked.base
 
--- the report of texts, in order; `answer` is the answer to each text
+-- the report of texts, in order; `answer` returns the answer to a text
 unfoldable pub answers_report : (List ℕ → Answer) → List (List ℕ) → Report
 answers_report answer texts = record {
   out = reports_text answer texts;
@@ -77,14 +77,14 @@ report asked read = report_on asked read (kind_of asked)
 abbrev pub IsUnread : Option (List ℕ) → Option (List ℕ) → Result (List ℕ) WholeFault → Type 0
 IsUnread old new read = (new ≡ old) × (read ≡ Ok [])
 
--- `read` is what reading a timer file returned, given the result of parsing the base time: all bytes of the file, or why
--- reading them failed. If the base time is invalid, the file stays unchanged, and `read` is an empty list of bytes.
+-- `read` is what reading a timer file returned, given the result of parsing the base time: all bytes of the file, or
+-- why reading them failed. If the base time is invalid, the file stays unchanged, and `read` is an empty list of bytes.
 abbrev pub ReadsFile : Result ℤ StampFault → Option (List ℕ) → Option (List ℕ) → Result (List ℕ) WholeFault → Type 0
 ReadsFile (Ok base) old new read = ReadsWhole old new timer_file_limit read
 ReadsFile (Err fault) old new read = IsUnread old new read
 
 -- `read` is what reading the timer file returned: all of its bytes, or why reading them failed. The file is read if and
--- only if the request has a base time.
+-- only if the base time of the request is valid.
 pub record ReadsIfBased (asked : Request) (old new : Option (List ℕ)) (read : Result (List ℕ) WholeFault) : Type 0 where
   pub based : (base : ℤ) → IsBase asked base → ReadsWhole old new timer_file_limit read
   pub baseless : ((base : ℤ) → IsBase asked base → ⊥) → IsUnread old new read

@@ -27,8 +27,7 @@ error_line_at name (Some line) message = joined (name ∷ codes ":" ∷ decimal 
 unfoldable pub headings_text : List ℕ → List (TimerLine Fields) → List ℕ
 headings_text label = flat_map (λ e. heading_text label e.text e.expr)
 
--- the headings of the expressions, followed by the headings of the exceptions; an exception is an expression at whose
--- elapses a timer doesn't elapse
+-- the headings of the expressions, followed by the headings of the exceptions
 abbrev pub lists_text : Timer Fields → List ℕ
 lists_text lists = joined (headings_text original_label lists.expressions ∷ headings_text except_label lists.exceptions ∷ [])
 

@@ -1,5 +1,5 @@
-//! The report of one timestamp (systemd-analyze(1), timestamp): the timestamp as given, its instant in the local zone
-//! and in UTC, its Unix time, and its distance from the present.
+//! The report of one timestamp (systemd-analyze(1), timestamp): the timestamp as given; its instant in the local zone,
+//! and also in UTC unless the local zone is UTC; its Unix time; and its distance from the present.
 
 ghost use Rattle.std.specs.Prelude.{◌≡◌, ◌+◌, ◌≤◌, ◌++◌, false, length, unsigned_abs};
 ghost use Rattle.cal_bytes.specs.rules.Puts.{Puts};

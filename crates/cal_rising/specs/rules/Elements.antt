@@ -1,4 +1,4 @@
--- The elements of a list.
+-- What it means that a list has an element.
 use Rattle.std.specs.Prelude.{◌≡◌, ◌⊎◌, List, [], ◌∷◌}
 
 -- `x` is an element of the list

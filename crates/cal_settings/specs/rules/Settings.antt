@@ -1,5 +1,5 @@
--- The settings in the section `Timer` besides expressions and exceptions: of which kind they are, and which values systemd
--- accepts (systemd.timer(5), Options).
+-- The settings in the section `Timer` besides expressions and exceptions: of which kind they are, and which values
+-- systemd accepts (systemd.timer(5), Options).
 use Rattle.std.specs.Prelude.{ℕ, nat_eq, nat_lt, nat_le, Bool, true, false, find, ◌&&◌, ◌||◌, List, [], ◌∷◌, length, Option, Some, None, Ok, Err, Result, codes}
 use Rattle.std.specs.List.{ends_with, list_all, list_any}
 use Rattle.std.specs.Str.{bytes_eq, str_eq_ignore_ascii_case}
@@ -62,7 +62,7 @@ is_span_over least (Err fault) = false
 abbrev pub is_longer : ℕ → List ℕ → Bool
 is_longer least value = is_infinity value || is_span_over least (span_of value)
 
--- whether the value may have a specifier (systemd.unit(5), Specifiers)
+-- whether the value has a `%`, with which every specifier begins (systemd.unit(5), Specifiers)
 abbrev pub has_percent : List ℕ → Bool
 has_percent value = list_any (nat_eq 37) value
 
@@ -86,8 +86,9 @@ is_unit_name name =
 
 -- ## Values of each kind
 
--- Whether systemd accepts this value for a setting of this kind; it ignores an assignment with any other value. A value of
--- a monotonic timer or of `Unit=` that still has a `%` depends on the running system, and is taken as valid.
+-- Whether systemd accepts this value for a setting of this kind; it ignores an assignment with any other value. If a
+-- value of a monotonic timer or of `Unit=` has a `%`, what it stands for may depend on the running system, and the
+-- value is taken as valid. No value is accepted for a setting of no kind (`None`).
 abbrev pub is_taken_as : Option SettingKind → List ℕ → Bool
 is_taken_as None value = false
 is_taken_as (Some Monotonic) value = has_percent value || is_span value

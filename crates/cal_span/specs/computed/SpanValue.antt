@@ -9,7 +9,7 @@ use Rattle.cal_span.specs.declared.span.word.CharKind.TheVariants.{Blank, Numeri
 use Rattle.cal_bytes.specs.rules.AndThen.{◌>>=◌}
 use Rattle.cal_span.specs.rules.PairValue.{Pair, Piece, characters, is_kind, limit, worth_of}
 
--- Words (systemd.time(7), Parsing Time Spans: blanks may come before, between and after words)
+-- ## Words; blanks may come before, between and after them (systemd.time(7), Parsing Time Spans)
 
 -- puts a piece of one character in front of runs: if the first run is of the same kind, it is extended by the
 -- character; otherwise the piece becomes a run of its own
@@ -28,7 +28,7 @@ runs (s ∷ ss) = with_front s (runs ss)
 unfoldable pub words_in : List ℕ → List Piece
 words_in bytes = filter (λ w. not (is_kind Blank w.kind)) (runs (characters bytes))
 
--- Pairs (systemd.time(7), Parsing Time Spans)
+-- ## Pairs (systemd.time(7), Parsing Time Spans)
 
 -- the number of a pair that begins with this word: the word itself if it consists of digits and decimal points, and
 -- empty otherwise
@@ -49,11 +49,10 @@ pairs_of (w ∷ v ∷ ws) =
     if is_unit_of w v then record { number = numeral_in w; unit = Some v.text } ∷ pairs_of ws
     else record { number = numeral_in w; unit = None } ∷ pairs_of (v ∷ ws)
 
--- the pairs of a text
 unfoldable pub pairs_in : List ℕ → List Pair
 pairs_in bytes = pairs_of (words_in bytes)
 
--- The value of a time span (systemd.time(7), Parsing Time Spans)
+-- ## The value of a time span (systemd.time(7), Parsing Time Spans)
 
 -- the sum plus the value of one more pair, or the error of that pair, which is `TooLarge` if the new sum is more than
 -- the limit

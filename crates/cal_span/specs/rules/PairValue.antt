@@ -23,7 +23,7 @@ limit = 9223372036854775807
 abbrev pub is_micro : ℕ → ℕ → Bool
 is_micro b c = ((b == 194) && (c == 181)) || ((b == 206) && (c == 188))
 
--- the kind of a byte that is a character of its own
+-- the kind of a character that consists of this one byte
 abbrev pub kind_of : ℕ → CharKind
 kind_of b =
     if is_blank b then Blank

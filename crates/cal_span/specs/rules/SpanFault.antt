@@ -3,7 +3,6 @@ use Rattle.std.specs.Prelude.{ℕ, List, codes}
 use Rattle.cal_span.specs.declared.span.fault.SpanFault.{SpanFault}
 use Rattle.cal_span.specs.declared.span.fault.SpanFault.TheVariants.{Empty, BadNumber, UnknownUnit, TooLarge}
 
--- the message of an error
 abbrev pub message_of : SpanFault → List ℕ
 message_of Empty = codes "empty time span"
 message_of BadNumber = codes "bad number"

@@ -8,7 +8,7 @@ use Rattle.cal_span.specs.declared.span.fault.SpanFault.TheVariants.{Empty, TooL
 use Rattle.cal_span.specs.declared.span.word.CharKind.TheVariants.{Blank, Numeric, Letter}
 use Rattle.cal_span.specs.rules.PairValue.{limit, Piece, Pair, characters, is_kind, worth_of}
 
--- Runs
+-- ## Runs
 
 -- `w` is the run of the characters `ss`: there is at least one character, all characters are of the kind of `w`, and
 -- their texts joined are the text of `w`
@@ -28,7 +28,9 @@ AreApart [] = ⊤
 AreApart (w ∷ []) = ⊤
 AreApart (w ∷ v ∷ ws) = (is_kind w.kind v.kind ≡ false) × AreApart (v ∷ ws)
 
--- Pairs. In this section, a number is any word of digits and decimal points, and a unit is any word of letters.
+-- ## Pairs
+--
+-- In this section, a number is any word of digits and decimal points, and a unit is any word of letters.
 
 -- the words don't begin with a unit, that is, with a word of letters
 abbrev pub BeginsWithNoUnit : List Piece → Type 0
@@ -65,15 +67,15 @@ abbrev pub ArePairs : List Piece → List Pair → Type 0
 ArePairs ws [] = ws ≡ []
 ArePairs ws (p ∷ ps) = (rest : List Piece) × (IsWithUnit ws p rest ⊎ (IsWithoutUnit ws p rest ⊎ IsNoNumber ws p rest)) × ArePairs rest ps
 
--- Values
+-- ## Values
 
 -- all pairs are valid, and n is the sum of their values
 abbrev pub AreWorth : List Pair → ℕ → Type 0
 AreWorth [] n = n ≡ 0
 AreWorth (p ∷ ps) n = (m : ℕ) × (k : ℕ) × (worth_of p ≡ Ok m) × AreWorth ps k × (n ≡ m + k)
 
--- the pair `p`, which comes after pairs with this sum, fails with this error: either it is the error of `p` itself, or
--- the sum plus the value of `p` is more than the limit (`TooLarge`)
+-- the pair `p`, which comes after pairs whose values add up to `sum`, fails with this error: either it is the error of
+-- `p` itself, or `sum` plus the value of `p` is more than the limit (`TooLarge`)
 abbrev pub IsFaultAfter : ℕ → Pair → SpanFault → Type 0
 IsFaultAfter sum p TooLarge = (m : ℕ) × (worth_of p ≡ Ok m) × (limit < sum + m)
 IsFaultAfter sum p fault = worth_of p ≡ Err fault
@@ -91,7 +93,7 @@ Judges ps (Ok n) = (0 < length ps) × AreWorth ps n × (n ≤ limit)
 Judges ps (Err Empty) = ps ≡ []
 Judges ps (Err fault) = IsFirstFault ps fault
 
--- Texts
+-- ## Texts
 
 -- The characters of the text make up runs, each as long as possible. Without the runs of blanks, these runs form the
 -- pairs `pairs`.

@@ -17,7 +17,7 @@ AreReduced [] (c ∷ cs) = ⊥
 AreReduced (unit ∷ units) [] = ⊥
 AreReduced (unit ∷ units) (c ∷ cs) = (c.unit ≡ unit) × (weight cs < size_of unit) × AreReduced units cs
 
--- `cs` are the counts of a span of `n` microseconds
+-- `cs` are the counts of a span of `n` microseconds: they add up to `n`, and satisfy `AreReduced`
 pub record AreCounts (n : ℕ) (cs : List Count) : Type 0 where
   pub sum : weight cs ≡ n
   pub reduced : AreReduced all_units cs

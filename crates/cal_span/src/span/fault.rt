@@ -29,7 +29,7 @@ pub enum SpanFault {
 impl SpanFault {
     ghost use Rattle.cal_span.specs.rules.SpanFault.{message_of};
 
-    /// Returns the message for users. `Display` prints the same.
+    /// Returns the message for users. `Display` prints it, too.
     pub fn words(&self) -> &str
         ensures { result.now ≡ message_of self.now }
     {

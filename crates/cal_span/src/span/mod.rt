@@ -1,4 +1,4 @@
-//! The type of time spans.
+//! [`Span`], the value of a time span in microseconds.
 
 ghost use Rattle.std.specs.Prelude.{◌≡◌, ◌≤◌, ◌<◌, MatchOption};
 ghost use Rattle.cal_span.specs.rules.PairValue.{limit};
@@ -18,7 +18,7 @@ pub struct Span {
 }
 
 impl Span {
-    /// The time span of 0 microseconds.
+    /// The time span of 0 microseconds, to which the pairs of a time span are added.
     pub(crate) const ZERO: Span = Span { micros: 0 };
 
     const LIMIT: u64 = 9_223_372_036_854_775_807;

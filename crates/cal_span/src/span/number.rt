@@ -12,7 +12,7 @@ ghost use Rattle.cal_span.specs.rules.PairValue.{is_number, fraction_worth, digi
 use crate::TimeUnit;
 use cal_bytes::{are_digits, decimal_value};
 
-/// A number: its digits before the decimal point and those after it.
+/// A number, split into the digits before its decimal point and the digits after it.
 #[derive(Clone, Copy)]
 pub(crate) struct Number<'a> {
     whole: &'a [u8],
@@ -22,8 +22,7 @@ pub(crate) struct Number<'a> {
 }
 
 impl<'a> Number<'a> {
-    /// Parses `word` as digits with at most one decimal point. Returns `None` for anything else, and for a decimal
-    /// point without digits.
+    /// Parses `word` as one or more digits with at most one decimal point. Returns `None` for anything else.
     pub(crate) fn new(word: &'a [u8]) -> Option<Number<'a>>
         ensures { MatchOption result (is_number word.now ≡ false) (λ number.
             (is_number word.now ≡ true)

@@ -39,7 +39,8 @@ pub fn read_span(text: &str) -> Result<Span, SpanFault>
     Ok(sum)
 }
 
-/// A number in a time span, and the word of its unit if there is one.
+/// A number in a time span, and the word of its unit if there is one. The number is empty if another word stands where
+/// a number is expected.
 #[derive(Clone, Copy)]
 struct Pair<'a> {
     number: &'a [u8],

@@ -79,6 +79,6 @@ time_due room (Some t) = time_fields room t
 unfoldable pub date_in_word : List ℕ → Result DateFields SpecFault
 date_in_word word = date_due (date_texts word)
 
--- parses a time, or fails with its first error
+-- parses a time with at most `room` counted parts, or fails with its first error
 unfoldable pub time_in_word : ℕ → List ℕ → Result TimeFields SpecFault
 time_in_word room word = time_due room (time_texts word)

@@ -12,7 +12,7 @@ use Rattle.cal_spec.specs.declared.spec_fault.SpecFault.{SpecFault}
 use Rattle.cal_spec.specs.declared.spec_fault.SpecFault.TheVariants.{BadDate, BadTime, FractionalSecond, NumberTooLarge, OutOfField, BackwardRange, ZeroRepeat, NoRepeat}
 use Rattle.cal_bytes.specs.rules.Separators.{is_point, is_slash}
 
--- Kinds of slots
+-- ## Kinds of slots
 
 -- whether the slot is the hour, the minute or the second
 abbrev pub is_time : Slot → Bool
@@ -33,7 +33,7 @@ is_from_end slot = false
 abbrev pub bad : Slot → SpecFault
 bad slot = if is_time slot then BadTime else BadDate
 
--- Splitting a text into symbols
+-- ## Splitting a text into symbols
 
 -- a symbol: a maximal run of digits, two dots, a slash, a single dot, or any other byte
 pub data Symbol : Type 0 where
@@ -62,13 +62,13 @@ symbols [] = []
 symbols (b ∷ []) = with_byte b []
 symbols (b ∷ c ∷ bs) = if is_point b && is_point c then dots ∷ symbols bs else with_byte b (symbols (c ∷ bs))
 
--- Parsing the symbols of a part: `a`, `a/r`, `a..b` or `a..b/r`
+-- ## Parsing the symbols of a part: `a`, `a/r`, `a..b` or `a..b/r`
 
 abbrev pub starts_with_point : List Symbol → Bool
 starts_with_point (point ∷ ss) = true
 starts_with_point ss = false
 
--- a number and the symbols after it
+-- the result of parsing a number: its value, and the symbols after it
 pub record Counted : Type 0 where
   pub number : ℕ
   pub after : List Symbol
@@ -111,7 +111,7 @@ after_start slot a ss = Err (bad slot)
 unfoldable pub part_of : Slot → List ℕ → Result Part SpecFault
 part_of slot text = number_due slot (symbols text) >>= λ a. after_start slot a.number a.after
 
--- Checking the values of a part
+-- ## Checking the values of a part
 
 abbrev pub is_within : Slot → ℕ → Bool
 is_within slot n = nat_le (least slot) n && nat_le n (greatest slot)

@@ -20,7 +20,8 @@ abbrev pub Gives : {T V : Type 0} → (T → V) → Result T SpecFault → Resul
 Gives view (Ok x) read = read ≡ Ok (view x)
 Gives view (Err e) read = read ≡ Err e
 
--- like `Gives`, but the call may also fail with `NoMemory`
+-- The call failed with `NoMemory`, or its result agrees with `read`, the result that a definition gives: either both
+-- results are the same error, or applying `view` to the value of the call gives the value of `read`.
 abbrev pub GivesUnlessNoMemory : {T V : Type 0} → (T → V) → Result T SpecFault → Result V SpecFault → Type 0
 GivesUnlessNoMemory view (Ok x) read = read ≡ Ok (view x)
 GivesUnlessNoMemory view (Err e) read = (e ≡ NoMemory → ⊥) → read ≡ Err e

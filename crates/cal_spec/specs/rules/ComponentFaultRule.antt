@@ -61,7 +61,8 @@ HasComponentFault slot before text fault =
     (text ≡ codes "*" → ⊥)
     × (HasSyntaxFault slot before (slice_split is_comma text) fault ⊎ HasFaultInValues slot before (slice_split is_comma text) fault)
 
--- the first invalid component has this error; there are `before` counted parts before these components
+-- the first invalid component in the list has this error; there are `before` counted parts before the components of the
+-- list
 abbrev pub HasFaultAmong : ℕ → List (Slot × List ℕ) → SpecFault → Type 0
 HasFaultAmong before [] fault = ⊥
 HasFaultAmong before (c ∷ cs) fault =
@@ -90,13 +91,15 @@ date_components t = (Year, t.year) ∷ (Month, t.month) ∷ (day_slot t.from_end
 abbrev pub time_components : TimeTexts → List (Slot × List ℕ)
 time_components t = (Hour, t.hour) ∷ (Minute, t.minute) ∷ (Second, t.second) ∷ []
 
--- the date has this error
+-- the date `word` has this error: `BadDate` if it can't be split into components, or else the error of its first
+-- invalid component
 abbrev pub HasDateFault : List ℕ → SpecFault → Type 0
 HasDateFault word fault =
     (((t : DateTexts) → HasDateTexts word t → ⊥) × (fault ≡ BadDate))
     ⊎ ((t : DateTexts) × HasDateTexts word t × HasFaultAmong 0 (date_components t) fault)
 
--- the time has this error; the date before it has `before` counted parts
+-- the time `word` has this error: `BadTime` if it can't be split into components, or else the error of its first
+-- invalid component; the date before the time has `before` counted parts
 abbrev pub HasTimeFault : ℕ → List ℕ → SpecFault → Type 0
 HasTimeFault before word fault =
     (((t : TimeTexts) → HasTimeTexts word t → ⊥) × (fault ≡ BadTime))

@@ -24,7 +24,7 @@ HasWeekdaysFault (Some word) fault =
     ((days : List Bool) → AreWeekdays word days → ⊥)
     × ((IsUnknownShorthand word × (fault ≡ UnknownShorthand)) ⊎ ((IsUnknownShorthand word → ⊥) × (fault ≡ BadWeekday)))
 
--- the number of counted parts of the date
+-- the number of counted parts of the date, which are all its parts
 abbrev pub counted_in_date : Fields → ℕ
 counted_in_date f = parts_in f.year + parts_in f.month + parts_in f.day
 
@@ -53,7 +53,8 @@ HasWordFault p fault =
     ⊎ ((((days : List Bool) × HasWeekdays p.weekdays days) × HasDateFault p.date fault)
     ⊎ (HasFaultAfterDate p fault ⊎ (HasStrayWord p × (fault ≡ StrayWord))))
 
--- the text is too long; or it has no words; or one of its words has this error
+-- `fault` is the error of the text: `TextTooLong`, or else `Empty` if the text has no words, or else the error of one
+-- of its words
 abbrev pub HasFault : List ℕ → SpecFault → Type 0
 HasFault text fault =
     ((4096 < length text) × (fault ≡ TextTooLong))

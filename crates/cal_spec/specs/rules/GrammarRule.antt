@@ -58,7 +58,7 @@ pub record AreListed (slot : Slot) (text : List ℕ) (ps : List Part) : Type 0 w
   pub parts : AllZip (IsPartOf slot) texts ps
   pub sound : AllByRecursion (IsValidPart slot) ps
 
--- `*`, or parts joined by commas
+-- the text of a component: `*`, or parts joined by commas
 abbrev pub IsComponent : Slot → List ℕ → Option (List Part) → Type 0
 IsComponent slot text None = text ≡ codes "*"
 IsComponent slot text (Some ps) = AreListed slot text ps
@@ -68,12 +68,12 @@ abbrev pub last_sign : Bool → List ℕ
 last_sign true = codes "~"
 last_sign false = codes "-"
 
--- `year-month-day` or `month-day`; `~` may stand in place of the last `-`
+-- the text of a date: `year-month-day` or `month-day`; `~` may stand in place of the last `-`
 abbrev pub IsDateShape : List ℕ → DateTexts → Type 0
 IsDateShape word t =
     (word ≡ t.year ++ (codes "-" ++ (t.month ++ (last_sign t.from_end ++ t.day)))) ⊎ ((t.year ≡ codes "*") × (word ≡ t.month ++ (last_sign t.from_end ++ t.day)))
 
--- `hour:minute:second` or `hour:minute`
+-- the text of a time: `hour:minute:second` or `hour:minute`
 abbrev pub IsTimeShape : List ℕ → TimeTexts → Type 0
 IsTimeShape word t =
     (word ≡ t.hour ++ (codes ":" ++ (t.minute ++ (codes ":" ++ t.second)))) ⊎ ((t.second ≡ codes "00") × (word ≡ t.hour ++ (codes ":" ++ t.minute)))
@@ -98,7 +98,7 @@ abbrev pub IsName : List ℕ → Weekday → Type 0
 IsName text day =
     (map to_ascii_lowercase text ≡ map to_ascii_lowercase (name_of day)) ⊎ (map to_ascii_lowercase text ≡ map to_ascii_lowercase (short_name_of day))
 
--- two names joined by `..` or `-`
+-- the names of two weekdays, joined by `..` or `-`
 pub record IsNameRange (text : List ℕ) (days : WeekdayRange) : Type 0 where
   pub first : List ℕ
   pub joint : List ℕ
@@ -108,11 +108,11 @@ pub record IsNameRange (text : List ℕ) (days : WeekdayRange) : Type 0 where
   pub joint_is : (joint ≡ codes "..") ⊎ (joint ≡ codes "-")
   pub last_name : IsName last days.last
 
--- a name, or two names joined by `..` or `-`
+-- an item of a weekday list: the name of a weekday, or two names joined by `..` or `-`
 abbrev pub IsItem : List ℕ → WeekdayRange → Type 0
 IsItem text days = (IsName text days.first × (days.last ≡ days.first)) ⊎ IsNameRange text days
 
--- items joined by commas, with one trailing comma allowed
+-- a weekday list: items joined by commas, with one trailing comma allowed
 pub record AreWeekdays (word : List ℕ) (days : List Bool) : Type 0 where
   pub texts : List (List ℕ)
   pub items : List WeekdayRange
@@ -169,7 +169,7 @@ pub record AreShort (ws : List (List ℕ)) (p : WordRoles) : Type 0 where
   pub date_is : p.date ≡ (expansion_of shorthand).date
   pub time_is : p.time ≡ (expansion_of shorthand).time
 
--- the words of an expression have these roles, whether they are valid in them or not
+-- the words of an expression have these roles; a word needn't be valid in its role
 abbrev pub HasRoles : List (List ℕ) → WordRoles → Type 0
 HasRoles ws p = ArePlain ws p ⊎ AreShort ws p
 

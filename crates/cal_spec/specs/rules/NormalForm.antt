@@ -1,6 +1,7 @@
 -- The normal form of a calendar expression: systemd.time(7), Calendar Events. Each range ends at the last number that
--- it reaches, and parts are sorted, without duplicates. Parts that overlap are kept. In the seconds, a single part `0/1`
--- becomes `*`, and days `~*` become `-*`. A text spells fields (`Spells`) if they are the normal form of its own.
+-- it reaches, and parts are sorted, without duplicates. Parts that overlap are kept. In the seconds, a single part
+-- `0/1` becomes `*`, and days `~*` become `-*`. A text spells fields (`Spells`) if they are the normal form of the
+-- fields that the grammar assigns to the text.
 use Rattle.std.specs.Prelude.{◌≡◌, ◌==◌, ℕ, ◌+◌, ◌-◌, ◌%◌, ◌<◌, ◌≤◌, Bool, false, if◌then◌else◌, List, [], ◌∷◌, Option, None, Some, unwrap_or}
 use Rattle.std.specs.List.Sorted.{IsStrictlySortedBy}
 use Rattle.std.specs.Option.{option_cmp}
@@ -71,7 +72,7 @@ abbrev pub IsStarred : List Part → Option (List Part) → Type 0
 IsStarred ps None = ps ≡ each ∷ []
 IsStarred ps (Some qs) = (qs ≡ ps) × (ps ≡ each ∷ [] → ⊥)
 
--- the normal form of the seconds
+-- the normal form of the seconds: that of any other component, except that the single part `0/1` becomes `*`
 abbrev pub IsNormalSecondOf : Option (List Part) → Option (List Part) → Type 0
 IsNormalSecondOf None normal = normal ≡ None
 IsNormalSecondOf (Some raw) normal = (ps : List Part) × AreNormalOf raw ps × IsStarred ps normal

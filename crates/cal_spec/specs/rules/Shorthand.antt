@@ -42,7 +42,7 @@ dates date = record { weekdays = None; date = date; time = midnight }
 abbrev pub times : List ℕ → ShorthandExpansion
 times time = record { weekdays = None; date = any_date; time = time }
 
--- what each shorthand stands for
+-- the weekdays, date and time that each shorthand stands for
 abbrev pub expansion_of : Shorthand → ShorthandExpansion
 expansion_of Minutely = times (codes "*:*:00")
 expansion_of Hourly = times (codes "*:00:00")

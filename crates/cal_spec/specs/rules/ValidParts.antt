@@ -33,7 +33,8 @@ abbrev pub GoesOn : Slot → ℕ → Option ℕ → Option ℕ → Type 0
 GoesOn slot a None (Some r) = IsSecondWithin slot a r
 GoesOn slot a _ _ = Unit {0}
 
--- the values of a part are valid
+-- The values of a part are valid: the slot allows its start and its end, its end isn't below its start, its step isn't
+-- zero, and, if it is an open-ended repetition, it reaches a second number.
 pub record IsValidPart (slot : Slot) (p : Part) : Type 0 where
   pub start_in : IsWithin slot p.start
   pub end_in : IsEndWithin slot p.end

@@ -17,11 +17,11 @@ day_named word =
 abbrev pub is_no_letter : ℕ → Bool
 is_no_letter b = not (is_ascii_alphabetic b)
 
--- the leading letters of a word
+-- the ASCII letters that a word begins with, up to its first other byte
 abbrev pub leading_letters : List ℕ → List ℕ
 leading_letters word = take (position_or_len is_no_letter word) word
 
--- the text after the leading letters of a word
+-- the bytes of a word from the first byte on that isn't an ASCII letter
 abbrev pub after_letters : List ℕ → List ℕ
 after_letters word = drop (position_or_len is_no_letter word) word
 

@@ -27,7 +27,7 @@ use Rattle.cal_stamp.specs.declared.fault.StampFault.TheVariants.{Empty, BadWeek
 use Rattle.cal_bytes.specs.rules.AndThen.{◌>>=◌}
 use Rattle.cal_stamp.specs.rules.StampCivilRule.{CivilStamp}
 
--- Time spans
+-- ## Time spans
 
 -- the moment at `micros` microseconds of Unix time, or `OutOfRange` if this is before the first moment or after the
 -- last
@@ -45,20 +45,20 @@ abbrev pub before_second : ℤ → Result ℕ SpanFault → Result ℤ StampFaul
 before_second second (Ok span) = in_moments (micros_of second -ℤ pos span)
 before_second second (Err fault) = Err (BadSpan fault)
 
--- Days
+-- ## Days
 
 -- the number of the day that the zone's clock shows at present, counted from 1970-01-01
 unfoldable pub today : ℤ → TimeZone → ℤ
 today now zone = day_of (local_shown_at zone now)
 
 -- The moment to which a time of day on this day is settled, or `OutOfRange`. `micros` is the time of day, in
--- microseconds since midnight on the zone's clock. A local time in a gap is moved forward by the length of the gap, and for
--- a local time in a fold the first occurrence is used.
+-- microseconds since midnight on the zone's clock. A local time in a gap is moved forward by the length of the gap, and
+-- for a local time in a fold the first occurrence is used.
 unfoldable pub settle_on : TimeZone → ℤ → ℕ → Result ℤ StampFault
 settle_on zone day micros =
     in_moments (micros_of (settle_of zone (day *ℤ pos seconds_per_day +ℤ pos (micros / micros_per_second))) +ℤ pos (micros % micros_per_second))
 
--- Civil times, word by word
+-- ## Civil times, word by word
 
 -- the zone that was found for a name, or the error if no zone has the name
 abbrev pub name_found : Option TimeZone → Result TimeZone StampFault
@@ -129,7 +129,7 @@ moment_of_civil_stamp now c =
     let day = unwrap_or c.day (today now c.zone) in
     if fits_weekday c.weekday day then settle_on c.zone day c.micros else Err WrongWeekday
 
--- Timestamps of all forms
+-- ## Timestamps of all forms
 
 -- the moment of a timestamp of this form, or its error
 abbrev pub moment_of_form : ℤ → Setting → Form → Result ℤ StampFault

@@ -13,7 +13,8 @@ use Rattle.cal_stamp.specs.rules.StampDate.{day_written}
 use Rattle.cal_stamp.specs.rules.StampTime.{time_written}
 use Rattle.cal_stamp.specs.declared.fault.StampFault.TheVariants.{NoSuchDate}
 
--- a parsed civil time
+-- a parsed civil time: its weekday and its day number if they are written, its microseconds after midnight, and its
+-- zone
 pub record CivilStamp : Type 0 where
   pub weekday : Option Weekday
   pub day : Option ℤ

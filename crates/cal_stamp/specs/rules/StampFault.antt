@@ -4,7 +4,6 @@ use Rattle.cal_span.specs.rules.SpanFault.{message_of as span_message}
 use Rattle.cal_stamp.specs.declared.fault.StampFault.{StampFault}
 use Rattle.cal_stamp.specs.declared.fault.StampFault.TheVariants.{Empty, BadWeekday, BadDate, BadTime, NoSuchDate, WrongWeekday, BadSpan, NoSuchZone, StrayWord, OutOfRange}
 
--- the message of an error
 abbrev pub message_of : StampFault → List ℕ
 message_of Empty = codes "empty timestamp"
 message_of BadWeekday = codes "bad weekday"

@@ -1,8 +1,8 @@
 -- Which error a timestamp has, stated as a rule and not as a computation: systemd.time(7), Parsing Timestamps. The
 -- words of a civil time are read from the left, and what a word can be depends on the words before it. The first word
--- that isn't valid in its position decides the error. If all words are valid, the weekday is checked, and then the
--- range. The law `first_error`, a statement that is proved for all texts, says that the functions of `Stamp` follow
--- this rule.
+-- that isn't valid in its position decides the error. If all words are valid, but neither a date nor a time is among
+-- them, the error is `BadDate`. Otherwise the weekday is checked, and then the range. The law `first_error`, a
+-- statement that is proved for all texts, says that the functions of `Stamp` follow this rule.
 use Rattle.std.specs.Prelude.{ℕ, ◌≡◌, ◌⊎◌, ◌||◌, true, false, ℤ, List, ◌∷◌, ◌++◌, Option, None, Some, is_some, Err}
 use Rattle.std.specs.List.{list_any}
 use Rattle.std.specs.Option.{option_to_list}
@@ -86,7 +86,7 @@ pub record EndsTooSoon (at : Setting) (words : List (List ℕ)) (fault : StampFa
   pub are_read : AreRead at words weekday None None None
   pub is_bad_date : fault ≡ BadDate
 
--- the leftmost error of the words
+-- `fault` is the error of the first word that isn't valid in its position, or `BadDate` if the words end too soon
 abbrev pub HasFirstError : Setting → List (List ℕ) → StampFault → Type 0
 HasFirstError at words fault = HasWordAtFault at words fault ⊎ EndsTooSoon at words fault
 
@@ -98,7 +98,7 @@ pub record HasWrongWeekday (now : ℤ) (at : Setting) (words : List (List ℕ)) 
   pub has_day : IsDay now stamp.zone stamp.day day
   pub falls_elsewhere : FallsOn stamp.weekday day → ⊥
 
--- Errors of all forms
+-- ## Errors of all forms
 
 -- the word has this error: it is in the position of the zone and is not a zone, or it comes after the zone
 abbrev pub IsNoLastWord : Setting → Option (List ℕ) → List ℕ → StampFault → Type 0
@@ -123,8 +123,8 @@ IsBadSpan span fault = (why : SpanFault) × HasSpanValue span (Err why) × (faul
 abbrev pub IsOutside : ℤ → Setting → Form → StampFault → Type 0
 IsOutside now at form fault = ((time : ℤ) × MeansTime now at form time × (IsMoment time → ⊥)) × (fault ≡ OutOfRange)
 
--- the form has this error, which is not `OutOfRange`: the timestamp is empty, a word or a time span is invalid, or the
--- day isn't the weekday that is named
+-- the form has this error, which is not `OutOfRange`: the timestamp is empty, a word or a time span is invalid, the
+-- words end before a date or a time is given, or the day isn't the weekday that is named
 abbrev pub IsWrong : ℤ → Setting → Form → StampFault → Type 0
 IsWrong now at nothing fault = fault ≡ Empty
 IsWrong now at present fault = ⊥

@@ -14,7 +14,7 @@ use Rattle.cal_stamp.specs.rules.StampCivilRule.{CivilStamp, IsCivilTime, NamesZ
 use Rattle.cal_stamp.specs.rules.StampRule.{Form, nothing, present, later, earlier, counted, from_today, civil, HasForm}
 use Rattle.cal_civil.specs.rules.LocalSecond.{seconds_per_day}
 
--- Time spans
+-- ## Time spans
 
 -- `time`, in microseconds of Unix time, is the Unix second `second` plus the time span that the text `span` stands for
 abbrev pub LiesAfter : ℤ → List ℕ → ℤ → Type 0
@@ -24,7 +24,7 @@ LiesAfter second span time = (micros : ℕ) × HasSpanValue span (Ok micros) × 
 abbrev pub LiesBefore : ℤ → List ℕ → ℤ → Type 0
 LiesBefore second span time = (micros : ℕ) × HasSpanValue span (Ok micros) × (micros_of second -ℤ time ≡ pos micros)
 
--- Days
+-- ## Days
 
 -- at present, the zone's clock shows a time on this day: midnight, or less than 86,400 seconds after midnight
 pub record IsPresentDay (now : ℤ) (zone : TimeZone) (day : ℤ) : Type 0 where

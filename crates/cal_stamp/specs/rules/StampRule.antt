@@ -66,7 +66,7 @@ FitsBySign =
     OrElse (IsBehindSign (codes "+") later)
     (OrElse (IsBehindSign (codes "-") earlier) (OrElse (IsBehindSign (codes "@") counted) FitsByEnd))
 
--- the first case that matches
+-- an empty text, or else `now`, or else one of the cases of `FitsBySign`
 abbrev pub FitsFirst : List ℕ → Form → Type 0
 FitsFirst = OrElse IsNothing (OrElse IsPresent FitsBySign)
 

@@ -39,7 +39,8 @@ second_of_pieces (whole ∷ []) = both (clock_number 59 whole) (Some 0)
 second_of_pieces (whole ∷ digits ∷ []) = both (clock_number 59 whole) (fraction_in digits)
 second_of_pieces pieces = None
 
--- the seconds of a time, in microseconds, if the word is `S`, or `S.` and one or more digits; `None` for any other word
+-- the seconds of a time, in microseconds, if the word is a number of one or two digits, at most 59, which may be
+-- followed by a point and one or more digits; `None` for any other word
 unfoldable pub second_written : List ℕ → Option ℕ
 second_written word = second_of_pieces (slice_split is_point word)
 

@@ -1,5 +1,4 @@
--- The test whether a timer elapses at an instant: systemd.timer(5), OnCalendar=. An exception is an expression; when it
--- elapses, the timer doesn't.
+-- The test whether a timer elapses at an instant: systemd.timer(5), OnCalendar=.
 use Rattle.std.specs.Prelude.{Bool, ◌&&◌, not, ℤ}
 use Rattle.std.specs.List.{list_any}
 use Rattle.std.specs.Ordering.{int_eq}

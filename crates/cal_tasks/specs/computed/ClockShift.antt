@@ -1,4 +1,4 @@
--- The local seconds between what a zone's clock shows up to a change and what it shows from the change on.
+-- The gap or the fold of a change of a zone, as a range of local seconds.
 use Rattle.std.specs.Prelude.{◌≡◌, ℤ, ◌≤ℤ◌}
 use Rattle.jiff.specs.Types.{TimeZone}
 use Rattle.cal_zone.specs.rules.Zone.{local_shown_at}
@@ -7,7 +7,7 @@ use Rattle.cal_tasks.specs.declared.clock_note.ClockChange.{ClockChange}
 use Rattle.cal_tasks.specs.declared.clock_note.ClockChange.TheVariants.{Skipped, Repeated}
 use Rattle.cal_tasks.specs.declared.clock_shift.ClockShift.{ClockShift}
 
--- the first local second of the gap or of the fold, and the one after its last
+-- the first local second of the gap or fold; `shift_to` is the one after its last
 abbrev pub shift_from : TimeZone → ℤ → ClockChange → ℤ
 shift_from tz change Skipped = shown_unchanged tz change
 shift_from tz change Repeated = local_shown_at tz change

@@ -17,16 +17,16 @@ use Rattle.cal_tasks.specs.declared.clock_note.ClockNote.{ClockNote}
 abbrev pub max_kept : ℕ
 max_kept = max_notes + 1
 
--- the index is that of a note than which no note is later
+-- no note is later than the note at this index
 pub record IsLatest (notes : List ClockNote) (index : ℕ) : Type 0 where
   pub inside : index < length notes
   pub latest : (d : ClockNote) → All (λ note. note.local ≤ℤ (slice_index_or notes index d).local) notes
 
--- whatever note is covered by `old` is covered by `new`
+-- each note that `old` covers is also covered by `new`
 abbrev pub KeepsCovered : List ClockNote → List ClockNote → Type 0
 KeepsCovered old new = (note : ClockNote) → IsCovered max_kept old note → IsCovered max_kept new note
 
--- `new` is `old` with one note added, if it isn't later than the others
+-- `new` covers `note` and what `old` covers, and has only notes that `old` has, and maybe `note`
 pub record Keeps (old : List ClockNote) (note : ClockNote) (new : List ClockNote) : Type 0 where
   pub sound : All (λ kept. Contains old kept ⊎ (kept ≡ note)) new
   pub covered : IsCovered max_kept new note

@@ -19,8 +19,8 @@ named_elapse timers elapse = named_at elapse.instant.secs (slice_get timers elap
 abbrev pub named : List LoadedTimer → List TimerElapse → List ElapseView
 named timers = flat_map (named_elapse timers)
 
--- The rows are the elapses of these timers at or after `from` and before `before`, each once, in increasing order, and at
--- the same instant in the order of the timers.
+-- The rows are the elapses of these timers at or after `from` and before `before`, each once, in increasing order, and
+-- at the same instant in the order of the timers.
 pub record AreBetween (at : Clocked) (from before : ℤ) (timers : List LoadedTimer) (rows : List ElapseView) : Type 0 where
   pub elapses : List TimerElapse
   pub sorted : IsSorted by_instant elapses

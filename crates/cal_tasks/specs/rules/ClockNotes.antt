@@ -38,8 +38,8 @@ pub record IsSkippedBy (tz : TimeZone) (change local : ℤ) : Type 0 where
   pub to : local <ℤ local_shown_at tz change
   pub no_place : place_of tz local ≡ None
 
--- The change repeats `local`, which lies in the fold. The clock shows it first at the instant `first`, before the change,
--- and again after the change, as many seconds after it as `local` is after the start of the fold.
+-- The change repeats `local`, which lies in the fold. The clock shows it first at the instant `first`, before the
+-- change, and again after the change, as many seconds after it as `local` is after the start of the fold.
 pub record IsRepeatedBy (tz : TimeZone) (change local : ℤ) : Type 0 where
   pub from : local_shown_at tz change ≤ℤ local
   pub to : local <ℤ shown_unchanged tz change
@@ -48,7 +48,7 @@ pub record IsRepeatedBy (tz : TimeZone) (change local : ℤ) : Type 0 where
   pub before : first <ℤ change
   pub again : local_shown_at tz (change +ℤ (local -ℤ local_shown_at tz change)) ≡ local
 
--- what the change does to `local`
+-- the change does to `local` what the last argument says: it skips or repeats it
 abbrev pub IsChangedBy : TimeZone → ℤ → ℤ → ClockChange → Type 0
 IsChangedBy tz change local Skipped = IsSkippedBy tz change local
 IsChangedBy tz change local Repeated = IsRepeatedBy tz change local
@@ -101,8 +101,9 @@ pub record AreNotesOf (at : Setting) (now : ℤ) (lines : List (TimerLine Fields
 abbrev pub by_local : ClockNote → ClockNote → Ordering
 by_local x y = ordering_then (int_cmp x.local y.local) (nat_cmp x.zone y.zone)
 
--- The `limit` in the contract of `clock_notes`. If there are more notes than are returned, only notes that aren't earlier
--- than the 16 others may be missing. Otherwise the limit is 17, which 16 notes never reach, so none may be missing.
+-- The `limit` in the contract of `clock_notes`. If there are more notes than are returned, only notes that aren't
+-- earlier than the 16 others may be missing. Otherwise the limit is 17, which 16 notes never reach, so none may be
+-- missing.
 abbrev pub limit_if : Bool → ℕ
 limit_if true = max_notes
 limit_if false = max_notes + 1

@@ -1,4 +1,5 @@
--- The report of `list`: each unit with its next elapse and its notes (systemd.timer(5), OnCalendar=).
+-- The report of `list`: for each unit a row with its name, its next elapse and its notes (systemd.timer(5),
+-- OnCalendar=).
 use Rattle.std.specs.Prelude.{◌≡◌, ◌==◌, ◌&&◌, ℕ, ℤ, Bool, false, true, not, List, [], ◌∷◌, ◌++◌, Option, None, Some, codes, filter, if◌then◌else◌, length, map, slice_get, string_bytes, IsPermutation, IsSorted}
 use Rattle.std.specs.List.{flat_map}
 use Rattle.cal_load.specs.declared.loaded.Loaded.{Loaded}
@@ -13,7 +14,7 @@ use Rattle.cal_tasks.specs.declared.timer_elapse.TimerElapse.{TimerElapse}
 use Rattle.cal_tasks.specs.rules.LoadedElapses.{elapses_in}
 use Rattle.cal_tasks.specs.rules.SeveralTimers.{by_instant, elapse_seen, ended, next_of_each}
 
--- the note, if there is one
+-- the note, if `is_noted` is `true`
 abbrev pub note_if : Bool → List ℕ → List (List ℕ)
 note_if is_noted note = if is_noted then note ∷ [] else []
 
@@ -23,8 +24,8 @@ has_expressions timer = not (length (expressions_in timer.calendar) == 0)
 abbrev pub has_exceptions : LoadedTimer → Bool
 has_exceptions timer = not (length (exceptions_in timer.calendar) == 0)
 
--- The notes of a timer: that it is disabled, that it has expressions but elapses no more, its other settings, and that
--- it has exceptions.
+-- The notes of a timer: that it is disabled, that it has expressions but doesn't elapse any more, the notes that were
+-- loaded with it, and that it has exceptions.
 abbrev pub list_notes : Loaded → Bool → LoadedTimer → List (List ℕ)
 list_notes loaded is_ended timer =
     ((note_if (is_disabled (shown_stems loaded.started) (string_bytes timer.name)) (codes "disabled")
@@ -32,20 +33,20 @@ list_notes loaded is_ended timer =
     ++ map string_bytes timer.notes.items)
     ++ note_if (has_exceptions timer) (codes "exceptions")
 
--- the row of a timer whose next elapse is this one
+-- the row of a timer whose next elapse is at `secs`
 abbrev pub elapsing_row : Loaded → ℤ → LoadedTimer → UnitView
 elapsing_row loaded secs timer =
     record { unit = string_bytes timer.name; next = Some secs; notes = list_notes loaded false timer }
 
--- the row of a timer that elapses no more
+-- the row of a timer that doesn't elapse any more
 abbrev pub ended_row : Loaded → LoadedTimer → UnitView
 ended_row loaded timer = record { unit = string_bytes timer.name; next = None; notes = list_notes loaded true timer }
 
--- the row of a unit that is no loaded timer
+-- the row of a unit that isn't a loaded timer, with a single note
 abbrev pub noted_row : List ℕ → List ℕ → UnitView
 noted_row note unit = record { unit = unit; next = None; notes = note ∷ [] }
 
--- the row of the timer with this index
+-- the row of the timer, if there is one
 abbrev pub row_if : (LoadedTimer → UnitView) → Option LoadedTimer → List UnitView
 row_if row None = []
 row_if row (Some timer) = row timer ∷ []
@@ -68,8 +69,8 @@ masked_rows = map (noted_row (codes "masked"))
 abbrev pub failed_rows : List TargetFault → List UnitView
 failed_rows faults = map (λ fault. noted_row (codes "fails to load") (string_bytes fault.target)) (filter (λ fault. fails_to_load fault.reason) faults)
 
--- The rows are those of the timers with a next elapse, soonest first; of the timers that elapse no more; of these masked
--- units; and of the units that fail to load.
+-- The rows are those of the timers with a next elapse, soonest first; of the timers that don't elapse any more; of
+-- these masked units; and of the units that fail to load.
 pub record IsListOf (at : Clocked) (loaded : Loaded) (masked : List (List ℕ)) (rows : List UnitView) : Type 0 where
   pub soonest : List TimerElapse
   pub sorted : IsSorted by_instant soonest

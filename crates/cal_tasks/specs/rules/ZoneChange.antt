@@ -27,8 +27,8 @@ abbrev pub max_days : ℕ
 max_days = 1_096
 
 -- The change is after `after`, and the UTC offset is the same each day before it, at the time of day of `after`. Or
--- there is none, and the offset is the same each day for `max_days` days. If an offset lasts less than a day, the changes
--- at its start and its end may both be passed over.
+-- there is none, and the offset is the same each day for `max_days` days. If an offset lasts less than a day, the
+-- changes at its start and its end may both be passed over.
 abbrev pub IsNextChange : TimeZone → ℤ → Option ℤ → Type 0
 IsNextChange tz after (Some change) =
     IsZoneChange tz change × (after <ℤ change)

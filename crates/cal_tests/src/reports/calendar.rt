@@ -55,7 +55,7 @@ fn times_of_day(rt: HostRuntime) -> Result<(), Fail> {
     check(rt.alloc(), &TIMES_OF_DAY)
 }
 
-/// Five leap days.
+/// A request for the next five leap days, made at noon on 2019-03-15.
 pub(super) const LEAP_DAYS: Row<'static> = Row {
     about: "leap days",
     texts: &["*-2-29 0:0:0"],

@@ -1,5 +1,4 @@
-//! Reports on timer files, some of them with exceptions. An exception is an expression at whose elapses the timer
-//! doesn't elapse.
+//! Reports on timer files, some of them with exceptions.
 
 use super::{CALENDAR, KnownZones, Local, Row, check, check_input, known_zones};
 use cal_bytes::{Faulty, Port, Then};

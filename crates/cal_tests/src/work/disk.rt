@@ -92,7 +92,7 @@ fn empty_disk(alloc: Global) -> Disk<'static> {
 }
 
 /// Runs the program with a standard output that fails after 3 bytes. Expects standard output to have the first 3 bytes
-/// of `whole`, and standard error to report the failure.
+/// of `whole`, standard error to report the failure, and the status to be 1.
 fn check_cut_out(alloc: Global, args: &[&str], whole: &[u8]) -> Result<(), Fail> {
     let disk = empty_disk(alloc);
     let writer = Faulty::new(Vec::new(alloc), 7, 3, Then::Error);
@@ -126,8 +126,8 @@ fn outputs_that_fail(rt: HostRuntime) -> Result<(), Fail> {
     check_cut_out(rt.alloc(), &["--help"], help.out.as_slice())
 }
 
-/// Runs the program with a standard error that fails after 3 bytes. Expects standard error to have `front`, and the
-/// status to be the one that the run would have without the failure.
+/// Runs the program with a standard error that fails after 3 bytes. Expects standard error to have `front`, the first 3
+/// bytes of the error line, and the status to be the one that the run would have without the failure.
 fn check_cut_err(alloc: Global, args: &[&str], front: &str, status: u8) -> Result<(), Fail> {
     let disk = empty_disk(alloc);
     let mut out = Port::new(BufWriter::new(alloc, Vec::new(alloc))?);

@@ -124,7 +124,8 @@ timestamp|now -> calendar-analyze: clock out of range
 timespan|1h -> calendar-analyze: clock out of range
 ";
 
-/// Like [`WITHOUT_CLOCK`], with a clock that works.
+/// Lines of arguments, each with the error line of its first error. The clock works, and the files are the same as for
+/// [`WITHOUT_CLOCK`].
 const WITH_CLOCK: &str = "\
 timer|--base-time=Mon 2012-11-23|g -> g: cannot be read
 timer|--base-time=Mon 2012-11-23|f -> --base-time: weekday does not fit the date

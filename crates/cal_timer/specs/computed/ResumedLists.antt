@@ -8,7 +8,7 @@ use Rattle.cal_timer.specs.rules.TimerText.{is_exception, is_exception_reset, is
 use Rattle.cal_timer.specs.declared.fault.TimerFault.{TimerFault}
 use Rattle.cal_timer.specs.declared.fault.TimerFault.TheVariants.{BadLine, TooMany}
 
--- two empty lists
+-- the lists of a timer before anything is read
 abbrev pub empty_lists : {E : Type 0} → Timer E
 empty_lists = record { expressions = []; exceptions = [] }
 
@@ -35,8 +35,8 @@ abbrev pub with_list : {E A : Type 0} → Result (List (TimerLine E)) TimerFault
 with_list (Ok es) next = next es
 with_list (Err fault) next = Err fault
 
--- The lists after the remaining assignments, or the first error, given the lists so far. The law `assignments_add_up`, a statement that is proved for all assignments, relates `resumed` to
--- `entries_or_fault`.
+-- The lists after the remaining assignments, or the first error, given the lists so far. The law `assignments_add_up`,
+-- a statement that is proved for all assignments, relates `resumed` to `entries_or_fault`.
 unfoldable pub resumed : {E : Type 0} → (List ℕ → Result E SpecFault) → Timer E → List Assignment → Result (Timer E) TimerFault
 resumed read lists [] = Ok lists
 resumed read lists (a ∷ after) =

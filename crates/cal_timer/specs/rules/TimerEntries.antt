@@ -1,5 +1,5 @@
 -- The result for a timer file: its first error, or its lists of expressions (systemd.timer(5), OnCalendar=) and of
--- exceptions. An exception is an expression after `X-ExceptOnCalendar=`; when it elapses, the timer doesn't.
+-- exceptions.
 use Rattle.std.specs.Prelude.{ℕ, ◌+◌, ◌==◌, nat_le, false, if◌then◌else◌, List, [], ◌∷◌, ◌++◌, length, take, Option, None, Some, Result, Ok, Err, count_by}
 use Rattle.std.specs.List.{filter_map}
 use Rattle.std.specs.Option.{option_or}

@@ -4,7 +4,7 @@ use Rattle.cal_spec.specs.rules.SpecFault as spec_fault
 use Rattle.cal_timer.specs.declared.fault.TimerFault.{TimerFault}
 use Rattle.cal_timer.specs.declared.fault.TimerFault.TheVariants.{ReadFailed, TooLarge, NotUtf8, BadLine, TooMany, NothingToDo, NoMemory}
 
--- the message of an error
+-- the message of an error, without the number of its line; it is empty only if memory ran out
 abbrev pub message_of : TimerFault → List ℕ
 message_of ReadFailed = codes "cannot be read"
 message_of TooLarge = codes "larger than 1048576 bytes"

@@ -1,5 +1,5 @@
 -- The result for a timer file, stated as a rule and not as a computation: systemd.timer(5), OnCalendar=;
--- systemd.syntax(7). An exception is an expression after `X-ExceptOnCalendar=`; when it elapses, the timer doesn't.
+-- systemd.syntax(7).
 use Rattle.std.specs.Prelude.{◌≡◌, ◌<◌, ℕ, List, [], ◌∷◌, ◌++◌, length, None, Some, Result, Ok, Err}
 use Rattle.cal_spec.specs.declared.spec_fault.SpecFault.{SpecFault}
 use Rattle.cal_timer.specs.rules.Assignments.{Assignment}

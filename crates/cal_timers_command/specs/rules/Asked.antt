@@ -59,23 +59,23 @@ shown_fault NoMemory = no_memory
 
 -- ## What the values that `clap` finds ask for
 
--- the value of an option as it is read, if it is given, or the error with the message about an invalid value
+-- the parsed value of an option, or None if the option isn't given; for an invalid value, the error with the message
 abbrev pub option_value : {A : Type 0} → (Text → Option A) → (Text → Text) → Option Text → Result (Option A) Fault
 option_value read message None = Ok None
 option_value read message (Some text) =
     option_map_or (λ value. Ok (Some value)) (read text) (Err (usage (message text)))
 
--- `--count`
+-- the value of `--count`, or None if the option isn't given
 unfoldable pub count_value : List Row → Result (Option ℕ) Fault
 count_value rows =
     option_value count_in (bad_value (codes "count") (codes "N") (codes "expected 1 to 1000000")) (first_of (codes "count") rows)
 
--- `--now`
+-- the value of `--now` in seconds of Unix time, or None if the option isn't given
 unfoldable pub now_value : List Row → Result (Option ℤ) Fault
 now_value rows =
     option_value present_in (bad_value (codes "now") (codes "@N") (codes "expected @0 to @7258211998")) (first_of (codes "now") rows)
 
--- an option whose value is any text that isn't empty
+-- the value of the option `--name`, which is any text that isn't empty, or None if the option isn't given
 unfoldable pub text_value : Text → Text → List Row → Result (Option Text) Fault
 text_value name value_name rows = option_value text_in (λ text. no_value name value_name) (first_of name rows)
 
@@ -83,7 +83,7 @@ text_value name value_name rows = option_value text_in (λ text. no_value name v
 abbrev pub has_clash : List Row → Bool
 has_clash rows = is_set (codes "utc") rows && is_some (first_of (codes "zone") rows)
 
--- `--zone`, and `--utc` as `UTC`
+-- the value of `--zone`, or `UTC` if `--utc` is given, or None if neither is given
 unfoldable pub zone_value : List Row → Result (Option Text) Fault
 zone_value rows =
     if is_set (codes "utc") rows then Ok (Some (codes "UTC")) else text_value (codes "zone") (codes "ZONE") rows
@@ -103,7 +103,7 @@ abbrev pub then_with : {A B : Type 0} → Result A Fault → (A → Result B Fau
 then_with (Ok value) next = next value
 then_with (Err fault) next = Err fault
 
--- `--root`, and an empty text by default
+-- the value of `--root`, or an empty text if the option isn't given
 unfoldable pub root_value : List Row → Result Text Fault
 root_value rows =
     then_with (text_value (codes "root") (codes "DIR") rows) (λ root. Ok (unwrap_or root []))
@@ -139,7 +139,7 @@ question_for verb rows =
 unfoldable pub faults_in : List Text → Kinds
 faults_in arguments = fault_of command_app (verb_first arguments)
 
--- what the verb that `clap` finds asks with the values that `clap` finds for it
+-- what is asked, or the first error, if `found` has the name of the verb and the values that `clap` finds
 unfoldable pub question_found : Option (Text × List Row) → Result Question Fault
 question_found found =
     option_map_or (λ (pair : Text × List Row). option_map_or (λ verb. question_for verb pair.1) (verb_named pair.0) (Err (usage no_question)))
@@ -163,8 +163,8 @@ is_of_help _ = false
 abbrev pub IsQuestionOf : List Text → Question → Type 0
 IsQuestionOf arguments question = HasRead arguments (Ok question)
 
--- `fault` may be reported if `clap` reports one of the errors `kinds`: its text is that of `clap`, of which is only known
--- that it isn't empty
+-- `fault` may be reported if `clap` reports one of the errors `kinds`: its text is that of `clap`, and all that is
+-- known about it is that it isn't empty
 abbrev pub IsRefusalOf : Kinds → Fault → Type 0
 IsRefusalOf kinds (usage text) = (list_any (λ kind. not (is_of_help kind)) kinds ≡ true) × (0 < length text)
 IsRefusalOf kinds (help text) = (list_any is_of_help kinds ≡ true) × (0 < length text)
@@ -178,7 +178,7 @@ IsFaultOf arguments (usage text) =
 IsFaultOf arguments (help text) = IsRefusalOf (faults_in arguments) (help text)
 IsFaultOf arguments no_memory = ⊤
 
--- `fault` is the error that `answer` is, and its text isn't empty, or `fault` is a failed allocation
+-- `answer` is the error `fault`, whose text isn't empty, or `fault` is a failed allocation
 abbrev pub IsFaultIn : {A : Type 0} → Result A Fault → CommandFault → Type 0
 IsFaultIn answer (Usage text) = (answer ≡ Err (usage (string_bytes text))) × (0 < length (string_bytes text))
 IsFaultIn answer (Help text) = ⊥

@@ -1,4 +1,4 @@
--- Texts behind references.
+-- How contracts see a list of references to texts.
 use Rattle.std.specs.Prelude.{ℕ, List, map}
 use Rattle.std.specs.Borrow.{Bor}
 use Rattle.clap.specs.Words.{Text}

@@ -4,7 +4,7 @@ use Rattle.cal_timers_report.specs.declared.style.Style.{Style}
 use Rattle.cal_timers_report.specs.declared.style.Emphasis.{Emphasis}
 use Rattle.cal_timers_report.specs.declared.style.Emphasis.TheVariants.{Heading, Error}
 
--- `ESC [ parameters m`
+-- the escape sequence `ESC [ parameters m`, which sets how the text after it is shown
 abbrev pub rendition : List ℕ → List ℕ
 rendition parameters = 27 ∷ (codes "[" ++ (parameters ++ codes "m"))
 

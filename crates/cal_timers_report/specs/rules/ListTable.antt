@@ -83,8 +83,8 @@ room_after terminal next left = (((terminal - next) - gap) - left) - gap
 abbrev pub width_in : ℕ → List ℕ → ℕ
 width_in room unit = if nat_le (text_width unit) room then text_width unit else 0
 
--- the width of the column of units if there is this much room for units and notes: a unit that leaves too little room for
--- notes doesn't widen the column
+-- the width of the column of units if there is this much room for units and notes: a unit that leaves too little room
+-- for notes doesn't widen the column
 abbrev pub unit_width : ℕ → List RowView → ℕ
 unit_width room rows = max (text_width (codes "UNIT")) (widest (λ row. width_in ((room - gap) - least_notes_room) row.unit) rows)
 

@@ -36,8 +36,8 @@ pub(crate) struct TimeLeft {
     pub(crate) then: Instant,
 }
 
-/// A local time, in seconds since 1970-01-01 00:00:00 on the same clock. It is written with weekday, date and time, as
-/// in `Sun 2027-03-28 02:30:00`.
+/// A local time, in seconds since 1970-01-01 00:00:00 on the clock that shows it. It is written with weekday, date and
+/// time, as in `Sun 2027-03-28 02:30:00`.
 #[derive(Clone, Copy)]
 pub(crate) struct LocalTime(pub(crate) i64);
 

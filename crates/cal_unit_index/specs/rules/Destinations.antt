@@ -19,7 +19,7 @@ use Rattle.cal_unit_index.specs.rules.UnitName.{file_stem, listed_stem, may_lead
 
 -- ## The names in a folder
 
--- Sorted texts, and these texts in addition. Each is there once.
+-- the sorted texts, with these texts added to them, each once
 abbrev pub with_texts : List (List ℕ) → List (List ℕ) → List (List ℕ)
 with_texts sorted texts = fold (insert_key (slice_cmp nat_cmp)) sorted texts
 
@@ -35,7 +35,7 @@ names_if_read (Err why) = []
 abbrev pub listed : Machine → List ℕ → List (List ℕ)
 listed machine folder = names_if_read (names_at machine folder)
 
--- the stems of the timers whose files these names can be
+-- the stems of the timers to which files with these names can belong
 abbrev pub stems_of : List (List ℕ) → List (List ℕ)
 stems_of names = filter_map listed_stem names
 
@@ -83,7 +83,7 @@ target_path folder target = if starts_with nat_eq target (codes "/") then target
 abbrev pub unit_path : List ℕ → List ℕ → List ℕ
 unit_path folder stem = folder ++ codes "/" ++ stem ++ codes ".timer"
 
--- where a stem leads by what is at `file`, its path in this folder: nowhere if that isn't a file of a unit
+-- where a stem leads, given what is at `file`, its path in this folder: nowhere if that isn't a file of a unit
 abbrev pub destination_of_entry : Machine → List (List ℕ) → List ℕ → List ℕ → List ℕ → Entry → Result (Option Destination) Unreadable
 destination_of_entry machine path folder stem file Missing = Ok None
 destination_of_entry machine path folder stem file Empty = Ok (Some (FileAt file))
@@ -97,7 +97,7 @@ abbrev pub if_read : {X Y : Type 0} → (X → Result Y Unreadable) → Result X
 if_read what (Ok found) = what found
 if_read what (Err why) = Err why
 
--- where a stem leads by its path in this folder
+-- where a stem leads according to this folder: what is at the stem's path in it decides
 abbrev pub destination_at_path : Machine → List (List ℕ) → List ℕ → List ℕ → Result (Option Destination) Unreadable
 destination_at_path machine path folder stem =
     if_read (destination_of_entry machine path folder stem (unit_path folder stem)) (entry_at machine (unit_path folder stem))
@@ -106,20 +106,21 @@ abbrev pub unless_unreadable : Result (Option Destination) Unreadable → Option
 unless_unreadable (Ok destination) = destination
 unless_unreadable (Err why) = None
 
--- where a stem leads by this folder, if it is one of these stems in the folder; what can't be read leads nowhere
+-- where a stem leads according to this folder, if it has these stems; a stem that isn't among them leads nowhere, nor
+-- does one whose path can't be read
 abbrev pub destination_by : Machine → List (List ℕ) → List ℕ → List (List ℕ) → List ℕ → Option Destination
 destination_by machine path folder stems stem =
     if is_among stems stem then unless_unreadable (destination_at_path machine path folder stem) else None
 
--- where a stem leads by this folder of the search path
+-- where a stem leads according to this folder of the search path
 abbrev pub destination_at : Machine → List (List ℕ) → List ℕ → List ℕ → Option Destination
 destination_at machine path stem folder = destination_by machine path folder (stems_of (listed machine folder)) stem
 
--- where a stem leads by the first of these folders of the search path that says so
+-- where a stem leads according to the first of these folders of the search path in which it leads anywhere
 abbrev pub destination_among : Machine → List (List ℕ) → List (List ℕ) → List ℕ → Option Destination
 destination_among machine path folders stem = slice_get (filter_map (destination_at machine path stem) folders) 0
 
--- where a stem leads
+-- where a stem leads on a machine with this search path
 abbrev pub destination_in : Machine → List (List ℕ) → List ℕ → Option Destination
 destination_in machine path stem = destination_among machine path path stem
 

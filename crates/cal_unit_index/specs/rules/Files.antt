@@ -44,7 +44,7 @@ drop_in_bytes Mask = None
 drop_in_bytes (Unusable reason) = None
 drop_in_bytes (Text bytes) = Some bytes
 
--- why a drop-in is lost; a folder, or a link to nothing, is read as nothing
+-- why a drop-in is lost; a folder or a link to nothing isn't lost, but skipped
 abbrev pub lost_for : Reason → Option Reason
 lost_for (reasons.Unreadable why) = Some (reasons.Unreadable why)
 lost_for reasons.IsFolder = None

@@ -87,8 +87,8 @@ entered destinations stem = option_map shown_destination (get_by_text destinatio
 abbrev pub destination_of : UnitIndex → List ℕ → Option Destination
 destination_of index stem = entered index.destinations stem
 
--- `new` is the index `old` with what these stems in a folder of the search path lead to; only a stem that led nowhere
--- before is changed
+-- `new` is the index `old`, to which the destinations and faults of these stems in a folder of the search path were
+-- added; a stem that had a destination keeps it
 pub record HasStems (machine : Machine) (path : List (List ℕ)) (folder : List ℕ) (stems : List (List ℕ)) (old new : UnitIndex) : Type 0 where
   pub destinations : (stem : List ℕ)
       → destination_of new stem ≡ option_or (destination_of old stem) (destination_by machine path folder stems stem)
@@ -96,7 +96,7 @@ pub record HasStems (machine : Machine) (path : List (List ℕ)) (folder : List 
       ≡ map shown_fault old.unreadable.items ++ faults_of_stems machine path folder stems
   pub folders : new.folders.items ≡ old.folders.items
 
--- the index has what the folders `done` of the search path say
+-- the index has exactly what was found in the folders `done` of the search path
 pub record IsIndexUpTo (machine : Machine) (path done : List (List ℕ)) (index : UnitIndex) : Type 0 where
   pub folders : map shown_folder index.folders.items ≡ map (searched machine) done
   pub destinations : (stem : List ℕ) → destination_of index stem ≡ destination_among machine path done stem

@@ -1,5 +1,5 @@
--- The names of units: systemd.unit(5), Description. A stem is a unit's name without its suffix `.timer`. `lookup` is the
--- destination of each stem, None if a stem has none.
+-- The names of units: systemd.unit(5), Description. A stem is a unit's name without its suffix `.timer`. `lookup` is
+-- the destination of each stem, None if a stem has none.
 use Rattle.std.specs.Prelude.{ℕ, Bool, false, not, List, [], ◌∷◌, ◌++◌, Option, None, Some, filter, if◌then◌else◌, string_bytes}
 use Rattle.std.specs.List.{filter_map, flat_map}
 use Rattle.std.specs.Str.{bytes_eq}
@@ -36,14 +36,15 @@ alias_with lookup stem = alias_if_linked lookup stem (lookup stem)
 abbrev pub aliases_named : (List ℕ → Option Destination) → List (List ℕ) → List Alias
 aliases_named lookup names = filter_map (alias_with lookup) (stems_of names)
 
--- All aliases of a machine, in the order of the search path's folders, and by name in each. If several folders have the
--- name of an alias, it is there several times. systemd leaves out an alias whose unit is masked; it isn't left out here.
+-- All aliases of a machine, in the order of the search path's folders, and sorted by name in each. An alias whose name
+-- is in several folders is in the list several times. systemd leaves out an alias whose unit is masked; it isn't left
+-- out here.
 abbrev pub aliases_in : Machine → List (List ℕ) → List Alias
 aliases_in machine path = flat_map (λ folder. aliases_named (destination_in machine path) (listed machine folder)) path
 
 -- ## The names of a unit
 
--- whether following from a stem leads to a file, but not to that of the stem `file`
+-- whether following aliases ended at a file, but not at the one that was found under the stem `file`
 abbrev pub is_elsewhere : List ℕ → End → Bool
 is_elsewhere file Nowhere = false
 is_elsewhere file (AtFile path other) = not (bytes_eq other file)
@@ -76,7 +77,8 @@ abbrev pub names_with : (List ℕ → Option Destination) → List Alias → Lis
 names_with lookup aliases file own asked =
     own ∷ filter (λ name. not (bytes_eq name own)) (more_names lookup aliases file own asked)
 
--- the stems of all names of the unit that was asked for by `asked`, if it was found with these two stems
+-- the stems of all names of the unit that was asked for by `asked`, if its own stem is `own`, and its file was found
+-- under the stem `file`
 abbrev pub names_on : Machine → List (List ℕ) → List ℕ → List ℕ → List ℕ → List (List ℕ)
 names_on machine path file own asked = names_with (destination_in machine path) (aliases_in machine path) file own asked
 

@@ -35,7 +35,7 @@ paths_in text = filter (λ path. not (length path == 0)) (slice_split is_colon t
 abbrev pub with_folder : List (List ℕ) → List ℕ → List (List ℕ)
 with_folder folders folder = if list_any (bytes_eq folder) folders then folders else folders ++ folder ∷ []
 
--- the plain paths of the folders, each once, at its first place
+-- the plain paths of the folders, each only where it occurs first
 unfoldable pub each_once : List (List ℕ) → List (List ℕ)
 each_once folders = fold with_folder [] (map plain_path folders)
 
@@ -93,8 +93,8 @@ user_places d =
 abbrev pub user_folders : Directories → List (List ℕ)
 user_folders d = flat_map folders_at (user_places d)
 
--- the value of a variable or, if it isn't set, the home followed by `name`; None if that isn't possible, because the home
--- isn't an absolute path
+-- the value of a variable or, if it isn't set, the home followed by `name`; None if that isn't possible, because the
+-- home isn't an absolute path
 unfoldable pub own_directory : Option (List ℕ) → Option (List ℕ) → List ℕ → Option (List ℕ)
 own_directory (Some directory) home name = Some directory
 own_directory None home name =
@@ -111,8 +111,8 @@ directories_of config_home data_home variables =
       data_dirs = paths_in (unwrap_or variables.data_dirs (codes "/usr/local/share:/usr/share"));
     }
 
--- the search path of a user's manager; None if `XDG_CONFIG_HOME` or `XDG_DATA_HOME` isn't set and `HOME` isn't an absolute
--- path
+-- the search path of a user's manager; None if `XDG_CONFIG_HOME` or `XDG_DATA_HOME` isn't set and `HOME` isn't an
+-- absolute path
 unfoldable pub user_path : Variables → Option (List (List ℕ))
 user_path variables =
     option_and_then

@@ -1,6 +1,6 @@
--- Which timers other units start, whether or not these are started themselves: those in folders `NAME.wants` and
--- `NAME.requires` below the folders of the search path (systemd.unit(5), Description). Here, any such folder is called a
--- wants folder, and `NAME` can be any unit.
+-- Which timers other units start, whether or not those units are started themselves: the timers in folders `NAME.wants`
+-- and `NAME.requires` below the folders of the search path (systemd.unit(5), Description). Here, any such folder is
+-- called a wants folder, and `NAME` can be any unit.
 use Rattle.std.specs.Prelude.{ℕ, nat_eq, Bool, true, false, ◌||◌, if◌then◌else◌, List, [], ◌∷◌, ◌++◌, Option, None, Some, Result, Ok, Err, codes, filter, length, map, option_and_then, option_map, reverse, take}
 use Rattle.std.specs.List.{ends_with, filter_map, flat_map}
 use Rattle.std.specs.Path.{rfind_below}
@@ -25,9 +25,9 @@ is_wants_name name = ends_with nat_eq name (codes ".wants") || ends_with nat_eq 
 abbrev pub wants_names : Machine → List (List ℕ) → List (List ℕ)
 wants_names machine path = sorted_once (flat_map (λ folder. filter is_wants_name (listed machine folder)) path)
 
--- The wants folders with this name that are read, below these folders of the search path. Here and below, `roots` are the
--- folders of the search path from the least important one to the most important one. systemd finds wants folders as it
--- finds drop-in folders, so `folders_below` says which are read.
+-- The wants folders with this name that are read, below these folders of the search path. Here and below, `roots` are
+-- the folders of the search path from the least important one to the most important one. systemd finds wants folders as
+-- it finds drop-in folders, so `folders_below` says which are read.
 abbrev pub wants_folders : Machine → List (List ℕ) → List ℕ → List (List ℕ)
 wants_folders machine roots name = flat_map (folders_below machine (name ∷ [])) roots
 
@@ -35,15 +35,15 @@ wants_folders machine roots name = flat_map (folders_below machine (name ∷ [])
 abbrev pub files_in : Machine → List ℕ → List FolderFile
 files_in machine folder = map (file_in folder) (listed_names (names_at machine folder))
 
--- The names and paths that count in the wants folders with this name, sorted by name. As with drop-ins, of several files
--- with the same name, only the one in the most important folder counts, whatever it is.
+-- The names and paths that count in the wants folders with this name, sorted by name. As with drop-ins, of several
+-- files with the same name, only the one in the most important folder counts, whatever it is.
 abbrev pub files_wanted : Machine → List (List ℕ) → List ℕ → List (List ℕ × List ℕ)
 files_wanted machine roots name = by_name (flat_map (files_in machine) (wants_folders machine roots name))
 
 -- ## What is started
 
--- Whether a link that leads to this starts a timer: not if it masks the timer, as an empty file or a device does. systemd
--- also takes a link that it can't follow, such as one that leads in a circle, for one that doesn't mask.
+-- Whether a link starts a timer, given what it leads to: not if this masks the timer, as an empty file or a device
+-- does. systemd also takes a link that it can't follow, such as one that leads in a circle, for one that doesn't mask.
 abbrev pub is_unmasked : Result Entry Unreadable → Bool
 is_unmasked (Ok Missing) = true
 is_unmasked (Ok Empty) = false
@@ -53,8 +53,8 @@ is_unmasked (Ok Folder) = true
 is_unmasked (Ok (Link target)) = true
 is_unmasked (Err why) = true
 
--- Whether what is at a path in a wants folder starts a timer, which only links do. What can't be examined counts as a link,
--- since it most likely is one, for example with a target that isn't UTF-8.
+-- Whether what is at a path in a wants folder starts a timer, which only links do. What can't be examined counts as a
+-- link, since it most likely is one, for example with a target that isn't UTF-8.
 abbrev pub is_start : Machine → List ℕ → Result Entry Unreadable → Bool
 is_start machine path (Ok Missing) = false
 is_start machine path (Ok Empty) = false
@@ -67,13 +67,13 @@ is_start machine path (Err why) = true
 abbrev pub dot : ℕ
 dot = 46
 
--- the name before its last dot
+-- the part of a name before its last dot, or None if it has no dot
 abbrev pub before_dot : List ℕ → Option (List ℕ)
 before_dot name = option_map (λ index. take index name) (rfind_below dot name (length name))
 
--- The instance that a unit with this name, without its suffix, gives to a template that it wants: the unit's own instance,
--- or all of the name if the unit isn't an instance. A template and a name that ends with a dash, which is a prefix, stand
--- for many units, so they give no instance.
+-- The instance that a unit with this name, without its suffix, gives to a template that it wants: the unit's own
+-- instance, or all of the name if the unit isn't an instance. A template and a name that ends with a dash, which is a
+-- prefix, stand for many units, so they give no instance.
 abbrev pub instance_by : UnitKind → List ℕ → Option (List ℕ)
 instance_by Plain unit = if ends_with nat_eq unit (codes "-") then None else Some unit
 instance_by Template unit = None
@@ -95,8 +95,8 @@ instantiated template (Some instance) = if_stem (template ++ instance)
 abbrev pub stem_in : List ℕ → List ℕ → Option (List ℕ)
 stem_in folder stem = if is_template stem then instantiated stem (instance_in folder) else Some stem
 
--- The stem of the timer that a link with this name starts, wherever it leads, in a wants folder with the name `folder`. The
--- name of a template starts an instance of it, unless the folder can belong to several units.
+-- The stem of the timer that a link with this name starts, wherever it leads, in a wants folder with the name `folder`.
+-- The name of a template starts an instance of it, unless the folder can belong to several units.
 abbrev pub linked_stem : List ℕ → List ℕ → Option (List ℕ)
 linked_stem folder name = option_and_then (stem_in folder) (listed_stem name)
 
@@ -122,7 +122,7 @@ abbrev pub unreadable_named : Machine → List (List ℕ) → List ℕ → List 
 unreadable_named machine roots name =
     flat_map (λ folder. faults_of_listing folder (names_at machine folder)) (wants_folders machine roots name)
 
--- the wants folders that can't be read, sorted by name, and those with the same name from the least important one to the
--- most important one
+-- The wants folders that can't be read, sorted by name. Folders with the same name go from the least important one to
+-- the most important one.
 abbrev pub unreadable_wants : Machine → List (List ℕ) → List Fault
 unreadable_wants machine path = flat_map (unreadable_named machine (reverse path)) (wants_names machine path)

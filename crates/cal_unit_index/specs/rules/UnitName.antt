@@ -54,7 +54,8 @@ unit_stem name = if is_stem (without_suffix name) then Some (without_suffix name
 unfoldable pub file_stem : List ℕ → Option (List ℕ)
 file_stem name = if ends_with nat_eq name suffix then unit_stem name else None
 
--- the stem of the timer whose file a name in a folder of the search path can be; hidden files are left out
+-- the stem of the timer to which a file with this name in a folder of the search path can belong; hidden files are left
+-- out
 unfoldable pub listed_stem : List ℕ → Option (List ℕ)
 listed_stem name = if starts_with nat_eq name (codes ".") then None else file_stem name
 

@@ -17,18 +17,19 @@ pub data End : Type 0 where
   AtFile : (path : List ℕ) → (stem : List ℕ) → End
   Endless : End
 
--- from a stem with this destination; `more` follows from the stem to which an alias leads
+-- where following aliases ends, starting at a stem with this destination; `more` goes on from the stem to which an
+-- alias leads
 abbrev pub from_destination : (List ℕ → End) → List ℕ → Option Destination → End
 from_destination more stem None = Nowhere
 from_destination more stem (Some (FileAt path)) = AtFile path stem
 from_destination more stem (Some (AliasOf other)) = more other
 
--- The stem by which a unit is looked up to which an alias leads: its own, but that of its template if it is an instance
+-- The stem by which the target of an alias is looked up: its own, or its template's if it is the stem of an instance
 -- and has no destination.
 abbrev pub looked_up : (List ℕ → Option Destination) → List ℕ → List ℕ
 looked_up lookup stem = if is_some (lookup stem) then stem else unwrap_or (template_of stem) stem
 
--- following from a stem to which an alias leads, where at most `count` stems are looked up
+-- where following aliases ends, starting at a stem to which an alias leads, if at most `count` stems are looked up
 abbrev pub follow : (List ℕ → Option Destination) → ℕ → List ℕ → End
 follow lookup zero stem = Endless
 follow lookup (suc count) stem = from_destination (follow lookup count) (looked_up lookup stem) (lookup (looked_up lookup stem))
@@ -51,7 +52,7 @@ pub data Unit : Type 0 where
   TooManyAliases : Unit
   FoundAt : (path : List ℕ) → (file : List ℕ) → (own : List ℕ) → Unit
 
--- the own stem of the unit that was asked for by `stem`, if its file was found under the stem `file`
+-- the unit's own stem, if the unit was asked for by `stem`, and its file was found under the stem `file`
 abbrev pub own_stem : List ℕ → List ℕ → List ℕ
 own_stem file stem = if is_template file then file ++ instance_of stem else file
 
@@ -74,7 +75,7 @@ following_unit lookup stem = or_template (following lookup) (template_of stem) (
 abbrev pub unit_by : (List ℕ → Option Destination) → List ℕ → Unit
 unit_by lookup stem = if is_template stem then TemplateOnly else unit_from stem (following_unit lookup stem)
 
--- what is found on a machine with this search path
+-- what is found for a stem on a machine with this search path
 abbrev pub unit_on : Machine → List (List ℕ) → List ℕ → Unit
 unit_on machine path stem = unit_by (destination_in machine path) stem
 

@@ -51,7 +51,7 @@ abbrev pub Answers : {A B : Type 0} → (A → B) → Result A declared_stop.Sto
 Answers view (Ok value) expected = expected ≡ Ok (view value)
 Answers view (Err stop) expected = StopsAs stop expected
 
--- The results of the steps
+-- ## The results of the steps
 
 -- what loading one zone file returned agrees with `expected`, the result of the definitions; `table` is the zone
 -- table after loading
@@ -104,7 +104,7 @@ pub record Presents {T : Type 0} (view : T → ℤ) (known : Known) (given : Opt
   pub asked : IfNone given (GivesTime known.time clock)
   pub answers : Answers view result (present_by given clock)
 
--- How the work ended, and what it had written by then
+-- ## How the work ended, and what it had written by then
 
 -- the result of a run, converted to the result of the work
 abbrev pub ran : Result Status RunFault → Result Status declared_stop.Stop
@@ -112,8 +112,8 @@ ran (Ok status) = Ok status
 ran (Err fault) = Err (Run fault)
 
 -- The work ended with this stop, and this agrees with the outcome `expected`. If the stop is `Run`, a prefix of each
--- text of the outcome was written, and 1 is the exit status that `ended_status` returns for the failure. For every
--- other stop, nothing was written, and `StopsAs` holds.
+-- text of the outcome was written, and `ended_status` returns 1 for the failure. For every other stop, nothing was
+-- written, and `StopsAs` holds.
 abbrev pub StopEnds : declared_stop.Stop → Result Report Stop → Option (List ℕ) → Option (List ℕ) → Option (List ℕ) → Option (List ℕ) → Type 0
 StopEnds (Run fault) expected out out' err err' =
     (ended_status {T = Unit} (Err fault) expected ≡ 1) × AppendsFront out out' (out_text expected) × AppendsFront err err' (err_text expected)
@@ -140,7 +140,7 @@ pub record AnsweredArguments (known : Known) (arguments : List (List ℕ)) (resu
   pub fits : FitsArguments known arguments world
   pub ends : EndsAs result (outcome world) out out' err err'
 
--- After the work has ended: the report of a stop, the flush of standard output, and the exit status
+-- ## After the work has ended: the report of a stop, the flush of standard output, and the exit status
 
 -- The exit status after the output is flushed: 1 if standard output or an allocation failed, and otherwise `status`,
 -- the exit status before the flush.

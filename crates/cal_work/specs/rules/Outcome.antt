@@ -45,7 +45,7 @@ abbrev pub and_then : {A B F : Type 0} → (A → Result B F) → Result A F →
 and_then next (Ok value) = next value
 and_then next (Err stop) = Err stop
 
--- The first step: loading the zone files
+-- ## The first step: loading the zone files
 
 -- the table with the zone added, or an error if `jiff` rejects the file or the name is taken
 abbrev pub with_zone : ZoneMap → List ℕ → Option TimeZone → Result ZoneMap LoadFault
@@ -78,7 +78,7 @@ table_by table (item ∷ items) [] = Ok table
 table_by table (item ∷ items) (f ∷ found) =
     and_then (λ more. table_by more items found) (or_load_stop item.name (loaded table item f))
 
--- The second step: determining the local zone
+-- ## The second step: determining the local zone
 
 -- the local zone, or the stop if the arguments give an invalid rule or an unknown name for it
 unfoldable pub local_by : LocalZone → ZoneMap → ClockZone → Result ClockZone Stop
@@ -87,7 +87,7 @@ local_by (at_offset seconds) table zone = Ok zone
 local_by (by_rule rule) table zone = if is_some (rule_read rule) then Ok zone else Err rule_stop
 local_by (of_name name) table zone = if is_some (zone_named table name) then Ok zone else Err name_stop
 
--- The third step: determining the present instant
+-- ## The third step: determining the present instant
 
 -- the instant with this number of seconds of Unix time, if it is in the supported range
 unfoldable pub instant_in : ℤ → Option ℤ
@@ -106,7 +106,7 @@ unfoldable pub present_by : Option ℤ → Option ℤ → Result ℤ Stop
 present_by (Some now) clock = Ok now
 present_by None clock = clock_by clock
 
--- The fourth step: reading the timer file and running the request
+-- ## The fourth step: reading the timer file and running the request
 
 -- the result of reading the timer file, or the stop if the file can't be opened or memory runs out
 abbrev pub input_by : List ℕ → Seen → Result (Result (List ℕ) WholeFault) Stop
@@ -125,7 +125,7 @@ run_on asked seen (for_file path) = and_then (λ read. Ok (file_report asked pat
 unfoldable pub run_by : Request → Seen → Result Report Stop
 run_by asked seen = run_on asked seen (kind_of asked)
 
--- All steps together
+-- ## All steps together
 
 abbrev pub asked_at : Ask → ZoneMap → ClockZone → ℤ → Request
 asked_at ask table local now = record {
@@ -155,7 +155,7 @@ outcome_of_parsed (Err fault) world = Err (command_stop fault)
 unfoldable pub outcome : World → Result Report Stop
 outcome world = outcome_of_parsed world.parsed world
 
--- What an outcome writes, and its exit status
+-- ## What an outcome writes, and its exit status
 
 abbrev pub out_text : Result Report Stop → List ℕ
 out_text (Ok report) = report.out

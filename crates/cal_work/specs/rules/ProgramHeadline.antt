@@ -1,8 +1,8 @@
--- The headline, said of the program: what `calendar` and `timer` print for the arguments of the command line
--- (systemd-analyze(1), calendar; `timer` is this project's own). To understand it, read what the arguments ask for
--- (`IsAskOf`), what an accepted expression and its elapses are (Headline.antt of `cal_report`), and how a cut output
--- can be continued (Resume.antt of `cal_report`). You needn't read `outcome`, `report` or the functions that compute
--- elapses, which they call.
+-- Definitions for the clause `headline` of `work`: what the program prints for the verbs `calendar` and `timer`
+-- (systemd-analyze(1), calendar; `timer` is this project's own). To understand the clause, read what the arguments ask
+-- for (`IsAskOf`), what an accepted expression and its elapses are (Headline.antt of `cal_report`), and how a cut
+-- output can be continued (Resume.antt of `cal_report`). You needn't read `outcome`, `report` or the functions that
+-- compute elapses, which they call.
 use Rattle.std.specs.Prelude.{◌≡◌, ◌<◌, ◌++◌, ℕ, ℤ, false, List, [], ◌∷◌, length, codes, Option, None, Some, Result, Ok, Err}
 use Rattle.std.specs.FinMap.{empty, insert}
 use Rattle.std.specs.Io.KnownBytes.{Appends, Keeps}

@@ -30,7 +30,7 @@ with_line line status = record { out = []; err = line; status = status }
 unfoldable pub own_line : List ℕ → List ℕ
 own_line message = joined (codes "calendar-analyze: " ∷ message ∷ codes "\n" ∷ [])
 
--- the error line for a zone file
+-- the error line about the file of the zone `name`, an item of `--zones`
 unfoldable pub zones_line : List ℕ → List ℕ → List ℕ
 zones_line name message = joined (codes "calendar-analyze: --zones: " ∷ name ∷ codes ": " ∷ message ∷ codes "\n" ∷ [])
 
@@ -42,7 +42,8 @@ unopened_line path = joined (path ∷ codes ": cannot be read\n" ∷ [])
 abbrev pub memory_stop : Stop
 memory_stop = with_line (own_line (codes "out of memory")) 1
 
--- the stop for arguments that are invalid, or ask only for help or the version
+-- the stop for arguments that are invalid or ask only for help or the version, or for running out of memory while they
+-- are parsed
 abbrev pub command_stop : CommandFault → Stop
 command_stop (usage text) = with_line text 2
 command_stop (help text) = record { out = text; err = []; status = 0 }
@@ -90,7 +91,7 @@ shown_stop Clock = clock_stop
 shown_stop (Open path) = unopened_stop (string_bytes path)
 shown_stop (Run fault) = fault_stop fault
 
--- the text that is written for help or for invalid arguments, to whichever output it goes
+-- the text that is written for help, for invalid arguments or for running out of memory, to whichever output it goes
 abbrev pub command_text : CommandFault → List ℕ
 command_text (help text) = text
 command_text fault = (command_stop fault).err
@@ -100,8 +101,10 @@ abbrev pub stop_text : declared_stop.Stop → List ℕ
 stop_text (Command fault) = command_text (shown_fault fault)
 stop_text stop = (shown_stop stop).err
 
--- Where each stop is reported: help on standard output, other stops on standard error. A failed output and running out
--- of memory are reported only after the output is flushed.
+-- ## Where each stop is reported
+--
+-- Help is reported on standard output, and other stops on standard error. A failed output and running out of memory are
+-- reported only after the output is flushed.
 
 abbrev pub zone_outlet : ZoneFault → Outlet
 zone_outlet zone.NoMemory = Later run.NoMemory
@@ -125,6 +128,8 @@ outlet_of Clock = OnErr
 outlet_of (Open path) = OnErr
 outlet_of (Run fault) = Later fault
 
+-- ## What a stop is due to
+--
 -- The next six definitions say whether a stop is due to a failure of standard output, to a failure of standard error,
 -- or to a lack of memory. Three of them take the stop's `Outlet`, which names the failure, and three the stop itself.
 

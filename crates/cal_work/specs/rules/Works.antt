@@ -24,7 +24,7 @@ use Rattle.cal_work.specs.rules.System.{Known, Seen, Sees, GivesTime}
 use Rattle.cal_request.specs.declared.request.RunFault.{RunFault}
 use Rattle.cal_work.specs.declared.arguments_to_bytes.Ended.{Ended}
 
--- A world that agrees with what is known, as far as the program asked for it
+-- ## A world that agrees with what is known, as far as the program asked for it
 
 -- `jiff` reads this zone from a zone file with this name and these bytes, or, if there is no zone (`None`), it rejects
 -- the file
@@ -80,7 +80,7 @@ pub record FitsArguments (known : Known) (arguments : List (List ℕ)) (world : 
   pub parsed : IsAskOf arguments world.parsed
   pub fits : IfOk world.parsed (λ ask. Fits known ask world)
 
--- What reaches the outputs
+-- ## What reaches the outputs
 
 -- If nothing failed, the whole text reached the output. If something failed, the bytes that reached the output,
 -- followed by the bytes `held` that are left in a buffer, are a prefix of the text.

@@ -1,4 +1,4 @@
--- Trying one UTC offset to find the place of a local second, and the local second whose place is a given instant:
+-- The place of a local second if only one UTC offset is tried, and the local second whose place is a given instant:
 -- systemd.time(7), Calendar Events.
 use Rattle.std.specs.Prelude.{ℤ, ◌-ℤ◌, Option, Some, None, if◌then◌else◌, ◌≡◌}
 use Rattle.std.specs.Ordering.{int_eq}

@@ -5,7 +5,7 @@ use Rattle.std.specs.Prelude.{ℕ, ℤ, pos, ◌*ℤ◌, ◌≤ℤ◌}
 abbrev pub micros_per_second : ℕ
 micros_per_second = 1_000_000
 
--- the moment of an instant
+-- the first moment of an instant
 abbrev pub micros_of : ℤ → ℤ
 micros_of secs = secs *ℤ pos micros_per_second
 

@@ -1,5 +1,5 @@
 -- The zones that timestamps and calendar expressions can refer to (systemd.time(7), Parsing Timestamps and Calendar
--- Events). Definitions that also depend on the present take the present as a further argument.
+-- Events). Definitions that also depend on the current time take it as a further argument.
 use Rattle.std.specs.Prelude.{ℕ, List, Option}
 use Rattle.jiff.specs.Types.{TimeZone}
 use Rattle.cal_zone.specs.declared.setting.Setting as declared

@@ -7,7 +7,7 @@ use Rattle.cal_zone.specs.declared.zone.ZoneKind.{ZoneKind}
 use Rattle.cal_zone.specs.declared.zone.ZoneKind.TheVariants.{Utc, Offset as Fixed, Rules}
 use Rattle.cal_zone.specs.declared.zone.Zone.{Zone}
 
--- UTC itself
+-- the zone UTC; it isn't the same as a zone with the fixed offset 0
 abbrev pub utc : Zone
 utc = record { kind = Utc }
 

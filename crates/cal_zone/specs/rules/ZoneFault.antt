@@ -1,4 +1,5 @@
--- The messages of the errors for zones, in this project's own words.
+-- The messages of the errors in parsing the rules of a zone, and in adding a zone to a table. The wording is this
+-- project's own.
 use Rattle.std.specs.Prelude.{ℕ, List, [], codes}
 use Rattle.cal_zone.specs.declared.zone_fault.ZoneFault.{ZoneFault}
 use Rattle.cal_zone.specs.declared.zone_fault.ZoneFault.TheVariants.{BadName, BadRule, BadFile, TooLarge, NoMemory, NameTaken}

@@ -1,5 +1,5 @@
--- Which zone to use. If the option for the zone is given, it decides. Otherwise, if the variable TZ counts and is set,
--- the variable decides (tzset(3)). Otherwise, it is the machine's own zone, to whose file /etc/localtime leads
+-- Which zone to use. If the option for the zone is given, it decides. Otherwise, if the environment variable TZ may
+-- decide and is set, it decides (tzset(3)). Otherwise, it is the machine's own zone, to whose file /etc/localtime leads
 -- (localtime(5)). If the option's value is the name of a zone, the name is as in systemd.time(7), Calendar Events. The
 -- other forms of the option's value are this project's own.
 use Rattle.std.specs.Prelude.{◌≡◌, ⊤, ℕ, ℤ, Bool, true, false, List, [], Option, None, Some, Result, Ok, Err, codes, if◌then◌else◌, is_some, string_bytes}
@@ -20,8 +20,8 @@ use Rattle.cal_zone_files.specs.declared.fault.ZonesFault.{ZonesFault}
 use Rattle.cal_zone_files.specs.declared.fault.ZonesFault.TheVariants as faults
 use Rattle.cal_zone_files.specs.declared.texts.ZoneText as zone_texts
 
--- A zone: UTC, an offset in seconds east of UTC, a POSIX rule, the name of a zone, or the machine's own zone. Or the
--- origin (the option or the variable) doesn't say which zone to use, or can't be read.
+-- A zone: UTC, an offset in seconds east of UTC, a POSIX rule, the name of a zone, or the machine's own zone. The last
+-- two values are errors: the option or the variable doesn't say which zone to use, or it can't be read.
 pub data MachineLocalZone : Type 0 where
   InUtc : MachineLocalZone
   Ahead : (seconds : ℤ) → MachineLocalZone
@@ -80,7 +80,7 @@ value_zone text (Some file) = file_zone file
 abbrev pub variable_zone : List ℕ → MachineLocalZone
 variable_zone text = value_zone text (after_prefix (codes ":") text)
 
--- the zone if the variable has this value; without a value, it is the machine's own
+-- the zone to use if this is the value of the variable TZ; if the variable isn't set, it is the machine's own zone
 abbrev pub set_zone : Result (Option (List ℕ)) Unreadable → MachineLocalZone
 set_zone (Ok None) = OfMachine
 set_zone (Ok (Some text)) = variable_zone text
@@ -89,7 +89,8 @@ set_zone (Err why) = UnreadIn origins.Variable
 abbrev pub zone_by_variable : Machine → MachineLocalZone
 zone_by_variable machine = set_zone (machine.variable (codes "TZ"))
 
--- the zone to use: that of the option, or else, if the flag is true, that of the variable, or else the machine's
+-- the zone to use: that of the option if it is given, or else, if `by_variable` is true, that of the variable, or else
+-- the machine's own zone
 abbrev pub machine_local_zone : Machine → Option (List ℕ) → Bool → MachineLocalZone
 machine_local_zone machine (Some text) by_variable = argument_zone text
 machine_local_zone machine None true = zone_by_variable machine
@@ -126,7 +127,8 @@ HasZoneOffset (zones.TheVariants.Rule rule) = ⊤
 HasZoneOffset (zones.TheVariants.Named name) = ⊤
 HasZoneOffset zones.TheVariants.OfMachine = ⊤
 
--- Whether `zone` is the result: found, or the error that it is. Nothing is known of `zone` if memory ran out.
+-- Whether the result agrees with `zone`: it is this zone, or the error that `zone` stands for. Nothing is known of
+-- `zone` if memory ran out.
 abbrev pub IsResultOf : MachineLocalZone → Result zones.MachineLocalZone ZonesFault → Type 0
 IsResultOf zone (Ok found) = shown_zone found ≡ zone
 IsResultOf zone (Err (faults.Unclear origin)) = zone ≡ UnclearIn origin

@@ -61,7 +61,7 @@ pub record IsZoneAdded (old new : ZoneMap) (name : List ℕ) (IsZone : TimeZone 
   pub other : is_utc_name name ≡ false
   pub added : new ≡ insert old name zone
 
--- whether a zone file with these bytes is rejected for this reason; that memory ran out is not a reason
+-- whether a zone file with these bytes is rejected for this reason; running out of memory isn't a reason
 abbrev pub IsRejected : List ℕ → List ℕ → FileReason → Type 0
 IsRejected name bytes reasons.NotFound = ⊥
 IsRejected name bytes (reasons.Load loads.ReadFailed) = ⊥
@@ -76,13 +76,13 @@ abbrev pub IsZoneIn : List ℕ → Option TimeZone → Type 0
 IsZoneIn bytes (Some zone) = IsFileZone (codes "localtime") bytes zone
 IsZoneIn bytes None = (fault : ZoneFault) × (fault ≢ zones.NoMemory) × IsFileFault (codes "localtime") bytes fault
 
--- Whether this is the machine's own zone: the one in the zone file to which /etc/localtime leads (localtime(5)). None if
--- it leads to no file that can be read, or to one that isn't a zone file.
+-- Whether this is the machine's own zone: the one in the zone file to which /etc/localtime leads (localtime(5)). None
+-- if it leads to no file that can be read, or to one that isn't a zone file.
 abbrev pub IsMachineZone : Machine → Option TimeZone → Type 0
 IsMachineZone machine zone =
     MatchResult (bytes_in (content_at machine localtime)) (λ bytes. IsZoneIn bytes zone) (λ reason. zone ≡ None)
 
--- whether loading the zone of this name fails with this error, unless memory runs out
+-- whether loading the zone of this name can fail with this error; memory can always run out
 abbrev pub IsLoadError : Machine → List ℕ → ZonesFault → Type 0
 IsLoadError machine name (faults.Unclear origin) = ⊥
 IsLoadError machine name (faults.Unread origin) = ⊥

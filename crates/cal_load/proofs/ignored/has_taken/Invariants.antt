@@ -1,4 +1,4 @@
--- One of the remaining assignments is taken if and only if one of all is, because none of those so far is.
+-- One of the remaining assignments is taken if and only if any assignment is, because no assignment so far is.
 use Rattle.std.proofs.Common.{◌≡◌, drop, map}
 use Rattle.std.specs.List.{list_any}
 use Rattle.cal_read.specs.rules.SectionAssignments.{shown_owned_assignment}

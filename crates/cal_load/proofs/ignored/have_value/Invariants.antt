@@ -1,4 +1,5 @@
--- One of the remaining assignments has the value if and only if one of all has, because none of those so far has.
+-- One of the remaining assignments has the value if and only if any assignment has it, because no assignment so far
+-- does.
 use Rattle.std.proofs.Common.{◌≡◌, drop, map}
 use Rattle.std.specs.List.{list_any}
 use Rattle.cal_read.specs.rules.SectionAssignments.{shown_owned_assignment}

@@ -1,4 +1,4 @@
--- One of the remaining notes starts the unit if and only if one of all notes does, because none of those so far does.
+-- One of the remaining notes starts the unit if and only if any note does, because the notes so far don't.
 use Rattle.std.proofs.Common.{◌≡◌, drop, map}
 use Rattle.std.specs.List.{list_any}
 use Rattle.cal_read.specs.rules.SectionAssignments.{shown_owned_assignment}

@@ -1,4 +1,5 @@
--- Searching the remaining assignments has the same result as searching all, because none of those so far counts.
+-- Searching the remaining assignments has the same result as searching all, because none of the assignments so far
+-- counts.
 use Rattle.std.proofs.Common.{◌≡◌, drop, map}
 use Rattle.cal_read.specs.rules.SectionAssignments.{shown_owned_assignment}
 use Rattle.cal_load.specs.rules.Notes.{unit_line}

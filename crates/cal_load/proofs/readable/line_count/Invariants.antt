@@ -1,4 +1,4 @@
--- The lines so far and the remaining lines are all lines.
+-- The lines counted so far and the remaining lines are all lines of the file.
 use Rattle.std.proofs.Common.{◌≡◌, ◌+◌, ◌≤◌, length}
 use Rattle.std.specs.Str.Lines.{lines}
 use Rattle.cal_load.proofs.readable.line_count.Given as goal

@@ -3,7 +3,7 @@ use Rattle.std.specs.List.{list_any}
 use Rattle.cal_load.specs.rules.Specifiers.{is_strange_part, parts_of}
 use Rattle.cal_load.proofs.specifiers.has_strange_part.Given as goal
 
--- none of the parts so far is such a specifier
+-- none of the parts so far is a specifier that systemd doesn't know in `Unit=`
 abbrev pub invariant-loop-part : goal.invariant-loop-part
 invariant-loop-part l = list_any is_strange_part (parts_of l.rest) ≡ list_any is_strange_part (parts_of l.value)
 

@@ -1,4 +1,4 @@
--- One of the remaining folders has the name if and only if one of all has, because none of those so far has.
+-- One of the remaining folders has the name if and only if any folder has it, because the folders so far don't.
 use Rattle.std.proofs.Common.{◌≡◌, drop, map}
 use Rattle.cal_unit_index.specs.rules.Index.{shown_folder}
 use Rattle.cal_load.specs.rules.StartedUnit.{has_entry}

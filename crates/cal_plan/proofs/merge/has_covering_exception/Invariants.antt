@@ -1,5 +1,4 @@
--- The loop needs no invariant: nothing has to be known about the exceptions that were already compared. An exception is
--- an expression; when it elapses, the timer doesn't.
+-- The loop needs no invariant: nothing has to be known about the exceptions that were already compared.
 use Rattle.cal_plan.proofs.merge.has_covering_exception.Given as goal
 
 abbrev pub invariant-loop-exception : goal.invariant-loop-exception

@@ -25,8 +25,8 @@ unix_text micros =
     if fraction == 0 then joined (codes "@" ∷ decimal (micros / micros_per_second) ∷ [])
     else joined (codes "@" ∷ decimal (micros / micros_per_second) ∷ codes "." ∷ zeros 6 fraction ∷ decimal fraction ∷ [])
 
--- the lines that describe a moment, without the label of the first line: its instant in the local zone and in UTC, its
--- Unix time, and its distance from the present
+-- the lines that describe a moment, without the label of the first line: its instant in the local zone, and also in UTC
+-- unless the local zone is UTC; its Unix time; and its distance from the present
 unfoldable pub moment_lines : Zone → ℤ → ℤ → List ℕ
 moment_lines local now micros =
     joined (instant_text local (second_at micros) ∷ codes "\n" ∷ utc_line local (second_at micros) ∷ codes "   UNIX seconds: " ∷ unix_text (unsigned_abs micros) ∷ codes "\n       From now: " ∷ distance_text (micros_of now) micros ∷ codes "\n" ∷ [])

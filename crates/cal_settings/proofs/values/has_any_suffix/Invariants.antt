@@ -1,4 +1,4 @@
--- One of the remaining suffixes fits if and only if one of all suffixes does, because none of those so far does.
+-- Any of the remaining suffixes fits if and only if any suffix fits, because the suffixes so far don't.
 use Rattle.std.proofs.Common.{◌≡◌, drop, map}
 use Rattle.std.specs.List.{list_any}
 use Rattle.cal_settings.specs.rules.Settings.{is_before_suffix}

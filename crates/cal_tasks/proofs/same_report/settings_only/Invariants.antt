@@ -3,7 +3,7 @@ use Rattle.std.specs.List.{list_any}
 use Rattle.std.specs.Str.{bytes_eq}
 use Rattle.cal_tasks.proofs.same_report.settings_only.Given as goal
 
--- so far, there are the settings before the loop's index that the other timer doesn't have
+-- the settings found so far are those before the loop's index that the other timer doesn't have
 abbrev pub invariant-loop-setting : goal.invariant-loop-setting
 invariant-loop-setting l =
     map (λ setting. setting.now) l.settings.items

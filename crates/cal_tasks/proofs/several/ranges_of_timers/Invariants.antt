@@ -1,6 +1,6 @@
 -- The elapses of the timers before the loop's index, followed by those that the remaining timers have in the range, are
--- the elapses of all timers in the range. The first timer that names a zone that wasn't loaded, if there is one, is at the
--- loop's index or after it.
+-- the elapses of all timers in the range. The first timer that names a zone that wasn't loaded, if there is one, is at
+-- the loop's index or after it.
 use Rattle.std.proofs.Common.{◌≡◌, ◌++◌, ◌-ℤ◌, pos, map, drop}
 use Rattle.cal_tasks.specs.rules.LoadedElapses.{elapses_in, first_unzoned_line}
 use Rattle.cal_tasks.specs.rules.SeveralTimers.{elapse_seen, of_each, range_of_each, range_of_one}

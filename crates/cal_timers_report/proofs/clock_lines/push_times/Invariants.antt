@@ -4,7 +4,7 @@ use Rattle.cal_timers_report.specs.rules.ReportView.{clock_time_seen}
 use Rattle.cal_timers_report.specs.rules.ShowText.{clock_line, labeled}
 use Rattle.cal_timers_report.proofs.clock_lines.push_times.Given as goal
 
--- what the loop has visited has been appended
+-- a line for each local time that the loop has visited has been appended
 abbrev pub invariant-loop-time : goal.invariant-loop-time
 invariant-loop-time l =
     string_bytes l.out

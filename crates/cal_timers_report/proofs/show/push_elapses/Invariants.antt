@@ -3,7 +3,7 @@ use Rattle.std.specs.List.{flat_map}
 use Rattle.cal_timers_report.specs.rules.ShowText.{elapse_line, labeled}
 use Rattle.cal_timers_report.proofs.show.push_elapses.Given as goal
 
--- what the loop has visited has been appended
+-- a line for each elapse that the loop has visited has been appended
 abbrev pub invariant-loop-instant : goal.invariant-loop-instant
 invariant-loop-instant l =
     (string_bytes l.out

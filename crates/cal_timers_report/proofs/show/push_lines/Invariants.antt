@@ -4,7 +4,7 @@ use Rattle.cal_timers_report.specs.rules.ReportView.{line_seen}
 use Rattle.cal_timers_report.specs.rules.ShowText.{labeled, text_line}
 use Rattle.cal_timers_report.proofs.show.push_lines.Given as goal
 
--- what the loop has visited has been appended
+-- a line for each expression or exception that the loop has visited, in normal form, has been appended
 abbrev pub invariant-loop-line : goal.invariant-loop-line
 invariant-loop-line l =
     string_bytes l.out

@@ -4,7 +4,7 @@ use Rattle.cal_timers_report.specs.rules.ReportView.{timer_seen}
 use Rattle.cal_timers_report.specs.rules.ShowText.{timer_text}
 use Rattle.cal_timers_report.proofs.show.push_timers.Given as goal
 
--- what the loop has visited has been appended
+-- for each timer that the loop has visited, an empty line and the timer's text have been appended
 abbrev pub invariant-loop-timer : goal.invariant-loop-timer
 invariant-loop-timer l =
     string_bytes l.out

@@ -3,7 +3,7 @@ use Rattle.cal_machine.specs.rules.Machine.{Machine}
 use Rattle.cal_unit_index.specs.rules.Index.{IsIndexUpTo}
 use Rattle.cal_unit_index.proofs.index.read_folders.Given as goal
 
--- the index has what the folders before the loop's index say
+-- the index of the search path has what was found in the folders that the loop has visited
 abbrev pub invariant-loop-folder : goal.invariant-loop-folder
 invariant-loop-folder g l =
     ((machine : Machine) → g.T.Tree.shows l.tree machine

@@ -9,7 +9,7 @@ use Rattle.cal_zone_files.specs.rules.ZoneFiles.{HasZonesOf}
 use Rattle.cal_zone_files.proofs.load.load_zones.Given as goal
 
 -- The table has UTC and the names before the loop's index, and their zones are those of the machine. A machine that
--- agrees with what was read so far agrees with what was read before.
+-- agrees with everything read so far agrees with what was read before the loop.
 abbrev pub invariant-loop-name : goal.invariant-loop-name
 invariant-loop-name g l =
     ((name : List ℕ) → is_some (zone_named l.table name)

@@ -20,7 +20,7 @@ batch c =
     (rw (to_z-of_z w64 _ c.ranges.local, to_z-of_z w64 c.in-Some.next.last (search rules), local, last) at c.in-Some-offset_to.ensures)
     (rw (to_z-of_z w64 _ c.ranges.local) at c.in-Some.ensures)
 
--- `start` is before the end of the local seconds, because it isn't after the last of these matches
+-- `start` is before the end of the local seconds, because it isn't after the last of the matches that follow `local`
 start_inside : (c : After-is_none) → unsigned_abs c.in-Some.next.start < seconds_in_all
 start_inside c =
     let next : AreNext _ (unsigned_abs c.args.local) _ _ _ _ = rw (to_z-of_z w64 _ c.ranges.local) at c.in-Some.ensures in
@@ -55,7 +55,7 @@ put_minutes-requires-clause-inside c =
     let count = seconds_in_all-is in
     rw (start_is at) (omega (arith, ints, near))
 
--- `least` returned the smallest pending instant
+-- if something is pending, `least` returned the smallest pending instant
 least_is : (c : After-is_none) → c.is_none.result ≡ false → (least : ℤ) × (slice_get c.args.self.now.pending 0 ≡ Some least)
 least_is c none = some_least c.least.result _ c.is_none.result c.least.ensures.least c.is_none.ensures none
 

@@ -5,7 +5,7 @@ use Rattle.cal_bytes.specs.computed.SplitPieces.{left, pieces_after}
 use Rattle.cal_load.specs.rules.Specifiers.{after_backslash, all_joined, is_backslash, joined, shown_draft, unescaped_pieces}
 use Rattle.cal_load.proofs.specifiers.Draft.push_unescaped.Given as goal
 
--- the pieces so far and those that are left stand for the same as all pieces
+-- what the pieces so far and the remaining pieces stand for, joined, is what all pieces stand for
 abbrev pub invariant-loop-rest : goal.invariant-loop-rest
 invariant-loop-rest l =
     joined (shown_draft l.self) (all_joined (map after_backslash (pieces_after is_backslash (option_copied l.rest))))

@@ -20,7 +20,7 @@ unreachable-requires c =
     ∙ utc_text c.args.instant.secs in
     strip_suffix_is Decides-eqb c.as_slice.result.now (codes " UTC") None c.in_default.ensures.cases (utc_clock_text c.args.instant.secs) printed
 
--- and what comes before it is written
+-- what comes before ` UTC` is written
 pub returns : goal.returns
 returns c =
     let printed : c.as_slice.result.now ≡ utc_clock_text c.args.instant.secs ++ codes " UTC" =

@@ -9,7 +9,7 @@ use Rattle.cal_elapse.proofs.MinuteLemmas.{match_inside}
 use Rattle.cal_elapse.proofs.search.searcher.Searcher.next_matches.Goals.{After-from, After-local_in}
 use Rattle.cal_elapse.proofs.search.searcher.Searcher.next_matches.Goals as goal
 
--- the later matches in the minute of `local`
+-- `AreNext` holds for the later matches in the minute of `local`
 here : (c : After-from) → AreNext (matches (sets_in c.args.self.now.masks)) (unsigned_abs c.args.local) (unsigned_abs c.args.local + 1) 1 c.rest_of_minute-seconds.result
     (unsigned_abs c.args.local + 1 + c.highest_bit.result)
 here c =
@@ -19,7 +19,7 @@ here c =
 start_is : (c : After-from) → to_z w64 (of_z w64 (to_z w64 (of_z w64 c.args.local) +ℤ pos 1)) ≡ pos (unsigned_abs c.args.local + 1)
 start_is c = let inside = c.requires.inside in grind (arith, local_arith)
 
--- the last of these matches fits into a 64-bit integer
+-- the last match in the minute of `local` fits into a 64-bit integer
 last_is : (c : After-from) → to_z w64 (of_z w64 (to_z w64 (of_z w64 (to_z w64 (of_z w64 c.args.local) +ℤ pos 1)) +ℤ to_z w64 (of_z w64 c.from.result)))
     ≡ pos (unsigned_abs c.args.local + 1 + c.highest_bit.result)
 last_is c = let inside = c.requires.inside in grind (arith, local_arith)
@@ -32,7 +32,7 @@ invariant_of-result-clause-last_in c =
 pub returns-then-seconds-ne0 : goal.returns-then-seconds-ne0
 returns-then-seconds-ne0 c = let at = (goal.at.returns-then-seconds-ne0 c).After-from in rw (last_is at, start_is at) (here at)
 
--- the matches in the later minutes of its hour, if none is left in its minute
+-- if no match is left in the minute of `local`, `AreNext` holds for the matches in the later minutes of its hour
 there : (c : After-local_in) → AreNext (matches (sets_in c.args.self.now.masks)) (unsigned_abs c.args.local) ((unsigned_abs c.args.local / 60 + 1) * 60) c.rest_of_hour-minutes.result
     c.args.self.now.masks.seconds ((unsigned_abs c.args.local / 60 + 1 + c.highest_bit-2.result) * 60 + c.highest_bit-3.result)
 there c =
